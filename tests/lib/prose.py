@@ -37,6 +37,7 @@ EXCEPTIONS = {
     ("CONTRIBUTING.md", "so many"): "names the wording to avoid",
     ("CONTRIBUTING.md", "of which"): "names the wording to avoid",
     ("crates/clubdesk_arguments/src/table.rt", "Exit status:"): "the help's table of statuses, no sentence",
+    ("crates/passtool_commands/src/table.rt", "Exit status:"): "the help's table of statuses, no sentence",
     ("deploy/clubdesk-setup", "[--title TITLE]"): "a line of usage, no sentence",
 }
 # Generated pages, data, and texts that tests compare byte for byte.

@@ -19,11 +19,11 @@ pub enum Name {
 const STATUSES: &str = "Exit status:
   0  done
   1  verify: not signed
-  2  the words
-  3  the pass: too long, malformed, with a third-party caveat, or with too many caveats
+  2  usage error
+  3  the pass is too long or malformed, or has a third-party or too many caveats
   4  out of memory
-  5  a caveat that isn't understood
-  6  a bad root
+  5  the desk doesn't understand a caveat
+  6  bad root
   7  input or output failed";
 
 const NARROW_HELP: &str = "Caveats that the desk understands, each with an example:
@@ -40,12 +40,12 @@ const NARROW_HELP: &str = "Caveats that the desk understands, each with an examp
 Example:
   passtool narrow \"guests <= 2\" \"until < 2026-05-01T18:00\" < pass";
 
-const VERIFY_HELP: &str = "Caveats are not tested; the desk does that.
+const VERIFY_HELP: &str = "Doesn't test caveats; the desk does that.
 
 Example:
   passtool verify --root 00ff < pass";
 
-const CAVEAT_HELP: &str = "Caveats to add, in this order; behind -- they may begin with a dash";
+const CAVEAT_HELP: &str = "Caveats to add, in this order; after -- they may begin with a dash";
 
 const ROOT: Argument = Argument::Needed(
     "root",
@@ -59,7 +59,7 @@ const MINT_ARGUMENTS: &[Argument] = &[
     Argument::Value(
         "location",
         "LOCATION",
-        "A hint at who made the pass; not signed, not checked; empty where it is left out",
+        "A hint at who made the pass; not signed, not checked, empty by default",
     ),
     Argument::Or("form", "FORM", "v1, v2 or json", "v2"),
     Argument::Positionals("caveat", "CAVEAT", CAVEAT_HELP),
@@ -89,7 +89,7 @@ static PASSTOOL: Program<Name> = Program {
         Row {
             command: Name::Show,
             name: "show",
-            about: "Prints the fields of the pass on standard input, one a line",
+            about: "Prints the fields of the pass on standard input, one to a line",
             help: "Example:\n  passtool show < pass",
             arguments: &[],
         },
@@ -103,7 +103,7 @@ static PASSTOOL: Program<Name> = Program {
         Row {
             command: Name::Convert,
             name: "convert",
-            about: "Prints the pass on standard input in a form",
+            about: "Prints the pass on standard input in the given form",
             help: "Example:\n  passtool convert --form json < pass",
             arguments: &[Argument::Needed("form", "FORM", "v1, v2 or json")],
         },
