@@ -46,8 +46,7 @@ that the member may have open at once, 0 to 99. A new member has no points.
 Example:
   clubdesk add-member club.db amy 5";
 
-const CREDIT_HELP: &str =
-    "POINTS are 1 to 1000000. The credits of a member are at most 999999999 in all.
+const CREDIT_HELP: &str = "POINTS are 1 to 1000000. A member has at most 999999999 credited points.
 
 Example:
   clubdesk credit club.db amy 10000";
