@@ -79,3 +79,26 @@ static NEW_NUMBERS: [Row; 4] = [
 fn keeps_what_is_booked(rt: HostRuntime) -> Result<(), Fail> {
     expect_after_booking(&rt, "new-numbers", &NEW_NUMBERS)
 }
+
+static CANCELLED: [Row; 6] = [
+    Row("cancel-booking", "amy-1 7", "0 done\n"),
+    Row("cancel-booking", "amy-1 7", "0 done\n"),
+    Row(
+        "show-slot",
+        "court-1 2026-05-01 18",
+        "0 facility court-1\nday 2026-05-01\nhour 18\nkind court\nprice 200\nplaces 4\n\
+        taken 0\nclosed no\n",
+    ),
+    Row(
+        "show-account",
+        "amy-1 --at 2026-05-01T18:30",
+        "0 member amy\nbalance 10000\nquota 5\nopen 0\nspent 0\nrevoked no\nolder root none\n",
+    ),
+    Row("revoke-key", "amy-1", "0 done\n"),
+    Row("cancel-booking", "amy-1 7", "0 done\n"),
+];
+
+#[test]
+fn refunds_what_was_cancelled(rt: HostRuntime) -> Result<(), Fail> {
+    expect_after_booking(&rt, "cancelled", &CANCELLED)
+}
