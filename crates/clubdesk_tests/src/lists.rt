@@ -164,6 +164,9 @@ fn command_line(
             let root = root_text(root);
             format!(in alloc; "clubdesk rotate-key club {key} {root} {until}")
         }
+        (PlainCommand::CancelBooking(key, number), _) => {
+            format!(in alloc; "clubdesk cancel-booking club {key} {number}")
+        }
         (_, Command::CloseSlot(slot)) => slot_line(alloc, "close-slot", slot),
         (_, Command::OpenSlot(slot)) => slot_line(alloc, "open-slot", slot),
         _ => Ok(String::new(alloc)),
