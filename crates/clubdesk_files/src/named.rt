@@ -86,6 +86,10 @@ impl<S: ClubStore, F: Removable> ClubStore for NamedStore<S, F> {
         self.store.slot(slot)
     }
 
+    fn most_taken(&mut self, facility: &Name) -> Result<u32, StoreFault> {
+        self.store.most_taken(facility)
+    }
+
     fn booking(
         &mut self,
         key: &Name,
