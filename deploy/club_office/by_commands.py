@@ -1,109 +1,234 @@
 """Corrections that the desk makes, by commands of clubdesk: shown, asked, and given one after the other, while the server goes on."""
 
+import contextlib
+import sqlite3
+import sys
+
 from club_office.asking import confirms, show_lines
 from club_office.book import Turn
 from club_office.clubs import now_of, refuse_to_come, run_clubdesk, wants_file
 from club_office.copies import keep_before, snapshot
-from club_office.faults import REFUSED, Doubtful, Fault, NothingLeft, fault, refusal
-from club_office.plans import Plan, plan_rest_of_debit
+from club_office.corrections import change, file_taken
+from club_office.faults import REFUSED, Doubtful, Fault, NothingLeft, fault, refusal, storage_failed
+from club_office.people import forget_person, mail_concerned, show_concerned
+from club_office.plans import Booking, Plan, cancel_words, plan_rest_of_debit, slot_text
 from club_office.texts import in_language, say
-from club_office.undoing import DONE, add, begin, broken_off, forget_undo, rows_edited
+from club_office.undoing import Record, broken_off, forget_undo, rows_edited, rows_of_member
+from club_office.values import date_of
 
-CORRECTIONS = ("set-quota", "debit", "set-facility", "reopen-slot")
+CORRECTIONS = ("set-quota", "debit", "set-facility", "reopen-slot", "cancel", "close", "rain", "leave")
+# Of these exactly the commands are given that were shown and are still left to do. Others are refused if anything else is left by now.
+LISTED = ("cancel", "close", "rain", "leave")
+# Rounds in which a correction goes on with what members booked meanwhile.
+MOST_ROUNDS = 20
 # The status of clubdesk that says nothing of whether a command was done.
 NO_ANSWER = 8
 
 
+class BookedMeanwhile(Fault):
+    """Ends a round in which members booked what the clerk wasn't shown."""
+
+
+class RestDeclined(Fault):
+    """The clerk confirmed a round, but not the one after it."""
+
+
 def correct(club, words, planned, then):
-    """A correction: shows what it would do, asks, and has the desk do just that. `then` is called before the turn is over."""
+    """A correction: shows what it would do, asks, and has the desk do just that. `then` is called before each turn is over."""
     wants_file(club)
-    shown = None if words.yes else asked(club, words, planned)
-    plans, files = [], []
+    it = Correction(club, words, planned, then)
+    try:
+        it.go_through()
+    except RestDeclined:
+        it.tell_concerned()
+        raise
+    print(say("done"), flush=True)
+    it.tell_concerned()
+    # Only now: whoever was killed before, and saw no end of it, gives it again.
+    it.record.finish()
+    return 0
 
-    def act():
+
+class Correction:
+    """A correction under way, with its record beside the club once it has begun."""
+
+    def __init__(self, club, words, planned, then):
+        self.club, self.words, self.planned, self.then = club, words, planned, then
+        self.record = None
+
+    def go_through(self):
+        """Shows, asks and carries out, until nothing is left that members booked meanwhile."""
+        for _ in range(MOST_ROUNDS):
+            shown = None if self.words.yes else self.asked()
+            try:
+                return self.carry_out(shown)
+            except BookedMeanwhile as failure:
+                meanwhile = failure
+                show_lines([failure.why])
+        raise meanwhile
+
+    def asked(self):
+        """Plans the correction over a copy, shows it, and asks. Returns the plan, or why the order is refused."""
         try:
-            if isinstance(shown, Fault):
-                raise shown
-            plans.append(carry_out(club, turn, words, planned, shown, files))
-        except Doubtful:
-            forget_undo(club)
-            raise
-        then()
-        return 0
-
-    try:
-        with Turn(club) as turn:
-            status = turn.order(words.given, act)
-        if words.yes:
-            show_lines(plans[0].all_lines())
-        print(say("done"), flush=True)
-        # Only now: whoever was killed before, and saw no end of it, gives it again.
-        add(files[0], DONE)
-    finally:
-        for file in files:
-            file.close()
-    return status
-
-
-def asked(club, words, planned):
-    """Plans a correction over a copy, shows it, and asks. Returns the plan, or why the order is refused."""
-    try:
-        refuse_to_come(words)
-        with snapshot(club) as db:
-            plan = plan_of(db, words, planned, broken_off(club, words))
-    except Fault as failure:
-        return failure
-    show_lines(plan.all_lines())
-    return plan if not plan.orders or confirms() else refusal("not confirmed")
-
-
-def plan_of(db, words, planned, left):
-    """Plans a correction. `left` is its record, if it was broken off: then nothing may be left to do."""
-    try:
-        plan = plan_rest_of_debit(db, words, left) if left and words.command == "debit" else planned(db, words, now_of(words))
-    except NothingLeft:
-        if not left:
-            raise
-        plan = Plan()
-    if not plan.orders:
-        plan.lines = []
-        plan.tell("was done", moment=left["moment"])
-    return plan
-
-
-def carry_out(club, turn, words, planned, shown, files):
-    """Has the desk do what a correction does to the club by now: nothing, if something else was shown. Returns the plan, and adds the file of
-    its record to the files."""
-    wants_file(club)
-    refuse_to_come(words)
-    left = broken_off(club, words)
-    if left:
-        # The desk does one command after the other: what it got of the order is done, or dropped, before this one.
-        give(club, turn, ["sheet", "2000-01-01"])
-    with snapshot(club) as db:
-        plan = plan_of(db, words, planned, left)
-        if shown and plan.orders != shown.orders:
-            raise refusal("changed since")
-        keep_before(club, db, words.command)
-        files.append(begin(club, words, rows_edited(db, [edit for order in plan.orders for edit in order.edits]), left))
-    for place, order in enumerate(plan.orders):
-        try:
-            give(club, turn, order.words)
+            refuse_to_come(self.words)
+            with snapshot(self.club) as db:
+                plan = self.plan(db, broken_off(self.club, self.words))
         except Fault as failure:
-            if place == 0 and failure.status == REFUSED and not left:
-                forget_undo(club)
-            raise
-    return plan
+            return failure
+        show_lines(plan.all_lines())
+        if plan.is_empty or confirms():
+            return plan
+        if self.record:
+            declined = refusal("rest not confirmed")
+            return RestDeclined(declined.status, str(declined), declined.why)
+        return refusal("not confirmed")
+
+    def plan(self, db, left):
+        """Plans the correction. `left` is its record's content, if it was broken off: then nothing may be left to do."""
+        try:
+            if left and self.words.command == "debit":
+                plan = plan_rest_of_debit(db, self.words, left)
+            else:
+                plan = self.planned(db, self.words, now_of(self.words))
+        except NothingLeft:
+            if not left:
+                raise
+            plan = Plan()
+        if plan.is_empty:
+            plan.lines = [say("was done", moment=left["moment"])]
+        return plan
+
+    def carry_out(self, shown):
+        """A turn, in which the desk does what was shown, or what is planned by now if nothing was."""
+        plans = []
+
+        def act():
+            try:
+                if isinstance(shown, Fault):
+                    raise shown
+                self.give_all(turn, shown, plans)
+            except Doubtful:
+                forget_undo(self.club)
+                raise
+            return 0
+
+        try:
+            with Turn(self.club) as turn:
+                turn.order(self.words.given, act)
+        finally:
+            if self.words.yes and plans:
+                show_lines(plans[0].all_lines())
+
+    def give_all(self, turn, shown, plans):
+        """Gives the desk all commands of the plan, which is added to the plans."""
+        wants_file(self.club)
+        refuse_to_come(self.words)
+        left = broken_off(self.club, self.words)
+        if left:
+            # The desk does one command after the other: it has done what it got of the order, or dropped it, before this one.
+            self.give(turn, ["sheet", "2000-01-01"])
+        try:
+            with snapshot(self.club) as db:
+                plan = self.plan(db, left)
+                words = self.agreed(plan, shown)
+                self.keep(db, plan, words, left)
+        except (sqlite3.Error, OSError) as failure:
+            raise storage_failed("nothing changed", why=failure) from None
+        plans.append(plan)
+        in_use = self.give_each(turn, words, not left)
+        if plan.new_name and not in_use:
+            in_use = self.give_names()
+        if self.words.command == "set-facility" and self.words.hours:
+            self.look_again()
+        self.then()
+        if in_use:
+            meanwhile = refusal("booked meanwhile", slots=", ".join(in_use))
+            raise BookedMeanwhile(meanwhile.status, str(meanwhile), meanwhile.why)
+
+    def agreed(self, plan, shown):
+        """The commands that are given: those of the plan, as far as they were shown."""
+        if shown is None:
+            return [it.words for it in plan.orders]
+        is_listed = self.words.command in LISTED
+        if plan.changes != shown.changes or not is_listed and plan.orders != shown.orders:
+            raise refusal("changed since")
+        listed = [it.words for it in shown.orders]
+        return [it.words for it in plan.orders if it.words in listed]
+
+    def keep(self, db, plan, words, left):
+        """Keeps the club as it was before the correction, and a record of it."""
+        orders = [it for it in plan.orders if it.words in words]
+        rows = rows_edited(db, [edit for order in orders for edit in order.edits])
+        refuse_unsound(rows)
+        if not self.record:
+            keep_before(self.club, db, self.words.command)
+        self.record = Record(self.club, self.words, left)
+        self.record.keep(rows, [list(it) for it in plan.cancelled if cancel_words(it) in words])
+
+    def give_each(self, turn, words, is_first):
+        """Gives the desk commands, and returns the slots that aren't closed, since members have booked them meanwhile."""
+        in_use = []
+        for place, each in enumerate(words):
+            try:
+                if not self.give(turn, each):
+                    in_use.append(f"{each[1]} {each[2]} {each[3]}:00")
+            except Fault as failure:
+                if is_first and place == 0 and failure.status == REFUSED:
+                    forget_undo(self.club)
+                raise
+        return in_use
+
+    def give(self, turn, words):
+        """Gives the desk a command, and returns whether it is done. The turn isn't over before the command has ended, even if this process is killed."""
+        done = run_clubdesk(self.club, words[0], words[1:], held=[turn.file])
+        said = done.stderr.decode(errors="backslashreplace").strip()
+        if done.returncode == 0 or (words[0], said) == ("close-slot", "refused: exists"):
+            return True
+        if (words[0], said) == ("close-slot", "refused: slot in use"):
+            return False
+        if done.returncode == REFUSED:
+            raise Fault(REFUSED, f"{in_language(said)}: {' '.join(words)}")
+        # Another program may have ended it.
+        status = done.returncode if 0 < done.returncode < 128 else NO_ANSWER
+        raise fault(status, "command undone", order=" ".join(words), said=in_language(said) or f"status {done.returncode}")
+
+    def look_again(self):
+        """Says what members booked since the copy that doesn't fit the new hours. It stays."""
+        try:
+            with snapshot(self.club) as db:
+                self.plan(db, None)
+        except Fault as failure:
+            print(say("booked meanwhile", slots=failure.why), file=sys.stderr)
+
+    def give_names(self):
+        """Gives a member who leaves, and its keys, other names in the file. If it has booked meanwhile, returns these slots, and does nothing."""
+        try:
+            with contextlib.closing(file_taken(self.club)) as db:
+                plan = self.plan(db, None)
+                if plan.orders:
+                    return [slot_text(it.facility, it.day, it.hour) for it in plan.cancelled] or [self.words.member]
+                before = rows_of_member(db, self.words.member)
+                change(db, plan, lambda: self.keep_names(before, rows_of_member(db, plan.new_name)))
+        except (Fault, sqlite3.Error, OSError) as failure:
+            raise storage_failed("names undone", member=self.words.member, why=getattr(failure, "why", failure)) from None
+        return []
+
+    def keep_names(self, before, after):
+        self.record.keep([[*place, was, after[place]] for place, was in before.items()], [])
+        forget_person(self.club, self.words.member)
+
+    def tell_concerned(self):
+        """Says who has to be told what was cancelled, by this run and by those that were broken off; with --mail mails it."""
+        cancelled = [Booking(*it) for it in self.record.content["cancelled"]]
+        show_concerned(self.club, [it.member for it in cancelled])
+        if getattr(self.words, "mail", False):
+            mail_concerned(self.club, cancelled, slot_text, self.record)
 
 
-def give(club, turn, words):
-    """Gives the desk a command. The turn isn't over before the command has ended, even if this process is killed."""
-    done = run_clubdesk(club, words[0], words[1:], held=[turn.file])
-    if done.returncode == 0:
-        return
-    said = in_language(done.stderr.decode(errors="backslashreplace").strip())
-    # Another program may have ended it.
-    status = done.returncode if 0 < done.returncode < 128 else NO_ANSWER
-    if status == REFUSED:
-        raise Fault(status, f"{said}: {' '.join(words)}")
-    raise fault(status, "command undone", order=" ".join(words), said=said or f"status {done.returncode}")
+def refuse_unsound(rows):
+    """Refuses what would take more from a total than it has, as of rows that somebody has changed by hand."""
+    for table, _, was, is_now in rows:
+        if table == "slots" and is_now[4] < 0:
+            raise refusal("nothing changed", why=say("taken off", facility=is_now[0], day=date_of(is_now[1]), hour=is_now[2], persons=-is_now[4]))
+        if table == "members" and is_now[3] < 0:
+            raise refusal("nothing changed", why=say("used off", member=is_now[0], used=was[3], spent=was[3] - is_now[3]))

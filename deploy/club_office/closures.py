@@ -30,11 +30,11 @@ def reasons_of(club):
 
 def add_reasons(club, words, today):
     """Adds why slots were closed, and leaves out what is over."""
-    kept = [it for it in reasons_of(club) if it["day"] >= today]
     begin, end = words.hours
-    kept += [
+    more = [
         {"facility": facility, "day": day, "from": begin, "until": end, "why": words.why} for day in days_of(words) for facility in unique(words.facilities)
     ]
+    kept = [it for it in reasons_of(club) if it["day"] >= today and it not in more] + more
     made = club.file + "-reasons.new"
     with open(made, "w", encoding="utf-8") as file:
         json.dump(kept, file, ensure_ascii=False)

@@ -1,4 +1,4 @@
-"""Corrections: shown, asked, and carried out over the file that no server has."""
+"""Corrections that want the file: shown, asked, and carried out over it while no server has it."""
 
 import contextlib
 import sqlite3
@@ -11,8 +11,6 @@ from club_office.clubs import now_of, refuse_to_come, wants_file
 from club_office.copies import address, copy_file, keep_before, snapshot
 from club_office.faults import Fault, refusal, storage_failed
 from club_office.lists import faults
-from club_office.people import forget_person, mail_concerned, show_concerned
-from club_office.plans import slot_text
 from club_office.texts import say
 from club_office.undoing import attach_before, forget_undo, write_undo
 
@@ -34,10 +32,6 @@ def correct(club, words, planned):
     if words.yes:
         show_lines(plans[0].all_lines())
     print(say("done"))
-    cancelled = plans[0].cancelled
-    show_concerned(club, [it.member for it in cancelled])
-    if getattr(words, "mail", False):
-        mail_concerned(club, cancelled, slot_text)
     return status
 
 
@@ -68,8 +62,6 @@ def carry_out(club, words, planned, plans, shown):
             change(db, plan, lambda: write_undo(club, db, words))
             if words.command == "undo":
                 forget_undo(club)
-            if words.command == "leave":
-                forget_person(club, words.member)
             if plan.copy_to:
                 with contextlib.suppress(sqlite3.Error):
                     db.execute("VACUUM")

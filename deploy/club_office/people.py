@@ -115,13 +115,16 @@ def show_concerned(club, members):
         print(say("to tell"), *(f"    {concerned_text(it)}" for it in known), sep="\n")
 
 
-def mail_concerned(club, bookings, slot_text):
-    """Mails each of these persons what was cancelled, by the machine's mailer; says who has no address, and what couldn't be mailed."""
+def mail_concerned(club, bookings, slot_text, record):
+    """Mails each of these persons what was cancelled, by the machine's mailer; says who has no address, and what couldn't be mailed. Nobody gets
+    the mail again whom the record has."""
     people, of_member = read_people(club), collections.defaultdict(list)
     for it in bookings:
         of_member[it.member].append(it)
     mailer = os.path.join(os.path.dirname(back_up_program()), "send_mail")
     for member, its in of_member.items():
+        if member in record.content["mailed"]:
+            continue
         person = people.get(member, NOBODY)
         if not person.mail:
             print(say("no mail", name=person.name or member))
@@ -130,4 +133,6 @@ def mail_concerned(club, bookings, slot_text):
         text = say("mail text", name=person.name or member, lines=lines, points=sum(it.charge for it in its), club=club.title)
         done = subprocess.run([mailer, person.mail, say("mail subject", club=club.title)], input=text, text=True, capture_output=True, check=False)
         is_sent = done.returncode == 0 and not done.stderr
+        if is_sent:
+            record.note_mail(member)
         print(say("mailed" if is_sent else "not mailed", name=person.name or member))

@@ -3,7 +3,7 @@
 import collections
 
 from club_office.faults import USAGE, doubtful, fault, nothing_left, refusal
-from club_office.lists import wants_row
+from club_office.lists import is_row, wants_row
 from club_office.texts import say
 from club_office.values import MOST_CHARGE, MOST_CREDIT, MOST_NUMBER, date_of
 
@@ -27,10 +27,16 @@ class Plan:
         self.changes = []
         # Queries whose rows are the same before and after.
         self.keeps = []
+        # The new name of a member who leaves.
+        self.new_name = None
         # Where the file is copied before the change, or None.
         self.copy_to = None
         # What the summary counts.
         self.cancelled, self.closed, self.opened, self.undone = [], 0, 0, 0
+
+    @property
+    def is_empty(self):
+        return not self.orders and not self.changes
 
     def tell(self, text, /, **values):
         self.lines.append(say(text, **values))
@@ -60,12 +66,11 @@ class Plan:
         for it in bookings:
             self.tell("cancels", slot=slot_text(it.facility, it.day, it.hour), persons=persons_text(it), points=it.charge, key=it.key, number=it.number, member=it.member)
             self.cancelled.append(it)
-            self.change(
-                1, "UPDATE bookings SET cancelled = 1, refund = charge WHERE pass_key = ? AND number = ? AND cancelled = 0", it.key, it.number
-            )
-            self.change(1, "UPDATE members SET used = used - ? WHERE name = ?", it.charge, it.member)
-            self.change(
-                1, "UPDATE slots SET taken = taken - ? WHERE facility = ? AND day = ? AND hour = ?", it.guests + 1, it.facility, it.day, it.hour
+            self.order(
+                cancel_words(it),
+                Edit("bookings", (it.key, it.number), {"cancelled": 1, "refund": it.charge}),
+                Edit("members", (it.member,), adds={"used": -it.charge}),
+                Edit("slots", (it.facility, it.day, it.hour), adds={"taken": -(it.guests + 1)}),
             )
 
 
@@ -76,6 +81,10 @@ def slot_text(facility, day, hour):
 def slot_words(facility, day, hour):
     """A slot, as clubdesk's commands take it."""
     return [facility, date_of(day), f"{hour:02d}"]
+
+
+def cancel_words(booking):
+    return ["cancel-booking", booking.key, str(booking.number)]
 
 
 def persons_text(booking):
@@ -192,12 +201,12 @@ def plan_cancel(db, words, now):
     if words.all:
         found = bookings_of(db, "pass_key = ? AND day * 1440 + hour * 60 > ?", words.key, now)
         if not found:
-            raise refusal("none to come", key=words.key)
+            raise nothing_left("none to come", key=words.key)
     else:
         found = bookings_of(db, "pass_key = ? AND number = ?", words.key, words.number)
         if not found:
             known = db.execute("SELECT count(*) FROM bookings WHERE pass_key = ? AND number = ?", [words.key, words.number]).fetchone()[0]
-            raise refusal("cancelled already" if known else "booking unknown", number=words.number, key=words.key)
+            raise (nothing_left if known else refusal)("cancelled already" if known else "booking unknown", number=words.number, key=words.key)
     plan.cancel(found)
     return plan
 
@@ -218,8 +227,10 @@ def plan_close(db, words, _now):
     for day in days:
         for facility in facilities:
             close_hours(db, plan, facility, day, begin, end)
-    if not plan.changes:
-        raise refusal("all closed")
+    if not plan.orders:
+        raise nothing_left("all closed")
+    # Each slot is closed right after its bookings are cancelled, so that hardly anybody books it in between.
+    plan.orders.sort(key=lambda it: (it.edits[-1].key[1:], it.edits[-1].key[0]))
     return plan
 
 
@@ -237,8 +248,7 @@ def close_hours(db, plan, facility, day, begin, end):
         if hour not in closed:
             plan.tell("closes", slot=slot_text(facility, day, hour))
             plan.closed += 1
-            sql = "INSERT INTO slots VALUES (?, ?, ?, 1, 0) ON CONFLICT (facility, day, hour) DO UPDATE SET closed = 1"
-            plan.change(1, sql, facility, day, hour)
+            plan.order(["close-slot", *slot_words(facility, day, hour)], Edit("slots", (facility, day, hour), {"closed": 1}))
 
 
 def plan_rain(db, words, _now):
@@ -247,28 +257,34 @@ def plan_rain(db, words, _now):
         wants_row(db, "facilities", facility)
         for hour in sorted({hour for begin, end in words.hours for hour in range(begin, end)}):
             plan.cancel(bookings_of(db, "facility = ? AND day = ? AND hour = ?", facility, words.day, hour))
-    if not plan.changes:
-        raise refusal("nobody booked")
+    if not plan.orders:
+        raise nothing_left("nobody booked")
     return plan
 
 
 def plan_leave(db, words, now):
-    wants_row(db, "members", words.member)
+    """Revokes a member's keys, cancels its bookings to come, and takes its quota, by commands; then statements give member and keys other names."""
+    if not is_row(db, "members", words.member):
+        raise nothing_left("no row members", name=words.member)
     plan = Plan()
-    new = free_number(db)
-    keys = [row[0] for row in db.execute("SELECT name FROM keys WHERE member = ? ORDER BY rowid", [words.member])]
+    new = plan.new_name = free_number(db)
+    keys = db.execute("SELECT name, revoked FROM keys WHERE member = ? ORDER BY rowid", [words.member]).fetchall()
+    for key, revoked in keys:
+        if not revoked:
+            plan.order(["revoke-key", key], Edit("keys", (key,), {"revoked": 1}))
     plan.cancel(bookings_of(db, "member = ? AND day * 1440 + hour * 60 > ?", words.member, now))
+    balance, quota = db.execute("SELECT max(credited - used, 0), quota FROM members WHERE name = ?", [words.member]).fetchone()
+    if quota:
+        plan.order(["set-quota", words.member, 0], Edit("members", (words.member,), {"quota": 0}))
     # References are tested at the end of the transaction.
     plan.change(-1, "PRAGMA defer_foreign_keys = ON")
-    for place, key in enumerate(keys, 1):
+    for place, (key, _) in enumerate(keys, 1):
         plan.tell("revokes", key=key, then=f"{new}-{place}")
-        plan.change(1, "UPDATE keys SET revoked = 1, name = ?, member = ? WHERE name = ?", f"{new}-{place}", new, key)
+        plan.change(1, "UPDATE keys SET name = ?, member = ? WHERE name = ? AND revoked = 1", f"{new}-{place}", new, key)
         plan.change(None, "UPDATE bookings SET pass_key = ? WHERE pass_key = ?", f"{new}-{place}", key)
         plan.change(None, "UPDATE old_roots SET pass_key = ? WHERE pass_key = ?", f"{new}-{place}", key)
-    plan.change(1, "UPDATE members SET quota = 0, name = ? WHERE name = ?", new, words.member)
-    (balance,) = db.execute("SELECT max(credited - used, 0) FROM members WHERE name = ?", [words.member]).fetchone()
-    back = sum(values[0] for rows, sql, values in plan.changes if sql.startswith("UPDATE members SET used"))
-    plan.tell("becomes", member=words.member, then=new, balance=balance + back)
+    plan.change(1, "UPDATE members SET name = ? WHERE name = ? AND quota = 0", new, words.member)
+    plan.tell("becomes", member=words.member, then=new, balance=balance + sum(it.charge for it in plan.cancelled))
     return plan
 
 

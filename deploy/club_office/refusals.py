@@ -71,6 +71,15 @@ REFUSALS = {
         "{order}: {said}. Give the order again: what is done isn't done twice",
         "{order}: {said}. Gib den Befehl noch einmal: was getan ist, geschieht nicht zweimal",
     ),
+    "rest not confirmed": (
+        "not confirmed; what was confirmed before is done",
+        "nicht bestätigt; was zuvor bestätigt wurde, ist erledigt",
+    ),
+    "booked meanwhile": ("booked meanwhile: {slots}", "inzwischen gebucht: {slots}"),
+    "names undone": (
+        "{member} has its names still: {why}. Give the order again",
+        "{member} hat noch die alten Namen: {why}. Gib den Befehl noch einmal",
+    ),
     "debited otherwise": (
         "{member} was credited otherwise since this was broken off on {moment}: look at `log {member}`. Given once more, the order begins anew",
         "{member} bekam etwas anderes, seit das am {moment} abbrach: sieh in `log {member}` nach. Noch einmal gegeben, beginnt der Befehl von vorn",

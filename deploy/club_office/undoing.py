@@ -92,23 +92,23 @@ def write_undo(club, db, words):
     if words.command == NOT_UNDONE or len(rows) > MOST_ROWS:
         forget_undo(club)
         return
-    write(club, record_of(words, rows, True)).close()
+    write(club, content_of(words, rows, True)).close()
 
 
-# ---- A correction that is under way, command by command: a line with its record, and further lines with what became of it.
+# ---- A correction that is under way, command by command: a line with its content, and further lines with what became of it.
 
-DONE = "done"
-
-
-def record_of(words, rows, is_done):
-    return {"moment": time.strftime("%Y-%m-%d %H:%M"), "words": words.given, "rows": rows, "is_done": is_done}
+DONE, MAILED = "done", "mailed "
 
 
-def write(club, record):
+def content_of(words, rows, is_done):
+    return {"moment": time.strftime("%Y-%m-%d %H:%M"), "words": words.given, "rows": rows, "cancelled": [], "mailed": [], "is_done": is_done}
+
+
+def write(club, content):
     """Writes a record in place of the last one, and returns its file, for further lines."""
     made = undo_of(club) + ".new"
     file = open(made, "w", encoding="ascii")
-    add(file, json.dumps(record))
+    add(file, json.dumps(content))
     os.rename(made, undo_of(club))
     synced(os.path.dirname(club.file))
     return file
@@ -122,11 +122,12 @@ def add(file, line):
 
 
 def read(club):
-    """The record of the last correction; None if there is none, or it can't be read."""
+    """The content of the last record; None if there is none, or it can't be read."""
     with contextlib.suppress(FileNotFoundError, ValueError), open(undo_of(club), encoding="ascii") as file:
-        record, *more = file.read().split("\n")
-        record = json.loads(record)
-        return {**record, "is_done": record.get("is_done", True) or DONE in more}
+        content, *more = file.read().split("\n")
+        content = json.loads(content)
+        mailed = content.get("mailed", []) + [it.removeprefix(MAILED) for it in more if it.startswith(MAILED)]
+        return {**content, "mailed": mailed, "is_done": content.get("is_done", True) or DONE in more}
     return None
 
 
@@ -141,25 +142,64 @@ def meant(words):
 
 
 def broken_off(club, words):
-    """The record of this very correction, if it was begun and didn't come to its end; else None."""
-    record = read(club)
-    return record if record and not record["is_done"] and meant(record["words"]) == meant(words.given) else None
+    """The content of this very correction's record, if it was begun and didn't come to its end; else None."""
+    content = read(club)
+    return content if content and not content["is_done"] and meant(content["words"]) == meant(words.given) else None
 
 
-def begin(club, words, rows, left):
-    """Keeps what a correction is about to do, and returns the file of its record. `left` is the record of an earlier run: the rows that it
-    changed are undone as well."""
-    every = {row_place(it): it for it in (left or {}).get("rows") or []}
-    for it in rows:
-        was = every.get(row_place(it), it)
-        every[row_place(it)] = [*was[:3], it[3]]
-    return write(club, record_of(words, list(every.values()) if len(every) <= MOST_ROWS else None, False))
+class Record:
+    """The record of a correction under way. `left` is the content of an earlier run's: the rows that it changed are undone as well."""
+
+    def __init__(self, club, words, left):
+        self.club, self.file = club, None
+        self.content = {**content_of(words, [], False), **{it: left[it] for it in ("rows", "cancelled", "mailed") if left}}
+
+    def keep(self, rows, cancelled):
+        """Keeps rows and bookings that the correction is about to change."""
+        known = self.content["rows"]
+        self.content["cancelled"] += [it for it in cancelled if it not in self.content["cancelled"]]
+        if known is not None:
+            every = {row_place(it): it for it in known}
+            for it in rows:
+                every[row_place(it)] = [*every.get(row_place(it), it)[:3], it[3]]
+            found = [with_sums(it, self.content["cancelled"]) for it in every.values()]
+            self.content["rows"] = found if len(found) <= MOST_ROWS else None
+        self.file = write(self.club, self.content)
+
+    def note_mail(self, member):
+        add(self.file, MAILED + member)
+
+    def finish(self):
+        add(self.file, DONE)
+
+
+def with_sums(row, cancelled):
+    """A row whose sums before are those after with the cancelled bookings: between two runs members may have booked."""
+    table, rowid, was, is_now = row
+    if table == "slots":
+        persons = sum(it[5] + 1 for it in cancelled if it[2:5] == is_now[:3])
+        if was or persons:
+            was = [*is_now[:3], was[3] if was else 0, is_now[4] + persons]
+    elif table == "members":
+        was = [*was[:3], is_now[3] + sum(it[6] for it in cancelled if it[7] == was[0])]
+    return [table, rowid, was, is_now]
 
 
 def row_place(row):
     """The name of a row: its key, or its rowid where the key may change."""
     table, rowid, was, is_now = row
     return (table, *(was or is_now)[: KEYS[table]]) if table in KEYS else (table, rowid)
+
+
+def rows_of_member(db, member):
+    """The rows that have the name of a member or of one of its keys, by their tables and rowids."""
+    of_keys = "pass_key IN (SELECT name FROM keys WHERE member = ?)"
+    tables = (("members", "name = ?"), ("keys", "member = ?"), ("bookings", of_keys), ("old_roots", of_keys))
+    return {
+        (table, row[0]): [plain(it) for it in row[1:]]
+        for table, condition in tables
+        for row in db.execute(f"SELECT rowid, * FROM {table} WHERE {condition}", [member])
+    }
 
 
 # ---- An undo.

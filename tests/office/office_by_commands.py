@@ -1,20 +1,22 @@
 #!/usr/bin/env -S /usr/bin/python3 -B
-"""Corrections that the desk makes by commands leave the server alone; killed at each step and given again, they are done once.
+"""Corrections by commands leave the server alone; killed at each step and given again, they are done once.
 
 Each is killed before and after each program that it runs, and while its output isn't taken. Then the same order is given again: the club is
 as one order makes it, and the book has both. A command that outlives its order holds the next one up. The rows of a copy of before each, and
 what `undo` puts back, are compared. Wants root, for a machine of its own (tests/lib/office_room.sh).
 """
-# pytestmark = [mark.package, mark.faults, mark.root, mark.needs("clubdesk passtool"),
+# pytestmark = [mark.package, mark.faults, mark.speed("times"), mark.root, mark.alone, mark.needs("clubdesk passtool"),
 #     mark.wants("sudo sqlite3 openssl util-linux bsdutils iproute2 systemd python3-psutil")]
 
 import contextlib
 import datetime
+import json
 import os
 import shutil
 import sqlite3
 import subprocess
 import sys
+import threading
 import time
 from pathlib import Path
 
@@ -26,7 +28,8 @@ from office_room import HOME, ROOM, Service, begun, configure, done, kill, leave
 
 # The server's clock shows what the office's does.
 TODAY = datetime.date.today()
-PROGRAMS = {"clubdesk": Path("/usr/bin/clubdesk"), "back_up": Path("/usr/lib/clubdesk/back_up")}
+PASSES = {}
+PROGRAMS = {"clubdesk": Path("/usr/bin/clubdesk"), "back_up": Path("/usr/lib/clubdesk/back_up"), "systemctl": Path("/usr/bin/systemctl")}
 STOPPER = f"""#!/bin/sh
 # A program, before or after whose call of this number the order that runs it is killed, or which starts late.
 number=$(($(cat {ROOM}/calls) + 1))
@@ -131,7 +134,7 @@ class Reopening(Correction):
 class Prices(Correction):
     """A price, with the places and hours that the facility has."""
 
-    sql = "SELECT * FROM facilities"
+    sql = "SELECT * FROM facilities WHERE name = 'court-1'"
 
     def made(self):
         return ["set-facility", "court-1", f"--price={self.number}", f"--hours=7-{10 + self.number}"], [("court-1", "court", 4, self.number, 7, 10 + self.number)]
@@ -145,6 +148,74 @@ class Debit(Correction):
     def made(self):
         points = 1_000_000 + self.number
         return ["debit", "zoe", str(points)], [(rows(self.sql)[0][0] - points,)]
+
+
+class OfBookings(Correction):
+    """A correction at a day of its own, with bookings of zoe at ten and at eleven, one of them with a guest."""
+
+    bookings = 2
+
+    def made(self):
+        self.day = str(TODAY + datetime.timedelta(self.number))
+        for hour, guests in ((10, 0), (11, 1))[: self.bookings]:
+            self.booked += 1
+            path = f"/slots/{self.court}/{self.day}/{hour}/bookings/{self.booked}"
+            same(path, server.answer(PASSES["zoe"], "PUT", path, f'{{"guests":{guests}}}')[0], 200)
+        is_day = f"date(day * 86400, 'unixepoch') = '{self.day}' AND facility = '{self.court}'"
+        self.sql = f"""SELECT hour, cancelled, refund - charge, 0 FROM bookings WHERE {is_day} AND pass_key = 'zoe-1'
+            UNION ALL SELECT hour, closed, taken, 1 FROM slots WHERE {is_day} ORDER BY 4, 1"""
+        return self.words()
+
+    booked = 0
+
+
+class Cancelling(OfBookings):
+    court, bookings, booked = "court-2", 1, 1000
+
+    def words(self):
+        return ["cancel", "zoe-1", str(self.booked)], [(10, 1, 0, 0), (10, 0, 0, 1)]
+
+
+class Raining(OfBookings):
+    court, booked = "court-3", 2000
+
+    def words(self):
+        return ["rain", self.day, "court-3", "9-12"], [(10, 1, 0, 0), (11, 1, 0, 0), (10, 0, 0, 1), (11, 0, 0, 1)]
+
+
+class Closing(OfBookings):
+    """A third hour is free. The reason is written once."""
+
+    court, booked = "court-4", 3000
+
+    def words(self):
+        wanted = [(10, 1, 0, 0), (11, 1, 0, 0), (10, 1, 0, 1), (11, 1, 0, 1), (12, 1, 0, 1)]
+        return ["close", self.day, "10-13", "court-4", "--why", f"cup-{self.number}"], wanted
+
+    def hold_reasons(self):
+        same("the reasons of closed slots, each once", [it["why"] for it in json.loads((HOME / "club-reasons").read_text(encoding="utf-8"))],
+             [f"cup-{number}" for number in range(1, self.number + 1)])
+
+
+class Leaving(Correction):
+    """A member with two keys. One is revoked, and each has a booking to come."""
+
+    def made(self):
+        member = f"m{self.number}"
+        day, hour = str(TODAY + datetime.timedelta(1 + self.number // 14)), 8 + self.number % 14
+        done("add-member", member, "9")
+        done("credit", member, "1000")
+        for key in (1, 2):
+            text = done("add-key", f"{member}-{key}", member).strip()
+            path = f"/slots/court-5/{day}/{hour:02d}/bookings/1"
+            same(path, server.answer(text, "PUT", path, '{"guests":0}')[0], 200)
+        done("revoke-key", f"{member}-2")
+        done("person", member, given=f"{member}\n\n\n")
+        new = f"'{self.number}'"
+        self.sql = f"""SELECT name, quota, credited, used FROM members WHERE name IN ('{member}', {new})
+            UNION ALL SELECT name, revoked, (SELECT count(*) FROM bookings WHERE pass_key = name), (SELECT sum(refund) FROM bookings WHERE pass_key = name)
+            FROM keys WHERE member IN ('{member}', {new}) ORDER BY 1"""
+        return ["leave", member], [(str(self.number), 0, 1000, 0), (f"{self.number}-1", 1, 1, 200), (f"{self.number}-2", 1, 1, 200)]
 
 
 def killed_and_given_again(correction, programs):
@@ -203,6 +274,42 @@ def credited_meanwhile(correction):
     same(f"{words} begins anew", rows(correction.sql), [(before - int(words[-1]),)])
 
 
+def late(point, words, path):
+    """Gives an order that stops at a point until a booking of amy is made; its status and what it prints."""
+    order = stopped(f"{point} late", words)
+    same(path, server.answer(PASSES["amy"], "PUT", path, '{"guests":0}')[0], 200)
+    out, errors = order.communicate()
+    return order.returncode, out.splitlines(), errors
+
+
+def booked_meanwhile(closing):
+    """A slot that is booked right before it is closed is named. With --yes that booking is cancelled as well, and one undo takes all back."""
+    words, wanted = closing.next()
+    before = rows(closing.sql)
+    path = f"/slots/court-4/{closing.day}/10/bookings/1"
+    slot = f"court-4 {closing.day} 10:00"
+    status, out, errors = late(3, [*words, "--yes"], path)
+    same("a booking before a slot is closed", (status, errors, out[-5:]), (0, "", [
+        f"booked meanwhile: {slot}", f"cancels {slot}, 1 person, 200 points back: amy-1 1, amy", f"closes {slot}",
+        "in all: 1 booking cancelled, 200 points back to amy, 1 slot closed", "done"]))
+    same("its slots", rows(closing.sql), wanted)
+    sql = "SELECT cancelled, refund - charge FROM bookings WHERE pass_key = 'amy-1' AND number = 1"
+    same("its booking", rows(sql), [(1, 0)])
+    whole("a booking before a slot is closed")
+    undone(words, closing.sql, [(hour, closed, taken + 1 if (hour, kind) == (10, 1) else taken, kind) for hour, closed, taken, kind in before])
+    same("its booking stands again", rows(sql), [(0, -200)])
+
+
+def booked_out_of_hours(prices):
+    """A booking that is made right before its hour is left out stays, and is named."""
+    words, wanted = prices.next()
+    words[-1] = "--hours=10-20"
+    day = str(TODAY + datetime.timedelta(50))
+    status, out, errors = late(2, [*words, "--yes"], f"/slots/court-1/{day}/09/bookings/2")
+    same("a booking before its hour is left out", (status, out[-1], errors), (0, "done", f"booked meanwhile: amy-1 2 is booked {day} 09:00\n"))
+    same("the numbers then", rows(prices.sql), [(*wanted[0][:4], 10, 20)])
+
+
 def undone(words, sql, before):
     same(f"{words} is undone", lines("undo", "--yes")[-1], "done")
     same(f"{words} is undone: the club", rows(sql), before)
@@ -213,29 +320,75 @@ def undone(words, sql, before):
 def make_club():
     configure()
     done("new")
-    for words in ("add-facility court-1 court 4 200 8 22", "add-member zoe 99", "add-member amy 5", "credit amy 10000"):
+    for number in range(1, 6):
+        done("add-facility", f"court-{number}", "court", "4", "200", "8", "22")
+    for words in ("add-member zoe 99", "add-member amy 5", "credit amy 10000"):
         done(*words.split())
+    for member in ("zoe", "amy"):
+        PASSES[member] = done("add-key", f"{member}-1", member).strip()
     for _ in range(30):
         done("credit", "zoe", "1000000")
 
 
+def tournament():
+    """Four courts are closed for a day with 60 bookings, beside a client. Prints how long all took, and the longest wait for a reply."""
+    day, taken = str(TODAY + datetime.timedelta(30)), 0
+    for court in range(1, 5):
+        for hour in range(8, 22):
+            for _ in range(2 if hour == 8 else 1):
+                taken += 1
+                path = f"/slots/court-{court}/{day}/{hour:02d}/bookings/{taken}"
+                same(path, server.answer(PASSES["zoe"], "PUT", path, '{"guests":0}')[0], 200)
+    same("bookings of the day", taken, 60)
+    is_over, waits = threading.Event(), []
+
+    def asks():
+        while not is_over.is_set():
+            begun_at = time.monotonic()
+            server.answer(PASSES["amy"], "GET", "/account")
+            waits.append(time.monotonic() - begun_at)
+            time.sleep(0.005)
+
+    client = threading.Thread(target=asks)
+    client.start()
+    begun_at = time.monotonic()
+    shown = lines("close", day, "8-22", "court-1", "court-2", "court-3", "court-4", "--yes")
+    whole_time = time.monotonic() - begun_at
+    is_over.set()
+    client.join()
+    same("a tournament", shown[-2:], ["in all: 60 bookings cancelled, 12000 points back to zoe, 56 slots closed", "done"])
+    print(f"a tournament of 60 bookings and 56 slots took {whole_time:.2f} s; of {len(waits)} replies the longest came after {max(waits) * 1000:.1f} ms")
+    same("it takes at most 3 s, and no reply more than 20 ms", (whole_time < 3, max(waits) < 0.02), (True, True))
+    same("the server goes on", server.starts, 1)
+    whole("a tournament")
+
+
 make_club()
+if sys.argv[1:] == ["times"]:
+    server = Service(at=f"{TODAY}T00:00")
+    tournament()
+    server.stop()
+    leave()
 put_stoppers()
-server = Service()
-# Each with the programs that it runs: one copies the club, the others are its commands.
-quota, debit = Quota(), Debit()
-prices = Prices()
-for correction, programs in ((quota, 2), (Reopening(), 3), (debit, 3), (prices, 2)):
+server = Service(at=f"{TODAY}T00:00")
+quota, debit, prices, closing = Quota(), Debit(), Prices(), Closing()
+corrections = [(quota, 2), (Reopening(), 3), (debit, 3), (prices, 3), (Cancelling(), 2), (Raining(), 3), (closing, 6)]
+for correction, programs in corrections:
     killed_and_given_again(correction, programs)
+closing.hold_reasons()
 outlives_its_order(debit, 3)
 credited_meanwhile(debit)
+booked_out_of_hours(prices)
 same("the server goes on", server.starts, 1)
+killed_and_given_again(Leaving(), 6)
+same("nobody is a person", [it for it in (HOME / "club-people.csv").read_text(encoding="utf-8").splitlines() if it.startswith("m")], ["member,name,mail,telephone"])
 same("what is left of copies", [it for folder in (Path("/dev/shm"), HOME) for it in folder.glob(".office-*")], [])
-for correction in (quota, debit, prices):
-    before = rows(correction.sql)
+for correction in (quota, debit, prices, closing):
     words, _ = correction.next()
+    before = rows(correction.sql)
     killed("2 after", [*words, "--yes"])
     done(*words, "--yes")
     undone(words, correction.sql, before)
+booked_meanwhile(closing)
 server.stop()
 leave()

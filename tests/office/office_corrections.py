@@ -7,7 +7,7 @@ import subprocess
 import time
 
 from office_checks import AT, COPIES, DAY, YES, account, asked, book, changed_meanwhile, lines, refused, slot
-from office_room import CLUB, HOME, ROOM, Service, configure, desk, done, everything, mode, office, rows, run_as, same, whole
+from office_room import CLUB, HOME, ROOM, Service, begun, configure, desk, done, everything, mode, office, rows, run_as, same, whole
 
 
 def corrections(server, amy, bob):
@@ -125,12 +125,22 @@ def by_hand(sql):
 
 
 def booked_meanwhile(server):
-    text = done("add-key", "amy-5", "amy").strip()
-    book(server, text, "court-2", 17, 1, 0)
-    changed_meanwhile(["close", DAY, "17-18", "court-2"], f"cancels court-2 {DAY} 17:00, 1 person, 200 points back: amy-5 1, amy",
-                      lambda: book(server, text, "court-2", 17, 2, 0))
-    same("the slot", slot(server, text, "court-2", 17)["taken"], 2)
-    whole("a change meanwhile")
+    """A slot that is booked between the question and its answer stays open, is named, and asked about again; the booking stays if the clerk declines."""
+    text, slot_text = done("add-key", "amy-5", "amy").strip(), f"court-2 {DAY} 17:00"
+    for number, answers, status, last in ((1, "y\nn\n", 1, None), (3, "y\ny\n", 0, "done")):
+        book(server, text, "court-2", 17, number, 0)
+        with begun("close", DAY, "17-18", "court-2", *AT) as command:
+            while (line := command.stdout.readline()) and f"amy-5 {number}, amy" not in line:
+                pass
+            book(server, text, "court-2", 17, number + 1, 0)
+            out, errors = command.communicate(answers)
+        same(f"booked meanwhile, {answers!r}", (command.returncode, "not confirmed; what was confirmed before is done" in errors), (status, status == 1))
+        same("what is named", out.partition("booked meanwhile: ")[2].splitlines()[:3], [
+            slot_text, f"cancels {slot_text}, 1 person, 200 points back: amy-5 {number + 1}, amy", f"closes {slot_text}"])
+        same("the end", last in (None, out.splitlines()[-1].rpartition("] ")[2]), True)
+        same("the slot", lines("show-slot", "court-2", DAY, "17")[6:], [f"taken {status}", f"closed {'no' if status else 'yes'}"])
+    done("reopen-slot", "court-2", DAY, "17", *YES)
+    whole("bookings meanwhile")
 
 
 def back_ups():
