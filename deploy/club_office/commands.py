@@ -28,7 +28,7 @@ from club_office.restoring import list_copies, restore
 from club_office.season import credit_all
 from club_office.texts import say, usage
 from club_office.typed import Reader, confirms_odd, names_of, print_names, read_words
-from club_office.undoing import plan_undo
+from club_office.undoing import is_by_command, plan_undo, plan_undo_by_command
 from club_office.values import MOST_CREDIT, MOST_NUMBER, copy_name, day, days, hour_or_hours, hours, moment, name, names, number, weekday
 
 
@@ -341,6 +341,8 @@ def at_desk(given):
         return correct(club, words, lambda db, found, now: plans.plan_new_year(db, found, now, club))
     if words.command in by_commands.CORRECTIONS:
         return by_commands.correct(club, words, command.does, lambda: keep_outputs(club, words))
+    if words.command == "undo" and is_by_command(club):
+        return by_commands.correct(club, words, lambda db, _words, _now: plan_undo_by_command(db, club), lambda: keep_outputs(club, words))
     if command.kind == CORRECTION:
         status = correct(club, words, command.does or (lambda db, _words, _now: plan_undo(db, club)))
         if status == 0:

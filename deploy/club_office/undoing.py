@@ -7,13 +7,16 @@ import os
 import time
 
 from club_office.copies import address, synced
-from club_office.faults import refusal
-from club_office.plans import Plan
+from club_office.faults import nothing_left, refusal
+from club_office.plans import Edit, Plan
 from club_office.texts import say
+from club_office.values import MOST_CREDIT
 
 TABLES = ("members", "facilities", "keys", "slots", "bookings", "old_roots")
 # The first columns of these tables are the key; of other tables the first one is.
 KEYS = {"slots": 3, "bookings": 2}
+# The columns of tables whose rows a command changes.
+COLUMNS = {"members": ("name", "credited", "quota", "used"), "facilities": ("name", "kind", "places", "price", "opens", "shuts")}
 # More rows than these are no correction of a clerk's hand. A new year keeps a file of its own, and an undo is none.
 MOST_ROWS = 5_000
 NOT_UNDONE = "new-year"
@@ -208,7 +211,7 @@ def rows_of_member(db, member):
 def plan_undo(db, club):
     """Puts the rows of the last correction back, each only if it is as the correction left it, or, of one that was broken off, as it was."""
     it = read(club)
-    if not it or it["rows"] is None:
+    if not it or it["rows"] is None or is_undo(it):
         raise refusal("no undo", club=club.name)
     plan = Plan()
     plan.tell("undoes", moment=it["moment"], words=" ".join(it["words"]))
@@ -235,6 +238,58 @@ def plan_undo(db, club):
         plan.tell("puts back" if was is not None else "takes away", row=row_text(table, was or is_now))
     if not plan.undone:
         raise refusal("no undo", club=club.name)
+    return plan
+
+
+def is_undo(content):
+    return content["words"][0] == "undo"
+
+
+def order_between(table, now, then):
+    """The command that makes a row another one, and its edit; None if no single one does."""
+    columns = COLUMNS.get(table) if now and then else None
+    changed = {it: after for it, before, after in zip(columns or (), now or (), then or ()) if before != after}
+    if changed.keys() == {"quota"}:
+        return ["set-quota", now[0], changed["quota"]], Edit(table, (now[0],), changed)
+    if changed.keys() == {"credited"} and 0 < then[1] - now[1] <= MOST_CREDIT:
+        return ["credit", now[0], then[1] - now[1]], Edit(table, (now[0],), changed)
+    if changed and changed.keys() <= {"places", "price", "opens", "shuts"}:
+        return ["set-facility", now[0], *then[2:]], Edit(table, (now[0],), changed)
+    return None
+
+
+def row_undone(content):
+    """The one row that an undo changes, as it is before and after it, if a command does it; else None."""
+    rows = content["rows"] or [] if content else []
+    if len(rows) != 1:
+        return None
+    table, rowid, was, is_now = rows[0]
+    before, after = (was, is_now) if is_undo(content) else (is_now, was)
+    return (table, rowid, before, after) if order_between(table, before, after) else None
+
+
+def is_by_command(club):
+    """Whether a command undoes the last correction, or goes on with its undo."""
+    return row_undone(read(club)) is not None
+
+
+def plan_undo_by_command(db, club):
+    """Puts the one row of the last correction back by a command, if it is as the correction left it."""
+    it = read(club)
+    row = row_undone(it)
+    if row is None:
+        raise refusal("changed since")
+    table, rowid, before, after = row
+    values = db.execute(f"SELECT * FROM {table} WHERE rowid = ?", [rowid]).fetchone()
+    found = [plain(value) for value in values] if values else None
+    if it["is_done"] and is_undo(it) or not it["is_done"] and found == after:
+        raise nothing_left("no undo", club=club.name)
+    if found != before:
+        raise refusal("touched since", row=row_text(table, before), club=club.name)
+    plan = Plan()
+    plan.tell("undoes", moment=it["moment"], words=" ".join(it["words"]))
+    plan.tell("puts back", row=row_text(table, after))
+    plan.order(*order_between(table, before, after))
     return plan
 
 

@@ -4,6 +4,8 @@
 Each is killed before and after each program that it runs, and while its output isn't taken. Then the same order is given again: the club is
 as one order makes it, and the book has both. A command that outlives its order holds the next one up. The rows of a copy of before each, and
 what `undo` puts back, are compared. Wants root, for a machine of its own (tests/lib/office_room.sh).
+
+  tests/office/office_by_commands.py [debit|times]    debit: debits alone; times: how long a tournament takes, and a client beside it waits
 """
 # pytestmark = [mark.package, mark.faults, mark.speed("times"), mark.root, mark.alone, mark.needs("clubdesk passtool"),
 #     mark.wants("sudo sqlite3 openssl util-linux bsdutils iproute2 systemd python3-psutil")]
@@ -118,6 +120,17 @@ class Quota(Correction):
 
     def made(self):
         return ["set-quota", "zoe", str(self.number)], [(self.number,)]
+
+
+class Undoing(Correction):
+    """An undo of what one command does."""
+
+    sql = "SELECT quota FROM members WHERE name = 'amy'"
+
+    def made(self):
+        before = rows(self.sql)
+        done("set-quota", "amy", str(20 + self.number), "--yes")
+        return ["undo"], before
 
 
 class Reopening(Correction):
@@ -372,7 +385,12 @@ if sys.argv[1:] == ["times"]:
 put_stoppers()
 server = Service(at=f"{TODAY}T00:00")
 quota, debit, prices, closing = Quota(), Debit(), Prices(), Closing()
-corrections = [(quota, 2), (Reopening(), 3), (debit, 3), (prices, 3), (Cancelling(), 2), (Raining(), 3), (closing, 6)]
+if sys.argv[1:] == ["debit"]:
+    killed_and_given_again(debit, 3)
+    outlives_its_order(debit, 3)
+    server.stop()
+    leave()
+corrections = [(quota, 2), (Undoing(), 2), (Reopening(), 3), (debit, 3), (prices, 3), (Cancelling(), 2), (Raining(), 3), (closing, 6)]
 for correction, programs in corrections:
     killed_and_given_again(correction, programs)
 closing.hold_reasons()
