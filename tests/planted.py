@@ -134,6 +134,7 @@ PLANTS = {
     "proxy_holds": ("deploy/nginx.conf", "limit_req_status 429;", "limit_req_status 503;", "were limited"),
     "refused_memory": ("tests/lib/refused_memory.c", "errno = ENOMEM;", "abort();", "(-6, "),
     "requests_of_pages": ("docs/CLIENT.md", '"refund":300', '"refund":301', "test_page[CLIENT.md]"),
+    "run_tells": ("tests/lib/scripts.py", "os.kill(it, signal.SIGKILL)", "pass", "assert all_are_gone", "-k", "too_long"),
     "running_holds": ("deploy/back_up", 'cp -- "$1-wal" "$work/copy-wal"', ":", "a copy: wanted and found"),
     "running_holds:full-disk": ("deploy/back_up", 'said=$(LC_ALL=C cp -- "$1" "$work/copy" 2>&1) || fail "$said"', 'cp -- "$1" "$work/copy" || :',
                                 "the lines of a refused copy"),
