@@ -66,11 +66,15 @@ class World(Both):
     def words_of_command(self):
         draw = self.draw
         kind = draw.choice(("add-member", "credit", "credit", "add-facility", "add-key", "add-key", "revoke-key", "rotate-key", "close-slot",
-                            "open-slot", "set-quota"))
+                            "open-slot", "set-quota", "debit"))
         if kind == "add-member":
             return kind, draw.choice(MEMBERS), draw.choice((0, 1, 3, 99, 99, 100))
         if kind == "credit":
             return kind, draw.choice(MEMBERS), draw.choice((0, 1, 600, 49_999, 1_000_000, 1_000_001))
+        if kind == "debit":
+            member = draw.choice(MEMBERS)
+            balance = self.club.balance(member) if member in self.club.members else 0
+            return kind, member, draw.choice((0, 1, 600, balance, balance + 1, 1_000_000, 1_000_001))
         if kind == "set-quota":
             return kind, draw.choice(MEMBERS), draw.choice((0, 1, 3, 99, 100))
         if kind == "add-facility":

@@ -111,6 +111,10 @@ class Year(Both):
         if draw.random() < 0.1 and self.club.closed:
             self.give(("open-slot", *draw.choice(sorted(self.club.closed))))
         if draw.random() < 0.05:
+            member = draw.choice(MEMBERS)
+            balance = self.club.balance(member)
+            self.give(("debit", member, draw.choice((1, 500, balance // 2, balance, balance + 1))))
+        if draw.random() < 0.05:
             self.give(("set-quota", draw.choice(MEMBERS), draw.choice((0, 3, 5, 99, 100))))
         if draw.random() < 0.1:
             self.give_and_kill(("add-key", f"k{self.next_key}", draw.choice(MEMBERS), draw.randbytes(16)))

@@ -195,6 +195,8 @@ def command_state(club, words):
         return values[0] in club.members, values[1]
     if name == "credit":
         return values[0] in club.members and club.members[values[0]].credited, values[1]
+    if name == "debit":
+        return values[0] in club.members and club.balance(values[0]), values[1]
     if name == "set-quota":
         return values[0] in club.members, values[1]
     if name == "open-slot":

@@ -18,7 +18,7 @@ AGAIN = "anywhere in the next line; then the same line again"
 REFUSALS = ("exists", "unknown", "out of range", "slot in use")
 # The kinds of each command's values. OF_KEYS has the commands that print a key's pass, with the place of the root among the values.
 COMMANDS = {
-    "add-member": ("name", "number"), "credit": ("name", "number"), "set-quota": ("name", "number"),
+    "add-member": ("name", "number"), "credit": ("name", "number"), "debit": ("name", "number"), "set-quota": ("name", "number"),
     "add-facility": ("name", "kind", "number", "number", "number", "number"),
     "add-key": ("name", "name", "root"), "revoke-key": ("name",), "rotate-key": ("name", "root", "moment"),
     "close-slot": ("name", "day", "hour"), "open-slot": ("name", "day", "hour"),

@@ -225,6 +225,12 @@ class Club:
         refuse_if("out of range", self.members[member].credited + points > MOST_POINTS)
         self.members[member].credited += points
 
+    def command_debit(self, member, points):
+        refuse_if("out of range", not 1 <= points <= 1_000_000)
+        refuse_if("unknown", member not in self.members)
+        refuse_if("out of range", points > self.balance(member))
+        self.members[member].credited -= points
+
     def command_set_quota(self, member, quota):
         refuse_if("out of range", quota > 99)
         refuse_if("unknown", member not in self.members)
