@@ -81,7 +81,7 @@ WRITTEN = {
     "club.Club.decide_cancel": "club_core.Verdict: cancelled_now cancelled_before cancel_lines cancel_recorded_verdict unknown_verdict "
                                "cancel_verdict; club_core.After: is_marked cancelled_booking",
     "club.Club.refund": "club_rows.Booking: full_refund_ahead refund_at",
-    "club.Club.command_credit": "club_core.Office: points_limit credit_verdict; club_core.After: credited_member; club_rows.Limits: credited_limit",
+    "club.Club.command_credit": "club_core.Office: points_limit are_points credit_verdict; club_core.After: credited_member; club_rows.Limits: credited_limit",
     "club.Club.command_revoke_key": "club_core.After: revoked_key",
     "club.Club.command_rotate_key": "club_core.Office: rotate_verdict; club_core.After: good_until rotated_key",
     "club.Club.command_close_slot": "club_core.Office: close_verdict",

@@ -7,14 +7,14 @@ use Rattle.std.specs.{List.list_any, Prelude.{Option, Some, find, filter, map, A
 use Rattle.club_values.specs.declared.slot.Slot.{Slot}
 use Rattle.club_rows.specs.{Booking.{same_slot, persons_of}, Facility.charge_of, declared.{booking.Booking.Booking, facility.Facility.Facility, key.Key.Key}}
 use Rattle.club_rows.specs.declared.member.Member.{Member}
-use Rattle.club_core.specs.{After.{after, credited_member, member_with_quota, cancelled_booking}, Answer.{answer_to, answer_by_basis}}
+use Rattle.club_core.specs.{After.{after, credited_member, debited_member, member_with_quota, cancelled_booking}, Answer.{answer_to, answer_by_basis}}
 use Rattle.club_core.specs.{Basis.{Basis, view_of, basis_of}, Club.{Club, member_named, is_key_of, facility_named, key_named, bookings_of}}
 use Rattle.club_core.specs.{Office.office_verdict, Pass.{Pass, Words}, Request.request_slot, Run.after_change, Solo.{part_of, with_others, solo_verdict}}
 use Rattle.club_core.specs.{Sums.{is_in, taken_in, cost_of, is_under, spent_under, balance_of}, Verdict.{new_booking, verdict_of}}
 use Rattle.club_core.specs.declared.change.Change.{Change, TheVariants.{InsertMember, AddCredit, InsertFacility, InsertBooking, MarkCancelled, InsertKey}}
-use Rattle.club_core.specs.declared.{change.Change.TheVariants.{MarkRevoked, ReplaceRoot, MarkClosed, MarkOpen, ReplaceQuota}, command.Command.Command}
-use Rattle.club_core.specs.declared.{command.OfficeFault.OfficeFault, pass_fault.PassFault.PassFault, request.Request.Request, slot_use.SlotUse.SlotUse}
-use Rattle.club_core.specs.declared.view.View.{View}
+use Rattle.club_core.specs.declared.change.Change.TheVariants.{TakeCredit, MarkRevoked, ReplaceRoot, MarkClosed, MarkOpen, ReplaceQuota}
+use Rattle.club_core.specs.declared.{command.{Command.Command, OfficeFault.OfficeFault}, pass_fault.PassFault.PassFault, request.Request.Request}
+use Rattle.club_core.specs.declared.{slot_use.SlotUse.SlotUse, view.View.View}
 use Rattle.club_reference.specs.Widths.{FitsWidths}
 use Rattle.club_core.specs.declared.request.Request.TheVariants as asked
 use Rattle.club_core.specs.declared.command.Command.TheVariants as commands
@@ -124,6 +124,14 @@ fits_add_credit club name points member h found fits =
     let is : named name row ≡ true → member ≡ row =
     λ e. same_Some member row (sym found ∙ subst (λ n. find (named n) club.members ≡ Some row) (bytes_eq_true row.name name e) (h.unique k d lt)) in
     grind arith) in
+    let unique = all_map (IsNamed (map edit club.members)) edit club.members (λ k d lt.
+    find-map (named (get_or club.members k d).name) edit club.members (λ m. refl) ∙ ap (option_map edit) (h.unique k d lt)) in
+    assumption
+
+pub fits_take_credit : (club : Club) (name : List ℕ) (points : ℕ) → FitsWidths club → FitsWidths (after (TakeCredit name points) club)
+fits_take_credit club name points h =
+    let edit = debited_member name points in
+    let credited = all_map (λ (m : Member). m.credited ≤ 999_999_999) edit club.members (λ k d lt. let few = h.credited k d lt in grind arith) in
     let unique = all_map (IsNamed (map edit club.members)) edit club.members (λ k d lt.
     find-map (named (get_or club.members k d).name) edit club.members (λ m. refl) ∙ ap (option_map edit) (h.unique k d lt)) in
     assumption
@@ -339,10 +347,12 @@ module _ (P : Result Change OfficeFault → Type 0) (club : Club) (fails : (faul
     → P (Ok (AddCredit name points))) (builds : (facility : Facility) → facility.places ≤ 50 → P (Ok (InsertFacility facility)))
     (keys : (key : Key) → P (Ok (InsertKey key))) (revokes : (name : List ℕ) → P (Ok (MarkRevoked name)))
     (rotates : (name former root : List ℕ) (until : ℕ) → P (Ok (ReplaceRoot name former root until))) (closes : (slot : Slot) → P (Ok (MarkClosed slot)))
-    (opens : (slot : Slot) → P (Ok (MarkOpen slot))) (quotas : (name : List ℕ) (quota : ℕ) → P (Ok (ReplaceQuota name quota))) where
+    (opens : (slot : Slot) → P (Ok (MarkOpen slot))) (quotas : (name : List ℕ) (quota : ℕ) → P (Ok (ReplaceQuota name quota)))
+    (debits : (name : List ℕ) (points : ℕ) → P (Ok (TakeCredit name points))) where
   command_cases : (command : Command) → P (office_verdict club command)
   command_cases (commands.AddMember name quota) = grind (arith, fails, joins)
   command_cases (commands.Credit name points) = grind (arith, nat_tests, fails, credits)
+  command_cases (commands.Debit name points) = grind (arith, nat_tests, fails, debits)
   command_cases (commands.AddFacility name kind places price opens shuts) = grind (arith, nat_tests, fails, builds)
   command_cases command = grind (arith, fails, keys, revokes, rotates, closes, opens, quotas)
 
@@ -351,4 +361,4 @@ keeps_command club command h =
     command_cases (KeepsIfOk club) club (λ fault. tt) (λ name quota none. fits_insert_member club _ h (omega arith) none)
     (λ name points member. fits_add_credit club name points member h) (λ facility. fits_insert_facility club facility h)
     (λ key. assumption) (λ name. assumption) (λ name former root until. assumption) (λ slot. assumption) (λ slot. assumption)
-    (λ name quota. fits_replace_quota club name quota h) command
+    (λ name quota. fits_replace_quota club name quota h) (λ name points. fits_take_credit club name points h) command

@@ -3,7 +3,7 @@
 ghost use Rattle.std.specs.Prelude.{◌≡◌, OnOk, OnErr, IsTrue};
 
 use crate::club::Club;
-use crate::edits::{cancel, credit, open, revoke, rotate, set_quota};
+use crate::edits::{cancel, credit, debit, open, revoke, rotate, set_quota};
 use club_core::Change;
 use std::alloc::AllocError;
 
@@ -21,6 +21,7 @@ impl Club {
         match change {
             Change::InsertMember(member) => self.members.push(member)?,
             Change::AddCredit { member, points } => credit(&mut self.members, &member, points),
+            Change::TakeCredit { member, points } => debit(&mut self.members, &member, points),
             Change::ReplaceQuota { member, quota } => set_quota(&mut self.members, &member, quota),
             Change::InsertFacility(facility) => self.facilities.push(facility)?,
             Change::InsertKey(key) => self.keys.push(key)?,

@@ -31,6 +31,26 @@ pub(crate) fn credit(members: &mut [Member], name: &Name, points: u32)
     }
 }
 
+fn debit_row(member: &Member, name: &Name, points: u32) -> Member
+    ensures { result ≡ after.debited_member name.now points member.now }
+{
+    let mut member = *member;
+    if member.name == *name {
+        member.credited = member.credited.saturating_sub(points);
+    }
+    member
+}
+
+/// Takes points from what the member of the name was credited.
+#[tactic(auto, using(crate::proofs::EditLemmas::edited_more))]
+pub(crate) fn debit(members: &mut [Member], name: &Name, points: u32)
+    ensures { members.new ≡ map (after.debited_member name.now points) members.old }
+{
+    for member in members.iter_mut() {
+        *member = debit_row(member, name, points);
+    }
+}
+
 fn quota_row(member: &Member, name: &Name, quota: u8) -> Member
     ensures { result ≡ after.member_with_quota name.now quota member.now }
 {

@@ -6,15 +6,16 @@ ghost use Rattle.club_core.specs.Office.{rows_seen};
 use crate::club::Club;
 use crate::sums::{balance, open_count, persons_in, recorded_booking, spent};
 use crate::words::Words;
-use club_core::{Command, CommandView, KeyView, Request, SlotUse, View};
+use club_core::{Command, CommandView, KeyView, MemberAccount, Request, SlotUse, View};
 use club_rows::{Facility, Key, Member};
-use club_values::{Moment, Slot};
+use club_values::{Moment, Name, Slot};
 
 fn rows_seen(member: Option<Member>, key: Option<Key>, facility: Option<Facility>) -> CommandView
     ensures { result ≡ rows_seen member key facility }
 {
     CommandView {
         member,
+        account: None,
         key,
         facility,
         slot: SlotUse {
@@ -25,8 +26,8 @@ fn rows_seen(member: Option<Member>, key: Option<Key>, facility: Option<Facility
 }
 
 impl Club {
-    ghost use Rattle.club_core.specs.Basis.{basis_of, basis_under, seen_of, slot_use_by};
-    ghost use Rattle.club_core.specs.Office.{command_view};
+    ghost use Rattle.club_core.specs.Basis.{account_named, basis_of, basis_under, seen_of};
+    ghost use Rattle.club_core.specs.{Basis.slot_use_by, Office.command_view};
     ghost use Rattle.club_reference.specs.computed.Words.{words_model};
 
     /// The use of a slot: its persons, and whether it is closed; none without a slot.
@@ -92,7 +93,19 @@ impl Club {
         }
     }
 
-    /// The view of a command: the rows that it names, and the use of its slot.
+    /// The member of this name with its balance.
+    fn account_named(&self, name: &Name) -> Option<MemberAccount>
+        ensures { result ≡ account_named name.now self.now }
+    {
+        let member = self.member_named(name)?;
+        Some(MemberAccount {
+            member,
+            balance: self.balance(&member),
+        })
+    }
+
+    /// The view of a command: the rows that it names, the balance that it takes points of, and the
+    /// use of its slot.
     pub(crate) fn command_view(&self, command: &Command) -> CommandView
         ensures { result ≡ command_view self.now command.now }
     {
@@ -104,6 +117,10 @@ impl Club {
                 None,
                 None,
             ),
+            Command::Debit { member, .. } => CommandView {
+                account: self.account_named(member),
+                ..rows_seen(None, None, None)
+            },
             Command::AddFacility { name, .. } => rows_seen(None, None, self.facility_named(name)),
             Command::AddKey { name, member, .. } => rows_seen(
                 self.member_named(member),
@@ -115,10 +132,8 @@ impl Club {
             }
             Command::OpenSlot(slot) => rows_seen(None, None, self.facility_named(&slot.facility)),
             Command::CloseSlot(slot) => CommandView {
-                member: None,
-                key: None,
-                facility: self.facility_named(&slot.facility),
                 slot: self.slot_use(Some(*slot)),
+                ..rows_seen(None, None, self.facility_named(&slot.facility))
             },
         }
     }

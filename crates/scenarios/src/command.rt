@@ -90,6 +90,10 @@ impl<'a> Values<'a> {
                 member: self.name()?,
                 points: self.number()?,
             },
+            "debit" => Command::Debit {
+                member: self.name()?,
+                points: self.number()?,
+            },
             "set-quota" => Command::SetQuota {
                 member: self.name()?,
                 quota: self.number()?,

@@ -13,6 +13,8 @@ pub enum PlainCommand {
     AddMember(&'static str, u32),
     /// So many points for a member.
     Credit(&'static str, u32),
+    /// Points that are taken back from a member.
+    Debit(&'static str, u32),
     /// Another quota for a member.
     SetQuota(&'static str, u32),
     /// A facility with so many places, each for so many points, from one hour to another.
@@ -48,6 +50,11 @@ fn add_member(member: &str, quota: u32) -> Option<Command> {
 fn credit(member: &str, points: u32) -> Option<Command> {
     let member = Name::read(member.as_bytes())?;
     Some(Command::Credit { member, points })
+}
+
+fn debit(member: &str, points: u32) -> Option<Command> {
+    let member = Name::read(member.as_bytes())?;
+    Some(Command::Debit { member, points })
 }
 
 fn set_quota(member: &str, quota: u32) -> Option<Command> {
@@ -105,6 +112,7 @@ impl PlainCommand {
         match self {
             PlainCommand::AddMember(member, quota) => add_member(member, *quota),
             PlainCommand::Credit(member, points) => credit(member, *points),
+            PlainCommand::Debit(member, points) => debit(member, *points),
             PlainCommand::SetQuota(member, quota) => set_quota(member, *quota),
             PlainCommand::AddFacility(facility, kind, places, price, opens, shuts) => {
                 add_facility(facility, *kind, (*places, *price), (*opens, *shuts))

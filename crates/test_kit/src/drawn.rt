@@ -190,7 +190,8 @@ impl Numbers {
         let member = MEMBERS[self.below(3) as usize];
         let key = KEYS[self.below(4) as usize];
         match self.below(24) {
-            0..=5 => PlainCommand::Credit(member, self.below(400)),
+            0..=3 => PlainCommand::Credit(member, self.below(400)),
+            4 | 5 => PlainCommand::Debit(member, self.below(500)),
             6 | 7 => PlainCommand::SetQuota(member, self.below(110)),
             8 => PlainCommand::RevokeKey(key),
             9 => PlainCommand::CloseSlot(self.slot()),

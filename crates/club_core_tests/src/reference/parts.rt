@@ -180,6 +180,29 @@ fn a_part_has_its_members_quota(rt: HostRuntime) {
     plays(&rt, &mut club, &QUOTAS);
 }
 
+/// A debit of all points but those of a booking, and one of a point more.
+static DEBITS: [Step; 5] = [
+    Step::Gives(PlainCommand::Debit("amy", 9_401), Answer::Done),
+    Step::Asks(
+        NOON,
+        AMY,
+        BOOK_7,
+        PlainReply::Refused(Refusal::BalanceTooLow),
+    ),
+    Step::Gives(PlainCommand::Credit("amy", 1), Answer::Done),
+    Step::Asks(NOON, AMY, BOOK_7, BOOKED_7),
+    Step::Asks(NOON, AMY, ACCOUNT, SPENT_ALL),
+];
+
+const SPENT_ALL: PlainReply = PlainReply::AccountShown(0, 1, 600);
+
+#[test]
+fn a_part_has_its_members_debits(rt: HostRuntime) {
+    let mut club = fixture_club(&rt);
+    plays_alone(&rt, &mut amys_part(&rt, &club), NOTHING, &DEBITS);
+    plays(&rt, &mut club, &DEBITS);
+}
+
 static AMY_BOOKS: [Step; 1] = [Step::Asks(NOON, AMY, BOOK_7, BOOKED_7)];
 
 static AMY_CANCELS: [Step; 2] = [
