@@ -66,7 +66,7 @@ class World(Both):
     def words_of_command(self):
         draw = self.draw
         kind = draw.choice(("add-member", "credit", "credit", "add-facility", "add-key", "add-key", "revoke-key", "rotate-key", "close-slot",
-                            "open-slot", "set-quota", "debit"))
+                            "open-slot", "set-quota", "debit", "set-facility"))
         if kind == "add-member":
             return kind, draw.choice(MEMBERS), draw.choice((0, 1, 3, 99, 99, 100))
         if kind == "credit":
@@ -81,6 +81,9 @@ class World(Both):
             opens, shuts = draw.choice(((8, 22), (0, 24), (18, 19), (9, 9), (0, 25)))
             return (kind, draw.choice(FACILITIES), draw.choice(caveats.KINDS), draw.choice((0, 1, 4, 50, 51)),
                     draw.choice((0, 1, 200, 601, 9999, 10000)), opens, shuts)
+        if kind == "set-facility":
+            opens, shuts = draw.choice(((8, 22), (8, 22), (0, 24), (18, 20), (9, 9), (0, 25)))
+            return kind, draw.choice(FACILITIES), draw.choice((0, 1, 2, 4, 50, 51)), draw.choice((0, 1, 200, 601, 9999, 10000)), opens, shuts
         if kind == "add-key":
             return kind, draw.choice(KEYS), draw.choice(MEMBERS), self.root()
         if kind == "revoke-key":

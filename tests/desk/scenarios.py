@@ -99,7 +99,7 @@ def filled(path):
             if isinstance(event, Request) and event.reply is None:
                 text[at] = padded(text[at], reply_in(found))
             elif isinstance(event, Office) and not event.outcomes:
-                text[at] = padded(text[at], outcome_of(found) + (f" or {outcome_of(player.found(event))}" if is_crash else ""))
+                text[at] = padded(text[at], " or ".join(dict.fromkeys(map(outcome_of, [found, player.found(event)] if is_crash else [found]))))
             elif isinstance(event, Listing) and event.lines is None:
                 text[at] += "".join(f"\n        {it}" for it in found[1:]) if event.words[0] == "sheet" else f"  {', '.join(found)}"
     return "\n".join(text)

@@ -115,6 +115,10 @@ class Year(Both):
             balance = self.club.balance(member)
             self.give(("debit", member, draw.choice((1, 500, balance // 2, balance, balance + 1))))
         if draw.random() < 0.05:
+            name, _, places, price, opens, shuts = draw.choice(FACILITIES)
+            self.give(("set-facility", name, draw.choice((1, places, places, places + 2)), draw.choice((price, price // 2, price + 30)),
+                       opens + draw.choice((0, 0, 2)), shuts - draw.choice((0, 0, 2))))
+        if draw.random() < 0.05:
             self.give(("set-quota", draw.choice(MEMBERS), draw.choice((0, 3, 5, 99, 100))))
         if draw.random() < 0.1:
             self.give_and_kill(("add-key", f"k{self.next_key}", draw.choice(MEMBERS), draw.randbytes(16)))

@@ -203,6 +203,8 @@ def command_state(club, words):
         return values[0] in club.facilities, tuple(values) in club.closed
     if name == "add-facility":
         return values[0] in club.facilities, *values[2:6]
+    if name == "set-facility":
+        return values[0] in club.facilities, club.most_taken(values[0]), *values[1:5]
     if name == "add-key":
         return values[1] in club.members, values[0] in club.keys
     key = club.keys.get(values[0])

@@ -20,6 +20,7 @@ REFUSALS = ("exists", "unknown", "out of range", "slot in use")
 COMMANDS = {
     "add-member": ("name", "number"), "credit": ("name", "number"), "debit": ("name", "number"), "set-quota": ("name", "number"),
     "add-facility": ("name", "kind", "number", "number", "number", "number"),
+    "set-facility": ("name", "number", "number", "number", "number"),
     "add-key": ("name", "name", "root"), "revoke-key": ("name",), "rotate-key": ("name", "root", "moment"),
     "close-slot": ("name", "day", "hour"), "open-slot": ("name", "day", "hour"),
 }

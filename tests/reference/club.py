@@ -108,6 +108,10 @@ class Club:
     def taken(self, slot):
         return self.taken_in.get(slot, 0)
 
+    def most_taken(self, facility):
+        """The persons of the fullest slot of a facility, of whatever day."""
+        return max((persons for slot, persons in self.taken_in.items() if slot[0] == facility), default=0)
+
     # ---- a request under a pass
 
     def ask(self, text, request, moment):
@@ -237,9 +241,15 @@ class Club:
         self.members[member].quota = quota
 
     def command_add_facility(self, name, kind, places, price, opens, shuts):
-        refuse_if("out of range", not (1 <= places <= 50 and price <= 9999 and opens < shuts <= 24))
+        refuse_if("out of range", not are_limits(places, price, opens, shuts))
         refuse_if("exists", name in self.facilities)
         self.facilities[name] = Facility(kind, places, price, opens, shuts)
+
+    def command_set_facility(self, name, places, price, opens, shuts):
+        refuse_if("out of range", not are_limits(places, price, opens, shuts))
+        refuse_if("unknown", name not in self.facilities)
+        refuse_if("slot in use", self.most_taken(name) > places)
+        self.facilities[name] = replace(self.facilities[name], places=places, price=price, opens=opens, shuts=shuts)
 
     def command_add_key(self, name, member, root):
         refuse_if("unknown", member not in self.members)
@@ -274,6 +284,11 @@ class Club:
         return sorted((it.slot[0], it.slot[2], key, number, it.guests + 1, it.charge)
                       for key, rows in self.bookings.items() for number, it in rows.items()
                       if it.slot[1] == day and not it.is_cancelled)
+
+
+def are_limits(places, price, opens, shuts):
+    """Whether a facility may have these numbers."""
+    return 1 <= places <= 50 and price <= 9999 and opens < shuts <= 24
 
 
 def refuse_if(word, is_refused):
