@@ -87,7 +87,8 @@ WRITTEN = {
     "club.Club.command_close_slot": "club_core.Office: close_verdict",
     "club.Club.command_open_slot": "club_core.After: closed_but",
     "club.Club.command_debit": "club_core.Office: debit_verdict; club_core.After: debited_member",
-    "club.Club.command_set_facility club.Club.most_taken": "club_core.Office: set_facility_verdict; club_core.After: facility_with",
+    "club.Club.command_set_facility club.Club.most_taken":
+        "club_core.Sums: is_at most_taken_in; club_core.After: facility_with_numbers",
     "club.Club.command_set_quota": "club_core.After: member_with_quota",
     "club.Club.command_add_member club.Club.command_add_facility club.Club.command_add_key club.are_limits":
         "club_core.Office: are_limits command_verdict office_verdict; club_rows.Limits: quota_limit places_limit price_limit shutting_limit",

@@ -9,11 +9,12 @@ use test_kit::roots::{ROOT, SECOND_ROOT};
 use test_kit::{COURT_AT_18, PlainCommand, minutes};
 
 /// A command, and the root in its answer, if it has a new key or a new root.
-static DONE: [(PlainCommand, Option<&[u8]>); 6] = [
+static DONE: [(PlainCommand, Option<&[u8]>); 7] = [
     (PlainCommand::RevokeKey("amy-1"), None),
     (PlainCommand::OpenSlot(COURT_AT_18), None),
     (PlainCommand::SetQuota("amy", 1), None),
     (PlainCommand::Debit("amy", 1), None),
+    (PlainCommand::SetFacility("court-1", 4, 200, 8, 22), None),
     (PlainCommand::AddKey("amy-1", "amy", ROOT), Some(ROOT)),
     (
         PlainCommand::RotateKey("amy-1", SECOND_ROOT, minutes::UNTIL),

@@ -7,12 +7,13 @@ use Rattle.std.specs.{List.list_any, Prelude.{Option, Some, find, filter, map, A
 use Rattle.club_values.specs.declared.slot.Slot.{Slot}
 use Rattle.club_rows.specs.{Booking.{same_slot, persons_of}, Facility.charge_of, declared.{booking.Booking.Booking, facility.Facility.Facility, key.Key.Key}}
 use Rattle.club_rows.specs.declared.member.Member.{Member}
-use Rattle.club_core.specs.{After.{after, credited_member, debited_member, member_with_quota, cancelled_booking}, Answer.{answer_to, answer_by_basis}}
-use Rattle.club_core.specs.{Basis.{Basis, view_of, basis_of}, Club.{Club, member_named, is_key_of, facility_named, key_named, bookings_of}}
-use Rattle.club_core.specs.{Office.office_verdict, Pass.{Pass, Words}, Request.request_slot, Run.after_change, Solo.{part_of, with_others, solo_verdict}}
+use Rattle.club_core.specs.After.{after, credited_member, debited_member, member_with_quota, facility_with_numbers, cancelled_booking}
+use Rattle.club_core.specs.{Answer.{answer_to, answer_by_basis}, Basis.{Basis, view_of, basis_of}}
+use Rattle.club_core.specs.{Club.{Club, member_named, is_key_of, facility_named, key_named, bookings_of}, Office.office_verdict, Pass.{Pass, Words}}
+use Rattle.club_core.specs.{Request.request_slot, Run.after_change, Solo.{part_of, with_others, solo_verdict}}
 use Rattle.club_core.specs.{Sums.{is_in, taken_in, cost_of, is_under, spent_under, balance_of}, Verdict.{new_booking, verdict_of}}
 use Rattle.club_core.specs.declared.change.Change.{Change, TheVariants.{InsertMember, AddCredit, InsertFacility, InsertBooking, MarkCancelled, InsertKey}}
-use Rattle.club_core.specs.declared.change.Change.TheVariants.{TakeCredit, MarkRevoked, ReplaceRoot, MarkClosed, MarkOpen, ReplaceQuota}
+use Rattle.club_core.specs.declared.change.Change.TheVariants.{TakeCredit, ReplaceNumbers, MarkRevoked, ReplaceRoot, MarkClosed, MarkOpen, ReplaceQuota}
 use Rattle.club_core.specs.declared.{command.{Command.Command, OfficeFault.OfficeFault}, pass_fault.PassFault.PassFault, request.Request.Request}
 use Rattle.club_core.specs.declared.{slot_use.SlotUse.SlotUse, view.View.View}
 use Rattle.club_reference.specs.Widths.{FitsWidths}
@@ -147,6 +148,13 @@ fits_replace_quota club name quota h =
 pub fits_insert_facility : (club : Club) (facility : Facility) → FitsWidths club → facility.places ≤ 50 → FitsWidths (after (InsertFacility facility) club)
 fits_insert_facility club facility h few =
     let places = All-push (λ (f : Facility). f.places ≤ 50) club.facilities facility h.places few in
+    assumption
+
+pub fits_replace_numbers : (club : Club) (name : List ℕ) (places price opens shuts : ℕ) → FitsWidths club → places ≤ 50
+    → FitsWidths (after (ReplaceNumbers name places price opens shuts) club)
+fits_replace_numbers club name places price opens shuts h few =
+    let edit = facility_with_numbers name places price opens shuts in
+    let fewer = all_map (λ (f : Facility). f.places ≤ 50) edit club.facilities (λ k d lt. let old = h.places k d lt in grind arith) in
     assumption
 
 -- a new booking
@@ -348,12 +356,14 @@ module _ (P : Result Change OfficeFault → Type 0) (club : Club) (fails : (faul
     (keys : (key : Key) → P (Ok (InsertKey key))) (revokes : (name : List ℕ) → P (Ok (MarkRevoked name)))
     (rotates : (name former root : List ℕ) (until : ℕ) → P (Ok (ReplaceRoot name former root until))) (closes : (slot : Slot) → P (Ok (MarkClosed slot)))
     (opens : (slot : Slot) → P (Ok (MarkOpen slot))) (quotas : (name : List ℕ) (quota : ℕ) → P (Ok (ReplaceQuota name quota)))
-    (debits : (name : List ℕ) (points : ℕ) → P (Ok (TakeCredit name points))) where
+    (debits : (name : List ℕ) (points : ℕ) → P (Ok (TakeCredit name points)))
+    (numbers : (name : List ℕ) (places price opens shuts : ℕ) → places ≤ 50 → P (Ok (ReplaceNumbers name places price opens shuts))) where
   command_cases : (command : Command) → P (office_verdict club command)
   command_cases (commands.AddMember name quota) = grind (arith, fails, joins)
   command_cases (commands.Credit name points) = grind (arith, nat_tests, fails, credits)
   command_cases (commands.Debit name points) = grind (arith, nat_tests, fails, debits)
   command_cases (commands.AddFacility name kind places price opens shuts) = grind (arith, nat_tests, fails, builds)
+  command_cases (commands.SetFacility name places price opens shuts) = grind (arith, nat_tests, fails, numbers)
   command_cases command = grind (arith, fails, keys, revokes, rotates, closes, opens, quotas)
 
 pub keeps_command : (club : Club) (command : Command) → FitsWidths club → KeepsIfOk club (office_verdict club command)
@@ -361,4 +371,5 @@ keeps_command club command h =
     command_cases (KeepsIfOk club) club (λ fault. tt) (λ name quota none. fits_insert_member club _ h (omega arith) none)
     (λ name points member. fits_add_credit club name points member h) (λ facility. fits_insert_facility club facility h)
     (λ key. assumption) (λ name. assumption) (λ name former root until. assumption) (λ slot. assumption) (λ slot. assumption)
-    (λ name quota. fits_replace_quota club name quota h) (λ name points. fits_take_credit club name points h) command
+    (λ name quota. fits_replace_quota club name quota h) (λ name points. fits_take_credit club name points h)
+    (λ name places price opens shuts. fits_replace_numbers club name places price opens shuts h) command

@@ -1,8 +1,8 @@
 -- Which changes need memory (ours): those that add a row.
 use Rattle.std.specs.Prelude.{ℕ, ◌+◌, ◌<◌, Bool, true, false, length}
 use Rattle.club_core.specs.{Club.Club, Run.{Event, step}, declared.change.Change.{Change, TheVariants.{InsertMember, AddCredit, InsertFacility, InsertKey}}}
-use Rattle.club_core.specs.declared.change.Change.TheVariants.{TakeCredit, MarkRevoked, ReplaceRoot, MarkClosed, MarkOpen, ReplaceQuota, InsertBooking}
-use Rattle.club_core.specs.declared.change.Change.TheVariants.{MarkCancelled}
+use Rattle.club_core.specs.declared.change.Change.TheVariants.{TakeCredit, ReplaceNumbers, MarkRevoked, ReplaceRoot, MarkClosed, MarkOpen, ReplaceQuota}
+use Rattle.club_core.specs.declared.change.Change.TheVariants.{InsertBooking, MarkCancelled}
 
 abbrev pub is_growth : Change → Bool
 is_growth (InsertMember member) = true
@@ -10,6 +10,7 @@ is_growth (AddCredit member points) = false
 is_growth (TakeCredit member points) = false
 is_growth (ReplaceQuota member quota) = false
 is_growth (InsertFacility facility) = true
+is_growth (ReplaceNumbers facility places price opens shuts) = false
 is_growth (InsertKey key) = true
 is_growth (MarkRevoked key) = false
 is_growth (ReplaceRoot key former root until) = false

@@ -3,7 +3,7 @@
 ghost use Rattle.std.specs.Prelude.{◌≡◌, OnOk, OnErr, IsTrue};
 
 use crate::club::Club;
-use crate::edits::{cancel, credit, debit, open, revoke, rotate, set_quota};
+use crate::edits::{cancel, credit, debit, open, revoke, rotate, set_numbers, set_quota};
 use club_core::Change;
 use std::alloc::AllocError;
 
@@ -24,6 +24,13 @@ impl Club {
             Change::TakeCredit { member, points } => debit(&mut self.members, &member, points),
             Change::ReplaceQuota { member, quota } => set_quota(&mut self.members, &member, quota),
             Change::InsertFacility(facility) => self.facilities.push(facility)?,
+            Change::ReplaceNumbers {
+                facility,
+                places,
+                price,
+                opens,
+                shuts,
+            } => set_numbers(&mut self.facilities, &facility, places, price, opens, shuts),
             Change::InsertKey(key) => self.keys.push(key)?,
             Change::MarkRevoked { key } => revoke(&mut self.keys, &key),
             Change::ReplaceRoot {

@@ -5,7 +5,7 @@ ghost use Rattle.club_rows.specs.Limits.{credited_limit};
 ghost use Rattle.club_rows.specs.declared.member.Member.{Member as MemberRow};
 ghost use Rattle.club_core.specs.After as after;
 
-use club_rows::{Booking, BookingNumber, Key, Member, OlderRoot, Root};
+use club_rows::{Booking, BookingNumber, Facility, Key, Member, OlderRoot, Root};
 use club_values::{Moment, Name, Slot};
 
 fn credit_row(member: &Member, name: &Name, points: u32) -> Member
@@ -68,6 +68,45 @@ pub(crate) fn set_quota(members: &mut [Member], name: &Name, quota: u8)
 {
     for member in members.iter_mut() {
         *member = quota_row(member, name, quota);
+    }
+}
+
+fn numbers_row(
+    facility: &Facility,
+    name: &Name,
+    places: u8,
+    price: u16,
+    opens: u8,
+    shuts: u8,
+) -> Facility
+    ensures { result
+        ≡ after.facility_with_numbers name.now places price opens shuts facility.now }
+{
+    let mut facility = *facility;
+    if facility.name == *name {
+        facility.places = places;
+        facility.price = price;
+        facility.opens = opens;
+        facility.shuts = shuts;
+    }
+    facility
+}
+
+/// Gives the facility of the name other places, another price and other hours.
+#[tactic(auto, using(crate::proofs::EditLemmas::edited_more))]
+pub(crate) fn set_numbers(
+    facilities: &mut [Facility],
+    name: &Name,
+    places: u8,
+    price: u16,
+    opens: u8,
+    shuts: u8,
+)
+    ensures { facilities.new
+        ≡ map (after.facility_with_numbers name.now places price opens shuts) facilities.old }
+{
+    for facility in facilities.iter_mut() {
+        *facility = numbers_row(facility, name, places, price, opens, shuts);
     }
 }
 

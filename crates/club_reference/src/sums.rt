@@ -1,6 +1,7 @@
 //! Sums over bookings, each computed anew from all of them.
 
 ghost use Rattle.std.specs.Prelude.{◌≡◌, ◌-◌, ◌<◌, ◌^◌, fold};
+ghost use Rattle.club_values.specs.declared.slot.Slot.{Slot as SlotRow};
 ghost use Rattle.club_rows.specs.Booking.{persons_of};
 ghost use Rattle.club_core.specs.Sums as sums;
 ghost use Rattle.club_reference.specs.Held.{is_held, held_under};
@@ -41,6 +42,20 @@ pub(crate) fn persons_in(bookings: &[Booking], slot: &Slot) -> u32
         .filter(|booking| !booking.cancelled && booking.slot == *slot)
         .map(|booking| persons(booking))
         .sum()
+}
+
+/// The most persons in a slot of the facility, of whatever day; 0 if it has no booking.
+pub(crate) fn most_persons_at(bookings: &[Booking], facility: &Name) -> u32
+    requires { (slot : SlotRow) → sums.taken_in slot bookings.now < 2 ^ 32 }
+    ensures { result ≡ sums.most_taken_in facility.now bookings.now }
+{
+    bookings
+        .iter()
+        .filter(|booking| booking.slot.facility == *facility)
+        .fold(
+            0,
+            |most, booking| most.max(persons_in(bookings, &booking.slot)),
+        )
 }
 
 /// What the key has spent over the member's bookings.

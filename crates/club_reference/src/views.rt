@@ -4,7 +4,7 @@ ghost use Rattle.std.specs.Prelude.{◌≡◌, ◌≤◌, IfSome, option_map};
 ghost use Rattle.club_core.specs.Office.{rows_seen};
 
 use crate::club::Club;
-use crate::sums::{balance, open_count, persons_in, recorded_booking, spent};
+use crate::sums::{balance, most_persons_at, open_count, persons_in, recorded_booking, spent};
 use crate::words::Words;
 use club_core::{Command, CommandView, KeyView, MemberAccount, Request, SlotUse, View};
 use club_rows::{Facility, Key, Member};
@@ -22,6 +22,7 @@ fn rows_seen(member: Option<Member>, key: Option<Key>, facility: Option<Facility
             taken: 0,
             closed: false,
         },
+        most_taken: 0,
     }
 }
 
@@ -104,8 +105,7 @@ impl Club {
         })
     }
 
-    /// The view of a command: the rows that it names, the balance that it takes points of, and the
-    /// use of its slot.
+    /// The view of a command: the rows that it names, and the sums that decide it.
     pub(crate) fn command_view(&self, command: &Command) -> CommandView
         ensures { result ≡ command_view self.now command.now }
     {
@@ -122,6 +122,10 @@ impl Club {
                 ..rows_seen(None, None, None)
             },
             Command::AddFacility { name, .. } => rows_seen(None, None, self.facility_named(name)),
+            Command::SetFacility { name, .. } => CommandView {
+                most_taken: most_persons_at(&self.bookings, name),
+                ..rows_seen(None, None, self.facility_named(name))
+            },
             Command::AddKey { name, member, .. } => rows_seen(
                 self.member_named(member),
                 self.key_named(name),

@@ -99,6 +99,7 @@ impl<'a> Values<'a> {
                 quota: self.number()?,
             },
             "add-facility" => self.facility()?,
+            "set-facility" => self.numbers()?,
             "add-key" => Command::AddKey {
                 name: self.name()?,
                 member: self.name()?,
@@ -113,6 +114,16 @@ impl<'a> Values<'a> {
             "close-slot" => Command::CloseSlot(self.slot()?),
             "open-slot" => Command::OpenSlot(self.slot()?),
             _ => return Err(Fault::Rule(NO_COMMAND)),
+        })
+    }
+
+    fn numbers(&mut self) -> Result<Command, Fault> {
+        Ok(Command::SetFacility {
+            name: self.name()?,
+            places: self.number()?,
+            price: self.number()?,
+            opens: self.number()?,
+            shuts: self.number()?,
         })
     }
 

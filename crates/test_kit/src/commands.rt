@@ -19,6 +19,8 @@ pub enum PlainCommand {
     SetQuota(&'static str, u32),
     /// A facility with so many places, each for so many points, from one hour to another.
     AddFacility(&'static str, Kind, u32, u32, u32, u32),
+    /// The same numbers, anew, for a facility that is there.
+    SetFacility(&'static str, u32, u32, u32, u32),
     /// A key of a member with this root.
     AddKey(&'static str, &'static str, &'static [u8]),
     RevokeKey(&'static str),
@@ -79,6 +81,21 @@ fn add_facility(
     })
 }
 
+fn set_facility(
+    facility: &str,
+    (places, price): (u32, u32),
+    (opens, shuts): (u32, u32),
+) -> Option<Command> {
+    let name = Name::read(facility.as_bytes())?;
+    Some(Command::SetFacility {
+        name,
+        places,
+        price,
+        opens,
+        shuts,
+    })
+}
+
 fn add_key(key: &str, member: &str, root: &[u8]) -> Option<Command> {
     let name = Name::read(key.as_bytes())?;
     let member = Name::read(member.as_bytes())?;
@@ -116,6 +133,9 @@ impl PlainCommand {
             PlainCommand::SetQuota(member, quota) => set_quota(member, *quota),
             PlainCommand::AddFacility(facility, kind, places, price, opens, shuts) => {
                 add_facility(facility, *kind, (*places, *price), (*opens, *shuts))
+            }
+            PlainCommand::SetFacility(facility, places, price, opens, shuts) => {
+                set_facility(facility, (*places, *price), (*opens, *shuts))
             }
             PlainCommand::AddKey(key, member, root) => add_key(key, member, root),
             PlainCommand::RevokeKey(key) => revoke_key(key),

@@ -200,6 +200,13 @@ impl Numbers {
             15..=17 => PlainCommand::AddKey(SPARE, member, ROOT),
             18 => PlainCommand::AddKey(key, member, SECOND_ROOT),
             19..=21 => PlainCommand::AddMember(member, 90 + self.below(20)),
+            22 => PlainCommand::SetFacility(
+                "court-1",
+                self.below(10),
+                100 + self.below(200),
+                8,
+                22,
+            ),
             _ => PlainCommand::AddFacility("court-2", Kind::Court, 40 + self.below(20), 200, 8, 22),
         }
     }

@@ -203,6 +203,33 @@ fn a_part_has_its_members_debits(rt: HostRuntime) {
     plays(&rt, &mut club, &DEBITS);
 }
 
+/// Numbers of the facility, which each part has: fewer places than amy and her guests take, the
+/// persons of her booking, and a price that hers isn't charged.
+static NUMBERS: [Step; 6] = [
+    Step::Gives(
+        PlainCommand::SetFacility("court-1", 2, 200, 8, 22),
+        Answer::Done,
+    ),
+    Step::Asks(NOON, AMY, BOOK_7, PlainReply::Refused(Refusal::NoPlaces)),
+    Step::Gives(
+        PlainCommand::SetFacility("court-1", 4, 200, 8, 22),
+        Answer::Done,
+    ),
+    Step::Asks(NOON, AMY, BOOK_7, BOOKED_7),
+    Step::Gives(
+        PlainCommand::SetFacility("court-1", 3, 900, 8, 18),
+        Answer::Done,
+    ),
+    Step::Asks(NOON, AMY, CANCEL_7, CANCELLED_7),
+];
+
+#[test]
+fn a_part_has_each_facilitys_numbers(rt: HostRuntime) {
+    let mut club = fixture_club(&rt);
+    plays_alone(&rt, &mut amys_part(&rt, &club), NOTHING, &NUMBERS);
+    plays(&rt, &mut club, &NUMBERS);
+}
+
 static AMY_BOOKS: [Step; 1] = [Step::Asks(NOON, AMY, BOOK_7, BOOKED_7)];
 
 static AMY_CANCELS: [Step; 2] = [
