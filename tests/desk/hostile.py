@@ -66,7 +66,8 @@ class World(Both):
     def words_of_command(self):
         draw = self.draw
         kind = draw.choice(("add-member", "credit", "credit", "add-facility", "add-key", "add-key", "revoke-key", "rotate-key", "close-slot",
-                            "open-slot", "set-quota", "debit", "set-facility"))
+                            "open-slot", "set-quota", "debit", "set-facility",
+                            "cancel-booking", "cancel-booking"))
         if kind == "add-member":
             return kind, draw.choice(MEMBERS), draw.choice((0, 1, 3, 99, 99, 100))
         if kind == "credit":
@@ -84,6 +85,9 @@ class World(Both):
         if kind == "set-facility":
             opens, shuts = draw.choice(((8, 22), (8, 22), (0, 24), (18, 20), (9, 9), (0, 25)))
             return kind, draw.choice(FACILITIES), draw.choice((0, 1, 2, 4, 50, 51)), draw.choice((0, 1, 200, 601, 9999, 10000)), opens, shuts
+        if kind == "cancel-booking":
+            key, number, _ = self.booked() or (draw.choice(KEYS), 1, None)
+            return (kind, key, number) if draw.random() < 0.8 else (kind, draw.choice((*KEYS, "none-such")), draw.choice((1, 7, number, 999_999_999)))
         if kind == "add-key":
             return kind, draw.choice(KEYS), draw.choice(MEMBERS), self.root()
         if kind == "revoke-key":

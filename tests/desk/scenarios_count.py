@@ -47,7 +47,8 @@ READERS = {
     "club_http_tests/replies": {"SERVED": rows.of_replies(), "REFUSED": rows.of_replies(), "NO_PASS": rows.of_replies("WWW-Authenticate: Bearer\r\n"),
                                 "BY_GET": rows.of_replies("Allow: GET\r\n"), "BY_PUT_OR_DELETE": rows.of_replies("Allow: PUT, DELETE\r\n")},
     "end_to_end_tests/tasks": dict.fromkeys(("BOOKS", "EXCHANGES", "CANCELS", "BOOKS_AND_CANCELS", "ADDS_A_KEY", "CLOSES", "OPENS",
-                                             "SETS_A_QUOTA", "DEBITS", "SETS_A_FACILITY", "ROTATES", "MAKES_TABLES", "MIGRATES", "ADDS_THE_INDEX"), rows.of_crash),
+                                             "SETS_A_QUOTA", "DEBITS", "SETS_A_FACILITY", "CANCELS_FOR_A_MEMBER", "ROTATES", "MAKES_TABLES", "MIGRATES",
+                                             "ADDS_THE_INDEX"), rows.of_crash),
     "clubdesk_tests/commands": dict.fromkeys(("MEMBERS", "FACILITIES", "SLOTS_AND_SHEETS", "LOOKS", "KEYS", "PASSES_OF_KEYS"), rows.of_runs),
 }
 

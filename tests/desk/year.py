@@ -118,6 +118,9 @@ class Year(Both):
             name, _, places, price, opens, shuts = draw.choice(FACILITIES)
             self.give(("set-facility", name, draw.choice((1, places, places, places + 2)), draw.choice((price, price // 2, price + 30)),
                        opens + draw.choice((0, 0, 2)), shuts - draw.choice((0, 0, 2))))
+        if draw.random() < 0.2:
+            key = draw.choice([it for it, rows in self.club.bookings.items() if rows] or list(self.passes))
+            self.give(("cancel-booking", key, draw.choice([*self.club.bookings[key]][-20:] or [1])))
         if draw.random() < 0.05:
             self.give(("set-quota", draw.choice(MEMBERS), draw.choice((0, 3, 5, 99, 100))))
         if draw.random() < 0.1:

@@ -207,6 +207,9 @@ def command_state(club, words):
         return values[0] in club.facilities, club.most_taken(values[0]), *values[1:5]
     if name == "add-key":
         return values[1] in club.members, values[0] in club.keys
+    if name == "cancel-booking":
+        booking = club.bookings.get(values[0], {}).get(values[1])
+        return values[0] in club.keys, booking and (booking.charge, booking.is_cancelled, booking.refund)
     key = club.keys.get(values[0])
     is_known = key and ("revoked" if key.is_revoked else "known")
     if name == "revoke-key":

@@ -23,6 +23,7 @@ COMMANDS = {
     "set-facility": ("name", "number", "number", "number", "number"),
     "add-key": ("name", "name", "root"), "revoke-key": ("name",), "rotate-key": ("name", "root", "moment"),
     "close-slot": ("name", "day", "hour"), "open-slot": ("name", "day", "hour"),
+    "cancel-booking": ("name", "number"),
 }
 OF_KEYS = {"add-key": 2, "rotate-key": 1}
 

@@ -52,6 +52,7 @@ def command_of(it):
             "Debit": lambda: ("debit", *values), "SetQuota": lambda: ("set-quota", *values),
             "AddFacility": lambda: ("add-facility", values[0], KIND[values[1].name], *values[2:]), "AddKey": lambda: ("add-key", values[0], values[1], bytes(values[2])),
             "SetFacility": lambda: ("set-facility", *values),
+            "CancelBooking": lambda: ("cancel-booking", *values),
             "RevokeKey": lambda: ("revoke-key", *values), "RotateKey": lambda: ("rotate-key", values[0], bytes(values[1]), values[2]),
             "CloseSlot": lambda: ("close-slot", *slot_of(values[0])), "OpenSlot": lambda: ("open-slot", *slot_of(values[0]))}[name]()
 

@@ -78,7 +78,7 @@ WRITTEN = {
     "club.Club.decide_book": "club_core.Verdict: new_booking booked_now repeat_booking_verdict book_lines new_verdict recorded_or book_verdict; "
                              "club_core.Lines: Line line_if first_of; club_rows.Booking: same_slot; "
                              "club_rows.Facility: charge_of is_open_at booking_window is_bookable; club_core.Sums: booking_under",
-    "club.Club.decide_cancel": "club_core.Verdict: cancelled_now cancelled_before cancel_lines cancel_recorded_verdict unknown_verdict "
+    "club.Club.decide_cancel club.Club.mark_cancelled": "club_core.Verdict: cancelled_now cancelled_before cancel_lines cancel_recorded_verdict unknown_verdict "
                                "cancel_verdict; club_core.After: is_marked cancelled_booking",
     "club.Club.refund": "club_rows.Booking: full_refund_ahead refund_at",
     "club.Club.command_credit": "club_core.Office: points_limit are_points credit_verdict; club_core.After: credited_member; club_rows.Limits: credited_limit",
@@ -89,6 +89,7 @@ WRITTEN = {
     "club.Club.command_debit": "club_core.Office: debit_verdict; club_core.After: debited_member",
     "club.Club.command_set_facility club.Club.most_taken":
         "club_core.Sums: is_at most_taken_in; club_core.After: facility_with_numbers",
+    "club.Club.command_cancel_booking": "club_core.Office: office_cancel_verdict",
     "club.Club.command_set_quota": "club_core.After: member_with_quota",
     "club.Club.command_add_member club.Club.command_add_facility club.Club.command_add_key club.are_limits":
         "club_core.Office: are_limits command_verdict office_verdict; club_rows.Limits: quota_limit places_limit price_limit shutting_limit",

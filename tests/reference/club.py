@@ -200,9 +200,12 @@ class Club:
         if not booking.is_cancelled:
             if start_of(booking.slot) <= moment:
                 return Refused(21)
-            booking.is_cancelled, booking.refund = True, self.refund(booking, moment)
-            self.taken_in[booking.slot] -= booking.guests + 1
+            self.mark_cancelled(booking, self.refund(booking, moment))
         return Served({"booking": f"{name}/{request.number}", "refund": booking.refund})
+
+    def mark_cancelled(self, booking, refund):
+        booking.is_cancelled, booking.refund = True, refund
+        self.taken_in[booking.slot] -= booking.guests + 1
 
     def refund(self, booking, moment):
         if self.plant == "cancels_without_a_refund":
@@ -278,6 +281,12 @@ class Club:
     def command_open_slot(self, *slot):
         refuse_if("unknown", slot[0] not in self.facilities)
         self.closed.discard(slot)
+
+    def command_cancel_booking(self, key, number):
+        booking = self.bookings.get(key, {}).get(number)
+        refuse_if("unknown", booking is None)
+        if not booking.is_cancelled:
+            self.mark_cancelled(booking, booking.charge)
 
     def sheet(self, day):
         """The rows of a day sheet: facility, hour, key, number, persons and charge."""
