@@ -4,9 +4,9 @@
 The rules are those of `tests/reference`. Each reply, command and day sheet is compared, and each month's rows and totals. `--self-test`
 finds planted faults of the rules.
 
-The year has narrowed passes, credits, rotations, revoked keys and closed slots. The clock of each server is set by tests/lib/set_clock.c, and
-the server turns it into the club's civil time by the zone's rule; the test does so by Python's zoneinfo. After a kill the client sends the
-request again, and a command is given again: the reply is the reference's, whether the first one was done or not.
+The year has narrowed passes and each command of the office. The clock of each server is set by tests/lib/set_clock.c, and the server turns it
+into the club's civil time by the zone's rule; the test does so by Python's zoneinfo. After a kill the client sends the request again, and a
+command is given again: the reply is the reference's, whether the first one was done or not.
 
     tests/desk/year.py [--seed N] [--days N] [--requests N] [--self-test]
 """

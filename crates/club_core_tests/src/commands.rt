@@ -9,9 +9,10 @@ use test_kit::roots::{ROOT, SECOND_ROOT};
 use test_kit::{COURT_AT_18, PlainCommand, minutes};
 
 /// A command, and the root in its answer, if it has a new key or a new root.
-static DONE: [(PlainCommand, Option<&[u8]>); 7] = [
+static DONE: [(PlainCommand, Option<&[u8]>); 8] = [
     (PlainCommand::RevokeKey("amy-1"), None),
     (PlainCommand::OpenSlot(COURT_AT_18), None),
+    (PlainCommand::CancelBooking("amy-1", 7), None),
     (PlainCommand::SetQuota("amy", 1), None),
     (PlainCommand::Debit("amy", 1), None),
     (PlainCommand::SetFacility("court-1", 4, 200, 8, 22), None),

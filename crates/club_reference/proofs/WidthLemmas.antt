@@ -344,26 +344,29 @@ keeps_solo club words moment others h =
     keeps_by club words.pass words.request moment (option_map (with_others others) (basis_of club words)) h (is_basis_with club words others)
 
 -- an accepted command's change keeps the numbers within their widths
-abbrev pub KeepsIfOk : Club → Result Change OfficeFault → Type 0
+abbrev pub KeepsIfOk : Club → Result (Option Change) OfficeFault → Type 0
 KeepsIfOk club (Err fault) = Unit {0}
-KeepsIfOk club (Ok change) = FitsWidths (after change club)
+KeepsIfOk club (Ok change) = Keeps club change
 
 -- the ways in which a command is decided: changes of keys and closed slots have no numbers
-module _ (P : Result Change OfficeFault → Type 0) (club : Club) (fails : (fault : OfficeFault) → P (Err fault))
-    (joins : (name : List ℕ) (quota : ℕ) → member_named name club ≡ None → P (Ok (InsertMember (record { name = name; credited = 0; quota = quota }))))
+module _ (P : Result (Option Change) OfficeFault → Type 0) (club : Club) (fails : (fault : OfficeFault) → P (Err fault))
+    (joins : (name : List ℕ) (quota : ℕ) → member_named name club ≡ None → P (Ok (Some (InsertMember (record { name = name; credited = 0; quota = quota })))))
     (credits : (name : List ℕ) (points : ℕ) (member : Member) → member_named name club ≡ Some member → member.credited + points ≤ 999_999_999
-    → P (Ok (AddCredit name points))) (builds : (facility : Facility) → facility.places ≤ 50 → P (Ok (InsertFacility facility)))
-    (keys : (key : Key) → P (Ok (InsertKey key))) (revokes : (name : List ℕ) → P (Ok (MarkRevoked name)))
-    (rotates : (name former root : List ℕ) (until : ℕ) → P (Ok (ReplaceRoot name former root until))) (closes : (slot : Slot) → P (Ok (MarkClosed slot)))
-    (opens : (slot : Slot) → P (Ok (MarkOpen slot))) (quotas : (name : List ℕ) (quota : ℕ) → P (Ok (ReplaceQuota name quota)))
-    (debits : (name : List ℕ) (points : ℕ) → P (Ok (TakeCredit name points)))
-    (numbers : (name : List ℕ) (places price opens shuts : ℕ) → places ≤ 50 → P (Ok (ReplaceNumbers name places price opens shuts))) where
+    → P (Ok (Some (AddCredit name points)))) (builds : (facility : Facility) → facility.places ≤ 50 → P (Ok (Some (InsertFacility facility))))
+    (keys : (key : Key) → P (Ok (Some (InsertKey key)))) (revokes : (name : List ℕ) → P (Ok (Some (MarkRevoked name))))
+    (rotates : (name former root : List ℕ) (until : ℕ) → P (Ok (Some (ReplaceRoot name former root until))))
+    (closes : (slot : Slot) → P (Ok (Some (MarkClosed slot))))
+    (opens : (slot : Slot) → P (Ok (Some (MarkOpen slot)))) (quotas : (name : List ℕ) (quota : ℕ) → P (Ok (Some (ReplaceQuota name quota))))
+    (debits : (name : List ℕ) (points : ℕ) → P (Ok (Some (TakeCredit name points))))
+    (numbers : (name : List ℕ) (places price opens shuts : ℕ) → places ≤ 50 → P (Ok (Some (ReplaceNumbers name places price opens shuts))))
+    (nothing : P (Ok None)) (cancels : (booking : Booking) (member : List ℕ) (refund : ℕ) → P (Ok (Some (MarkCancelled booking member refund)))) where
   command_cases : (command : Command) → P (office_verdict club command)
   command_cases (commands.AddMember name quota) = grind (arith, fails, joins)
   command_cases (commands.Credit name points) = grind (arith, nat_tests, fails, credits)
   command_cases (commands.Debit name points) = grind (arith, nat_tests, fails, debits)
   command_cases (commands.AddFacility name kind places price opens shuts) = grind (arith, nat_tests, fails, builds)
   command_cases (commands.SetFacility name places price opens shuts) = grind (arith, nat_tests, fails, numbers)
+  command_cases (commands.CancelBooking key number) = grind (arith, fails, nothing, cancels)
   command_cases command = grind (arith, fails, keys, revokes, rotates, closes, opens, quotas)
 
 pub keeps_command : (club : Club) (command : Command) → FitsWidths club → KeepsIfOk club (office_verdict club command)
@@ -372,4 +375,5 @@ keeps_command club command h =
     (λ name points member. fits_add_credit club name points member h) (λ facility. fits_insert_facility club facility h)
     (λ key. assumption) (λ name. assumption) (λ name former root until. assumption) (λ slot. assumption) (λ slot. assumption)
     (λ name quota. fits_replace_quota club name quota h) (λ name points. fits_take_credit club name points h)
-    (λ name places price opens shuts. fits_replace_numbers club name places price opens shuts h) command
+    (λ name places price opens shuts. fits_replace_numbers club name places price opens shuts h) h
+    (λ booking member refund. fits_mark_cancelled club booking.key booking.number refund h) command

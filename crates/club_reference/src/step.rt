@@ -27,8 +27,8 @@ impl Club {
         words.verdict(self.view_for(words, moment).as_ref(), moment)
     }
 
-    /// The change of a command, or why it makes none.
-    fn change_of(&self, command: &Command) -> Result<Change, OfficeFault>
+    /// The change of a command, `None` if nothing is left to change, or why it is refused.
+    fn change_of(&self, command: &Command) -> Result<Option<Change>, OfficeFault>
         ensures value { result ≡ office_verdict self.now command.now }
         ensures fits { FitsWidths self.now }
     {
@@ -75,7 +75,8 @@ impl Club {
     {
         match self.change_of(command) {
             Err(fault) => Ok(OfficeAnswer::NotDone(fault)),
-            Ok(change) => {
+            Ok(None) => Ok(OfficeAnswer::done(command)),
+            Ok(Some(change)) => {
                 self.apply(change)?;
                 Ok(OfficeAnswer::done(command))
             }

@@ -104,6 +104,20 @@ pub(crate) fn open_count(keys: &[Key], bookings: &[Booking], member: &Name, mome
         .count() as u64
 }
 
+/// The booking under the key and number, whoever's key it is.
+pub(crate) fn booking_under(
+    bookings: &[Booking],
+    name: &Name,
+    number: BookingNumber,
+) -> Option<Booking>
+    ensures { result ≡ sums.booking_under name.now number bookings.now }
+{
+    bookings
+        .iter()
+        .find(|row| row.key == *name && row.number == number)
+        .copied()
+}
+
 /// The member's booking under the key and number.
 pub(crate) fn recorded_booking(
     keys: &[Key],

@@ -4,7 +4,9 @@ ghost use Rattle.std.specs.Prelude.{◌≡◌, ◌≤◌, IfSome, option_map};
 ghost use Rattle.club_core.specs.Office.{rows_seen};
 
 use crate::club::Club;
-use crate::sums::{balance, most_persons_at, open_count, persons_in, recorded_booking, spent};
+use crate::sums::{
+    balance, booking_under, most_persons_at, open_count, persons_in, recorded_booking, spent,
+};
 use crate::words::Words;
 use club_core::{Command, CommandView, KeyView, MemberAccount, Request, SlotUse, View};
 use club_rows::{Facility, Key, Member};
@@ -23,6 +25,7 @@ fn rows_seen(member: Option<Member>, key: Option<Key>, facility: Option<Facility
             closed: false,
         },
         most_taken: 0,
+        booking: None,
     }
 }
 
@@ -134,6 +137,10 @@ impl Club {
             Command::RevokeKey { name } | Command::RotateKey { name, .. } => {
                 rows_seen(None, self.key_named(name), None)
             }
+            Command::CancelBooking { key, number } => CommandView {
+                booking: booking_under(&self.bookings, key, *number),
+                ..rows_seen(None, self.key_named(key), None)
+            },
             Command::OpenSlot(slot) => rows_seen(None, None, self.facility_named(&slot.facility)),
             Command::CloseSlot(slot) => CommandView {
                 slot: self.slot_use(Some(*slot)),

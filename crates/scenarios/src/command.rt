@@ -5,7 +5,7 @@ use crate::known::{Known, name};
 use crate::passes::form_named;
 use crate::text::{halves, number};
 use club_core::MAX_POINTS;
-use club_http::{Command, Day, Hour, Kind, Moment, Name, Slot};
+use club_http::{BookingNumber, Command, Day, Hour, Kind, Moment, Name, Slot};
 use pass_forms::Form;
 use std::alloc::Global;
 
@@ -110,6 +110,10 @@ impl<'a> Values<'a> {
                 name: self.name()?,
                 root: known.root(self.word())?,
                 until: self.moment()?,
+            },
+            "cancel-booking" => Command::CancelBooking {
+                key: self.name()?,
+                number: needed(BookingNumber::new(self.number()?), "no number of a booking")?,
             },
             "close-slot" => Command::CloseSlot(self.slot()?),
             "open-slot" => Command::OpenSlot(self.slot()?),

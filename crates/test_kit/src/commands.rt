@@ -3,7 +3,7 @@
 use crate::roots::ROOT;
 use crate::slots::PlainSlot;
 use club_core::Command;
-use club_rows::Root;
+use club_rows::{BookingNumber, Root};
 use club_values::{Kind, Moment, Name};
 
 /// A command of the office.
@@ -27,6 +27,8 @@ pub enum PlainCommand {
     /// Another root for a key. Passes under the older root are good until the minute, counted from
     /// 1970-01-01T00:00.
     RotateKey(&'static str, &'static [u8], u32),
+    /// The booking of a key under a number.
+    CancelBooking(&'static str, u32),
     CloseSlot(PlainSlot),
     OpenSlot(PlainSlot),
 }
@@ -115,6 +117,12 @@ fn rotate_key(key: &str, root: &[u8], until: u32) -> Option<Command> {
     Some(Command::RotateKey { name, root, until })
 }
 
+fn cancel_booking(key: &str, number: u32) -> Option<Command> {
+    let key = Name::read(key.as_bytes())?;
+    let number = BookingNumber::new(number)?;
+    Some(Command::CancelBooking { key, number })
+}
+
 fn close_slot(slot: &PlainSlot) -> Option<Command> {
     Some(Command::CloseSlot(slot.slot()?))
 }
@@ -140,6 +148,7 @@ impl PlainCommand {
             PlainCommand::AddKey(key, member, root) => add_key(key, member, root),
             PlainCommand::RevokeKey(key) => revoke_key(key),
             PlainCommand::RotateKey(key, root, until) => rotate_key(key, root, *until),
+            PlainCommand::CancelBooking(key, number) => cancel_booking(key, *number),
             PlainCommand::CloseSlot(slot) => close_slot(slot),
             PlainCommand::OpenSlot(slot) => open_slot(slot),
         }

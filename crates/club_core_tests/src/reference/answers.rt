@@ -1,6 +1,6 @@
 //! Answers to the office, as plain values.
 
-use club_core::OfficeAnswer;
+use club_core::{OfficeAnswer, OfficeFault};
 use club_rows::Root;
 use club_values::Name;
 use std::process::Abort;
@@ -11,6 +11,7 @@ pub(crate) enum Answer {
     Done,
     /// The name of the key and its root.
     NewKey(&'static str, &'static [u8]),
+    NotDone(OfficeFault),
 }
 
 fn new_key(rt: &impl Abort, key: &str, root: &[u8]) -> OfficeAnswer {
@@ -25,6 +26,7 @@ impl Answer {
         match self {
             Answer::Done => OfficeAnswer::Done,
             Answer::NewKey(key, root) => new_key(rt, key, root),
+            Answer::NotDone(fault) => OfficeAnswer::NotDone(fault),
         }
     }
 }

@@ -4,7 +4,7 @@ use crate::expect::{expect_eq, expect_reply};
 use crate::reference::answers::Answer;
 use crate::reference::messages::{AMY, AMY_CHANGED, BOB, Event, EventReply, Step};
 use crate::reference::play::{fixture_club, plays};
-use club_core::{Refusal, SlotUse};
+use club_core::{OfficeFault, Refusal, SlotUse};
 use club_reference::Club;
 use club_values::{Name, Slot};
 use std::alloc::Global;
@@ -228,6 +228,36 @@ fn a_part_has_each_facilitys_numbers(rt: HostRuntime) {
     let mut club = fixture_club(&rt);
     plays_alone(&rt, &mut amys_part(&rt, &club), NOTHING, &NUMBERS);
     plays(&rt, &mut club, &NUMBERS);
+}
+
+const UNKNOWN: Answer = Answer::NotDone(OfficeFault::Unknown);
+
+/// The office cancels amy's booking, which her own cancellation then repeats.
+static CANCELLED_FOR_AMY: [Step; 6] = [
+    Step::Gives(PlainCommand::CancelBooking("amy-1", 7), UNKNOWN),
+    Step::Asks(NOON, AMY, BOOK_7, BOOKED_7),
+    Step::Gives(PlainCommand::CancelBooking("amy-1", 7), Answer::Done),
+    Step::Gives(PlainCommand::CancelBooking("amy-1", 7), Answer::Done),
+    Step::Asks(NOON, AMY, CANCEL_7, CANCELLED_7),
+    Step::Asks(NOON, AMY, ACCOUNT, ACCOUNT_BEFORE),
+];
+
+static BOBS_IS_CANCELLED: [Step; 1] = [Step::Gives(
+    PlainCommand::CancelBooking("bob-1", 2),
+    Answer::Done,
+)];
+
+/// A cancellation of the office is a part's own if the key is its member's. Another one gives back
+/// what is held of the slot.
+#[test]
+fn cancels_for_a_member(rt: HostRuntime) {
+    let mut club = fixture_club(&rt);
+    plays_alone(&rt, &mut amys_part(&rt, &club), NOTHING, &CANCELLED_FOR_AMY);
+    plays(&rt, &mut club, &CANCELLED_FOR_AMY);
+    plays(&rt, &mut club, &BOB_BOOKS);
+    others_hold(&rt, &club, COURT_AT_18.slot(), ONE_PLACE);
+    plays(&rt, &mut club, &BOBS_IS_CANCELLED);
+    others_hold(&rt, &club, COURT_AT_18.slot(), NOTHING);
 }
 
 static AMY_BOOKS: [Step; 1] = [Step::Asks(NOON, AMY, BOOK_7, BOOKED_7)];

@@ -1,0 +1,12 @@
+use Rattle.std.proofs.{Common.{◌∙◌, ◌==◌, ◌&&◌, rules, tests}, lemmas.Iterator.{YieldsList-from_slice, Search.find_from_yields_List}}
+use Rattle.std.specs.Str.{bytes_eq}
+use Rattle.club_rows.specs.declared.booking.Booking.{Booking}
+use Rattle.club_reference.proofs.sums.booking_under.Goals as goal
+
+pub returns : goal.returns
+returns c =
+    c.copied.ensures
+    ∙ find_from_yields_List (λ (booking : Booking). bytes_eq booking.key c.args.name.now
+    && booking.number == c.args.number) _ _ c.find.result c.find.ensures.ran
+    (YieldsList-from_slice c.args.bookings.now cc)
+    (λ x b q k. search (rules, tests))
