@@ -80,7 +80,7 @@ class CodeFile:
 
     @cached_property
     def uses(self):
-        """What `use` brings: name here, crate, name there."""
+        """The names that `use` brings: name here, crate, name there."""
         found = {}
         for line in re.finditer(r"^(?:pub(?:\([a-z]+\))? )?use ((?:[^;])*);", self.text, re.MULTILINE):
             for crate, name, here in flat(line[1]):
@@ -123,7 +123,7 @@ class CodeFile:
         raise KeyError(f"{self.path}: no function {name}")
 
     def generics_at(self, at):
-        """The traits by which parameters are bounded, of the function at a place and of its `impl`."""
+        """The bounds of the parameters of the function at a place and of its `impl`: traits."""
         head = self.block_around(at)[0]
         paren = self.text.find("(", at)
         bounds = {}
@@ -135,7 +135,7 @@ class CodeFile:
         return bounds
 
     def cited_by(self, at, text):
-        """What a clause cites, and what wasn't understood."""
+        """The names that a clause cites, and those that weren't understood."""
         scope = self.scope_at(at)
         bounds = self.generics_at(at)
         walk = Walk(scope)
@@ -271,7 +271,7 @@ class Book:
         return it
 
     def standing_for(self, ghost):
-        """What types of ours have for a ghost: the type, its file, the value, and what is below that."""
+        """The ghosts of our own types: the type, its file, the value, and the definitions below that."""
         trait, name = ghost.name.split(".")
         for key, file in self.code.items():
             if key.split("/")[0].endswith("_tests") or key.split("/")[0] in ("test_kit", "club_bench"):
@@ -283,7 +283,7 @@ class Book:
                     yield found[1], file, value[1], closure(file.cited_by(found.start() + value.start(), value[1])[0])
 
     def resolve_type(self, file, it):
-        """The types of a type's fields, or the value by which contracts see it."""
+        """The types of a type's fields, or the value that contracts see it as."""
         if it.rust_kind == "trait":
             return
         model = re.search(rf"^impl(?:<[^>]*>)? Model for {it.name}\b[^{{]*\{{", file.text, re.MULTILINE)

@@ -2,17 +2,18 @@
 """`web/book.html` books, cancels and lends at the real desk behind nginx, in three browsers, with lost requests, kills and hostile input.
 
 It runs in Debian's chromium, and in short in Firefox and WebKitGTK, against the desk over a file, by the stored configuration of nginx with TLS:
-- the day, a booking, a cancellation, the account, in English and German; what a pass leaves out; by keyboard alone, by swipes; six
-  requests at once; a page that is looked at again;
-- requests that get lost in each way, a desk that is killed, pages, tabs and browsers that end at each point; 200 bookings and
-  cancellations while the server is killed 30 times: the record is the table of bookings, and the totals are its sums;
+- the day, a booking, a cancellation, the account, in English and German;
+- limits of a pass, by keyboard alone, by swipes; six requests at once; a page that is looked at again;
+- requests that get lost in each way, a desk that is killed, pages, tabs and browsers that end at each point;
+- 200 bookings and cancellations while the server is killed 30 times: the record is the table of bookings, and the totals are its sums;
 - odd passes, an odd or missing list of the club, a browser that keeps nothing, a clock that is wrong, replies that aren't the desk's;
 - links, lists, messages, kept values and replies that anybody may have made: nothing is sent or replaced without a press that names it;
 - a lent part: its sentence, link and QR code, what its holder sees, and how long it takes; several passes; the page without a network;
 - the record on its way to another device, and beside what the desk counts; what deploy/record, deploy/club_json and deploy/letter print;
 - a time that is looked for over a week, a booking changed, repeated, for a calendar; days at once by the stored limits of requests;
-- the hall's screen; names for screen readers, contrasts, widths, less motion; that nothing goes to another origin, and nothing runs but
-  what the page's policy names; how long a day takes, and how many bytes the pages are as they are sent.
+- the hall's screen; names for screen readers, contrasts, widths, less motion;
+- nothing goes to another origin, and nothing runs but what the page's policy names;
+- how long a day takes, and how many bytes the pages are as they are sent.
 
   tests/pages/page_books.py                  all of it
   tests/pages/page_books.py FOLDER [STEP ..]     and pictures of the page into this folder; these functions alone

@@ -200,7 +200,7 @@ def goes_by_keyboard(page):
 
 
 def pasted(page, wanted):
-    """What is on the clipboard, by pasting it as the pass."""
+    """The clipboard's text, pasted as the pass."""
     page.run("byId('given').value = ''; byId('given').focus();")
     ActionChains(page.driver).key_down(Keys.CONTROL).send_keys("v").key_up(Keys.CONTROL).perform()
     value = page.run("return byId('given').value")
@@ -227,7 +227,7 @@ def hands_on(page):
     page.run("location.hash = '#' + arguments[0]", AMY)
     page.pause()
     check(page.run("return byId('given').value") == AMY, "another pass behind #")
-    # What is chosen or entered afterwards takes back a result.
+    # A later choice or entry takes back a result.
     for then, word in (("choose('guests', arguments[0])", "2"), ("enter(arguments[0])", AMY[:-1])):
         page.narrow(AMY, ("guests", "1"))
         page.run(then, word)
@@ -374,7 +374,7 @@ def named_for_screen_readers(page):
 
 
 def looks_right(page):
-    """Pictures; no sideways scrolling on a phone; contrasts; names. With all that can stand in the page."""
+    """Pictures; no sideways scrolling on a phone; contrasts; names. With all that can be in the page."""
     everything = Pass(b"club-desk", b"key:amy-1", [b"shoe = red" + b"x" * 300, b"facility = " + b",".join([b"a" * 24] * 8)], bytes(range(32)))
     page.visit()
     choices = fields_of("kind = court", "facility = " + ",".join(["b" * 24] * 8), *NINE_LINES[2:])
