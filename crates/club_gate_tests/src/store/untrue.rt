@@ -253,7 +253,7 @@ fn a_debit_below_the_bookings(rt: HostRuntime) {
 }
 
 /// Of an unknown facility; each number beyond its limit, and a place less than a slot has persons.
-/// Then numbers at their limits, with as many places as that, and another kind stays.
+/// Then as many places as that, the limits of a price, and one place. The kind stays.
 static NUMBERS: [Step; 15] = [
     Step::Refuses(Write::Numbers("court-9", 4, 200, 8, 22)),
     Step::Refuses(Write::Numbers("court-1", 51, 200, 8, 22)),
