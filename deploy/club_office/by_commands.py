@@ -17,16 +17,18 @@ from club_office.undoing import Record, broken_off, forget_undo, rows_edited, ro
 from club_office.values import date_of
 
 CORRECTIONS = ("set-quota", "debit", "set-facility", "reopen-slot", "cancel", "close", "rain", "leave")
-# Of these exactly the commands are given that were shown and are still left to do. Others are refused if anything else is left by now.
+# These give only the commands that were shown and are still left to do. The others are refused if the plan is another one by now.
 LISTED = ("cancel", "close", "rain", "leave")
-# Rounds in which a correction goes on with what members booked meanwhile.
+# A correction asks again about slots that members booked meanwhile, at most this often.
 MOST_ROUNDS = 20
-# The status of clubdesk that says nothing of whether a command was done.
+# The status of clubdesk if it doesn't know whether a command was done.
 NO_ANSWER = 8
+# Columns of the tables `slots` and `members`.
+TAKEN, USED = 4, 3
 
 
 class BookedMeanwhile(Fault):
-    """Ends a round in which members booked what the clerk wasn't shown."""
+    """Members booked slots that the clerk wasn't shown, so the next round asks about them."""
 
 
 class RestDeclined(Fault):
@@ -34,7 +36,7 @@ class RestDeclined(Fault):
 
 
 def correct(club, words, planned, then):
-    """A correction: shows what it would do, asks, and has the desk do just that. `then` is called before each turn is over."""
+    """Shows a correction, asks, and has the desk do exactly that. Calls `then` at the end of each turn."""
     wants_file(club)
     it = Correction(club, words, planned, then)
     try:
@@ -50,7 +52,7 @@ def correct(club, words, planned, then):
 
 
 class Correction:
-    """A correction under way, with its record beside the club once it has begun."""
+    """A correction that was begun. Its record is next to the club's file from the first command on."""
 
     def __init__(self, club, words, planned, then):
         self.club, self.words, self.planned, self.then = club, words, planned, then
@@ -84,7 +86,7 @@ class Correction:
         return refusal("not confirmed")
 
     def plan(self, db, left):
-        """Plans the correction. `left` is its record's content, if it was broken off: then nothing may be left to do."""
+        """Plans the correction. `left` is the record of an earlier run that was broken off, if any. Only then may the plan be empty."""
         try:
             if left and self.words.command == "debit":
                 plan = plan_rest_of_debit(db, self.words, left)
@@ -99,7 +101,7 @@ class Correction:
         return plan
 
     def carry_out(self, shown):
-        """A turn, in which the desk does what was shown, or what is planned by now if nothing was."""
+        """Takes a turn, and has the desk do what was shown. With --yes nothing was shown, so it does what is planned now."""
         plans = []
 
         def act():
@@ -228,7 +230,7 @@ class Correction:
 def refuse_unsound(rows):
     """Refuses what would take more from a total than it has, as of rows that somebody has changed by hand."""
     for table, _, was, is_now in rows:
-        if table == "slots" and is_now[4] < 0:
-            raise refusal("nothing changed", why=say("taken off", facility=is_now[0], day=date_of(is_now[1]), hour=is_now[2], persons=-is_now[4]))
-        if table == "members" and is_now[3] < 0:
-            raise refusal("nothing changed", why=say("used off", member=is_now[0], used=was[3], spent=was[3] - is_now[3]))
+        if table == "slots" and is_now[TAKEN] < 0:
+            raise refusal("nothing changed", why=say("taken off", facility=is_now[0], day=date_of(is_now[1]), hour=is_now[2], persons=-is_now[TAKEN]))
+        if table == "members" and is_now[USED] < 0:
+            raise refusal("nothing changed", why=say("used off", member=is_now[0], used=was[USED], spent=was[USED] - is_now[USED]))
