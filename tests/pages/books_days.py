@@ -36,7 +36,7 @@ def books_and_cancels(page, passes):
     same_record(page, "amy-1")
     page.view("bookings")
     card = page.run("return byName('to-come').innerText")
-    has(card, "a booking in the list", "Court 1", "Booked", "3 persons", "600 points", "cancelling gives back all, 600 points")
+    has(card, "a booking in the list", "Court 1", "Booked", "3 persons", "600 points", "cancelling gives back everything: 600 points")
     page.cancelled_in_the_list("a cancellation", asked="Cancelling now gives back 600 points", words="600 points came back")
     page.when("byName('to-come').innerText.includes('Cancelled, 600 points came back')", "what is cancelled")
     # Less than a day ahead half comes back.
@@ -371,7 +371,7 @@ def refusals_say_what_to_do(page, passes, between):
         between.fates.clear()
     # In place of a reply, if the desk is away, busy or slow.
     page.enter(passes["amy-1"])
-    for hour, status, body, words in [(15, 502, "<html>", "isn't there just now (502)"), (16, 504, "<html>", "takes too long to answer (504)"),
+    for hour, status, body, words in [(15, 502, "<html>", "isn't available just now (502)"), (16, 504, "<html>", "is taking too long to answer (504)"),
                                       (17, 503, '{"fault":22,"text":"unavailable"}', "is busy just now (503)")]:
         between.fates["GET"] = [f"answer {status} {body}"] * 200
         page.view("account")

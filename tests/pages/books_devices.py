@@ -23,7 +23,7 @@ def rotations(passes, front, between):
         between.fates.clear()
         page.comes("isn't known", "a pass that is refused meanwhile")
         page.view("bookings")
-        check("Whether this is booked isn't known" in page.run("return byName('to-come').innerText"), "a booking of which nothing is known")
+        check("It isn't known whether this is booked" in page.run("return byName('to-come').innerText"), "a booking of which nothing is known")
         page.visit(f"#{new}", "isShown('day') && state.entries.every((each) => unfinished(each) === null && each.stopped === undefined)", "the new pass")
         check(same_record(page, "amy-son") == 1, "one booking")
         # A pass of another key waits for its own.
@@ -171,7 +171,7 @@ def at_hand(passes, server):
         with BookingPage(front) as page:
             page.enter(passes["hand-1"])
             page.view("account")
-            wanted = "needs a network to open" if missing == "worker.js" else "opens without a network"
+            wanted = "needs a network to open" if missing == "worker.js" else "also opens without a network"
             page.when(f"shownText('at-hand').includes('{wanted}')", "a page without", missing)
         pathlib.Path("www", missing).write_text(worker if missing == "worker.js" else kept)
     print("without a network the page opens with the list; a worker or a manifest that is missing, and an old worker, harm nothing")
@@ -291,7 +291,7 @@ def does_more_with_bookings(page, passes, between):
     page.cancelled(both["number"], "the new one")
     more("Change", moved["number"])
     page.press("Look up")
-    check("That is what you have." in page.run("return dialogText()"), "no change")
+    check("That is your booking already." in page.run("return dialogText()"), "no change")
     page.press("Close")
     curl(page, "DELETE", f"/slots/court-2/{day(20)}/13/bookings/{number}", passes["other"])
     for each in (moved, later):

@@ -133,7 +133,7 @@ def lists_what_is_past(passes, front):
         check(len(cards) == 2 and "Double scull" in cards[0] and "From a list: cancelled, 75 points came back" in cards[0] and "Court 1" in cards[1]
               and "From a list: booked" in cards[1] and "2 persons" in cards[1] and "400 points" in cards[1], "past bookings", cards)
         words = page.run("return [...byName('past').querySelectorAll('button')].map((each) => each.textContent)")
-        check(words == ["Take off the list"] * 2, "nothing can be done about them but that", words)
+        check(words == ["Remove from the list"] * 2, "nothing can be done about them but that", words)
     print("past bookings are listed apart; the traps are named where they bite")
 
 
@@ -252,9 +252,9 @@ def browser_ends(passes, front, between):
 
 BROKEN = {
     "no storage": ("Object.defineProperty(globalThis, 'indexedDB', { value: { open() { throw new DOMException('no', 'SecurityError'); } } });",
-                   "doesn't let the page write anything down"),
+                   "doesn't let the page store anything"),
     "no storage, later": ("IDBFactory.prototype.open = function () { const request = new EventTarget(); request.error = new Error('no'); "
-                          "setTimeout(() => request.dispatchEvent(new Event('error'))); return request; };", "doesn't let the page write anything down"),
+                          "setTimeout(() => request.dispatchEvent(new Event('error'))); return request; };", "doesn't let the page store anything"),
     "no locks": ("Object.defineProperty(navigator, 'locks', { value: undefined });", "This browser is too old to book with"),
 }
 
@@ -284,7 +284,7 @@ def broken_browsers(passes, front, server):
         page.run(later)
         page.book("court-1", 10)
         page.when("dialogText().includes('Booked.')", "a storage that gets full")
-        check("couldn't write the answer down" in page.run("return dialogText()"), "it says so")
+        check("couldn't save the answer" in page.run("return dialogText()"), "it says so")
         page.driver.refresh()
         page.when("isShown('day') && state.entries.length === 1 && allAnswered()", "the reply again")
         number = page.entries()[0]["number"]
@@ -294,7 +294,7 @@ def broken_browsers(passes, front, server):
     with BookingPage(front, before=refused) as page:
         page.enter(passes["full-1"])
         page.press("Keep it", "notices")
-        page.when("shownText('notices').includes('This browser keeps nothing')", "a pass that can't be kept")
+        page.when("shownText('notices').includes(\"This browser can't keep the pass\")", "a pass that can't be kept")
     print(f"{len(BROKEN) + 3} browsers that keep nothing, too little or only at first: nothing is sent that can't be written down, and each says so")
 
 

@@ -250,8 +250,8 @@ def odd_passes(page, passes):
 
 def odd_clubs(page, passes):
     good = pathlib.Path("www/club.json").read_text()
-    for text, words in [(None, "can't find the club's list"), ("", "isn't as it must be"), ("{}", "isn't as it must be"), ("<html>", "isn't as it must be"),
-                        (good.replace(ZONE, "Nowhere/None"), "isn't as it must be"), (good.replace('"court"', '"pool"'), "isn't as it must be")]:
+    for text, words in [(None, "can't find the club's list"), ("", "list of facilities is wrong"), ("{}", "list of facilities is wrong"), ("<html>", "list of facilities is wrong"),
+                        (good.replace(ZONE, "Nowhere/None"), "list of facilities is wrong"), (good.replace('"court"', '"pool"'), "list of facilities is wrong")]:
         pathlib.Path("www/club.json").unlink(missing_ok=True)
         if text is not None:
             pathlib.Path("www/club.json").write_text(text)

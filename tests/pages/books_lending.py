@@ -40,7 +40,7 @@ def lends(passes, front, between):
         page.sees(360, "light", 740)
         page.enter(passes["amy-1"], keeps="Keep it")
         page.view("lend")
-        has(page.run("return shownText('lend-which')"), "without a spare pass", "No spare pass is kept here.", "whoever has the link can cancel them")
+        has(page.run("return shownText('lend-which')"), "without a spare pass", "No spare pass is kept here.", "anyone with the link can cancel them")
         page.visit(f"#spare={passes['amy-lend-1']};{passes['amy-lend-2']}", "dialogText().includes('amy-lend-1, amy-lend-2')", "spare passes in a link")
         check(page.run("return localStorage.spares") is None, "nothing is kept before the press")
         page.press("Keep it")
@@ -76,7 +76,7 @@ def lends(passes, front, between):
         between.fates["GET"] = ["silent"] * 50
         choose(page, "lend-points", "600")
         page.click("lend-make")
-        page.when("shownText('lend-news').includes(\"isn't there just now (502)\")", "a desk that is away", limit=60)
+        page.when("shownText('lend-news').includes(\"isn't available just now (502)\")", "a desk that is away", limit=60)
         between.fates.clear()
     with BookingPage(front) as page:
         page.sees(360, "light", 740)
@@ -195,7 +195,7 @@ def tries_the_club(address):
             engine.when(f"{DAY_THERE} && shown('pass-says').includes('0 of 200 points booked in this browser.')", "the holder's page")
             goes_to(engine, ahead[20])
             engine.tap(slot_path("Court 1", 12))
-            engine.when("shown('dialog').includes(\"Your pass ends before this slot, and from then on you can't cancel it.\")", "a slot after the pass's end")
+            engine.when("shown('dialog').includes(\"Your pass ends before this slot. After that you can't cancel the booking.\")", "a slot after the pass's end")
             engine.press("Book for 200 points", "dialog")
             engine.when("shown('dialog').includes('Booked.')", "the holder's booking")
             engine.press("Close", "dialog")
@@ -248,7 +248,7 @@ def lends_what_the_pass_opens(address):
             page.run("localStorage.removeItem('demo loans'); localStorage['demo spares'] = JSON.stringify(arguments[0])", spares)
             opens(page)
             which = page.run("return shownText('lend-which')")
-            check((wanted is None) == ("None of your spare passes can be taken." in which and "can cancel them" in which), "which spare pass is taken", wanted, which)
+            check((wanted is None) == ("None of your spare passes can be used." in which and "can cancel them" in which), "which spare pass is taken", wanted, which)
             check(made(page)[0] == (wanted or "anna-1"), "the pass that is lent", wanted)
         # The same where it turns out after the press alone.
         page.run("localStorage.removeItem('demo loans'); localStorage['demo spares'] = JSON.stringify([arguments[0]])", renewed)
@@ -321,7 +321,7 @@ def says_what_it_keeps(address):
         page.run("cellAt('court-1', 20).button.click(); byName('dialog').querySelector('.main').click()")
         time.sleep(1)
         page.driver.execute_async_script("const [done] = arguments; Promise.all(state.entries.map((each) => state.store.remove(each.key, each.number))).then(() => done())")
-        for lines, words in [(["spend <= 600"], "200 of 600 points booked, as the desk counts."), (["actions = view,book,cancel", "spend <= 600"], "0 of 600 points booked in this browser.")]:
+        for lines, words in [(["spend <= 600"], "200 of 600 points booked, according to the desk."), (["actions = view,book,cancel", "spend <= 600"], "0 of 600 points booked in this browser.")]:
             opens_lend(page, f"{address}#" + text_of(page, f"return writePass(await narrowed(readPass(await passToTry('anna-1')), {json.dumps(lines)}))"))
             check(page.run("return shownText('pass-says')") == words, "whose number it is", lines, page.run("return shownText('pass-says')"))
         # A pass that has ended.
@@ -350,8 +350,8 @@ def keeps_so_many(address):
         page.run("localStorage['demo passes'] = JSON.stringify(arguments[0].map((text, count) => ({ text, name: `pass ${count + 1}` })))", passes)
         opens_lend(page, f"{address}#{last}")
         page.run("pressIn(byName('notices'), 'Keep it')")
-        has(page.run("return shownText('notices')"), "a 21st pass", "20 passes are kept in this browser, and it keeps no more.", "“Forget the pass” under “Account”")
-        check("keeps nothing" not in page.run("return shownText('notices')"), "a 21st pass", page.run("return shownText('notices')"))
+        has(page.run("return shownText('notices')"), "a 21st pass", "This browser keeps 20 passes, and it can't keep more.", "“Forget the pass” under “Account”")
+        check("can't keep the pass" not in page.run("return shownText('notices')"), "a 21st pass", page.run("return shownText('notices')"))
         page.run("byName('to-account').click(); pressIn(byName('pass-buttons'), 'Keep the pass in this browser')")
         has(page.run("return shownText('pass-news')"), "once more", "20 passes are kept")
         page.run("byName('who').value = arguments[0]; byName('who').dispatchEvent(new Event('change')); byName('to-account').click(); pressIn(byName('pass-buttons'), 'Forget the pass')", passes[7])
@@ -369,9 +369,9 @@ def keeps_so_many(address):
         check(page.run("return byName('dialog').querySelectorAll('li').length") == 19, "one that is lent isn't removed", page.run("return dialogText()"))
         keep("spares-full.png", page.driver.get_screenshot_as_base64())
         for count in (0, 1):
-            check("There is room now." not in page.run("return dialogText()") and page.run("return keptSpares()") == passes[:1] + passes[1 + count:], "removed", count)
+            check("There is space now." not in page.run("return dialogText()") and page.run("return keptSpares()") == passes[:1] + passes[1 + count:], "removed", count)
             page.run("byName('dialog').querySelector('li button').click()")
-        has(page.run("return dialogText()"), "two are removed", "anna-1 is removed.", "There is room now.")
+        has(page.run("return dialogText()"), "two are removed", "anna-1 is removed.", "There is space now.")
         page.run("pressIn(byName('dialog'), 'Go on')")
         time.sleep(0.5)
         page.run("pressIn(byName('dialog'), 'Keep it')")
@@ -463,7 +463,7 @@ def lends_in_a_minute(passes, server):
             press(member, f"//input[@name='lend-until'][@value='{day(friday)}']/..")
             press(member, "//button[@id='lend-make']")
             member.when("document.getElementById('lend-made').offsetParent !== null", "a link")
-            says = f"Whoever has the link may book courts until the end of {page_date(day(friday))}, for 600 points in all."
+            says = f"Anyone with the link may book courts until the end of {page_date(day(friday))}, for 600 points in all."
             check(member.get("return shown('lend-made-says')") == says, "what she lends", member.get("return shown('lend-made-says')"))
             press(member, "//button[@id='lend-copy']")
             sent = member.run("return document.getElementById('lend-address').value").replace(member.host, son.host)

@@ -262,7 +262,7 @@ def other_engines(passes, server):
         check(lent.startswith(f"{address}#") and engine.code("lend-qr") == lent, engine.name, "a lent part, and its code", lent, engine.code("lend-qr"))
         # Another visit, without a network.
         engine.tap("//button[@id='to-account']")
-        engine.when("shown('at-hand').includes('opens without a network') && shown('account-facts').includes('of 99')", "a worker, and the account")
+        engine.when("shown('at-hand').includes('also opens without a network') && shown('account-facts').includes('of 99')", "a worker, and the account")
         stop_proxy(front)
         engine.open(address)
         engine.tap("//button[@id='to-bookings']")

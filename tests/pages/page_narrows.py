@@ -64,11 +64,11 @@ SENTENCES = {
     "guests <= 1": "Bookings with at most 1 guest.",
     "guests <= 12": "Bookings with at most 12 guests.",
     "spend <= 0": "Nothing that costs points.",
-    "spend <= 1": "At most 1 point in all. All that was ever booked with this pass and its parts counts.",
-    "spend <= 123456789": "At most 123,456,789 points in all. All that was ever booked with this pass and its parts counts.",
+    "spend <= 1": "At most 1 point in all. Every booking ever made with this pass or a part of it counts.",
+    "spend <= 123456789": "At most 123,456,789 points in all. Every booking ever made with this pass or a part of it counts.",
     "actions = view,book": "Only to look at slots or book.",
     "actions = view,cancel,account": "Only to look at slots, cancel bookings or look at the account.",
-    "shoe = red": "This one isn't understood: the desk refuses this pass.",
+    "shoe = red": "The desk doesn't understand this limit, so it refuses the pass.",
 }
 # Lines that fields make, also those that somebody spells in another way.
 CHOSEN = [
@@ -112,7 +112,7 @@ def choices_say_what_they_add(page):
     nothing = page.narrow(AMY)
     check(nothing.get("fault") == "Choose at least one limit.", "no choice", nothing)
     nothing = page.narrow("", ("guests", "1"))
-    check("First there must be a pass" in nothing.get("fault", ""), "no pass", nothing)
+    check("First enter a pass above" in nothing.get("fault", ""), "no pass", nothing)
     print(f"{len(SENTENCES)} sentences, and {len(CHOSEN) + sum(map(len, WRONG.values()))} choices that say and add their lines, or what they want")
 
 
@@ -142,8 +142,8 @@ def notes_say_what_matters(page):
     check("no name that the desk could know" in stranger["shown"], "a stranger's pass", stranger)
     check(stranger["facts"]["Identifier"] == "we used our secret key", "whose a stranger's pass is", stranger)
     text = page.run("return document.body.innerText")
-    for words in ["The desk counts all that was ever booked with this pass", "let the office first make them a pass of their own",
-                  "can also cancel what was booked with your pass", "Days and times are the club's own"]:
+    for words in ["The desk counts every booking ever made with this pass", "ask the office to make them a pass of their own",
+                  "can also cancel bookings made with your pass", "Days and times are the club's"]:
         check(words in re.sub(r"\s+", " ", text), "the page doesn't say", words)
     print(f"{len(NOTES)} passes come with what matters of them")
 
