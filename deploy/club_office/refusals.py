@@ -221,7 +221,7 @@ REFUSALS = {
     "desk says": ("the desk says: {text}", "der Server sagt: {text}"),
     "no office key": ("no key of the office is free for {member}", "für {member} ist kein Schlüssel des Büros frei"),
     "booked already": (
-        "{slot} is booked for {member} already: {booking}; --again books once more",
+        "{slot} is already booked for {member}: {booking}; --again books once more",
         "{slot} ist für {member} schon gebucht: {booking}; --again bucht noch einmal",
     ),
     "no booking of": ("{member} has no booking of {slot}", "{member} hat keine Buchung von {slot}"),

@@ -174,7 +174,7 @@ def calls():
     task("the sheet", ("Day", "+2")).has("a sheet", "Day sheet", "mueller-bob-office")
     task("who has booked a day", ("Day", "+2")).has("a day", "mueller-bob-office")
     task("who has booked one", ("Court", "court-2")).has("a court", "mueller-bob-office")
-    task("a member leaves", ("Member", "karl"), ("Shall", "y")).has("a member leaves", "member baecker-karl becomes 1")
+    task("a member leaves", ("Member", "karl"), ("Shall", "y")).has("a member leaves", "renames member baecker-karl to 1")
 
 
 def season_start():
@@ -183,7 +183,7 @@ def season_start():
     task("members from a list", ("File", "members.csv"), ("Shall", "y")).has("a list", "read as UTF-8 with ;", "ida-lund: done", "2 of 2 rows done")
     run_as("anna", "sh", "-c", "printf 'Vorname;Nachname\nBea;Noll\n' >names.csv")
     task("members from a list", ("File", "nothing.csv"), ("no such file", "names.csv"), ("Open bookings", "3"), ("Points", "500"), ("Shall", "n")).has(
-        "a list of names", "office club import names.csv --quota=3 --points=500", "noll-bea", "in all: 1 of 1 rows to do, 500 points")
+        "a list of names", "office club import names.csv --quota=3 --points=500", "noll-bea", "in all: 1 of 1 rows left to do, 500 points")
     wide = "Zu Guttenberg und Tannenberg, Karl-Theodor Maria Nikolaus"
     run_as("anna", "sh", "-c", f"printf 'name;quota;points\n{wide};3;500\n' >wide.csv")
     shown = task("members from a list", ("File", "wide.csv"), ("Shall", "n")).shown.replace("\r", "").split("\n")
@@ -200,7 +200,7 @@ def season_start():
     task("the board's page").has("the board's page", f"report-{TODAY.year}.html")
     done("close", str(TODAY - datetime.timedelta(3)), "10", "court-3", "--yes")
     task("a new year", ("Shall", "n")).has("a new year that isn't confirmed", "not confirmed")
-    task("a new year", ("Shall", "y")).has("a new year", "office club new-year", "copies the file, as it is, to", "done")
+    task("a new year", ("Shall", "y")).has("a new year", "office club new-year", "copies the whole file to", "done")
     task("put a copy", ("Number", "1"), ("Shall", "n")).has("a restore that isn't confirmed", "not confirmed")
     task("all of them").has("all courts", "court-3")
 
@@ -262,7 +262,7 @@ def interrupted():
     with open(HOME / "club-orders", "r+", encoding="ascii") as turn:
         fcntl.flock(turn, fcntl.LOCK_EX)
         shown = task("a new member", ("Name", "Zoë"), ("Open", "5"), ("Points", "100"), ("Do it", ENTER), ("waiting for another order", None))
-        shown.has("Ctrl-C at a command", "broken off: `office club log` has what was done by then",
+        shown.has("Ctrl-C at a command", "interrupted: `office club log` shows what was done by then",
                   "not done: office club person zoe; office club credit zoe 100; office club add-key zoe-1 zoe --to passes/zoe-1; office club letters zoe-1")
         terminal = Terminal("club", "debit", "mueller-bob", "1")
         terminal.answers(("Shall", "y"), ("waiting for another order", None))

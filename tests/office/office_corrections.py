@@ -11,7 +11,7 @@ from office_room import CLUB, HOME, ROOM, Service, begun, configure, desk, done,
 
 
 def corrections(server, amy, bob):
-    same("a price", lines("set-facility", "court-1", "--price", "250", *YES), ["price of court-1: 200, then 250; what is booked keeps its charge", "done"])
+    same("a price", lines("set-facility", "court-1", "--price", "250", *YES), ["price of court-1: 200, then 250; existing bookings keep their charge", "done"])
     same("its view", slot(server, amy, "court-1", 18), {
         "facility": "court-1", "day": DAY, "hour": 18, "kind": "court", "price": 250, "places": 4, "taken": 3, "closed": False})
     same("a booking at it", book(server, amy, "court-1", 19, 9, 0), {"booking": "amy-1/9", "charge": 250, "left": 3})
@@ -85,7 +85,7 @@ def tournament_and_rain(server, bob):
 def member_leaves(server, bob):
     book(server, bob, "court-2", 18, 33, 1)
     shown = lines("leave", "bob", *YES)
-    same("what is shown", (shown[-3], len(shown)), ("member bob becomes 1, with quota 0 and a balance of 3000", 7))
+    same("what is shown", (shown[-3], len(shown)), ("renames member bob to 1, with quota 0 and a balance of 3000", 7))
     same("the member", rows("SELECT name, credited, quota, used FROM members WHERE name IN ('1', 'bob')"), [("1", 3000, 0, 0)])
     same("its keys", rows("SELECT name, member, revoked FROM keys WHERE member IN ('1', 'bob') ORDER BY name"), [("1-1", "1", 1), ("1-2", "1", 1)])
     same("its passes", server.answer(bob, "GET", "/account"), (401, '{"fault":9,"text":"not verified"}'))
@@ -184,9 +184,9 @@ def restores(server):
     after = everything()
     same("the copies", {",".join(line.split(",")[:2]) for line in lines("copies", "--csv")} >= {"copy,is", f"{night},back-up"}, True)
     shown = [
-        "forgets the member dora", f"balance of amy: {balance + 250}, then {balance}", "forgets the key dora-1: its passes are refused",
-        "takes passes of amy-3 of before it was rotated, and refuses those of after", "takes passes of amy-5, which is revoked now",
-        "the facility boat-1 is as it was", f"opens court-2 {DAY} 11:00 again", f"loses court-2 {DAY} 09:00, 1 person, 200 points: amy-6 63, amy",
+        "removes the member dora", f"balance of amy: {balance + 250}, then {balance}", "removes the key dora-1: its passes are refused",
+        "accepts the passes of amy-3 from before its rotation, and refuses later ones", "accepts the passes of amy-5, which is revoked now",
+        "changes the facility boat-1 back", f"opens court-2 {DAY} 11:00 again", f"loses court-2 {DAY} 09:00, 1 person, 200 points: amy-6 63, amy",
         f"books again court-2 {DAY} 19:00, 2 persons, 400 points: amy-6 61, amy", "in all: 9 changes",
     ]
     same("a restore that isn't confirmed", refused(["restore", night, *AT], 1, "refused: not confirmed", given="n\n").splitlines()[:-1], shown)
@@ -200,9 +200,9 @@ def restores(server):
     undone = sorted(file for file in os.listdir(f"{HOME}/club-before") if file.endswith("-restore"))[-1]
     same("its own copy is listed", f"{undone},before a correction" in {",".join(line.split(",")[:2]) for line in lines("copies", "--csv")}, True)
     same("what undoes it", lines("restore", undone, *YES), [
-        "has the member dora again", f"balance of amy: {balance}, then {balance + 250}", "has the key dora-1 again, and its passes",
-        "takes passes of amy-3 of before it was rotated, and refuses those of after", "refuses passes of amy-5, which is revoked again",
-        "the facility boat-1 is as it was", f"closes court-2 {DAY} 11:00", f"loses court-2 {DAY} 19:00, 2 persons, 400 points: amy-6 61, amy",
+        "brings back the member dora", f"balance of amy: {balance}, then {balance + 250}", "brings back the key dora-1 and its passes",
+        "accepts the passes of amy-3 from before its rotation, and refuses later ones", "refuses the passes of amy-5: it is revoked again",
+        "changes the facility boat-1 back", f"closes court-2 {DAY} 11:00", f"loses court-2 {DAY} 19:00, 2 persons, 400 points: amy-6 61, amy",
         f"books again court-2 {DAY} 09:00, 1 person, 200 points: amy-6 63, amy", "in all: 9 changes", "done",
     ])
     same("it is undone", everything(), after)
@@ -223,7 +223,7 @@ def restores(server):
         refused(["restore", called, *YES], 1, line)
         path.unlink()
     done("add-key", "amy-7", "amy")
-    changed_meanwhile(["restore", night], "forgets the member dora", lambda: done("credit", "amy", "1"))
+    changed_meanwhile(["restore", night], "removes the member dora", lambda: done("credit", "amy", "1"))
     damaged(server, text, night, before, was)
 
 

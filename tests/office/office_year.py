@@ -186,7 +186,7 @@ status, out, _ = office("new-year", "--at", NOW, given="no\n")
 same("not confirmed", (status, sum_of(CLUB), kept_files()), (1, sum_of(original), []))
 shown = done("new-year", *YES).splitlines()
 old_file = HOME / "club-until-2025-12-30"
-same("what it says", shown[0], f"copies the file, as it is, to {old_file}")
+same("what it says", shown[0], f"copies the whole file to {old_file}")
 same("the old file is kept as it was", (kept_files(), sum_of(old_file)), ([old_file], sum_of(original)))
 same("its owner and mode", mode(old_file), "clubdesk 100600")
 same_sums("")

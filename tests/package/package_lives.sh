@@ -324,10 +324,10 @@ holds 'a member who leaves' office anna leave mueller-bob --yes
 same 'her pass' '{"fault":9,"text":"not verified"}' "$(asks passes/mueller-bob-1 GET account)"
 same 'who is there' '1,3000,0,0,1, amy,9990,5,1,1,Amy eve,1000,7,0,1,' "$(office anna members --csv | tail -n +2 | xargs)"
 office anna restore "$night" --yes >told
-same 'a restore' 'forgets the member 1
-has the member mueller-bob again
-forgets the key 1-1: its passes are refused
-has the key mueller-bob-1 again, and its passes
+same 'a restore' 'removes the member 1
+brings back the member mueller-bob
+removes the key 1-1: its passes are refused
+brings back the key mueller-bob-1 and its passes
 in all: 4 changes
 done' "$(cat told)"
 same 'a pass of before' '{"member":"mueller-bob","balance":3000,"quota":2,"open":0,"spent":0}' "$(asks passes/mueller-bob-1 GET account)"
