@@ -79,7 +79,7 @@ def make_club():
 
 def week():
     """The tasks of a week."""
-    shown = task("a new member", ("Name", "Özdemir, Ayşe"), ("Open bookings", "5"), ("Points", "3000"), ("Do it", ENTER))
+    shown = task("a new member", ("Full name", "Özdemir, Ayşe"), ("Open bookings", "5"), ("Points", "3000"), ("Do it", ENTER))
     shown.has("a new member", "-> oezdemir-ayse", "office club add-member oezdemir-ayse 5", "office club person oezdemir-ayse", "office club credit oezdemir-ayse 3000",
               "the pass is in the file passes/oezdemir-ayse-1",
               "office club letters oezdemir-ayse-1 --to letter-oezdemir-ayse-1.html", "1 sheets for 1 members are in letter-oezdemir-ayse-1.html")
@@ -167,7 +167,7 @@ def calls():
     task("rain", ("Day", "+2"), ("Which", "courts"), ("Hours", "15"), ("Shall", "y")).has("rain", "1 person", "done")
     task("undo the last", ("Shall", "y")).has("undone", "undoes what was done on", "puts back the booking", "in all: 3 changes")
     same("the booking again", rows("SELECT count(*) FROM bookings WHERE cancelled = 0"), [(1,)])
-    task("name, mail", ("Member", "bob"), ("Name", "Bob Müller"), ("Mail", "bob@example.org"), ("Telephone", "+49 1")).has("a person", "done")
+    task("name, mail", ("Member", "bob"), ("Full name", "Bob Müller"), ("Mail", "bob@example.org"), ("Telephone", "+49 1")).has("a person", "done")
     task("what a member has", ("Member", "müller bob")).has("a member by the name as it is written", "Bob Müller")
     task("a lost list", ("Member", "bob"), ("none: ", "2")).has("a lost list", "record of mueller-bob-office")
     task("one more key", ("Member", "bob"), ("Do it", ENTER)).has("one more key", "the pass is in the file passes/mueller-bob-2", "are in letter-mueller-bob-2.html")
@@ -254,14 +254,14 @@ def words_of_commands():
 def interrupted():
     """Ctrl-C in each question of a task goes back to the menu, and changes nothing."""
     before = everything()
-    questions = {"a new member": [("Name", "Zoë"), ("Open", "5"), ("Points", "100"), ("Do it", None)], "credit points": [("Member", "bob"), ("Points", "7"), ("Do it", None)],
+    questions = {"a new member": [("Full name", "Zoë"), ("Open", "5"), ("Points", "100"), ("Do it", None)], "credit points": [("Member", "bob"), ("Points", "7"), ("Do it", None)],
                  "close for": [("Day", "+3"), ("Hours", "15"), ("Which", "courts"), ("Shall", None)], "a member leaves": [("Member", "bob"), ("Shall", None)]}
     for called, pairs in questions.items():
         for at in range(len(pairs)):
             task(called, *pairs[:at], (pairs[at][0], None))
     with open(HOME / "club-orders", "r+", encoding="ascii") as turn:
         fcntl.flock(turn, fcntl.LOCK_EX)
-        shown = task("a new member", ("Name", "Zoë"), ("Open", "5"), ("Points", "100"), ("Do it", ENTER), ("waiting for another order", None))
+        shown = task("a new member", ("Full name", "Zoë"), ("Open", "5"), ("Points", "100"), ("Do it", ENTER), ("waiting for another order", None))
         shown.has("Ctrl-C at a command", "interrupted: `office club log` shows what was done by then",
                   "not done: office club person zoe; office club credit zoe 100; office club add-key zoe-1 zoe --to passes/zoe-1; office club letters zoe-1")
         terminal = Terminal("club", "debit", "mueller-bob", "1")

@@ -56,7 +56,7 @@ def in_letters():
 
 def by_the_menu():
     terminal = pexpect.spawn("runuser", ["-u", "anna", "--", "env", "LANG=C.UTF-8", "TERM=dumb", "office", "club"], cwd="/home/anna", encoding="utf-8", timeout=90, dimensions=(50, 80))
-    for question, answer in (("Task: ", "a new member"), ("Name", "Bob Ray"), ("Open bookings", "5"), ("Points", "3000"), ("Do it", ""), ("Enter for", ""), ("Task: ", "")):
+    for question, answer in (("Task: ", "a new member"), ("Full name", "Bob Ray"), ("Open bookings", "5"), ("Points", "3000"), ("Do it", ""), ("Enter for", ""), ("Task: ", "")):
         terminal.expect(question)
         terminal.sendline(answer)
     terminal.expect(pexpect.EOF)
