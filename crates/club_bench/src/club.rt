@@ -111,7 +111,7 @@ fn root() -> Option<Root> {
     Root::new(b"0123456789abcdef")
 }
 
-/// The name of a member and of its key: two digits.
+/// Returns the name of a member and of its key: two digits.
 fn name_of(index: u16) -> Option<Name> {
     Name::read(&[digit(index / 10), digit(index)])
 }
@@ -120,7 +120,7 @@ fn digit(value: u16) -> u8 {
     b'0' + (value % 10) as u8
 }
 
-/// The text of each key's pass in a form, with so many caveats.
+/// Returns the text of each key's pass in a form, with so many caveats.
 pub(crate) fn passes(alloc: Global, form: Form, caveats: usize) -> Result<Vec<String>> {
     let mut texts = Vec::new(alloc);
     for index in 0..KEYS {

@@ -2,7 +2,8 @@
 
 use anyhow::{Result, anyhow};
 
-/// The value. If there is none, the benchmark ends with an error that names what is missing.
+/// Returns the value. If there is none, the benchmark ends with an error that names what is
+/// missing.
 pub(crate) fn known<T: Drop>(value: Option<T>, what: &str) -> Result<T> {
     match value {
         Some(value) => Ok(value),

@@ -28,7 +28,7 @@ impl Kept {
         }
     }
 
-    /// What was written last.
+    /// Returns what was written last.
     pub(crate) fn bytes(&self) -> &[u8] {
         &self.bytes[..self.len]
     }
@@ -55,7 +55,7 @@ impl Outlet for Kept {
     }
 }
 
-/// How long whole exchanges take, one after the other. The last reply is kept.
+/// Returns how long whole exchanges take, one after the other. The last reply is kept.
 ///
 /// # Errors
 ///

@@ -20,12 +20,12 @@ pub(crate) enum Wish {
     Account,
 }
 
-/// The number of the booking of an index. Each key counts its own bookings.
+/// Returns the number of the booking of an index. Each key counts its own bookings.
 pub(crate) fn number_at(index: u16) -> u16 {
     index / KEYS + 1
 }
 
-/// The slot of an index, counted from 0, and when it is asked for.
+/// Returns the slot of an index, counted from 0, and when it is asked for.
 pub(crate) fn slot_and_moment(index: u16) -> Option<(Slot, Moment)> {
     let slot = slot_at(index)?;
     let moment = minute_before(&slot)?;
@@ -38,7 +38,8 @@ fn slot_at(index: u16) -> Option<Slot> {
     slot_from_columns(COURT, day, i64::from(hour))
 }
 
-/// A minute before a slot begins. A booking that is made then leaves few of its member to come.
+/// Returns a minute before a slot begins. A booking that is made then leaves few of its member to
+/// come.
 fn minute_before(slot: &Slot) -> Option<Moment> {
     Moment::from_number(slot.start().saturating_sub(1))
 }

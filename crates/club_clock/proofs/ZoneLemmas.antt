@@ -1,4 +1,4 @@
--- Lemmas on zones and what their clocks show.
+-- Lemmas on zones and the times that their clocks show.
 use Rattle.std.proofs.{Common.{◌≡◌, ◌↔◌, ℕ, ◌+◌, ◌*◌, ◌<◌, ◌≤◌, Bool, cond, true, false, List, Option, Some, None, inl, inr, refl, arith}, lemmas.Bool.cases_lt}
 use Rattle.std.specs.Prelude.{IsSome, IfSome, is_some, ℤ, pos, negsuc, ◌+ℤ◌, ◌*ℤ◌}
 use borrow.Author.Differences.{ints}
@@ -22,11 +22,11 @@ no_zone text none = go (is_some (read_whole text)) none
 
 -- ---- what a clock shows
 
--- the parts of a time are less than a day
+-- the parts of a time add up to less than a day
 within_day : (t : Time) → time_nanos t < 86_400_000_000_000
 within_day t = omega (arith, t.hour_in, t.minute_in, t.second_in, t.subsec_in)
 
--- a minute of a day, by its bounds
+-- a time is in a minute of a day, by its bounds
 in_minute : (day nanos n : ℕ) → n * 60_000_000_000 ≤ day * 86_400_000_000_000 + nanos
     → day * 86_400_000_000_000 + nanos < n * 60_000_000_000 + 60_000_000_000
     → IsInMinute (pos day *ℤ pos 86_400_000_000_000 +ℤ pos nanos) n
@@ -36,7 +36,7 @@ minute_bounds : (day nanos n : ℕ) → IsInMinute (pos day *ℤ pos 86_400_000_
     → (n * 60_000_000_000 ≤ day * 86_400_000_000_000 + nanos) × (day * 86_400_000_000_000 + nanos < n * 60_000_000_000 + 60_000_000_000)
 minute_bounds day nanos n h = (omega (arith, ints, h.0), omega (arith, ints, h.1))
 
--- no day before 1970 has a moment
+-- a day before 1970 has no moment
 never_before : (k nanos n : ℕ) → nanos < 86_400_000_000_000 → IsMoment n → ¬ (IsInMinute (negsuc k *ℤ pos 86_400_000_000_000 +ℤ pos nanos) n)
 never_before k nanos n short within h = absurd (omega (arith, ints, h.0))
 

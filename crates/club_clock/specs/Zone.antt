@@ -12,12 +12,12 @@ zone_of text = if is_some (read_whole text) then Some text else None
 abbrev pub IsZoneOf : List ℕ → TimeZone → Type 0
 IsZoneOf rule zone = read_whole rule ≡ Some (tz_view zone)
 
--- nanoseconds since 1970-01-01T00:00 on a clock lie in the minute of this number
+-- this number of nanoseconds since 1970-01-01T00:00 is in the minute with this number
 abbrev pub IsInMinute : ℤ → ℕ → Type 0
 IsInMinute nanos minute =
     (pos (minute * 60_000_000_000) ≤ℤ nanos) × (nanos <ℤ pos (minute * 60_000_000_000 + 60_000_000_000))
 
--- what a clock in the zone of a rule shows at an instant: the minute, if it is a moment of the club
+-- the minute that a clock in the zone of a rule shows at an instant, if that is a moment of the club
 pub record IsShown (rule : List ℕ) (instant : ℤ) (moment : Option ℕ) : Type 0 where
   pub zone : TimeZone
   pub of_rule : IsZoneOf rule zone

@@ -1,9 +1,9 @@
-//! Where moments come from.
+//! The sources of moments.
 
 use crate::zone::Zone;
 use club_values::Moment;
 
-/// Where the moment of a connection comes from, or of what is shown.
+/// The source of a connection's moment, or of a listing's.
 #[derive(Drop)]
 pub enum Clock<'a> {
     /// One moment, for all connections.

@@ -1,4 +1,4 @@
-//! The club's clock: sources of moments, and the zone in which a clock of the machine is read.
+//! The club's clock: sources of moments, and the zone of the machine's clock.
 #![tactic(auto)]
 
 mod clock;

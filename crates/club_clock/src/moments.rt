@@ -13,10 +13,10 @@ use std::time::{self, SystemTime};
 pub trait Moments {
     ghost use Rattle.club_clock.specs.Moments.{GivesMoment};
 
-    // what `now` may return, with the source before and after
+    // the results that `now` may have, with the source before and after
     ghost gives: { GivesMoment Self };
 
-    /// The moment now; `None` if it is out of the club's years or can't be read.
+    /// Returns the moment now; `None` if it is outside the club's years or can't be read.
     fn now(&mut self) -> Option<Moment>
         ensures { gives self.old result self.new };
 }
@@ -26,10 +26,10 @@ pub trait Instants {
     ghost use Rattle.std.specs.Prelude.{Option};
     ghost use Rattle.jiff_core.specs.declared.timestamp.Timestamp.{Timestamp};
 
-    // the instants that it may show
+    // the instants that the clock may show
     ghost shows: { Self → Option Timestamp → Type 0 };
 
-    /// The instant now; `None` if the clock can't be read or its time is no `Timestamp`.
+    /// Returns the instant now; `None` if the clock can't be read or its time isn't a `Timestamp`.
     fn instant(&self) -> Option<Timestamp>
         ensures { shows self.now result };
 }
@@ -53,7 +53,8 @@ fn instant_of(time: SystemTime) -> Option<Timestamp>
     Timestamp::from_nanosecond(i128::try_from(since.as_nanos()).ok()?).ok()
 }
 
-/// The moments of a clock, read off the machine's clock unless they are fixed. Contracts see both.
+/// The moments of a clock, which are read from the machine's clock unless they are fixed. Contracts
+/// see both clocks.
 #[derive(Drop)]
 pub struct MomentsOf<'z, 'c, C> {
     pub clock: Clock<'z>,
@@ -71,7 +72,8 @@ impl<'z, 'c, C> Model for MomentsOf<'z, 'c, C> {
 impl<'z, 'c, C: Instants> Moments for MomentsOf<'z, 'c, C> {
     ghost use Rattle.club_clock.specs.Moments.{showing};
 
-    // the fixed moment; or that of the instant that the machine's clock gave, none if it gave none
+    // the fixed moment, or else the moment of the instant that the machine's clock gave; none if it
+    // gave none
     ghost gives = { showing C.shows };
 
     fn now(&mut self) -> Option<Moment> {

@@ -8,8 +8,8 @@ use jiff_core::Timestamp;
 use jiff_tz::posix::TimeZone;
 use std::marker::Model;
 
-/// A zone by the POSIX text of its rule, as `UTC0` or `CET-1CEST,M3.5.0,M10.5.0/3`. Contracts see
-/// it as that text.
+/// A zone, given by the POSIX text of its rule, such as `UTC0` or `CET-1CEST,M3.5.0,M10.5.0/3`.
+/// Contracts see it as that text.
 #[derive(Drop)]
 pub struct Zone<'a> {
     rule: &'a str,
@@ -28,7 +28,7 @@ impl<'a> Model for Zone<'a> {
 }
 
 impl<'a> Zone<'a> {
-    /// The zone of a rule; `None` if the text is no POSIX rule.
+    /// Returns the zone of a rule; `None` if the text isn't a POSIX rule.
     pub fn from_rule(rule: &'a str) -> Option<Zone<'a>>
         ensures { result ≡ zone_of rule.entry.now }
     {
@@ -38,8 +38,8 @@ impl<'a> Zone<'a> {
         }
     }
 
-    /// The minute that a clock in the zone shows at an instant; `None` if its year is before 2000
-    /// or after 2099.
+    /// Returns the minute that a clock in the zone shows at an instant; `None` if its year is
+    /// before 2000 or after 2099.
     pub fn moment_at(&self, instant: Timestamp) -> Option<Moment>
         ensures { IsShown self.now instant.nanosecond result }
     {

@@ -1,4 +1,4 @@
--- The most persons in a slot of a facility: no slot of it has more, and one has as many.
+-- The most persons in a slot of a facility: no slot has more, and one slot has exactly that number.
 use Rattle.std.proofs.{Common.{◌≡◌, ℕ, zero, suc, ◌<◌, ◌≤◌, Bool, true, false, List, [], ◌∷◌, refl, sym, ap, ◌∙◌, ◌⊎◌, inl, inr, arith}, lemmas.Bool.and_parts}
 use Rattle.std.proofs.lemmas.Slice.Eq.{bytes_eq-Decides}
 use Rattle.std.specs.Prelude.{filter, fold, max, not}

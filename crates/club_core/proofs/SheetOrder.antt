@@ -1,4 +1,4 @@
--- The rows of a sheet: lists in a strict order, and that order of bookings.
+-- The rows of a sheet: lists in a strict order, and the order of bookings.
 use Rattle.std.proofs.Common.{◌≡◌, ℕ, zero, suc, ◌<◌, List, [], ◌∷◌, length, get_or, refl, sym, ap, ◌∙◌, ◌⊎◌, inl, inr, arith}
 use Rattle.std.proofs.lemmas.List.{Elements.{All-cons, All-contains, All-tail, All-weaker}, Kept.{AllPairs-cons, AllPairs-filter}, Sorted.All-permutation}
 use Rattle.std.proofs.lemmas.List.Sorted.{IsPermutation-cons, IsPermutation-middle, IsPermutation-refl, IsPermutation-trans, Contains-permutation}
@@ -48,7 +48,7 @@ module _ {X : Type 0} (R : X → X → Type 0) (asymmetric : Asymmetric R) where
         | inr there ↦ there
       ]
 
-  -- two lists in this order with the same elements
+  -- two lists in this order with the same elements are the same list
   pub one_order : (xs ys : List X) → AllPairs R xs → AllPairs R ys → ((z : X) → Contains xs z → Contains ys z) → ((z : X) → Contains ys z → Contains xs z) →
       xs ≡ ys
   one_order [] [] p q to back = refl
@@ -59,7 +59,7 @@ module _ {X : Type 0} (R : X → X → Type 0) (asymmetric : Asymmetric R) where
       let same_rest = one_order xs ys (rest R x xs p) (rest R y ys q) (tails x y xs ys same p to) (tails y x ys xs (sym same) q back) in
       ap (λ z. z ∷ xs) same ∙ ap (λ zs. y ∷ zs) same_rest
 
--- the same elements in this order
+-- the list has the same elements, in this order
 pub record IsOrdering {X : Type 0} (R : X → X → Type 0) (xs zs : List X) : Type 0 where
   pub same : IsPermutation xs zs
   pub sorted : AllPairs R zs
@@ -93,7 +93,7 @@ module _ {X : Type 0} (R Same : X → X → Type 0) (transitive : (x y z : X) �
         ]
       ]
 
-  -- elements that are all different have a list in this order
+  -- different elements can be listed in this order
   pub ordering : (xs : List X) → AllPairs (λ x y. ¬ (Same x y)) xs → (zs : List X) × IsOrdering R xs zs
   ordering [] new = ([], record { same = IsPermutation-refl []; sorted = nothing_sorted })
   ordering (x ∷ xs) new =
@@ -117,7 +117,7 @@ before_once a b h k =
 precedes_once : Asymmetric Precedes
 precedes_once a b h k = grind (arith, before_once)
 
--- the rows of a day are one list
+-- a day has only one list of rows
 pub one_list : (club : Club) (day : ℕ) (rows others : List Booking) → AreRowsOf club day rows → AreRowsOf club day others → rows ≡ others
 one_list club day rows others a b =
     let there = IsPermutation-trans rows (filter (is_on day) club.bookings) others (IsPermutation-sym _ rows a.same) b.same in
@@ -127,7 +127,7 @@ one_list club day rows others a b =
 
 -- ---- each sound club has a sheet
 
--- the part before, the same, or the part after
+-- the order is total: any two elements are in this order, the same, or in the reverse order
 abbrev pub Total : {K : Type 0} → (K → K → Type 0) → Type 0
 Total {K} R = (x y : K) → R x y ⊎ ((x ≡ y) ⊎ R y x)
 
@@ -145,7 +145,7 @@ before_transitive a b c h k = nat_list_cmp_total.trans a b c h k
 precedes_transitive : (a b c : Booking) → Precedes a b → Precedes b c → Precedes a c
 precedes_transitive a b c h k = grind (arith, before_transitive)
 
--- of two bookings under different names, one precedes the other
+-- if two bookings have different names, one precedes the other
 abbrev Same : Booking → Booking → Type 0
 Same a b = (a.slot.facility ≡ b.slot.facility) × ((a.slot.hour ≡ b.slot.hour) × ((a.key ≡ b.key) × (a.number ≡ b.number)))
 
@@ -155,7 +155,7 @@ precedes_total a b =
     let key = before_total a.key b.key in
     grind arith
 
--- the rows of a day of a sound club
+-- a sound club has rows for each day
 pub day_rows : (club : Club) → IsSound club → (day : ℕ) → (rows : List Booking) × AreRowsOf club day rows
 day_rows club sound day =
     let named = AllPairs-filter (λ (a : Booking) (b : Booking). ¬ ((a.key ≡ b.key) × (a.number ≡ b.number))) (is_on day) club.bookings sound.unique.bookings in

@@ -20,7 +20,7 @@ pub record IsAcceptedPass (pass : Pass) (request : Request) (moment : ℕ) (basi
   pub not_revoked : basis.key.revoked ≡ false
   pub permission : All (IsAllowedBy (ask_of (view_of basis request moment) request moment)) pass.caveats
 
--- the text is a pass, it names a key of the club, and it is accepted
+-- the text is a pass that names a key of the club, and it is accepted
 pub record IsAcceptedIn (club : Club) (words : Words) (moment : ℕ) : Type 0 where
   pub pass : Pass
   pub basis : Basis

@@ -7,21 +7,21 @@ use Rattle.club_core.specs.{Club.Club, Sums.is_under, declared.change.Change.{Ch
 use Rattle.club_core.specs.declared.change.Change.TheVariants.{ReplaceNumbers, InsertKey, MarkRevoked, ReplaceRoot, MarkClosed, MarkOpen, ReplaceQuota}
 use Rattle.club_core.specs.declared.change.Change.TheVariants.{InsertBooking, MarkCancelled}
 
--- a member's row after points for a member of this name
+-- a member's row after the member of this name was credited points
 abbrev pub credited_member : List ℕ → ℕ → Member → Member
 credited_member name points member =
     record member { credited = if bytes_eq member.name name then member.credited + points else member.credited }
 
--- a member's row after points were taken from a member of this name
+-- a member's row after the member of this name was debited points
 abbrev pub debited_member : List ℕ → ℕ → Member → Member
 debited_member name points member =
     record member { credited = if bytes_eq member.name name then member.credited - points else member.credited }
 
--- a member's row after another quota for a member of this name
+-- a member's row after the member of this name got a new quota
 abbrev pub member_with_quota : List ℕ → ℕ → Member → Member
 member_with_quota name quota member = record member { quota = if bytes_eq member.name name then quota else member.quota }
 
--- a facility's row after other places, another price and other hours for a facility of this name; its kind stays
+-- a facility's row after the facility of this name got new places, a new price and new hours; its kind stays
 abbrev pub facility_with_numbers : List ℕ → ℕ → ℕ → ℕ → ℕ → Facility → Facility
 facility_with_numbers name places price opens shuts facility = record facility {
   places = if bytes_eq facility.name name then places else facility.places;
@@ -37,7 +37,7 @@ revoked_key name key = record key { revoked = key.revoked || bytes_eq key.name n
 abbrev pub good_until : ℕ → List ℕ → OlderRoot
 good_until until root = record { root = root; until = until }
 
--- a key's row after a rotation under this name: the row's root becomes the older one, and the new root takes its place
+-- a key's row after the key of this name was rotated: the row's root becomes the older one, and the new root takes its place
 abbrev pub rotated_key : List ℕ → List ℕ → ℕ → Key → Key
 rotated_key name root until key = record key {
   root = if bytes_eq key.name name then root else key.root;
@@ -55,11 +55,11 @@ cancelled_booking key number refund booking = record booking {
   refund = if is_marked key number booking then refund else booking.refund;
 }
 
--- the closed slots without this one
+-- the closed slots except this one
 abbrev pub closed_but : Slot → List Slot → List Slot
 closed_but slot closed = filter (λ (other : Slot). not (same_slot other slot)) closed
 
--- one row more, the last; one row fewer; or the rows that the change names are changed
+-- the club after a change: a row is appended, a row is removed, or the rows that the change names are changed
 abbrev pub after : Change → Club → Club
 after (InsertMember member) club = record club { members = club.members ++ member ∷ [] }
 after (AddCredit name points) club = record club { members = map (credited_member name points) club.members }

@@ -16,7 +16,7 @@ abbrev pub owed_at : Request → Bool → Option Facility → ℕ
 owed_at (asked.Book slot number guests) false (Some facility) = charge_of facility guests
 owed_at request recorded facility = 0
 
--- what caveats see of a request
+-- the part of a request that caveats see
 abbrev pub ask_of : View → Request → ℕ → Ask
 ask_of view request moment = record {
   action = request_action request;
@@ -28,7 +28,7 @@ ask_of view request moment = record {
   spent = view.spent;
 }
 
--- why a text that isn't a pass is refused
+-- the refusal of a text that isn't a pass
 abbrev pub form_refusal : PassFault → Refusal
 form_refusal TooLong = PassTooLong
 form_refusal Malformed = PassMalformed
@@ -41,14 +41,14 @@ after_caveats None verdict = verdict
 after_caveats (Some (NotUnderstood n)) verdict = refusal_verdict (CaveatNotUnderstood n)
 after_caveats (Some (Denied n)) verdict = refusal_verdict (CaveatDenies n)
 
--- the answer to a parsed pass, by its key's view, whether that key signed it, and its first caveat at fault
+-- the answer to a parsed pass, from its key's view, whether that key signed it, and its first caveat at fault
 abbrev pub answer_by_view : Option View → Bool → Option CaveatFault → Request → ℕ → Verdict
 answer_by_view None is_signed fault request moment = refusal_verdict NotVerified
 answer_by_view (Some view) is_signed fault request moment =
     first_of (line_if (not is_signed) (refusal_verdict NotVerified) ∷ line_if view.key.revoked (refusal_verdict KeyRevoked) ∷ [])
     (after_caveats fault (verdict_of view request moment))
 
--- the answer to a text, by the rows that it names, if there are any
+-- the answer to a text, from the rows that it names, if there are any
 abbrev pub answer_to : Result Pass PassFault → Request → ℕ → Option Basis → Verdict
 answer_to (Err fault) request moment basis = refusal_verdict (form_refusal fault)
 answer_to (Ok pass) request moment None = refusal_verdict NotVerified
@@ -56,7 +56,7 @@ answer_to (Ok pass) request moment (Some basis) =
     let view = view_of basis request moment in
     answer_by_view (Some view) (is_signed_under pass basis.key moment) (first_fault_of pass.caveats (ask_of view request moment)) request moment
 
--- the same for the words of a request
+-- the answer to the words of a request, from those rows
 abbrev pub answer_by_basis : Words → ℕ → Option Basis → Verdict
 answer_by_basis words moment basis = answer_to words.pass words.request moment basis
 

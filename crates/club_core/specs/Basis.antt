@@ -1,4 +1,4 @@
--- The rows that the answer to a request may depend on (the basis), and the figures of them that decide it (the view) (ours).
+-- The rows that the answer to a request may depend on (the basis), and the figures computed from them that decide it (the view) (ours).
 use Rattle.std.specs.Prelude.{ℕ, false, List, Option, Some, None, Result, Ok, Err, option_map, option_and_then}
 use Rattle.club_values.specs.declared.slot.Slot.{Slot}
 use Rattle.club_rows.specs.{Key.row_of_key, declared.{booking.Booking.Booking, facility.Facility.Facility, key.Key.Key, member.Member.Member}}
@@ -7,12 +7,12 @@ use Rattle.club_core.specs.{Request.{request_slot, request_number}, Sums.{taken_
 use Rattle.club_core.specs.declared.{account.MemberAccount.MemberAccount, pass_fault.PassFault.PassFault, request.Request.Request, slot_use.SlotUse.SlotUse}
 use Rattle.club_core.specs.declared.view.{KeyView.KeyView, View.View}
 
--- how much of a slot these bookings take, and whether the club closed it; without a slot nothing is taken
+-- how much of a slot these bookings take, and whether the club closed it; if there is no slot, nothing is taken
 abbrev pub slot_use_by : List Booking → Club → Option Slot → SlotUse
 slot_use_by bookings club None = record { taken = 0; closed = false }
 slot_use_by bookings club (Some slot) = record { taken = taken_in slot bookings; closed = is_closed slot club }
 
--- how much all bookings take of the slot
+-- how much of the slot all bookings take
 abbrev pub slot_use : Club → Slot → SlotUse
 slot_use club slot = slot_use_by club.bookings club (Some slot)
 
@@ -41,7 +41,7 @@ pub record Basis : Type 0 where
   pub bookings : List Booking
   pub state : SlotState
 
--- the basis of a request under a key; none if the club has no row of the key's member
+-- the basis of a request under a key; none if the club has no row for the key's member
 abbrev pub basis_under : Club → Request → Key → Option Basis
 basis_under club request key =
     option_map (λ (member : Member). record {
@@ -57,7 +57,7 @@ abbrev pub key_of : Result Pass PassFault → Option (List ℕ)
 key_of (Ok pass) = pass.key
 key_of (Err fault) = None
 
--- none if the words name no key of the club
+-- the basis of a request's words; none if they name no key of the club
 abbrev pub basis_of : Club → Words → Option Basis
 basis_of club words =
     option_and_then (basis_under club words.request)

@@ -16,7 +16,7 @@ pub record Club : Type 0 where
 abbrev pub empty_club : Club
 empty_club = record { members = []; facilities = []; keys = []; bookings = []; closed = [] }
 
--- the first row of this name; a sound club has no second
+-- the first row of this name; in a sound club it is the only one
 abbrev pub member_named : List ℕ → Club → Option Member
 member_named name club = find (λ (member : Member). bytes_eq member.name name) club.members
 

@@ -27,7 +27,7 @@ IsCommand (CancelBooking key number) = IsName key × IsBookingNumber number
 IsCommand (CloseSlot slot) = IsSlot slot
 IsCommand (OpenSlot slot) = IsSlot slot
 
--- each value of the event is within its limits; the moment of a request may be any
+-- each value of the event is within its limits; a request may come at any moment
 abbrev pub IsEvent : Event → Type 0
 IsEvent (Asked words moment) = IsRequest words.request
 IsEvent (Commanded command) = IsCommand command

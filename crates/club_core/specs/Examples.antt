@@ -56,14 +56,14 @@ served_cancellation number refund = ToMember (Cancelled (codes "amy-1") number r
 abbrev pub account : ℕ → ℕ → ℕ → EventReply
 account balance count spent = ToMember (AccountShown (codes "amy") balance 5 count spent)
 
--- one member's list: a booking, the account, a cancellation
+-- a member books, sees the account, and cancels
 abbrev pub BooksAndCancels : Type 0
 BooksAndCancels =
     replies_of opened_club
     (ask (asked.Book (slot_at 18) 7 2) noon ∷ ask asked.Account noon ∷ ask (asked.Cancel (slot_at 18) 7) noon ∷ [])
     ≡ served_booking 7 600 1 ∷ account 9_400 1 600 ∷ served_cancellation 7 600 ∷ []
 
--- a repeat returns the first reply, also after a cancellation and once the slot has begun, and charges nothing
+-- a repeat returns the first reply and charges nothing, even after a cancellation and after the slot has begun
 abbrev pub RepeatsAfterACancellation : Type 0
 RepeatsAfterACancellation =
     replies_of opened_club
@@ -94,7 +94,7 @@ ClosesASlot =
     ∷ ToMember (Refused refusals.SlotClosed)
     ∷ []
 
--- a closed slot can be opened, and booked again; opening an open one changes nothing, and a slot of an unknown facility can't be opened
+-- a closed slot can be opened, and then booked again; opening an open one changes nothing, and a slot of an unknown facility can't be opened
 abbrev pub OpensASlot : Type 0
 OpensASlot =
     replies_of opened_club
@@ -117,7 +117,7 @@ OpensASlot =
     ∷ ToOffice (NotDone Unknown)
     ∷ []
 
--- a debit takes points of the balance, and never points that bookings cost
+-- a debit takes points off the balance, and never points that bookings cost
 abbrev pub DebitsAMember : Type 0
 DebitsAMember =
     replies_of opened_club
@@ -146,7 +146,7 @@ DebitsAMember =
     ∷ ToOffice (NotDone Unknown)
     ∷ []
 
--- another quota holds for the next booking, and bookings above it stay
+-- a new quota holds from the next booking on, and bookings above it stay
 abbrev pub SetsAQuota : Type 0
 SetsAQuota =
     replies_of opened_club
@@ -171,7 +171,7 @@ SetsAQuota =
     ∷ ToOffice (NotDone Unknown)
     ∷ []
 
--- new numbers hold for the next booking; what is booked keeps its charge, its places left and its hour, and each slot its places
+-- new numbers hold from the next booking on; a booking keeps its charge, its places left and its hour, and each slot keeps its places
 abbrev pub SetsAFacility : Type 0
 SetsAFacility =
     replies_of opened_club
@@ -204,7 +204,7 @@ SetsAFacility =
     ∷ ToOffice (NotDone Unknown)
     ∷ []
 
--- the office cancels with the whole charge as refund, also once the slot has begun; a repeat and a cancellation after it get what is on record
+-- when the office cancels, it refunds the whole charge, even after the slot has begun; later, a repeated booking or cancellation is answered from the record
 abbrev pub CancelsForAMember : Type 0
 CancelsForAMember =
     replies_of opened_club
@@ -244,7 +244,7 @@ KeepsARefund =
     ∷ [])
     ≡ served_booking 7 600 1 ∷ served_cancellation 7 300 ∷ ToOffice Done ∷ account 9_700 0 300 ∷ []
 
--- the office cancels a booking of a revoked key, and its places are free
+-- the office can cancel a booking of a revoked key, which frees its places
 abbrev pub CancelsUnderARevokedKey : Type 0
 CancelsUnderARevokedKey =
     replies_of opened_club

@@ -1,4 +1,4 @@
--- The part of a key that a store keeps and reads apart from its row (ours).
+-- The part of a key that a store keeps and reads separately from its row (ours).
 use Rattle.std.specs.Prelude.{ℕ, List, Option, option_and_then}
 use Rattle.club_rows.specs.declared.key.{Key.Key, OlderRoot.OlderRoot}
 use Rattle.club_core.specs.Club.{Club, key_named}

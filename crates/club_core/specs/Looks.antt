@@ -1,12 +1,12 @@
--- The parts of a view that an answer depends on (ours): caveats depend on the record, the facility and what was spent; each decision on
--- its own part.
+-- The parts of a view that an answer depends on (ours): caveats depend on the recorded booking, the facility and what was spent; each decision depends on its
+-- own part.
 use Rattle.std.specs.Prelude.{◌≡◌, ℕ, ◌&&◌, not, Bool, false, None, is_some, if◌then◌else◌}
 use Rattle.pass_caveats.specs.Spending.{after_spending}
 use Rattle.club_rows.specs.declared.key.KeyRow.{KeyRow}
 use Rattle.club_core.specs.{Answer.ask_of, Verdict.verdict_of, declared.{request.Request.Request, view.View.View}}
 use Rattle.club_core.specs.declared.request.Request.TheVariants as asked
 
--- a view with the key's row alone: no record, no facility, all sums 0
+-- a view with the key's row alone: no booking, no facility, and all sums 0
 abbrev pub bare_view : KeyRow → View
 bare_view key = record {
   key = key;
@@ -20,7 +20,7 @@ bare_view key = record {
   booking = None;
 }
 
--- the part of a view that caveats depend on, apart from what the key has spent: the record and the facility
+-- the part of a view that caveats depend on, apart from what the key has spent: the recorded booking and the facility
 abbrev pub seen_by_caveats : View → View
 seen_by_caveats view = record (bare_view view.key) { facility = view.facility; booking = view.booking }
 
@@ -28,8 +28,8 @@ seen_by_caveats view = record (bare_view view.key) { facility = view.facility; b
 abbrev pub books_anew : View → Bool
 books_anew view = not (is_some view.booking) && is_some view.facility
 
--- the part of a view that the decision depends on. Showing a slot: its state. A new booking: all but what the key has spent. A repeat,
--- a cancellation or an unknown facility: no sum. The account: its sums.
+-- the part of a view that the decision depends on. To show a slot, that is its state; for a new booking, everything except what the key has spent; for a
+-- repeat, a cancellation or an unknown facility, no sums; for the account, its sums.
 abbrev pub seen_by_decision : Request → View → View
 seen_by_decision (asked.View slot) view = record (seen_by_caveats view) { taken = view.taken; closed = view.closed }
 seen_by_decision (asked.Book slot number guests) view =

@@ -1,4 +1,4 @@
--- The commands of the office (ours). The first line that fits refuses the command.
+-- The commands of the office (ours). The first line whose condition holds refuses the command.
 use Rattle.std.specs.{Prelude.{ℕ, ◌+◌, ◌&&◌, not, Bool, false, List, [], ◌∷◌, nat_lt, nat_le, is_some, Option, Some, None, Result, Ok, Err}, Str.bytes_eq}
 use Rattle.club_values.specs.declared.slot.Slot.{Slot}
 use Rattle.club_rows.specs.{Facility.is_open_at, Limits.{credited_limit, quota_limit, places_limit, price_limit, shutting_limit}}
@@ -12,7 +12,7 @@ use Rattle.club_core.specs.declared.command.{Command.TheVariants.{CancelBooking,
 use Rattle.club_core.specs.declared.{command.OfficeFault.TheVariants.{Exists, Unknown, OutOfRange, SlotInUse}, command_view.CommandView.CommandView}
 use Rattle.club_core.specs.declared.slot_use.SlotUse.{SlotUse}
 
--- a view with these rows alone
+-- the view with these rows alone
 abbrev pub rows_seen : Option Member → Option Key → Option Facility → CommandView
 rows_seen member key facility =
     record { member = member; account = None; key = key; facility = facility; slot = record { taken = 0; closed = false }; most_taken = 0; booking = None }
@@ -47,7 +47,7 @@ credit_verdict name points None = Err Unknown
 credit_verdict name points (Some member) =
     first_of (line_if (nat_lt credited_limit (member.credited + points)) (Err OutOfRange) ∷ []) (Ok (Some (AddCredit name points)))
 
--- a debit takes points of the balance: of what was credited, less what the member's bookings cost
+-- a debit takes points off the balance, which is what was credited less what the member's bookings cost
 abbrev pub debit_verdict : List ℕ → ℕ → Option MemberAccount → Result (Option Change) OfficeFault
 debit_verdict name points None = Err Unknown
 debit_verdict name points (Some account) =
@@ -63,7 +63,7 @@ rotate_verdict name root until None = Err Unknown
 rotate_verdict name root until (Some key) =
     first_of (line_if (bytes_eq key.root root) (Err Exists) ∷ []) (Ok (Some (ReplaceRoot name key.root root until)))
 
--- the office cancels with the whole charge as refund; a cancelled booking stays as it is
+-- when the office cancels a booking, it refunds the whole charge; a cancelled booking stays as it is
 abbrev pub office_cancel_verdict : Option Key → Option Booking → Result (Option Change) OfficeFault
 office_cancel_verdict (Some key) (Some booking) =
     first_of (line_if booking.cancelled (Ok None) ∷ []) (Ok (Some (MarkCancelled booking key.member booking.charge)))
@@ -79,7 +79,7 @@ close_verdict held slot (Some facility) =
     ∷ [])
     (Ok (Some (MarkClosed slot)))
 
--- the change that a command makes, or none if there is nothing left to change; or why it is refused
+-- the change that a command makes, none if there is nothing left to change, or why it is refused
 abbrev pub command_verdict : CommandView → Command → Result (Option Change) OfficeFault
 command_verdict view (AddMember name quota) =
     first_of
@@ -118,6 +118,6 @@ command_verdict view (CancelBooking key number) = office_cancel_verdict view.key
 command_verdict view (CloseSlot slot) = close_verdict view.slot slot view.facility
 command_verdict view (OpenSlot slot) = first_of (line_if (not (is_some view.facility)) (Err Unknown) ∷ []) (Ok (Some (MarkOpen slot)))
 
--- the same in a club
+-- the verdict on a command in a club
 abbrev pub office_verdict : Club → Command → Result (Option Change) OfficeFault
 office_verdict club command = command_verdict (command_view club command) command

@@ -25,7 +25,7 @@ pub record IsSignedUnder (pass : Pass) (key : Key) (moment : ℕ) : Type 0 where
   pub good : IsGoodRoot key moment root
   pub signed : IsTrue (pass.is_signed root)
 
--- whether it is: under the key's root, or under its older one
+-- whether the pass is signed under the key's root, or under its older root while that is good
 abbrev pub is_signed_under : Pass → Key → ℕ → Bool
 is_signed_under pass key moment =
     pass.is_signed key.root || option_map_or pass.is_signed (older_root_at key.older moment) false

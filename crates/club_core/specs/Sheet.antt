@@ -26,7 +26,7 @@ pub record AreRowsOf (club : Club) (day : ℕ) (rows : List Booking) : Type 0 wh
   pub same : IsPermutation (filter (is_on day) club.bookings) rows
   pub order : AllPairs Precedes rows
 
--- a text padded with spaces to so many places, to the left and to the right
+-- a text padded with spaces to this width, aligned to the left or to the right
 abbrev pub left_in : ℕ → List ℕ → List ℕ
 left_in places text = text ++ replicate (places - length text) 32
 

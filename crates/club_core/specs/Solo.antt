@@ -1,4 +1,4 @@
--- What a member's replies depend on (ours): the member's own rows and events, and how much others take of the slots in question.
+-- The rows and events that a member's replies depend on (ours): the member's own, and how much of the requested slots others take.
 use Rattle.std.specs.Prelude.{ℕ, ◌+◌, not, Bool, true, false, List, [], ◌∷◌, ◌++◌, filter, Option, Some, None, Result, Ok, Err, option_map, if◌then◌else◌}
 use Rattle.std.specs.Str.{bytes_eq}
 use Rattle.club_values.specs.declared.slot.Slot.{Slot}
@@ -12,11 +12,11 @@ use Rattle.club_core.specs.declared.{command.OfficeFault.OfficeFault, reply.Repl
 abbrev pub bookings_of_others : List ℕ → Club → List Booking
 bookings_of_others member club = filter (λ (booking : Booking). not (is_key_of member club booking.key)) club.bookings
 
--- how much others take of a slot: their persons, and whether it is closed
+-- how much of a slot others take: their persons, and whether it is closed
 abbrev pub outside : List ℕ → Club → Option Slot → SlotUse
 outside member club slot = slot_use_by (bookings_of_others member club) club slot
 
--- a request of the member, with how much others take of its slot, or a change of the member's part
+-- a request of the member, with how much of its slot others take, or a change of the member's part
 pub data OwnEvent : Type 0 where
   OwnAsk : (words : Words) (moment : ℕ) (others : SlotUse) → OwnEvent
   OwnChange : (change : Change) → OwnEvent
@@ -68,7 +68,7 @@ part_of name club = record {
   closed = [];
 }
 
--- the basis in the member's part alone, with what others take of the slot added
+-- the basis in the member's part alone, plus how much of the slot others take
 abbrev pub with_others : SlotUse → Basis → Basis
 with_others others basis = record basis {
   state = record basis.state {

@@ -33,8 +33,9 @@ HasRoot key root club = (row : Key) × (key_named key club ≡ Some row) × (row
 abbrev pub IsToCancel : Booking → Club → Type 0
 IsToCancel booking club = (booking_under booking.key booking.number club.bookings ≡ Some booking) × (booking.cancelled ≡ false)
 
--- A change is true of a club's rows: the member, key or facility that it changes is there, and points are taken from what was credited. A new key has no
--- older root, and the former root is the key's. The member is that of the booking's key. The booking to be cancelled is on record as it is given.
+-- A change is true of a club's rows: the member, key or facility that it changes exists, and points are taken only from points that were credited. A new key
+-- has no older root, and a rotated key has the former root. The booking's key belongs to the member. A booking that is cancelled has the given values on
+-- record.
 abbrev pub IsTrueOf : Change → Club → Type 0
 IsTrueOf (AddCredit name points) club = HasMember name club
 IsTrueOf (TakeCredit name points) club = HasCredited name points club
@@ -48,13 +49,13 @@ IsTrueOf (InsertBooking booking member) club = IsOwnedBy member booking.key club
 IsTrueOf (MarkCancelled booking member refund) club = IsToCancel booking club × IsOwnedBy member booking.key club
 IsTrueOf change club = Unit {0}
 
--- a change fits a club if what it says is true of the club, and the club after it is sound
+-- a change fits a club if it is true of the club's rows, and the club after it is sound
 pub record FitsClub (change : Change) (club : Club) : Type 0 where
   pub carries : IsTrueOf change club
   pub sound : IsSound (after change club)
 
--- A change of any club is made, or fails. If it was made, it fits the club. If it failed, the club is unchanged; and if it doesn't fit, nothing of it is
--- left, while after one that leaves a sound club a crash may leave that.
+-- A change is applied to any club, or fails. If it was applied, it fits the club. If it failed, the club is unchanged. A failed change that doesn't fit has no
+-- effect; after a failed change that would make a sound club, a crash may leave that club.
 abbrev pub Changes : {S E : Type 0} → (S → Club → List Club → Type 0) → Change → S → S → Result (Unit {0}) E → Type 0
 Changes Represents change old new result =
     (club : Club) (others : List Club) → Represents old club others
@@ -65,16 +66,16 @@ Changes Represents change old new result =
 abbrev pub KeepsClub : {S : Type 0} → (S → Club → List Club → Type 0) → S → S → Type 0
 KeepsClub Represents old new = (club : Club) (others : List Club) → Represents old club others → Represents new club others
 
--- the result, if the call succeeded, is true of the current club
+-- if the call succeeded, its result is true of the current club
 abbrev pub Returns : {S A E : Type 0} → (S → Club → List Club → Type 0) → S → Result A E → (Club → A → Type 0) → Type 0
 Returns Represents old answer IsReturned = (club : Club) (others : List Club) → Represents old club others → IfOk answer (IsReturned club)
 
--- a read call succeeded: a later failure, of a read (`None`) or a change, is also a failure since the state before it
+-- a read succeeded: a later failure of a read (`None`) or a change counts as a failure since the state before this read, too
 abbrev pub IsRead : {S : Type 0} → (Option Change → S → StoreFault → S → Type 0) → S → S → Type 0
 IsRead {S} Fails old new = (wish : Option Change) (fault : StoreFault) (later : S) → Fails wish new fault later → Fails wish old fault later
 
--- What a read of a store promises, if the store's disk is clean after it: the disk was clean before, the store represents the same club with the same
--- possible crash states, and what is returned is true of that club. A read that fails does so with this fault.
+-- The promises of a read, if the store's disk is clean after it: the disk was clean before, the store represents the same club with the same possible crash
+-- states, and the result is true of that club. A read that fails, fails with this fault.
 pub record ReadsStore {S A : Type 0} (IsClean : S → Type 0) (Represents : S → Club → List Club → Type 0)
     (Fails : Option Change → S → StoreFault → S → Type 0) (old new : S) (result : Result A StoreFault) (IsReturned : Club → A → Type 0) : Type 0 where
   pub was_clean : IsClean new → IsClean old

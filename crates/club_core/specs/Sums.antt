@@ -11,7 +11,7 @@ is_in slot booking = not booking.cancelled && same_slot booking.slot slot
 abbrev pub taken_in : Slot → List Booking → ℕ
 taken_in slot bookings = sum_by persons_of (filter (is_in slot) bookings)
 
--- whether a booking is of a slot of the facility of this name
+-- whether a booking's slot is at the facility of this name
 abbrev pub is_at : List ℕ → Booking → Bool
 is_at facility booking = bytes_eq booking.slot.facility facility
 
@@ -19,7 +19,7 @@ is_at facility booking = bytes_eq booking.slot.facility facility
 abbrev pub most_taken_in : List ℕ → List Booking → ℕ
 most_taken_in facility bookings = fold (λ most booking. max most (taken_in booking.slot bookings)) 0 (filter (is_at facility) bookings)
 
--- what a booking has cost
+-- the points that a booking has cost
 abbrev pub cost_of : Booking → ℕ
 cost_of booking = booking.charge - booking.refund
 
@@ -27,7 +27,7 @@ cost_of booking = booking.charge - booking.refund
 abbrev pub is_under : List ℕ → Booking → Bool
 is_under key booking = bytes_eq booking.key key
 
--- what a key has spent
+-- the points that a key has spent
 abbrev pub spent_under : List ℕ → List Booking → ℕ
 spent_under key bookings = sum_by cost_of (filter (is_under key) bookings)
 

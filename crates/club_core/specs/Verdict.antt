@@ -1,4 +1,4 @@
--- The answer to an accepted request, by its view (ours). The first line that fits decides.
+-- The answer to an accepted request, from its view (ours). The first line whose condition holds decides.
 use Rattle.std.specs.Prelude.{ℕ, ◌+◌, ◌-◌, ◌==◌, ◌&&◌, not, false, List, [], ◌∷◌, nat_lt, nat_le, if◌then◌else◌, Option, Some, None}
 use Rattle.club_values.specs.{Slot.start_of, declared.slot.Slot.Slot}
 use Rattle.club_core.specs.{Lines.{Line, line_if, first_of}, declared.{change.Change.TheVariants.{InsertBooking, MarkCancelled}, refusal.Refusal.Refusal}}
@@ -17,7 +17,7 @@ reply_only reply = record { reply = reply; change = None }
 abbrev pub refusal_verdict : Refusal → Verdict
 refusal_verdict refusal = reply_only (Refused refusal)
 
--- the first reply to a recorded booking, again
+-- the first reply to a recorded booking, given again
 abbrev pub booked_before : Booking → Verdict
 booked_before booking = reply_only (Booked booking.key booking.number booking.charge booking.left)
 
@@ -48,7 +48,7 @@ cancelled_now booking member refund = record {
   change = Some (MarkCancelled booking member refund);
 }
 
--- the first reply to a cancellation, again
+-- the first reply to a cancellation, given again
 abbrev pub cancelled_before : Booking → Verdict
 cancelled_before booking = reply_only (Cancelled booking.key booking.number booking.refund)
 
@@ -57,7 +57,7 @@ abbrev pub repeat_booking_verdict : Booking → Slot → ℕ → Verdict
 repeat_booking_verdict booking slot guests =
     if same_slot booking.slot slot && booking.guests == guests then booked_before booking else refusal_verdict NumberUsed
 
--- why a booking under a new number is refused
+-- the conditions under which a booking under a new number is refused
 abbrev pub book_lines : View → Slot → ℕ → ℕ → Facility → List (Line Verdict)
 book_lines view slot guests moment facility =
     line_if (not (is_bookable facility slot moment)) (refusal_verdict NotBookable)
@@ -67,18 +67,18 @@ book_lines view slot guests moment facility =
     ∷ line_if (nat_lt view.balance (charge_of facility guests)) (refusal_verdict BalanceTooLow)
     ∷ []
 
--- a booking under a new number
+-- the answer to a booking under a new number
 abbrev pub new_verdict : View → Slot → ℕ → ℕ → ℕ → Option Facility → Verdict
 new_verdict view slot number guests moment None = refusal_verdict NoSuchFacility
 new_verdict view slot number guests moment (Some facility) =
     first_of (book_lines view slot guests moment facility) (booked_now (new_booking view slot number guests facility) view.key.member)
 
--- one answer by the booking that is on record under a number, and another if there is none
+-- one answer computed from the booking on record under a number, or another if there is none
 abbrev pub recorded_or : Option Booking → (Booking → Verdict) → Verdict → Verdict
 recorded_or None recorded other = other
 recorded_or (Some booking) recorded other = recorded booking
 
--- a booking; under a used number, a repeat
+-- the answer to a booking, which is a repeat if the number is used
 abbrev pub book_verdict : View → Slot → ℕ → ℕ → ℕ → Verdict
 book_verdict view slot number guests moment =
     recorded_or view.booking (λ booking. repeat_booking_verdict booking slot guests)
@@ -92,17 +92,17 @@ cancel_lines booking slot moment =
     ∷ line_if (nat_le (start_of booking.slot) moment) (refusal_verdict SlotHasBegun)
     ∷ []
 
--- a cancellation under a used number, by a key of the member
+-- the answer to a cancellation under a used number, by a key of the member
 abbrev pub cancel_recorded_verdict : Booking → List ℕ → Slot → ℕ → Verdict
 cancel_recorded_verdict booking member slot moment =
     first_of (cancel_lines booking slot moment) (cancelled_now booking member (refund_at booking moment))
 
--- a cancellation under an unused number
+-- the answer to a cancellation under an unused number
 abbrev pub unknown_verdict : Option Facility → Verdict
 unknown_verdict None = refusal_verdict NoSuchFacility
 unknown_verdict (Some facility) = refusal_verdict NoSuchBooking
 
--- a cancellation, of the booking on record under its number
+-- the answer to a cancellation of the booking on record under its number
 abbrev pub cancel_verdict : View → Slot → ℕ → Verdict
 cancel_verdict view slot moment =
     recorded_or view.booking (λ booking. cancel_recorded_verdict booking view.key.member slot moment) (unknown_verdict view.facility)

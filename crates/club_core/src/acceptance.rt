@@ -1,5 +1,4 @@
-//! The answer to a request by its key's view: the pass is accepted or refused, then the request is
-//! decided.
+//! Answers a request from its key's view: accepts or refuses the pass, then decides the request.
 
 ghost use Rattle.std.specs.{Option.option_copied, Prelude.{◌≡◌}};
 ghost use Rattle.club_core.specs.Answer.{answer_by_view};
@@ -12,10 +11,11 @@ use crate::view::View;
 use club_values::Moment;
 use pass_caveats::CaveatFault;
 
-/// The answer to a parsed pass, with its change. `view` is its key's view, `None` if the club has
-/// no such key; `is_signed` says whether the pass is signed under a root of that key that is good
-/// at the moment; `fault` is its first caveat that isn't understood or denies the request. An
-/// unknown key and a wrong signature get the same refusal, before any other.
+/// Returns the answer to a parsed pass, with its change. `view` is the view of its key, or `None`
+/// if the club has no such key. `is_signed` says whether the pass is signed under a root of that
+/// key that is good at the moment. `fault` is its first caveat that isn't understood or denies the
+/// request. An unknown key and a wrong signature get the same refusal, and are tested before
+/// anything else.
 pub fn answer(
     view: Option<&View>,
     is_signed: bool,

@@ -13,7 +13,7 @@ pub struct MemberAccount {
 }
 
 impl MemberAccount {
-    /// The points that the bookings of all keys of the member have cost.
+    /// Returns the points that the bookings of all keys of the member have cost.
     pub fn used(&self) -> u32
         ensures { result ≡ self.now.member.credited - self.now.balance }
     {

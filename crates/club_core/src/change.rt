@@ -3,8 +3,8 @@
 use club_rows::{Booking, Facility, Key, Member, Root};
 use club_values::{Moment, Name, Slot};
 
-/// A change of the club's rows. It carries what its decision found in them, so that a store makes
-/// it without a read first, and refuses it if that isn't true.
+/// A change of the club's rows. It carries the values that its decision found in the rows. A store
+/// can then apply it without reading first, and refuses it if the rows have other values.
 #[derive(Clone, Copy, Debug, PartialEq, Eq)]
 pub enum Change {
     InsertMember(Member),
@@ -12,18 +12,18 @@ pub enum Change {
         member: Name,
         points: u32,
     },
-    /// Takes points from what a member was credited, at most all of it.
+    /// Takes points from a member's credit, at most all of it.
     TakeCredit {
         member: Name,
         points: u32,
     },
-    /// Gives a member another quota.
+    /// Gives a member a new quota.
     ReplaceQuota {
         member: Name,
         quota: u8,
     },
     InsertFacility(Facility),
-    /// Gives a facility that is there other places, another price and other hours.
+    /// Gives an existing facility new places, a new price and new hours.
     ReplaceNumbers {
         facility: Name,
         places: u8,
@@ -35,7 +35,7 @@ pub enum Change {
     MarkRevoked {
         key: Name,
     },
-    /// Gives a key with the former root a new one. The former root becomes the older root, good
+    /// Gives a key that has the former root a new one. The former root becomes the older root, good
     /// until the moment; any older root before that is dropped.
     ReplaceRoot {
         key: Name,
@@ -44,15 +44,15 @@ pub enum Change {
         until: Moment,
     },
     MarkClosed(Slot),
-    /// Marks a slot of a facility that is there open, if it is closed.
+    /// Marks a slot of an existing facility open, if it is closed.
     MarkOpen(Slot),
     /// Inserts a booking under a key of the member.
     InsertBooking {
         booking: Booking,
         member: Name,
     },
-    /// Marks a booking under a key of the member cancelled, with its refund. The booking is as it
-    /// is on record, and isn't cancelled.
+    /// Marks a booking under a key of the member cancelled, with its refund. The booking has the
+    /// values on record, and isn't cancelled.
     MarkCancelled {
         booking: Booking,
         member: Name,

@@ -1,4 +1,4 @@
-//! The commands of the office, the answers to them, and the faults with which they are refused.
+//! The commands of the office, the answers to them, and the faults for which they are refused.
 
 ghost use Rattle.std.specs.Prelude.{◌≡◌};
 
@@ -22,12 +22,12 @@ pub enum Command {
         member: Name,
         points: u32,
     },
-    /// Takes points of a member's balance: a credit that was too much.
+    /// Takes points off a member's balance, to correct a credit that was too high.
     Debit {
         member: Name,
         points: u32,
     },
-    /// Another quota for a member. Its open bookings stay, also those above the quota.
+    /// Gives a member a new quota. Its open bookings stay, even those above the quota.
     SetQuota {
         member: Name,
         quota: u32,
@@ -40,7 +40,7 @@ pub enum Command {
         opens: u32,
         shuts: u32,
     },
-    /// New numbers for a facility: its kind stays, and each booking keeps its slot, charge and
+    /// Gives a facility new numbers. Its kind stays, and each booking keeps its slot, charge and
     /// places left.
     SetFacility {
         name: Name,
@@ -57,30 +57,30 @@ pub enum Command {
     RevokeKey {
         name: Name,
     },
-    /// A new root for a key. Passes signed under its former root are accepted before the moment,
-    /// and refused from it on.
+    /// Gives a key a new root. Passes signed under its former root are accepted before the moment,
+    /// and refused at and after it.
     RotateKey {
         name: Name,
         root: Root,
         until: Moment,
     },
-    /// Cancels the booking of a key under a number, whenever its slot begins or began, and refunds
-    /// its whole charge. A cancelled one stays as it is. The key may be revoked.
+    /// Cancels the booking of a key under a number, even after its slot has begun, and refunds its
+    /// whole charge. A booking that is already cancelled stays as it is. The key may be revoked.
     CancelBooking {
         key: Name,
         number: BookingNumber,
     },
     CloseSlot(Slot),
-    /// Opens a slot that was closed. An open one stays as it is.
+    /// Opens a closed slot. A slot that is already open stays as it is.
     OpenSlot(Slot),
 }
 
 /// Why a command of the office is refused.
 #[derive(Clone, Copy, Debug, PartialEq, Eq)]
 pub enum OfficeFault {
-    /// The new name is taken, the key has the root already, or the slot is closed already.
+    /// The new name is taken, the key already has the root, or the slot is already closed.
     Exists,
-    /// No member, key or facility has the name, or the key has no booking of the number.
+    /// No member, key or facility has the name, or the key has no booking under the number.
     Unknown,
     /// A number is outside its limits, or an hour outside the opening hours.
     OutOfRange,
@@ -155,7 +155,7 @@ pub enum OfficeAnswer {
 impl OfficeAnswer {
     ghost use Rattle.club_core.specs.Run.{done_answer};
 
-    /// The answer to a command that was carried out.
+    /// Returns the answer to a command that was carried out.
     pub fn done(command: &Command) -> OfficeAnswer
         ensures { result ≡ done_answer command.now }
     {

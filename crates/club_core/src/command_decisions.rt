@@ -1,4 +1,5 @@
-//! Decides the commands of the office by their views. The first line that fits refuses the command.
+//! Decides the commands of the office from their views. The first condition that holds refuses the
+//! command.
 
 ghost use Rattle.std.specs.Prelude.{◌≡◌, not, nat_lt};
 ghost use Rattle.club_rows.specs.Limits.{quota_limit};
@@ -14,7 +15,7 @@ use club_rows::{
 };
 use club_values::{Kind, Moment, Name, Slot};
 
-/// Whether the number is within the limit of a quota.
+/// Returns whether the number is within the limit for quotas.
 fn is_quota(quota: u32) -> bool
     ensures { result ≡ not (nat_lt quota_limit quota) }
 {
@@ -37,7 +38,7 @@ fn add_member(view: &CommandView, name: &Name, quota: u32) -> Result<Option<Chan
     })))
 }
 
-/// Whether the points are within the limits of a credit or a debit.
+/// Returns whether the points are within the limits of a credit or a debit.
 fn are_points(points: u32) -> bool
     ensures { result ≡ are_points points }
 {
@@ -95,7 +96,7 @@ fn set_quota(view: &CommandView, name: &Name, quota: u32) -> Result<Option<Chang
     }))
 }
 
-/// Whether the numbers are within the limits of a facility.
+/// Returns whether the numbers are within the limits of a facility.
 fn are_limits(places: u32, price: u32, opens: u32, shuts: u32) -> bool
     ensures { result ≡ are_limits places price opens shuts }
 {
@@ -256,14 +257,15 @@ fn open_slot(view: &CommandView, slot: &Slot) -> Result<Option<Change>, OfficeFa
     Ok(Some(Change::MarkOpen(*slot)))
 }
 
-/// The change that a command makes, by its view. `None` if there is nothing left to change.
+/// Returns the change that a command makes, decided from its view. Returns `None` if there is
+/// nothing left to change.
 ///
 /// # Errors
 ///
 /// - `OutOfRange`: a number or an hour is outside its limits, a credit would take the member's
 ///   points above their limit, or a debit is more than the balance.
 /// - `Unknown`: the command's member, key, facility or booking doesn't exist.
-/// - `Exists`: the new name is taken, the key has the root already, or the slot is closed already.
+/// - `Exists`: the new name is taken, the key already has the root, or the slot is already closed.
 /// - `SlotInUse`: the slot has bookings, or a slot of the facility has more persons than its new
 ///   places.
 pub fn decide_command(view: &CommandView, command: &Command) -> Result<Option<Change>, OfficeFault>

@@ -1,5 +1,5 @@
-//! The four decisions, made after the pass is accepted. Each is a list of lines: the first that
-//! fits decides.
+//! The four decisions, made after the pass is accepted. Each is a list of conditions: the first one
+//! that holds decides.
 
 ghost use Rattle.std.specs.Prelude.{◌≡◌, Some};
 ghost use Rattle.club_rows.specs.Facility as facilities;
@@ -16,10 +16,10 @@ use crate::view::View;
 use club_rows::{Booking, BookingNumber, Facility, Guests};
 use club_values::{MINUTES_A_DAY, Moment, Name, Slot};
 
-/// How many minutes ahead a slot may begin: those of 60 days.
+/// How far ahead of the moment a slot may begin, in minutes: 60 days.
 const BOOKING_WINDOW: u64 = 60 * MINUTES_A_DAY as u64;
 
-/// Whether a slot of the facility can be booked at a moment.
+/// Returns whether a slot of the facility can be booked at a moment.
 fn is_bookable(facility: &Facility, slot: &Slot, moment: Moment) -> bool
     ensures { result ≡ facilities.is_bookable facility.now slot.now moment }
 {
@@ -102,7 +102,7 @@ fn book_at(
     Verdict::new_booking(booking, &view.key.member)
 }
 
-/// Decides a booking: the reply, and the booking to write if it is served.
+/// Decides a booking. The verdict has the reply, and the booking to write if the request is served.
 pub fn decide_book(
     view: &View,
     slot: &Slot,
@@ -139,7 +139,8 @@ fn cancel_recorded(booking: &Booking, member: &Name, slot: &Slot, moment: Moment
     Verdict::new_cancellation(booking, member, booking.refund_at(moment))
 }
 
-/// Decides a cancellation: the reply, and the refund to write if the booking wasn't cancelled yet.
+/// Decides a cancellation. The verdict has the reply, and the refund to write if the booking wasn't
+/// cancelled before.
 pub fn decide_cancel(view: &View, slot: &Slot, moment: Moment) -> Verdict
     ensures { result ≡ cancel_verdict view.now slot.now moment }
 {
@@ -150,7 +151,7 @@ pub fn decide_cancel(view: &View, slot: &Slot, moment: Moment) -> Verdict
     }
 }
 
-/// Shows the account: the member's sums, and what the key has spent.
+/// Shows the account: the member's sums, and the points that the key has spent.
 pub fn decide_account(view: &View) -> Verdict
     ensures { result ≡ account_verdict view.now }
 {

@@ -12,7 +12,7 @@ pub fn books_and_cancels()
     ensures { BooksAndCancels }
 {}
 
-/// A repeated booking gets the first reply, also after it was cancelled, and charges nothing.
+/// A repeated booking gets the first reply and charges nothing, even after it was cancelled.
 pub fn repeats_after_a_cancellation()
     ensures { RepeatsAfterACancellation }
 {}
@@ -22,27 +22,27 @@ pub fn closes_a_slot()
     ensures { ClosesASlot }
 {}
 
-/// A closed slot can be opened and booked again; an open one stays as it is.
+/// A closed slot can be opened and then booked again. Opening an open slot changes nothing.
 pub fn opens_a_slot()
     ensures { OpensASlot }
 {}
 
-/// A debit takes points of the balance, and never points that bookings cost.
+/// A debit takes points off the balance, and never points that bookings cost.
 pub fn debits_a_member()
     ensures { DebitsAMember }
 {}
 
-/// Another quota holds for the next booking, and bookings above it stay.
+/// A new quota holds from the next booking on, and bookings above it stay.
 pub fn sets_a_quota()
     ensures { SetsAQuota }
 {}
 
-/// New numbers of a facility hold for the next booking; what is booked stays as it is.
+/// New numbers of a facility hold from the next booking on. Bookings already made stay as they are.
 pub fn sets_a_facility()
     ensures { SetsAFacility }
 {}
 
-/// The office cancels with the whole charge as refund, also once the slot has begun.
+/// When the office cancels, it refunds the whole charge, even after the slot has begun.
 pub fn cancels_for_a_member()
     ensures { CancelsForAMember }
 {}
@@ -52,7 +52,7 @@ pub fn keeps_a_refund()
     ensures { KeepsARefund }
 {}
 
-/// The office cancels a booking of a revoked key, and its places are free.
+/// The office can cancel a booking of a revoked key, which frees its places.
 pub fn cancels_under_a_revoked_key()
     ensures { CancelsUnderARevokedKey }
 {}
@@ -69,29 +69,30 @@ pub fn refusals_change_nothing()
     ensures { RefusalsChangeNothing }
 {}
 
-/// The view of the key that a pass names is the one by which the request is answered.
+/// A request is answered from the view of the key that its pass names.
 pub fn views_decide()
     ensures { ViewsDecide }
 {}
 
-/// An answer depends only on parts of the view: caveats on the record, the facility and what the
-/// key has spent; each decision on its own part.
+/// An answer depends only on parts of the view. Caveats depend on the recorded booking, the
+/// facility and what the key has spent. Each decision depends on its own part.
 pub fn looks_no_further()
     ensures { LooksNoFurther }
 {}
 
-/// `is_signed_under` is true exactly if the pass is signed under a root of the key that is good at
-/// the moment.
+/// `is_signed_under` is true if and only if the pass is signed under a root of the key that is good
+/// at the moment.
 pub fn tests_the_signature()
     ensures { TestsTheSignature }
 {}
 
-/// A member's bookings hold all that its key spent, and what the key booked under each number.
+/// A member's bookings are enough to tell what its key has spent, and what the key booked under
+/// each number.
 pub fn own_bookings_suffice()
     ensures { OwnBookings }
 {}
 
-/// The most that is taken of a facility's slots bounds each of them, and one of them reaches it.
+/// No slot of a facility has more persons than the maximum over its slots, and one slot reaches it.
 #[tactic(auto, using(crate::proofs::MostTakenLemmas::most_taken))]
 pub fn most_taken_is_reached()
     ensures { MostTaken }

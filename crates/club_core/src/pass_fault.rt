@@ -11,7 +11,7 @@ pub enum PassFault {
     TooLong,
     /// The text isn't a pass in any form.
     Malformed,
-    /// A caveat is a third-party caveat.
+    /// It has a third-party caveat.
     ThirdParty,
     /// There are too many caveats.
     TooMany,
@@ -20,7 +20,7 @@ pub enum PassFault {
 impl PassFault {
     ghost use Rattle.club_core.specs.Answer.{form_refusal};
 
-    /// The refusal for this fault.
+    /// Returns the refusal for this fault.
     pub fn refusal(self) -> Refusal
         ensures { result ≡ form_refusal self }
     {

@@ -14,13 +14,13 @@ pub enum Resource {
     Account,
 }
 
-/// Why a request is refused. The causes are tested in this order, except that caveats are tested by
-/// their positions, and `Unavailable` can come at any time.
+/// Why a request is refused. The causes are tested in this order, except that caveats are tested in
+/// the order of their positions. `Unavailable` can occur at any time.
 #[derive(Clone, Copy, Debug, PartialEq, Eq)]
 pub enum Refusal {
     BadRequest,
     NoSuchPath,
-    /// The path names this, and has other methods.
+    /// The path names this resource, which has other methods.
     MethodNotAllowed(Resource),
     NoPass,
     PassTooLong,
@@ -52,7 +52,7 @@ pub enum Refusal {
 impl Refusal {
     ghost use Rattle.club_core.specs.Refusal.{details_of, caveat_of_refusal};
 
-    /// The fault's number in the reply, 1 to 22.
+    /// Returns the fault's number in the reply, 1 to 22.
     pub fn number(self) -> u8
         ensures { result ≡ (details_of self).number }
     {
@@ -82,7 +82,7 @@ impl Refusal {
         }
     }
 
-    /// The fault's text in the reply.
+    /// Returns the fault's text in the reply.
     pub fn text(self) -> &'static str
         ensures { result.now ≡ (details_of self).text }
     {
@@ -112,7 +112,7 @@ impl Refusal {
         }
     }
 
-    /// The number of the caveat that refuses, from 1.
+    /// Returns the number of the caveat that refuses, from 1.
     pub fn caveat(self) -> Option<usize>
         ensures { result ≡ caveat_of_refusal self }
     {

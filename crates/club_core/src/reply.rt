@@ -1,4 +1,4 @@
-//! The replies to a request.
+//! The replies that a request can get.
 
 use crate::refusal::Refusal;
 use club_rows::BookingNumber;

@@ -64,7 +64,7 @@ impl Request {
         }
     }
 
-    /// The action that the request asks for.
+    /// Returns the action that the request asks for.
     pub fn action(&self) -> Action
         ensures { result ≡ request_action self.now }
     {
@@ -76,7 +76,7 @@ impl Request {
         }
     }
 
-    /// The slot that the request names; `None` for the account.
+    /// Returns the slot that the request names; `None` for the account.
     pub fn slot(&self) -> Option<Slot>
         ensures { result ≡ request_slot self.now }
     {
@@ -87,7 +87,7 @@ impl Request {
         }
     }
 
-    /// The booking number; `None` if the request has none.
+    /// Returns the booking number; `None` if the request has none.
     pub fn number(&self) -> Option<BookingNumber>
         ensures { result ≡ request_number self.now }
     {
@@ -97,7 +97,7 @@ impl Request {
         }
     }
 
-    /// The guests of a booking, else 0.
+    /// Returns the guests of a booking, else 0.
     pub fn guests(&self) -> u8
         ensures { result ≡ request_guests self.now }
     {

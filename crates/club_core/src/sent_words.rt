@@ -1,4 +1,4 @@
-//! The words of a request as they were sent.
+//! The words of a request, before the pass is decoded.
 
 use crate::request::Request;
 

@@ -9,14 +9,14 @@ use club_rows::Booking;
 use club_values::Day;
 use std::alloc::{AllocError, Global};
 
-/// The text of the day sheet: a line with the day, a line for each row, and a line with the totals,
-/// or `No bookings.` The rows are the day's bookings that aren't cancelled, ordered by facility,
-/// hour, key and number; a line has facility, hour, key, number, persons and points, in columns of
-/// 24, 5, 24, 9, 2 and 6 places.
+/// Returns the text of the day sheet: a line with the day, a line for each row, and a line with the
+/// totals, or `No bookings.` The rows are the day's bookings that aren't cancelled, ordered by
+/// facility, hour, key and number. A line has facility, hour, key, number, persons and points, in
+/// columns 24, 5, 24, 9, 2 and 6 characters wide.
 ///
 /// # Errors
 ///
-/// Only if an allocation fails.
+/// Fails only if an allocation fails.
 pub fn sheet_text(alloc: Global, day: Day, rows: &[Booking]) -> Result<String, AllocError>
     ensures { IfOk result (λ text. string_bytes text ≡ spec.sheet_text day rows.now) }
 {

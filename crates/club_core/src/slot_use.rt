@@ -3,7 +3,7 @@
 /// How much of a slot is taken.
 #[derive(Clone, Copy, Debug, PartialEq, Eq)]
 pub struct SlotUse {
-    /// The persons who booked the slot.
+    /// The persons booked into the slot.
     pub taken: u32,
     /// Whether the slot is closed.
     pub closed: bool,

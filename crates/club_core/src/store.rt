@@ -33,8 +33,8 @@ impl fmt::Display for StoreFault {
 
 impl Error for StoreFault {}
 
-/// A store of the rows of a club. Its promises hold while its disk is clean: while the disk returns
-/// what was written, and nobody else writes to it.
+/// A store of the rows of a club. Its promises hold while its disk is clean, which means that the
+/// disk returns what was written and nobody else writes to it.
 pub trait ClubStore {
     ghost use Rattle.std.specs.Prelude.{◌≡◌, ◌∷◌, All, IfErr, List, Option, Some, option_map};
     ghost use Rattle.club_core.specs.Basis.{account_named, slot_use};
@@ -49,68 +49,68 @@ pub trait ClubStore {
     // to after a crash
     ghost represents: { Self → Club → List Club → Type 0 };
 
-    // whether the disk was clean so far
+    // whether the disk has been clean so far
     ghost disk_is_clean: { Self → Type 0 };
 
-    // between the first state and the second a read (`None`) or this change failed with this fault
+    // between the two states, a read (`None`) or this change failed with this fault
     ghost fails: { Option Change → Self → StoreFault → Self → Type 0 };
 
-    /// The row of the key of this name; `None` if there is none.
+    /// Returns the row of the key of this name; `None` if there is none.
     fn key_row(&mut self, name: &Name) -> Result<Option<KeyRow>, StoreFault>
         ensures { ReadsStore disk_is_clean represents fails self.old self.new result
             (λ club row. row ≡ option_map row_of_key (key_named name.now club)) };
 
-    /// The older root of the key of this name; `None` if it was never rotated.
+    /// Returns the older root of the key of this name; `None` if it was never rotated.
     fn older_root(&mut self, name: &Name) -> Result<Option<OlderRoot>, StoreFault>
         ensures { ReadsStore disk_is_clean represents fails self.old self.new result
             (λ club older. older ≡ older_root_of name.now club) };
 
-    /// The facility of this name; `None` if there is none.
+    /// Returns the facility of this name; `None` if there is none.
     fn facility(&mut self, name: &Name) -> Result<Option<Facility>, StoreFault>
         ensures { ReadsStore disk_is_clean represents fails self.old self.new result
             (λ club facility. facility ≡ facility_named name.now club) };
 
-    /// How much of a slot is taken: nothing if nobody booked or closed it.
+    /// Returns how much of a slot is taken. Nothing is taken if nobody booked or closed it.
     fn slot(&mut self, slot: &Slot) -> Result<SlotUse, StoreFault>
         ensures { ReadsStore disk_is_clean represents fails self.old self.new result
             (λ club found. found ≡ slot_use club slot.now) };
 
-    /// The most persons in a slot of the facility of this name, of whatever day: 0 if nobody booked
-    /// one.
+    /// Returns the most persons in any slot of the facility of this name, on any day; 0 if nobody
+    /// booked one.
     fn most_taken(&mut self, facility: &Name) -> Result<u32, StoreFault>
         ensures { ReadsStore disk_is_clean represents fails self.old self.new result
             (λ club most. most ≡ most_taken_in facility.now club.bookings) };
 
-    /// The booking of a key under a number; `None` if there is none.
+    /// Returns the booking of a key under a number; `None` if there is none.
     fn booking(&mut self, key: &Name, number: BookingNumber) -> Result<Option<Booking>, StoreFault>
         ensures { ReadsStore disk_is_clean represents fails self.old self.new result
             (λ club booking. booking ≡ booking_under key.now number club.bookings) };
 
-    /// The member of this name with its balance; `None` if there is none.
+    /// Returns the member of this name with its balance; `None` if there is none.
     fn account(&mut self, member: &Name) -> Result<Option<MemberAccount>, StoreFault>
         ensures { ReadsStore disk_is_clean represents fails self.old self.new result
             (λ club account. account ≡ account_named member.now club) };
 
-    /// How many of a member's bookings are open: not cancelled, and the slot begins after the
-    /// moment.
+    /// Returns how many of a member's bookings are open: not cancelled, in slots that begin after
+    /// the moment.
     fn open_count(&mut self, member: &Name, moment: Moment) -> Result<u64, StoreFault>
         ensures { ReadsStore disk_is_clean represents fails self.old self.new result
             (λ club count. count ≡ count_to_come moment (bookings_of member.now club)) };
 
-    /// The points that a key has spent.
+    /// Returns the points that a key has spent.
     fn spent(&mut self, key: &Name) -> Result<u64, StoreFault>
         ensures { ReadsStore disk_is_clean represents fails self.old self.new result
             (λ club spent. spent ≡ spent_under key.now club.bookings) };
 
-    /// The day's bookings that aren't cancelled, in the order of the day sheet.
+    /// Returns the day's bookings that aren't cancelled, in the order of the day sheet.
     fn day(&mut self, day: Day) -> Result<Vec<Booking>, StoreFault>
         ensures { ReadsStore disk_is_clean represents fails self.old self.new result
             (λ club rows. AreRowsOf club day rows.items) };
 
-    /// Makes a change, if it fits the club: if what it says of the club's rows is true, and the
-    /// club after it is sound. If it doesn't fit, the call fails, and leaves nothing of the change.
-    /// If the call fails, the club is unchanged; after a crash the store may recover to the changed
-    /// club, if the change fits.
+    /// Applies a change that fits the club: its values are those of the club's rows, and the club
+    /// after it is sound. Fails without effect if the change doesn't fit. If the call fails for
+    /// another reason, the club is unchanged, but after a crash the store may recover to the
+    /// changed club.
     fn apply(&mut self, change: &Change) -> Result<(), StoreFault>
         ensures was_clean { disk_is_clean self.new → disk_is_clean self.old }
         ensures changed { disk_is_clean self.new →

@@ -18,7 +18,7 @@ pub struct Verdict {
 impl Verdict {
     ghost use Rattle.club_core.specs.Verdict as verdicts;
 
-    /// A reply that changes nothing.
+    /// Returns a reply that changes nothing.
     pub fn reply_only(reply: Reply) -> Verdict
         ensures { result ≡ verdicts.reply_only reply }
     {
@@ -28,14 +28,14 @@ impl Verdict {
         }
     }
 
-    /// A refusal, which changes nothing.
+    /// Returns a refusal, which changes nothing.
     pub fn refuse(refusal: Refusal) -> Verdict
         ensures { result ≡ verdicts.refusal_verdict refusal }
     {
         Verdict::reply_only(Reply::Refused(refusal))
     }
 
-    /// The reply to a new booking under a key of the member, and the change that writes it.
+    /// Returns the reply to a new booking under a key of the member, and the change that writes it.
     pub(crate) fn new_booking(booking: Booking, member: &Name) -> Verdict
         ensures { result ≡ verdicts.booked_now booking member.now }
     {
@@ -53,8 +53,8 @@ impl Verdict {
         }
     }
 
-    /// The reply to a cancellation, under a key of the member and with this refund, and the change
-    /// that writes it.
+    /// Returns the reply to a cancellation with this refund, under a key of the member, and the
+    /// change that writes it.
     pub(crate) fn new_cancellation(booking: &Booking, member: &Name, refund: u32) -> Verdict
         ensures { result ≡ verdicts.cancelled_now booking.now member.now refund }
     {

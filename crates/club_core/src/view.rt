@@ -18,9 +18,9 @@ pub struct View {
     pub member: Member,
     /// The member's balance in points.
     pub balance: u32,
-    /// The member's bookings of slots that begin later than the moment.
+    /// The number of the member's bookings in slots that begin after the moment.
     pub open_count: u64,
-    /// The slot's facility; `None` if it is unknown, or the request names no slot.
+    /// The slot's facility; `None` if it is unknown or the request names no slot.
     pub facility: Option<Facility>,
     /// The persons who booked the slot.
     pub taken: u64,
@@ -30,7 +30,7 @@ pub struct View {
     pub booking: Option<Booking>,
 }
 
-/// A key, with its older root, and its view of a request.
+/// A key with its older root, and its view of a request.
 #[derive(Clone, Copy, Debug, PartialEq, Eq)]
 pub struct KeyView {
     pub key: Key,
@@ -40,7 +40,7 @@ pub struct KeyView {
 impl View {
     ghost use Rattle.club_core.specs.Answer.{ask_of, owed_at};
 
-    /// A view with the key's row alone: no record, no facility, all sums 0.
+    /// Returns a view with the key's row alone: no booking, no facility, and all sums 0.
     pub fn of_key(key: &KeyRow) -> View
         ensures { result ≡ bare_view key.now }
     {
@@ -61,15 +61,15 @@ impl View {
         }
     }
 
-    /// Whether a booking under the number would be a new one at a known facility.
+    /// Returns whether a booking under the number would be a new one at a known facility.
     pub fn books_anew(&self) -> bool
         ensures { result ≡ is_new self.now }
     {
         self.booking.is_none() && self.facility.is_some()
     }
 
-    /// The points that the request would charge: those of a booking under a new number at a known
-    /// facility, else 0.
+    /// Returns the points that the request would charge: those of a booking under a new number at a
+    /// known facility, else 0.
     fn points_owed(&self, request: &Request) -> u32
         ensures { result ≡ owed_at request.now (is_some self.now.booking) self.now.facility }
     {
@@ -79,7 +79,7 @@ impl View {
         }
     }
 
-    /// The request at a moment, as caveats see it.
+    /// Returns the request at a moment, as caveats see it.
     pub fn ask(&self, request: &Request, moment: Moment) -> Ask
         ensures { result ≡ ask_of self.now request.now moment }
     {

@@ -39,13 +39,13 @@ names_its_rows reads finds law club text words form pass key bytes decoded read 
 module _ (serves : ServesOnlyTheEntitled) (alone : DependsOnTheBasisAlone) (refuses : RefusesWithoutABasis) (more : MoreCaveatsNeverOpenMore)
     (reads : ReadsAnyFormExactly) (signs : DecidesSigned) (finds : FindsNames) (understood : ReadsWhatIsUnderstood) (law : Decodes) (club : Club)
     (text : List ℕ) (request : Request) (moment : ℕ) (bytes : IsBytes text) where
-  -- the machine's reply to a text is that to all words of the text
+  -- the machine gives the same reply to all words that a text decodes to
   replies_as : (other : List ℕ) (reply : Reply) → IsBytes other → reply ≡ reply_in club other request moment → (words : Words)
       → AreWordsOf other request words → reply ≡ (verdict_in club words moment).reply
   replies_as other reply its e words are =
       e ∙ ap (λ (w : Words). (verdict_in club w moment).reply) (words_are law other request words its are)
 
-  -- each caveat that is allowed is understood and allowed
+  -- a caveat that allows the request is understood
   allowed_text : (ask : Ask) (caveat_text : List ℕ) (caveat : Option Caveat) → caveat_of caveat_text ≡ caveat → IsAllowedBy ask caveat
       → Allows caveat_text ask
   allowed_text ask caveat_text None e h = absurd h
@@ -58,7 +58,7 @@ module _ (serves : ServesOnlyTheEntitled) (alone : DependsOnTheBasisAlone) (refu
       (allowed_text ask one (caveat_of one) refl (All-head (IsAllowedBy ask) (caveat_of one) (map caveat_of texts) h))
       (allowed_texts ask texts (All-tail (IsAllowedBy ask) (caveat_of one) (map caveat_of texts) h))
 
-  -- a text that is served entitles to the request
+  -- a text that is served entitles its holder to the request
   served_text : IsServed (reply_in club text request moment) → EntitlesTo club text request moment
   served_text h =
       let entitled = serves (decoded_words text request) moment club h in
@@ -86,7 +86,7 @@ module _ (serves : ServesOnlyTheEntitled) (alone : DependsOnTheBasisAlone) (refu
             (rw (ap (λ (p : Pass). p.caveats) found.2) entitled.permission);
       }
 
-  -- texts of one pass are answered alike
+  -- all texts of one pass get the same reply
   forms_alike : (other : List ℕ) (form other_form : Form) (plain : Plain) → IsBytes other → IsAnyReading text (Ok (form, plain))
       → IsAnyReading other (Ok (other_form, plain)) → reply_in club text request moment ≡ reply_in club other request moment
   forms_alike other form other_form plain its h k =

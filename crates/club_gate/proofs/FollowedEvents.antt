@@ -1,4 +1,4 @@
--- One event more after a list of events that was followed.
+-- One more event after a list of events that was handled.
 use Rattle.club_gate.proofs.Common.{◌≡◌, ◌∙◌, inl, inr, Bool, true, false, cond, List, [], ◌∷◌, ◌++◌, length, All, Contains, Option, Some, None, Result, Ok}
 use Rattle.club_gate.proofs.Common.{Err, refl, sym, ap, subst, arith, append_assoc, length-append, All-nil, All-cons, All-append, All-weaker}
 use Rattle.club_gate.proofs.Common.{All-contains_itself, Change, Club, office_verdict, Event, Asked, Commanded, after_change, command_outcome, step, has_failed}
@@ -42,7 +42,7 @@ answered_and_one (other ∷ events) (first ∷ responses) event one e =
 abbrev Keeps : Club → Event → Type 0
 Keeps last event = change_of last event ≡ None
 
--- an event that failed makes no change, and neither does one that is answered without one
+-- neither an event that failed nor one that was answered without a change changes the club
 none_by_failure : (last : Club) (event : Event) (one : DeskResponse) → has_failed desk_presentation event one ≡ true
     → MakesNoChange last (event ∷ []) (one ∷ [])
 none_by_failure last event one h = rw h (All-nil (Keeps last))
@@ -58,7 +58,7 @@ no_change_more last events responses event one e before more =
     rw (answered_and_one events responses event one e)
     (All-append (Keeps last) (events_answered events responses) (events_answered (event ∷ []) (one ∷ [])) before more)
 
--- as many responses as events come after a place with as many before it
+-- if a list of events and its responses have equal lengths before a place, they have equal lengths after it
 rest_beside : (events front rest : List Event) (event : Event) (responses before since : List DeskResponse) (response : DeskResponse)
     → events ≡ front ++ event ∷ rest → responses ≡ before ++ response ∷ since → length before ≡ length front → length responses ≡ length events
     → length since ≡ length rest
@@ -78,7 +78,7 @@ module _ {S : Type 0} (Represents : S → Club → List Club → Type 0) where
         (All-contains_itself others);
   }
 
-  -- one event after those that were followed
+  -- one event after those that were handled
   module _ (now new : S) (club : Club) (others : List Club) (events : List Event) (responses : List DeskResponse) (event : Event) (one : DeskResponse)
       (e : length responses ≡ length events) (f : IsFollowed Represents now club others events responses) where
     abbrev all : List Event
@@ -87,7 +87,7 @@ module _ {S : Type 0} (Represents : S → Club → List Club → Type 0) where
     abbrev returned : List DeskResponse
     returned = responses ++ one ∷ []
 
-    -- the possible crash states if it makes no change
+    -- the possible crash states if the event makes no change
     failed_before : MakesNoChange f.last (event ∷ []) (one ∷ []) → (other : Event) → FailedLast club f.last events responses other
         → FailedLast club f.last all returned other
     failed_before none other h = record {
@@ -113,7 +113,7 @@ module _ {S : Type 0} (Represents : S → Club → List Club → Type 0) where
           | inr h ↦ inr (h.0, failed_before none h.0 h.1, h.2)
         ]) f.left f.each
 
-    -- if it was answered
+    -- the possible crash states if the event was answered
     left_by_answer : has_failed desk_presentation event one ≡ false → (change : Option Change) → change_of f.last event ≡ change
         → All (MayBeLeft club others (step f.last event).club all returned) (others_after change f.left)
     left_by_answer success None is =

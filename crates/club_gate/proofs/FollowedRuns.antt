@@ -1,4 +1,4 @@
--- The laws of runs, for a list of events that was followed.
+-- The laws of runs, for a list of events that was handled.
 use Rattle.club_gate.proofs.Common.{◌≡◌, inl, inr, List, All, Some, Result, Ok, Err, IfOk, OnOk, sym, subst, Club, empty_club, member_named, IsSound, IsEvent}
 use Rattle.club_gate.proofs.Common.{Event, replies_of, IsRun, LeavesOutFailed, AreEventsOf, IsEventOfBytes, SeesEvents, machine_events, Conserves}
 use Rattle.club_gate.proofs.Common.{IsAnsweredRun, IsFollowed, IsLawfulRun, IsOnce, LeavesClub, MayBeLeft, DeskResponse, events_answered, club_left}
@@ -7,8 +7,8 @@ use Rattle.club_laws.specs.{Conservation.{IsConserved, SoundClubsHavePlaces}, Ru
 use Rattle.club_laws.specs.RunsWithFailures.{SoloLawOfTwoWithFailures, SoundWithFailures, RepeatsServedReplies, RepeatsAfterOneMore, RepeatsWithFailures}
 use Rattle.club_gate.specs.declared.event.{Event.Event as DeskEvent, OfficeReply.OfficeReply}
 
--- What holds of the computed events of a followed list, and of the responses to it, holds of all events as which the machine sees that list, and
--- of the responses that the desk returns.
+-- A law of the computed events of a handled list and of the responses to it also holds for any events as which the machine sees that list, and for the
+-- responses that the desk returns.
 pub for_seen : {S T E : Type 0} (Represents : S → Club → List Club
     → Type 0) (new : S) (club : Club) (others : List Club) (events : List DeskEvent) (r : Result T E)
     (responses : T → List DeskResponse) (P : List Event → List DeskResponse → Type 0) → SeesEvents

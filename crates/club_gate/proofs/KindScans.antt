@@ -1,4 +1,4 @@
--- What a scan for caveats on the kind of a facility tells.
+-- The result of a scan for caveats on the kind of a facility.
 use Rattle.club_gate.proofs.Common.{◌≡◌, ℕ, ◌+◌, List, [], ◌∷◌, ◌++◌, map, Option, refl, sym, subst, Ask, caveat_of, first_fault_from, FindsTheFaultAt}
 use Rattle.club_gate.proofs.Common.{ReadsWhatIsUnderstood, PassField, caveat_field, signature_field, pass_fields, Plain, IsBlindPass}
 use Rattle.club_gate.proofs.Walking.{fault_is, fault_on}
@@ -30,7 +30,7 @@ module _ (finds : FindsTheFaultAt) (reads : ReadsWhatIsUnderstood) (ask : Ask) (
         all_alike signature (n + 1) caveats blind.1,
       ) refl
 
--- a scan that finds none
+-- a scan that finds no such caveat
 pub blind_at_last : FindsTheFaultAt → ReadsWhatIsUnderstood → (these left : List PassField) → left ≡ [] → (AreBlind left → AreBlind these)
     → (pass : Plain) → these ≡ pass_fields pass → IsBlindPass pass
 blind_at_last finds reads these left none all pass g ask kind =

@@ -1,4 +1,4 @@
--- What is read for a signed pass gives the answer by its key's whole view.
+-- The rows read for a signed pass give the same answer as its key's whole view.
 use Rattle.club_gate.proofs.Common.{◌≡◌, inl, inr, ℕ, true, List, Ok, map, refl, sym, ap, ◌∙◌, Option, Some, None, is_some, option_map, option_and_then}
 use Rattle.club_gate.proofs.Common.{if◌then◌else◌, same_Some, caveat_of, first_fault_of, after_spending, Plain, Key, KeyRow, row_of_key, Request, View}
 use Rattle.club_gate.proofs.Common.{answer_by_view, ask_of, owed_at, verdict_in, Basis, account_named, slot_use, state_of, view_in, view_of, Club, IsSound}
@@ -13,11 +13,11 @@ use Rattle.club_core.specs.declared.request.Request.TheVariants as asked
 
 -- ---- what is read for a signed pass
 
--- with the state of a slot
+-- the view with the state of a slot
 abbrev pub with_slot : Club → Slot → View → View
 with_slot club slot view = record view { taken = (slot_use club slot).taken; closed = (slot_use club slot).closed }
 
--- with a member's row, balance and open bookings
+-- the view with a member's row, balance and open bookings
 abbrev pub with_account : Club → ℕ → View → MemberAccount → View
 with_account club moment view account = record view {
   member = account.member;
@@ -25,26 +25,26 @@ with_account club moment view account = record view {
   open_count = count_to_come moment (bookings_of account.member.name club);
 }
 
--- with those of the key's member; none if the club has no such member
+-- the view with those values of the key's member; none if the club has no such member
 abbrev pub with_member : Club → ℕ → View → Option View
 with_member club moment view = option_map (with_account club moment view) (account_named view.key.member club)
 
--- with what the key has spent, too
+-- the view with what the key has spent, too
 abbrev pub with_all : Club → ℕ → View → MemberAccount → View
 with_all club moment view account = record (with_account club moment view account) { spent = spent_under view.key.name club.bookings }
 
 abbrev pub with_sums : Club → ℕ → View → Option View
 with_sums club moment view = option_map (with_all club moment view) (account_named view.key.member club)
 
--- what was spent is added to the member's sums
+-- the points that the key has spent are added to the member's sums
 pub sums_read : (club : Club) (moment : ℕ) (view shown : View) (spent : ℕ) (account : Option MemberAccount)
     → spent ≡ spent_under shown.key.name club.bookings → Some shown ≡ option_map (with_account club moment view) account
     → Some (let all : View = record shown { spent = spent } in all) ≡ option_map (with_all club moment view) account
 sums_read club moment view shown spent None is e = absurd (cc)
 sums_read club moment view shown spent (Some account) is e = rw (is, same_Some shown (with_account club moment view account) e) refl
 
--- with what the decision depends on. For a view of a slot: its state. For a new booking: the slot's state and the member's sums. For the
--- account: the sums of the member and of the key. Otherwise: nothing more.
+-- the view with what the decision depends on. To show a slot, that is its state; for a new booking, the slot's state and the member's sums; for the account,
+-- the sums of the member and of the key; otherwise nothing more.
 abbrev pub last_view : Club → Request → ℕ → View → Option View
 last_view club (asked.View slot) moment view = Some (with_slot club slot view)
 last_view club (asked.Book slot number guests) moment view =
@@ -57,7 +57,7 @@ nothing_owed : (request : Request) (facility : Option Facility) → owed_at requ
 nothing_owed (asked.Book slot number guests) facility = refl
 nothing_owed request facility = refl
 
--- a caveat's fault refuses the request, whatever else a view of the key holds
+-- a caveat's fault refuses the request, whatever else is in a view of the key
 refused_by_fault : (view other : View) (request : Request) (moment : ℕ) → view.key ≡ other.key → (fault : Option CaveatFault) → is_some fault ≡ true
     → answer_by_view (Some view) true fault request moment ≡ answer_by_view (Some other) true fault request moment
 refused_by_fault view other request moment e None some = absurd (cc)
@@ -83,7 +83,7 @@ module _ (club : Club) (key : Key) (moment : ℕ) (its : IsOwned club key) where
       ≡ answer_by_view (Some (whole request)) (is_signed_under (machine_pass pass) key moment) (its_fault pass request) request moment
   answered pass request is = rw (is, its.is) refl
 
-  -- the decision by what is read
+  -- the decision from what is read
   decided : (request : Request) (facility : Option Facility) (booking : Option Booking)
       → answer_by_view (last_view club request moment (record (bare_view (row_of_key key)) { facility = facility; booking = booking })) true None request moment
       ≡ answer_by_view (Some (record (whole request) { facility = facility; booking = booking })) true None request moment
@@ -113,7 +113,7 @@ module _ (club : Club) (key : Key) (moment : ℕ) (its : IsOwned club key) where
     booked : view.booking ≡ (whole request).booking
     booked = agrees.booking_is ∙ at_number (request_number request)
 
-    -- what is read for the decision gives that by the whole view
+    -- the rows read for the decision give the same decision as the whole view
     decides : answer_by_view (last_view club request moment view) true None request moment
         ≡ answer_by_view (Some (whole request)) true None request moment
     decides =
@@ -124,7 +124,7 @@ module _ (club : Club) (key : Key) (moment : ℕ) (its : IsOwned club key) where
           | inr short ↦ of_booking request view.facility (whole request).facility view.booking booked short.1 ∙ rw booked refl
         ])
 
-    -- and what is read for the caveats gives the fault by it
+    -- the rows read for the caveats give the same fault as the whole view
     same_fault : first_fault_of (map caveat_of pass.caveats) (after_spending (spent_under key.name club.bookings) (ask_of view request moment))
         ≡ its_fault pass request
     same_fault = elim agrees.facility_is [
@@ -139,7 +139,7 @@ module _ (club : Club) (key : Key) (moment : ℕ) (its : IsOwned club key) where
 
 -- ---- the verdict
 
--- the answer by the last view is that by the key's whole view
+-- the last view gives the same answer as the key's whole view
 pub last_reads : OwnBookings → (club : Club) (request : Request) (moment : ℕ) (view : View) (found : Option View) → IsSound club
     → found ≡ last_view club request moment view → (pass : Plain) (row : KeyRow) → IsOnRecord club row
     → AgreesOnRecord club row pass request view → answer_by_view found true None request moment
@@ -148,7 +148,7 @@ last_reads own club request moment view found sound e pass row (key, named, is) 
     let its = owner own club key.name key sound named in
     rw (e, is, seen club key moment its request key.name named) (decides club key moment its pass request view (rw is at agrees))
 
--- what is read for the signer of a pass gives the machine's verdict
+-- the rows read for the signer of a pass give the machine's verdict
 pub verdict_read : OwnBookings → (club : Club) (row : KeyRow) (moment : ℕ) (pass : Plain) (request : Request) (view : View) (fault : Option CaveatFault)
     → IsSound club → signer_of pass moment (key_in club pass.identifier) ≡ Ok row → AgreesOnRecord club row pass request view
     → fault ≡ first_fault_of (map caveat_of pass.caveats) (after_spending (spent_under row.name club.bookings) (ask_of view request moment))
@@ -168,7 +168,7 @@ verdict_read own club row moment pass request view fault sound signer agrees f =
       λ some. refused_by_fault view (whole club is.key moment its request) request moment there.key_is fault some,
     )
 
--- a key's sums are what it sees for its account
+-- a key's sums are those in its view of its account
 pub account_seen : OwnBookings → (club : Club) (name : List ℕ) (key : Key) (moment : ℕ) → IsSound club → key_named name club ≡ Some key
     → with_sums club moment (bare_view (row_of_key key)) ≡ view_in club name asked.Account moment
 account_seen own club name key moment sound row =

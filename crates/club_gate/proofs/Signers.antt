@@ -1,4 +1,4 @@
--- The key that a pass is signed under, by the key's row alone; and the key's member.
+-- The key that a pass is signed under, from the key's row alone; and the key's member.
 use Rattle.club_gate.proofs.Common.{◌≡◌, ℕ, zero, suc, Bool, true, false, cond, not, List, [], ◌∷◌, map, refl, sym, ap, ◌∙◌, arith, Option, Some, None, Result}
 use Rattle.club_gate.proofs.Common.{Ok, Err, option_map, option_and_then, Contains, find, bytes_eq, All-contains, option_and_then_some, Plain, Key, KeyRow}
 use Rattle.club_gate.proofs.Common.{row_of_key, KeyRevoked, NotVerified, Request, Verdict, answer_to, verdict_in, basis_under, Club, IsSound, bookings_of}
@@ -22,7 +22,7 @@ found {X} p (y ∷ xs) x h = go (p y) refl (λ e. found p xs x e) h
 pub named : (club : Club) (name : List ℕ) (key : Key) → key_named name club ≡ Some key → key.name ≡ name
 named club name key e = (bytes_eq-Decides key.name name).0 (found (λ (k : Key). bytes_eq k.name name) club.keys key e).1
 
--- a member of a name is found
+-- a member that is in the list is found by its name
 or_first : (test : Bool) (member : Member) (others : Option Member) → (found : Member) × (others ≡ Some found)
     → (found : Member) × (cond test (Some member) others ≡ Some found)
 or_first true member others rest = (member, refl)
@@ -35,7 +35,7 @@ member_there (member ∷ members) name (zero, short, same) = (member, rw ((bytes
 member_there (member ∷ members) name (suc k, short, same) =
     or_first (bytes_eq member.name name) member _ (member_there members name (k, omega arith, same))
 
--- so each key of a sound club has its member
+-- each key of a sound club has its member
 among : (club : Club) (name : List ℕ) (key : Key) → key_named name club ≡ Some key → Contains club.keys key
 among club name key row = (found (λ (k : Key). bytes_eq k.name name) club.keys key row).0
 
@@ -45,7 +45,7 @@ member_of club name key sound row =
     let P : Key → Type 0 = λ k. Contains (map (λ (m : Member). m.name) club.members) k.member in
     member_there club.members key.member (All-contains P club.keys key sound.references.keys (among club name key row))
 
--- whose bookings have those of the key
+-- the member's bookings include those of the key
 pub record IsOwned (club : Club) (key : Key) : Type 0 where
   pub member : Member
   pub is : member_named key.member club ≡ Some member
@@ -72,14 +72,14 @@ of_row : (key : Option Key) (row : KeyRow) → Some row ≡ option_map row_of_ke
 of_row None row e = absurd (cc)
 of_row (Some key) row e = (key, refl, cc)
 
--- the key by which a pass is signed, of which this is the row
+-- the key that signed a pass, with its row
 pub record IsSigner (club : Club) (pass : Plain) (moment : ℕ) (row : KeyRow) : Type 0 where
   pub key : Key
   pub is : key_in club pass.identifier ≡ Some key
   pub signed : is_signed_under (machine_pass pass) key moment ≡ true
   pub row_is : row ≡ row_of_key key
 
--- what the tests of a row make of it
+-- the result of the tests of a row
 abbrev pub by_tests : {A : Type 0} → Bool → Bool → A → A → A → A
 by_tests is_signed revoked unsigned refused last = first_of (line_if (not is_signed) unsigned ∷ line_if revoked refused ∷ []) last
 
@@ -109,7 +109,7 @@ is_signer club pass moment row e = go (key_in club pass.identifier) refl e
         let its = passed (is_signed_under (machine_pass pass) key moment) key.revoked (row_of_key key) row h in
         record { key = key; is = is; signed = its.0; row_is = its.1 }
 
--- the refusal by the tests is the whole refusal
+-- the tests of the row give the same refusal as the whole club
 refused_alike : (is_signed revoked : Bool) (row : KeyRow) (last : Verdict) (refusal : Refusal)
     → by_tests is_signed revoked (Err NotVerified) (Err KeyRevoked) (Ok row) ≡ Err refusal
     → by_tests is_signed revoked (refusal_verdict NotVerified) (refusal_verdict KeyRevoked) last ≡ refusal_verdict refusal

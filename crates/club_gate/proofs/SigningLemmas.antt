@@ -5,7 +5,7 @@ use Rattle.pass_mac.specs.Chain.{chain, derived_key, extended_signature}
 use Rattle.club_rows.specs.declared.key.OlderRoot.{OlderRoot}
 use Rattle.club_core.specs.KeyParts.{older_root_of}
 
--- the chain of a pass's identifier that begins here ends in the signature after these fields, if the answer is true
+-- if the answer is true, the chain that starts here ends in the signature after these fields
 abbrev EndsIn : List ℕ → List PassField → Bool → Type 0
 EndsIn start fields answer = (caveats : List (List ℕ)) (signature : List ℕ) → fields ≡ map caveat_field caveats ++ signature_field signature ∷ []
     → answer ≡ bytes_eq (extended_signature start caveats) signature

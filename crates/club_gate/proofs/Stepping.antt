@@ -45,14 +45,14 @@ pub always_decided : NeverUnavailable → (club : Club) (words : Words) (moment 
 always_decided never club words moment verdict e is =
     never club (Asked words moment) (ap (λ (v : Verdict). ToMember v.reply) (sym e) ∙ ap ToMember is)
 
--- a fault at the verdict's change is one at the request's
+-- a fault at the verdict's change is a fault at the request's change
 pub changed_fault : {S : Type 0} (Fails : Option Change → S → StoreFault → S → Type 0) (old now new : S) (club : Club) (words : Words) (moment : ℕ)
     (verdict : Verdict) → verdict ≡ verdict_in club words moment → (fault : StoreFault) → IsRead Fails old now → Fails verdict.change now fault new
     → FailsAt Fails old new (verdict_in club words moment).change fault
 changed_fault {S} Fails old now new club words moment verdict e fault read failed =
     inr (rw (← e) (read verdict.change fault new failed))
 
--- so it is at the request of any words that the text decodes to
+-- the same holds for any words that the text decodes to
 pub fails_at_its_words : {S : Type 0} (Fails : Option Change → S → StoreFault → S → Type 0) (old new : S) (club : Club) (text : List ℕ)
     (request : Request) (moment : ℕ) (fault : StoreFault) → Decodes → IsBytes text
     → FailsAt Fails old new (verdict_in club (decoded_words text request) moment).change fault
@@ -84,7 +84,7 @@ module _ {S : Type 0} (Represents : S → Club → List Club → Type 0) (new : 
   ask_failed words moment verdict result err e represents =
       rw (← e) (record { unavailable = reply_fails result err; represents = inr represents })
 
--- what a request did is a step
+-- a decided request is a step of the machine
 pub asked_steps : {S : Type 0} (Represents : S → Club → List Club → Type 0) (old new : S) (words : Words) (moment : ℕ) (reply : Reply)
     → DecidesOrFails Represents old new words moment reply → Steps Represents old new (Asked words moment) (ToMember reply)
 asked_steps Represents old new words moment reply did club others represents = elim (did club others represents) [

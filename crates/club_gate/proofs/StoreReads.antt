@@ -1,4 +1,4 @@
--- A read of the store, by what it returns of a sound club.
+-- A read of the store returns values of a sound club.
 use Rattle.club_gate.proofs.Common.{List, ◌∷◌, Option, None, Result, IfOk, All, MatchResult, All-head, Change, StoreFault, Club, IsSound, IsRead, KeepsClub}
 use Rattle.club_gate.proofs.Common.{ReadsStore}
 

@@ -32,7 +32,7 @@ verdict_by_text club request moment text form bytes result wrapped h =
     let same : without_form (reading text) ≡ reading_in_form form bytes = ap without_form wrapped ∙ formless form (reading_in_form form bytes) in
     rw same h
 
--- a fault of the text is one of the bytes
+-- a fault of the text is a fault of the bytes
 pub fault_in : (form : Form) (read : Result Plain FormFault) (text : List ℕ) (fault : FormFault)
     → reading text ≡ in_form form read → reading text ≡ Err fault → read ≡ Err fault
 fault_in form (Ok pass) text fault wrapped e = absurd (cc)
@@ -43,14 +43,14 @@ with_its_form : (form : Form) (bytes : List ℕ) (read : Result Plain FormFault)
 with_its_form form bytes (Ok pass) h = (refl, h)
 with_its_form form bytes (Err fault) h = h
 
--- by the laws of each form
+-- the fault of a text, from the laws of each form
 module _ (packets : ReadsExactly SpellsV1 reading_v1) (sections : ReadsExactly SpellsV2 reading_v2) (json : ReadsExactly SpellsJson reading_json) where
   reads_in : (form : Form) (bytes : List ℕ) → IsReadAs (length bytes) (SpellsForm form bytes) (reading_in_form form bytes)
   reads_in V1 bytes = (packets bytes (reading_v1 bytes)).1 refl
   reads_in V2 bytes = (sections bytes (reading_v2 bytes)).1 refl
   reads_in Json bytes = (json bytes (reading_json bytes)).1 refl
 
-  -- the reading of a text, by the bytes that it wraps
+  -- the reading of a text, from the bytes that it wraps
   pub read_wrapped : ReadsAnyFormExactly → ReadsWhatIsWrapped → (text : List ℕ) (form : Form) (bytes : List ℕ) → IsBytes text
       → IsUnwrapped text (Ok (form, bytes)) → length bytes ≤ max_text_len
       → reading text ≡ in_form form (reading_in_form form bytes)
@@ -66,7 +66,7 @@ json_in text form bytes h json = subst (λ (f : Form). IsUnwrapped text (Ok (f, 
 pub other_form : (text : List ℕ) (form : Form) (bytes : List ℕ) → IsUnwrapped text (Ok (form, bytes)) → ¬ IsJson text → form ≢ Json
 other_form text form bytes h in_place json = in_place (bytes, json_in text form bytes h json)
 
--- memory that is wanted for bytes in JSON is wanted for the text
+-- if parsing JSON bytes lacks memory, so does parsing the text
 pub lacks_memory : {S : Type 0} (Fails : Option Change → S → StoreFault → S → Type 0) (text : List ℕ) (form : Form) (bytes : List ℕ) (old new : S)
     (result : Result Verdict StoreFault) → IsUnwrapped text (Ok (form, bytes)) → ReadsOrLacksMemory Fails (form ≡ Json) old new result
     → ReadsOrLacksMemory Fails (IsJson text) old new result

@@ -19,7 +19,7 @@ pub fault_is : FindsTheFaultAt → ReadsWhatIsUnderstood → (text : List ℕ) (
     → IsFaultAt text n ask fault ↔ (fault ≡ first_fault_from n (caveat_of text ∷ []) ask)
 fault_is finds reads text n ask fault = finds text (caveat_of text) n ask fault (parsed reads text (caveat_of text) refl)
 
--- the first fault of the caveats among these fields, of which the first has this number
+-- the first fault of the caveats among these fields, numbered from this number
 abbrev pub fault_in : Ask → ℕ → List PassField → Option CaveatFault
 fault_in ask n [] = None
 fault_in ask n (caveat_field bytes ∷ fields) =
@@ -45,7 +45,7 @@ fault_behind ask signature n (caveat ∷ caveats) short =
     let next : min (n + 1) (2 ^ 64 - 1) ≡ n + 1 = omega arith in
     rw (next, fault_behind ask signature (n + 1) caveats (omega arith)) (fault_on n (caveat_of caveat) (map caveat_of caveats) ask)
 
--- the answer of a walk, of which this is left
+-- the answer of a walk that has these fields left
 pub fault_at_last : (ask : Ask) (n : ℕ) (fields left : List PassField) (answer : Option CaveatFault) → answer ≡ fault_in ask n left
     → fault_in ask n left ≡ fault_in ask 1 fields → (pass : Plain) → fields ≡ pass_fields pass → length pass.caveats ≤ 64
     → answer ≡ first_fault_from 1 (map caveat_of pass.caveats) ask

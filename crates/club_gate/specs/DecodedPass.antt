@@ -9,15 +9,15 @@ use Rattle.club_core.specs.{Pass.{Pass, Words}, declared.pass_fault.PassFault.{P
 use Rattle.club_core.specs.declared.request.Request.{Request}
 use Rattle.club_gate.specs.Minted.{identifier_of}
 
--- A pass, as the rules see it: the key that its identifier names, if it names one; each caveat as it is understood, if it is; and the roots
--- under which it is signed.
+-- A pass as the rules see it: the key that its identifier names, if any; the meaning of each caveat that is understood; and the roots under which the pass is
+-- signed.
 pub record IsSeenAs (pass : Plain) (seen : Pass) : Type 0 where
   pub names : (name : List ℕ) → (seen.key ≡ Some name) ↔ (IsName name × (pass.identifier ≡ identifier_of name))
   pub understood :
       AllZip (λ (text : List ℕ) (one : Option Caveat). (caveat : Caveat) → (one ≡ Some caveat) ↔ Understood text caveat) pass.caveats seen.caveats
   pub signed : (root : List ℕ) → IsTrue (seen.is_signed root) ↔ IsSigned root pass
 
--- the fault of a text; no text reads as `Memory`, as `ReadsNoLackOfMemory` says
+-- the fault of a text; `ReadsNoLackOfMemory` says that no text reads as `Memory`
 abbrev pub fault_of : FormFault → PassFault
 fault_of faults.TooLong = TooLong
 fault_of faults.Malformed = Malformed
@@ -25,7 +25,7 @@ fault_of faults.ThirdParty = ThirdParty
 fault_of faults.TooMany = TooMany
 fault_of faults.Memory = Malformed
 
--- a text, as the rules see it: the pass that it spells, in whichever form, or else its fault
+-- a text as the rules see it: the pass that it spells in any form, or else its fault
 abbrev pub IsDecoded : List ℕ → Result Pass PassFault → Type 0
 IsDecoded text (Ok seen) = (form : Form) × (pass : Plain) × IsAnyReading text (Ok (form, pass)) × IsSeenAs pass seen
 IsDecoded text (Err fault) = (reason : FormFault) × IsAnyReading text (Err reason) × (fault ≡ fault_of reason)

@@ -1,4 +1,4 @@
--- What an event leaves of the store below a desk (ours).
+-- The state of the store below a desk after an event (ours).
 use Rattle.std.specs.Prelude.{◌≡◌, ◌≢◌, ◌⊎◌, ℕ, IsTrue, IsFalse, List, [], ◌∷◌, MatchResult, Option, Some, None, Result, Ok, Err}
 use Rattle.club_core.specs.{Answer.verdict_in, Club.Club, Office.office_verdict, Pass.Words, Run.{Event, Asked, Commanded, after_change, step, Response}}
 use Rattle.club_core.specs.{Store.{FitsClub, IsRead}, declared.{change.Change.Change, command.OfficeFault.OfficeFault, refusal.Refusal.TheVariants.Unavailable}}
@@ -9,7 +9,7 @@ use Rattle.club_gate.specs.{DecodedPass.AreWordsOf, Response.desk_presentation, 
 use Rattle.club_gate.specs.declared.fault.Fault.{Fault}
 use Rattle.club_gate.specs.declared.fault.Fault.TheVariants as faults
 
--- true of whichever club the store represented before a call, if its disk is clean after the call
+-- holds for every club that the store represented before the call, if its disk is clean after the call
 abbrev pub OfItsClub : {S : Type 0} → (S → Type 0) → (S → Club → List Club → Type 0) → S → S → (Club → Type 0) → Type 0
 OfItsClub IsClean Represents old new IsSo = IsClean new → (club : Club) (others : List Club) → Represents old club others → IsSo club
 
@@ -17,7 +17,7 @@ abbrev pub change_by : Result (Option Change) OfficeFault → Option Change
 change_by (Ok change) = change
 change_by (Err fault) = None
 
--- the change that an event makes of a club, if any
+-- the change that an event makes to a club, if any
 abbrev pub change_of : Club → Event → Option Change
 change_of club (Asked words moment) = (verdict_in club words moment).change
 change_of club (Commanded command) = change_by (office_verdict club command)
@@ -32,8 +32,8 @@ abbrev pub others_after : Option Change → List Club → List Club
 others_after None others = others
 others_after (Some change) others = []
 
--- The store represents the club after the change, if there is one; or it failed, and represents the same club, but may recover to the changed
--- one after a crash.
+-- Either the store represents the club after the change, if there is one; or it failed and represents the same club, but may recover to the changed club after
+-- a crash.
 abbrev pub Settles : {S A E : Type 0} → (S → Club → List Club → Type 0) → S → Option Change → Result A E → Club → List Club → Type 0
 Settles Represents new change result club others = MatchResult result
     (λ _. Represents new (after_change change club) (others_after change others))
@@ -46,50 +46,50 @@ pub record IsDecidedBy {S : Type 0} (Represents : S → Club → List Club → T
   pub reply_is : reply ≡ verdict.reply
   pub represents : Represents new (after_change verdict.change club) (others_after verdict.change others)
 
--- A request failed, in place of this verdict: the store represents the same club. Its possible crash states are those of before, with the club
--- after the verdict's change as one more if the store failed to write that change.
+-- A request failed instead of getting this verdict: the store represents the same club. Its possible crash states are the same as before, plus the club after
+-- the verdict's change if the store failed to write that change.
 pub record HasFailed {S : Type 0} (Represents : S → Club → List Club → Type 0) (new : S) (club : Club) (others : List Club)
     (verdict : Verdict) (reply : Reply) : Type 0 where
   pub unavailable : reply ≡ member_replies.Refused Unavailable
   pub represents : Represents new club others ⊎ Represents new club (after_change verdict.change club ∷ others)
 
--- For each club that the store may have represented: the request was decided by that club's verdict on these words, or it failed.
+-- For each club that the store may have represented, the request was decided by that club's verdict on these words, or it failed.
 abbrev pub DecidesOrFails : {S : Type 0} → (S → Club → List Club → Type 0) → S → S → Words → ℕ → Reply → Type 0
 DecidesOrFails Represents old new words moment reply =
     (club : Club) (others : List Club) → Represents old club others
     → IsDecidedBy Represents new club others (verdict_in club words moment) reply ⊎ HasFailed Represents new club others (verdict_in club words moment) reply
 
--- An event was answered: its response is the machine's reply, and the store represents the club that follows.
+-- An event was answered: its response is the machine's reply, and the store represents the machine's next club.
 pub record IsAnsweredBy {S : Type 0} (Represents : S → Club → List Club → Type 0) (new : S) (club : Club) (others : List Club)
     (event : Event) (response : Response OfficeReply) : Type 0 where
   pub success : IsFalse (has_failed desk_presentation event response)
   pub reply : response ≡ present_reply desk_presentation (step club event).reply
   pub represents : Represents new (step club event).club (others_after (change_of club event) others)
 
--- An event failed: the store represents the same club. Its possible crash states are those of before, with the club that follows as one
--- more if the store failed to write the change.
+-- An event failed: the store represents the same club. Its possible crash states are the same as before, plus the machine's next club if the store failed to
+-- write the change.
 pub record IsRefusedBy {S : Type 0} (Represents : S → Club → List Club → Type 0) (new : S) (club : Club) (others : List Club)
     (event : Event) (response : Response OfficeReply) : Type 0 where
   pub failure : IsTrue (has_failed desk_presentation event response)
   pub represents : Represents new club others ⊎ Represents new club ((step club event).club ∷ others)
 
--- For each club that the store may have represented: the event was answered, or it failed.
+-- For each club that the store may have represented, the event was answered, or it failed.
 abbrev pub Steps : {S : Type 0} → (S → Club → List Club → Type 0) → S → S → Event → Response OfficeReply → Type 0
 Steps Represents old new event response =
     (club : Club) (others : List Club) → Represents old club others
     → IsAnsweredBy Represents new club others event response ⊎ IsRefusedBy Represents new club others event response
 
--- The store failed with this fault: at a read, or when it wrote the change, if there is one.
+-- The store failed with this fault, at a read or while it wrote the change, if there is one.
 abbrev pub FailsAt : {S : Type 0} → (Option Change → S → StoreFault → S → Type 0) → S → S → Option Change → StoreFault → Type 0
 FailsAt Fails old new change fault = Fails None old fault new ⊎ Fails change old fault new
 
--- If the office's reply is a fault of the store, the store failed with this very fault.
+-- If the office's reply is a fault of the store, the store failed with exactly this fault.
 abbrev pub NamesItsFault : {S : Type 0} → (Option Change → S → StoreFault → S → Type 0) → S → S → Club → Event → OfficeReply → Type 0
 NamesItsFault Fails old new club event reply =
     (fault : StoreFault) → reply ≡ Refused (faults.Store fault) → FailsAt Fails old new (change_of club event) fault
 
--- If the reply to a request is `Unavailable`, there is a fault with which the store itself failed, at a read or when it wrote the change of the
--- request; or the text is JSON, which needs memory to be parsed, and the store is unchanged.
+-- If the reply to a request is `Unavailable`, then either the store itself failed, at a read or while it wrote the request's change; or the text is JSON, which
+-- needs memory to be parsed, and the store is unchanged.
 abbrev pub FailsForCause : {S : Type 0} → (Option Change → S → StoreFault → S → Type 0) → S → S → Club → List ℕ → Request → ℕ → Reply → Type 0
 FailsForCause Fails old new club text request moment reply =
     reply ≡ member_replies.Refused Unavailable
@@ -101,7 +101,7 @@ abbrev pub IsStoreFault : Fault → Type 0
 IsStoreFault (faults.Store failure) = Unit {0}
 IsStoreFault (faults.Refused refusal) = ⊥
 
--- Why there is no sheet: the store failed with this fault when it read the rows; or it read them, and there was no memory for the text.
+-- Why there is no sheet: the store failed with this fault while it read the rows; or it read them, but there was no memory for the text.
 abbrev pub IsSheetFault : {S : Type 0} → (Option Change → S → StoreFault → S → Type 0) → S → S → Fault → Type 0
 IsSheetFault Fails old new fault =
     ((failure : StoreFault) × Fails None old failure new × (fault ≡ faults.Store failure)) ⊎ ((fault ≡ faults.Store Memory) × IsRead Fails old new)

@@ -12,7 +12,7 @@ IsEventOf (events.Asked words moment) seen =
     (decoded : Words) × AreWordsOf words.pass.now words.request decoded × (seen ≡ machine.Asked decoded moment)
 IsEventOf (events.Commanded command) seen = seen ≡ machine.Commanded command
 
--- one after the other
+-- the list of events, as the machine sees each of them
 abbrev pub AreEventsOf : List Event → List machine.Event → Type 0
 AreEventsOf events seen = AllZip IsEventOf events seen
 

@@ -10,19 +10,19 @@ use Rattle.club_core.specs.Run as machine
 use Rattle.club_gate.specs.{DecodedPass.{IsDecoded, IsSeenAs}, Events.{AreEventsOf, IsEventOfBytes}, Minted.identifier_of}
 use Rattle.club_gate.specs.{computed.DecodedPass.{decoded_pass, machine_events, machine_pass}, declared.event.Event.Event}
 
--- `machine_pass` is the one pass as which the rules see a pass
+-- the rules see a text's pass as `machine_pass` computes it, and as no other
 abbrev pub SeenAlike : Type 0
 SeenAlike = (pass : Plain) (seen : Pass) → IsSeenAs pass seen ↔ (machine_pass pass ≡ seen)
 
--- `decoded_pass` is the one value to which a text decodes
+-- `decoded_pass` is the only value to which a text decodes
 abbrev pub Decodes : Type 0
 Decodes = (text : List ℕ) (seen : Result Pass PassFault) → IsBytes text → IsDecoded text seen ↔ (decoded_pass text ≡ seen)
 
--- `machine_events` are the one list of events as which the machine sees events at the desk
+-- the machine sees events at the desk as `machine_events` computes them, and as no other list
 abbrev pub SeesEvents : Type 0
 SeesEvents = (events : List Event) (seen : List machine.Event) → All IsEventOfBytes events → AreEventsOf events seen ↔ (machine_events events ≡ seen)
 
--- The rows that the words of a text name are those that the club has for the key whose identifier its pass has.
+-- The rows that the words of a text name are the club's rows for the key that the pass's identifier names.
 abbrev pub NamesItsRows : Type 0
 NamesItsRows =
     (club : Club) (text : List ℕ) (words : Words) (form : Form) (pass : Plain) (key : Key)

@@ -1,4 +1,4 @@
--- What the desk reads of the club to answer a signed pass (ours).
+-- The rows that the desk reads from the club to answer a signed pass (ours).
 use Rattle.std.specs.Prelude.{◌≡◌, ◌⊎◌, ℕ, IsTrue, map, Option, Some, None, is_some, option_and_then}
 use Rattle.pass_caveats.specs.{Fault.first_fault_of, Kinds.at_kind, computed.CaveatOf.caveat_of, declared.ask.Ask.Ask}
 use Rattle.pass_forms.specs.Pass.{Plain}
@@ -13,8 +13,8 @@ IsBlindPass pass =
     (ask : Ask) (kind : Option Kind)
     → first_fault_of (map caveat_of pass.caveats) (at_kind kind ask) ≡ first_fault_of (map caveat_of pass.caveats) ask
 
--- What was read of the club for a key agrees with it on what caveats and the decision look at first: the booking under the number that is asked
--- for, and the facility. The facility may be missing if the booking is there and no caveat looks at the kind. There is nothing else in the view.
+-- The view that was read for a key agrees with the club on what caveats and the decision look at first: the booking under the request's number, and the
+-- facility. The facility may be missing if the booking exists and no caveat looks at the kind. The view has nothing else.
 pub record AgreesOnRecord (club : Club) (key : KeyRow) (pass : Plain) (request : Request) (view : View) : Type 0 where
   pub key_is : view.key ≡ key
   pub booking_is : view.booking ≡ option_and_then (λ (number : ℕ). booking_under key.name number club.bookings) (request_number request)

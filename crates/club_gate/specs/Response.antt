@@ -1,4 +1,4 @@
--- The desk's responses, and how the machine's replies become responses (ours).
+-- The desk's responses, and their relation to the machine's replies (ours).
 use Rattle.std.specs.Prelude.{ℕ, Bool, true, false, List, ◌++◌, codes, Result, Ok, Err}
 use Rattle.club_core.specs.{Faults.{office_fault_text, store_fault_text}, Run.{Response, ToMember, ToOffice}, declared.command.OfficeAnswer.OfficeAnswer}
 use Rattle.club_core.specs.declared.{refusal.Refusal.TheVariants.Unavailable, reply.Reply.Reply, store.StoreFault.StoreFault}
@@ -14,7 +14,7 @@ abbrev pub desk_fault_text : Fault → List ℕ
 desk_fault_text (faults.Refused fault) = office_fault_text fault
 desk_fault_text (faults.Store fault) = store_fault_text fault
 
--- the text for debugging; it has no byte of a signature
+-- the text that `Debug` prints; it has no byte of a signature
 abbrev pub debug_text : OfficeReply → List ℕ
 debug_text replies.Done = codes "Done"
 debug_text (replies.Key signature) = codes "Key(..)"
@@ -24,7 +24,7 @@ debug_text (replies.Refused fault) = codes "Refused(" ++ desk_fault_text fault +
 abbrev pub unavailable : Reply
 unavailable = member_replies.Refused Unavailable
 
--- the reply to the office for an answer of the machine: for a new key or root, the signature that follows from it
+-- the reply to the office for an answer of the machine; a new key or root is answered with its signature
 abbrev pub office_reply_of : OfficeAnswer → OfficeReply
 office_reply_of answers.Done = replies.Done
 office_reply_of (answers.NewKey name root) = replies.Key (minted_signature name root)

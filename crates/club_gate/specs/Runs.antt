@@ -32,7 +32,7 @@ club_left club events responses = club_after club (events_answered events respon
 abbrev pub IsAnsweredRun : Club → List machine.Event → List DeskResponse → Type 0
 IsAnsweredRun club events responses = IsRun desk_presentation club events responses (club_left club events responses)
 
--- none of these events changes the club
+-- none of the answered events changes the club
 abbrev pub MakesNoChange : Club → List machine.Event → List DeskResponse → Type 0
 MakesNoChange club events responses = All (λ event. change_of club event ≡ None) (events_answered events responses)
 
@@ -50,7 +50,7 @@ pub record FailedLast (club last : Club) (events : List machine.Event) (response
   pub failure : IsTrue (has_failed desk_presentation event response)
   pub no_change : MakesNoChange last rest since
 
--- if the run changed nothing: a possible crash state of before
+-- a club that was a possible crash state before the run, which changed nothing
 abbrev pub WasLeftBefore : Club → List Club → Club → List machine.Event → List DeskResponse → Club → Type 0
 WasLeftBefore club others last events responses left = (last ≡ club) × MakesNoChange last events responses × Contains others left
 
@@ -59,17 +59,17 @@ abbrev pub IsLeftByFailure : Club → Club → List machine.Event → List DeskR
 IsLeftByFailure club last events responses left =
     (event : machine.Event) × FailedLast club last events responses event × (left ≡ (step last event).club)
 
--- another possible crash state after a run that began with a club and its possible crash states, and that leaves the last club
+-- another possible crash state after a run that began with a club and its possible crash states, and ended with the last club
 abbrev pub MayBeLeft : Club → List Club → Club → List machine.Event → List DeskResponse → Club → Type 0
 MayBeLeft club others last events responses left =
     WasLeftBefore club others last events responses left ⊎ IsLeftByFailure club last events responses left
 
--- this club, or another one after one event
+-- this club, or a club that one event makes of it
 abbrev pub IsWithinOneEvent : Club → Club → Type 0
 IsWithinOneEvent club now = (now ≡ club) ⊎ ((event : machine.Event) × (now ≡ (step club event).club))
 
--- The store represents the club after the answered events, and there are no other possible crash states than these. In that club, and in each
--- that is one event from it, a repeat of what was served gets the same response, and changes nothing.
+-- The store represents the club after the answered events, and has no other possible crash states than these. In that club, and in each crash state that is one
+-- event away from it, a repeat of a served request gets the same response and changes nothing.
 pub record LeavesClub {S : Type 0} (Represents : S → Club → List Club → Type 0) (new : S) (club : Club) (others : List Club) (events : List machine.Event)
     (responses : List DeskResponse) : Type 0 where
   pub left : List Club
@@ -77,7 +77,7 @@ pub record LeavesClub {S : Type 0} (Represents : S → Club → List Club → Ty
   pub each : All (MayBeLeft club others (club_left club events responses) events responses) left
   pub again : (now : Club) → IsWithinOneEvent (club_left club events responses) now → RepeatsServedReplies now events responses
 
--- the replies to a member's requests are those that the member's part and own events give
+-- the replies to a member's requests are the replies of the solo machine on the member's part and own events
 abbrev pub IsSolo : Club → List machine.Event → List DeskResponse → Type 0
 IsSolo club events responses =
     (name : List ℕ)
@@ -109,7 +109,7 @@ IsOnce club events responses =
     → (IsFalse (has_failed desk_presentation (Asked words moment) again) → again ≡ ToMember reply)
     × IsRun desk_presentation club (history ++ rest) (before ++ since) (club_left club events responses)
 
--- from the empty club, points are conserved: what a member has and what it was charged make what it was credited and refunded
+-- in a run from the empty club, points are conserved: a member's balance and its charges add up to its credits and refunds
 abbrev pub Conserves : Club → List machine.Event → List DeskResponse → Type 0
 Conserves club events responses =
     (name : List ℕ) (member : Member)
@@ -129,17 +129,17 @@ IsNeverOverbooked club = (slot : Slot) → HasPlaces slot club
 pub record IsLawfulRun (club : Club) (events : List machine.Event) (responses : List DeskResponse) : Type 0 where
   -- the replies are the machine's, failed events left out
   pub run : IsAnsweredRun club events responses
-  -- a member's replies depend on its own part and events, and on what others hold of its slots
+  -- a member's replies depend on its own part and events, and on how much of its slots others take
   pub solo : IsSolo club events responses
   pub solo_of_two : IsAsInAnother club events responses
   -- a repeat of a served request gets the same reply, and changes nothing
   pub once : IsOnce club events responses
-  -- points are neither made nor lost, and no slot is overbooked
+  -- points are neither created nor lost, and no slot is overbooked
   pub conserves : Conserves club events responses
   pub never_negative : IsNeverNegative (club_left club events responses)
   pub never_overbooked : IsNeverOverbooked (club_left club events responses)
 
--- if an event failed, the store failed in it, as at `Desk::ask` and `Desk::office`
+-- if an event failed, the store failed during it, as with `Desk::ask` and `Desk::office`
 abbrev pub EventFailsForCause : {S : Type 0} → (Option Change → S → StoreFault → S → Type 0) → S → S → Club → Event → EventReply → Type 0
 EventFailsForCause Fails old new club (events.Asked words moment) (Replied reply) =
     FailsForCause Fails old new club words.pass.now words.request moment reply
@@ -153,7 +153,7 @@ module _ {S : Type 0} (IsClean : S → Type 0) (Represents : S → Club → List
     pub steps : IsClean new → (seen : machine.Event) × IsEventOf event seen × Steps Represents old new seen (response_of reply)
     pub failed : OfItsClub IsClean Represents old new (λ club. EventFailsForCause Fails old new club event reply)
 
-  -- The events one after the other, each from the store that the one before it left.
+  -- The events in order, each handled from the store that the previous one left.
   pub data AreHandled (old : S) : List Event → List EventReply → S → Type 0 where
     no_event : AreHandled old [] [] old
     one_event : (events : List Event) (replies : List EventReply) (event : Event) (reply : EventReply) (now new : S) → AreHandled old events replies now

@@ -1,4 +1,4 @@
--- The law of the desk, about the texts that come in (ours).
+-- The law of the desk, stated of the texts that it is sent (ours).
 use Rattle.std.specs.Prelude.{◌≡◌, ◌≢◌, ℕ, false, List, ◌++◌, Some, None, Ok, Err}
 use Rattle.base64.specs.GeneralPurpose.{IsBytes}
 use Rattle.pass_caveats.specs.Fault.{Allowed}
@@ -18,9 +18,8 @@ pub record IsSignedFor (pass : Plain) (key : Key) (moment : ℕ) : Type 0 where
   pub good : IsGoodRoot key moment root
   pub signed : IsSigned root pass
 
--- The text spells a pass that entitles to the request: its identifier names a key of the club that isn't revoked, its
--- signature is the chain under a root of that key's row that is good at the moment, and each of its caveats allows the request, by the rows
--- that the club has for that key.
+-- The text spells a pass that entitles its holder to the request. The identifier names a key of the club that isn't revoked. The signature is the chain under a
+-- root of that key that is good at the moment. Each caveat allows the request, given the club's rows for that key.
 pub record EntitlesTo (club : Club) (text : List ℕ) (request : Request) (moment : ℕ) : Type 0 where
   pub form : Form
   pub pass : Plain
@@ -54,7 +53,7 @@ AnswersItsForms club text request moment reply =
     → IsAnyReading text (Ok (form, pass)) → IsAnyReading other (Ok (other_form, pass)) → AreWordsOf other request words
     → reply ≢ Refused Unavailable → reply ≡ (verdict_in club words moment).reply
 
--- The narrow text spells the pass of the wide one with more caveats: it has the same identifier, and the wide one is signed for the key.
+-- The narrow text spells the wide text's pass with more caveats. Both have the same identifier, and the wide pass is signed for the key.
 pub record IsNarrowedText (club : Club) (wide narrow : List ℕ) (moment : ℕ) : Type 0 where
   pub form : Form
   pub other_form : Form
@@ -78,7 +77,7 @@ OpensNoMore club text request moment reply =
 
 -- The law of the desk, for one reply.
 pub record IsLawful (club : Club) (text : List ℕ) (request : Request) (moment : ℕ) (reply : Reply) : Type 0 where
-  -- the request is served only if its pass entitles to it
+  -- the request is served only if its pass entitles its holder to it
   pub entitles : IsServed reply → EntitlesTo club text request moment
   -- the reply depends on the words, the moment and the rows that the words name, and on nothing else
   pub depends : DependsOnTheBasis club text request moment reply
@@ -89,7 +88,7 @@ pub record IsLawful (club : Club) (text : List ℕ) (request : Request) (moment 
   -- a pass with more caveats never opens more
   pub less : OpensNoMore club text request moment reply
 
--- The text is JSON, which needs memory to be parsed. Any other text is read in place, without memory.
+-- The text is JSON, which needs memory to be parsed. Any other form is parsed in place, without memory.
 abbrev pub IsJson : List ℕ → Type 0
 IsJson text = (bytes : List ℕ) × IsUnwrapped text (Ok (Json, bytes))
 

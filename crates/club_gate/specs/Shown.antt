@@ -1,4 +1,4 @@
--- What the office is shown of an account or of a slot (ours): a line for each value, its name before it.
+-- Account and slot listings for the office (ours): a line for each value, which begins with its name.
 use Rattle.std.specs.{Fmt.decimal, Prelude.{◌≡◌, ◌⊎◌, ℕ, Bool, true, false, List, [], ◌∷◌, ◌++◌, codes, IfErr, Option, Some, None, option_and_then, option_map}}
 use Rattle.std.specs.{Prelude.{Result, Ok, Err, String}, String.string_bytes}
 use Rattle.club_values.specs.{Day.day_text, Kind.kind_text, Moment.moment_text, declared.{kind.Kind.Kind, slot.Slot.Slot}}
@@ -10,7 +10,7 @@ use Rattle.club_core.specs.declared.reply.Reply.TheVariants as replies
 use Rattle.club_core.specs.declared.request.Request.TheVariants as asked
 use Rattle.club_gate.specs.{Desk.OfItsClub, declared.fault.Fault.{Fault, TheVariants.{Refused, Store}}}
 
--- each name with its value, in a line
+-- a line for each name with its value
 abbrev pub lines : List (List ℕ × List ℕ) → List ℕ
 lines [] = []
 lines ((name, value) ∷ values) = name ++ 32 ∷ value ++ 10 ∷ lines values
@@ -19,12 +19,12 @@ abbrev pub yes_or_no : Bool → List ℕ
 yes_or_no true = codes "yes"
 yes_or_no false = codes "no"
 
--- which slot it is
+-- the values that say which slot it is
 abbrev pub values_of_slot : Slot → List (List ℕ × List ℕ)
 values_of_slot slot =
     (codes "facility", slot.facility) ∷ (codes "day", day_text slot.day) ∷ (codes "hour", decimal slot.hour) ∷ []
 
--- the facility's values, and what is taken of the slot
+-- the facility's values, and how much of the slot is taken
 abbrev pub values_of_state : Kind → ℕ → ℕ → ℕ → Bool → List (List ℕ × List ℕ)
 values_of_state kind price places taken closed =
     (codes "kind", kind_text kind)
@@ -34,7 +34,7 @@ values_of_state kind price places taken closed =
     ∷ (codes "closed", yes_or_no closed)
     ∷ []
 
--- the values of a reply that shows an account or a slot; any other has none
+-- the values of a reply that shows an account or a slot; any other reply has none
 abbrev pub named_values : Reply → List (List ℕ × List ℕ)
 named_values (AccountShown member balance quota open_count spent) =
     (codes "member", member)
@@ -46,7 +46,7 @@ named_values (AccountShown member balance quota open_count spent) =
 named_values (SlotShown slot kind price places taken closed) = values_of_slot slot ++ values_of_state kind price places taken closed
 named_values reply = []
 
--- until when an older root is on record, if one is; the root itself is left out
+-- the moment until which an older root is good, if there is one; the root itself is left out
 abbrev pub older_text : Option OlderRoot → List ℕ
 older_text None = codes "none"
 older_text (Some older) = codes "until " ++ moment_text older.until
@@ -55,20 +55,20 @@ older_text (Some older) = codes "until " ++ moment_text older.until
 abbrev pub values_of_key : Key → List (List ℕ × List ℕ)
 values_of_key key = (codes "revoked", yes_or_no key.revoked) ∷ (codes "older root", older_text key.older) ∷ []
 
--- what a key and its view show of its account: the values of the reply to a request for the account, and those of the key
+-- the listing of a key's account: the values of the reply to a request for the account, and those of the key
 abbrev pub shown_account_text : Key → View → List ℕ
 shown_account_text key view = lines (named_values (account_verdict view).reply ++ values_of_key key)
 
--- the key of this name, with what it sees of its account at a moment
+-- the key of this name, with its view of its account at a moment
 abbrev pub account_with_key : Club → List ℕ → ℕ → Option (Key × View)
 account_with_key club name moment =
     option_and_then (λ (key : Key). option_map (λ (view : View). (key, view)) (view_in club name asked.Account moment)) (key_named name club)
 
--- what is shown of the account of the key of this name at a moment; nothing if the club has no such key
+-- the account listing of the key of this name at a moment; none if the club has no such key
 abbrev pub shown_account : Club → List ℕ → ℕ → Option (List ℕ)
 shown_account club name moment = option_map (λ (seen : Key × View). shown_account_text seen.0 seen.1) (account_with_key club name moment)
 
--- a slot with its facility, and what is taken of it; none if the facility is unknown
+-- the reply that shows a slot, its facility and how much is taken; none if the facility is unknown
 abbrev pub slot_reply : Club → Slot → Option Reply
 slot_reply club slot =
     option_map (λ facility. SlotShown slot facility.kind facility.price facility.places (slot_use club slot).taken (slot_use club slot).closed)
@@ -78,7 +78,7 @@ slot_reply club slot =
 abbrev pub reply_lines : Option Reply → Option (List ℕ)
 reply_lines reply = option_map (λ r. lines (named_values r)) reply
 
--- what is shown of a slot
+-- the listing of a slot
 abbrev pub shown_slot : Club → Slot → Option (List ℕ)
 shown_slot club slot = reply_lines (slot_reply club slot)
 
@@ -86,20 +86,20 @@ abbrev pub unless_refused : Reply → Option Reply
 unless_refused (replies.Refused refusal) = None
 unless_refused reply = Some reply
 
--- Of a slot the values are shown of the reply that each key of the club gets for it, at whatever moment; and nothing if that is a refusal.
+-- A slot's listing has the values of the reply that every key of the club gets for it, at any moment. If that reply is a refusal, there is no listing.
 abbrev pub ShowsSlotsToKeys : Type 0
 ShowsSlotsToKeys =
     (club : Club) (slot : Slot) (name : List ℕ) (moment : ℕ) (view : View)
     → view_in club name (asked.View slot) moment ≡ Some view
     → shown_slot club slot ≡ reply_lines (unless_refused (verdict_of view (asked.View slot) moment).reply)
 
--- why nothing is shown: there is nothing of the name; or memory or storage was refused
+-- why nothing is shown: nothing has the name, or memory or storage was refused
 abbrev pub IsUnshown : Option (List ℕ) → Fault → Type 0
 IsUnshown shown (Refused Unknown) = shown ≡ None
 IsUnshown shown (Store failure) = Unit {0}
 IsUnshown shown fault = ⊥
 
--- what is returned: the text that is shown, or why there is none
+-- the result of a listing: the text, or why there is none
 abbrev pub ReturnsShown : {Z : Type 0} → Option (List ℕ) → Result (String Z) Fault → Type 0
 ReturnsShown shown (Ok text) = shown ≡ Some (string_bytes text)
 ReturnsShown shown (Err fault) = IsUnshown shown fault
@@ -110,13 +110,13 @@ IsShowingFault (Refused Unknown) = Unit {0}
 IsShowingFault (Store failure) = Unit {0}
 IsShowingFault fault = ⊥
 
--- The fault is that with which the store failed at a reading; or all was read, and there is nothing of the name, or there was no memory for the text.
+-- The fault is the one with which the store failed at a read; or everything was read, but nothing has the name, or there was no memory for the text.
 abbrev pub FailsToShow : {S : Type 0} → (Option Change → S → StoreFault → S → Type 0) → S → S → Fault → Type 0
 FailsToShow Fails old new fault =
     ((failure : StoreFault) × Fails None old failure new × (fault ≡ Store failure))
     ⊎ (((fault ≡ Refused Unknown) ⊎ (fault ≡ Store Memory)) × IsRead Fails old new)
 
--- Something of the club is shown: nothing is changed, and this is so of the club and what is returned.
+-- A listing changes nothing, and the club and the result satisfy this relation.
 pub record ShowsClub {S A : Type 0} (IsClean : S → Type 0) (Represents : S → Club → List Club → Type 0)
     (Fails : Option Change → S → StoreFault → S → Type 0) (old new : S) (result : Result A Fault) (IsSo : Club → Type 0) : Type 0 where
   pub was_clean : IsClean new → IsClean old

@@ -1,4 +1,4 @@
--- What the row of its key says of a pass, and what a call of the verifier leaves of the store (ours).
+-- The verdict on a pass from its key's row alone, and the state of the store after a call of the verifier (ours).
 use Rattle.std.specs.Prelude.{◌≡◌, ◌⊎◌, ℕ, ◌≤◌, not, List, [], ◌∷◌, length, IfOk, Option, Some, None, Result, Ok, Err}
 use Rattle.pass_forms.specs.{FieldSource.{PassField, pass_fields}, Pass.Plain, Reading.max_caveats, declared.fault.FormFault.FormFault}
 use Rattle.club_rows.specs.{Key.row_of_key, declared.key.{Key.Key, KeyRow.KeyRow}}
@@ -7,11 +7,11 @@ use Rattle.club_core.specs.declared.{change.Change.Change, refusal.Refusal.{Refu
 use Rattle.club_core.specs.declared.verdict.Verdict.{Verdict}
 use Rattle.club_gate.specs.{DecodedPass.fault_of, computed.DecodedPass.machine_pass}
 
--- true of the pass that has these fields, if it has at most 64 caveats
+-- holds for the pass that has these fields, if it has at most 64 caveats
 abbrev pub OfItsPass : List PassField → (Plain → Type 0) → Type 0
 OfItsPass fields IsSo = (pass : Plain) → fields ≡ pass_fields pass → length pass.caveats ≤ max_caveats → IsSo pass
 
--- the row of the key that a pass names, if the pass is signed under that key and the key isn't revoked; or why the pass is refused
+-- the row of the key that a pass names, if the pass is signed under that key and the key isn't revoked; otherwise, the refusal
 abbrev pub signer_of : Plain → ℕ → Option Key → Result KeyRow Refusal
 signer_of pass moment None = Err NotVerified
 signer_of pass moment (Some key) =

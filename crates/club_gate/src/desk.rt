@@ -41,7 +41,7 @@ use std::marker::Model;
 /// The desk of a club: it answers requests of members (`ask`) and commands of the office
 /// (`office`), and prints the sheet of a day (`sheet`).
 ///
-/// All that it knows of the club is in its store. Contracts see a desk as its store.
+/// Its store has everything that it knows of the club. Contracts see a desk as its store.
 #[derive(Drop)]
 pub struct Desk<S: ClubStore> {
     pub(crate) store: S,
@@ -64,7 +64,7 @@ pub(crate) fn are_bytes(text: &[u8])
     let _text = text;
 }
 
-/// A view in which there is no row, and nothing is taken.
+/// Returns a view without rows, in which nothing is taken.
 fn nothing_seen() -> CommandView
     ensures { result ≡ rows_seen None None None }
 {
@@ -106,8 +106,8 @@ impl<S: ClubStore> Desk<S> {
         store
     }
 
-    /// Applies a change to the store, if there is one. No event writes anything else. If the store
-    /// fails, the club is unchanged, but after a crash the store may recover to the changed one.
+    /// Applies a change to the store, if there is one. An event writes nothing else. If the store
+    /// fails, the club is unchanged, but after a crash the store may recover to the changed club.
     fn settle(&mut self, change: Option<Change>) -> Result<(), StoreFault>
         ensures was_clean { S.disk_is_clean self.new → S.disk_is_clean self.old }
         ensures settled { S.disk_is_clean self.new → (club : Club) (others : List Club)
@@ -150,7 +150,7 @@ impl<S: ClubStore> Desk<S> {
         Ok(verdict.reply)
     }
 
-    /// The member of this name; `None` if there is none.
+    /// Returns the member of this name; `None` if there is none.
     fn member(&mut self, name: &Name) -> Result<Option<Member>, StoreFault>
         ensures { ReadsStore S.disk_is_clean S.represents S.fails self.old self.new result
             (λ club member. member ≡ member_named name.now club) }
@@ -161,7 +161,7 @@ impl<S: ClubStore> Desk<S> {
         }
     }
 
-    /// The key of this name, with its older root; `None` if there is none.
+    /// Returns the key of this name, with its older root; `None` if there is none.
     pub(crate) fn key(&mut self, name: &Name) -> Result<Option<Key>, StoreFault>
         ensures { ReadsStore S.disk_is_clean S.represents S.fails self.old self.new result
             (λ club key. key ≡ key_named name.now club) }
@@ -236,26 +236,26 @@ impl<S: ClubStore> Desk<S> {
     /// Answers a request at a moment. When `ask` returns, the change of a served request is stored.
     /// A refusal changes nothing.
     ///
-    /// A refusal names the first cause that fits: the form of the text, the pass, its caveats in
-    /// their order, the rules for what is asked. `Unavailable` means that the store failed, or that
-    /// memory for a pass in JSON was refused, and never anything else. Then the club is unchanged,
-    /// but if the store failed to write, it may recover to the changed club after a crash.
+    /// A refusal names the first cause that applies: the form of the text, the pass, its caveats in
+    /// order, then the rules for the request. `Unavailable` means that the store failed, or that
+    /// memory for a pass in JSON was refused, and nothing else. The club is then unchanged, but a
+    /// store that failed to write may recover to the changed club after a crash.
     pub fn ask(&mut self, moment: Moment, words: &SentWords) -> Reply
         ensures was_clean { S.disk_is_clean self.new → S.disk_is_clean self.old }
-        // The reply is the one that the rules give to the words of the text, and the store
-        // represents the club that follows; or the request failed, and the store represents the
-        // same club.
+        // Either the reply is the one that the rules give to the words of the text, and the store
+        // represents the club after it; or the request failed, and the store represents the same
+        // club.
         ensures steps { S.disk_is_clean self.new → (decoded : Words)
             × AreWordsOf words.now.pass.now words.now.request decoded
             × DecidesOrFails S.represents self.old self.new decoded moment result }
         ensures lawful { OfItsClub S.disk_is_clean S.represents self.old self.new
             (λ club. IsLawful club words.now.pass.now words.now.request moment result) }
-        // If the reply is `Unavailable`, the store itself failed, at a read or at the request's
-        // change; or the text is JSON, and the store is unchanged.
+        // If the reply is `Unavailable`, then either the store itself failed, at a read or at the
+        // request's change; or the text is JSON, and the store is unchanged.
         ensures failed { OfItsClub S.disk_is_clean S.represents self.old self.new
             (λ club. FailsForCause S.fails self.old self.new club words.now.pass.now
             words.now.request moment result) }
-        // A text that isn't a pass leaves the store as it is, and is refused without memory unless
+        // A text that isn't a pass leaves the store unchanged, and is refused without memory unless
         // it is JSON.
         ensures untouched { (fault : FormFault) → IsAnyReading words.now.pass.now (Err fault)
             → self.new ≡ self.old }
@@ -278,9 +278,9 @@ impl<S: ClubStore> Desk<S> {
     /// Carries out a command of the office. When `office` returns, the change of a command that is
     /// done is stored. A refusal changes nothing.
     ///
-    /// `Refused` names the fault. `Fault::Store` means that memory or storage was refused, and
-    /// never anything else; if the store failed to write, it may recover to the changed club after
-    /// a crash. `Fault::Refused` names the rule that forbids the command.
+    /// `Fault::Refused` names the rule that forbids the command. `Fault::Store` means that memory
+    /// or storage was refused, and nothing else. A store that failed to write may recover to the
+    /// changed club after a crash.
     pub fn office(&mut self, command: &Command) -> OfficeReply
         ensures was_clean { S.disk_is_clean self.new → S.disk_is_clean self.old }
         ensures steps { S.disk_is_clean self.new → Steps S.represents self.old self.new
@@ -295,7 +295,7 @@ impl<S: ClubStore> Desk<S> {
         }
     }
 
-    /// Answers an event, by `ask` or `office`.
+    /// Answers an event with `ask` or `office`.
     pub(crate) fn event(&mut self, event: &Event) -> EventReply
         ensures { IsHandled S.disk_is_clean S.represents S.fails self.old event.now result
             self.new }
@@ -311,7 +311,7 @@ impl<S: ClubStore> Desk<S> {
     ///
     /// # Errors
     ///
-    /// `Store`, if memory or storage was refused.
+    /// Fails with `Store` if memory or storage was refused.
     pub fn sheet(&mut self, day: Day) -> Result<String, Fault>
         ensures was_clean { S.disk_is_clean self.new → S.disk_is_clean self.old }
         ensures kept { S.disk_is_clean self.new → KeepsClub S.represents self.old self.new }

@@ -1,4 +1,4 @@
-//! What comes to the desk, and what it replies.
+//! The events that come to the desk, and its replies.
 
 use crate::fault::Fault;
 use crate::mint::key_signature;
@@ -6,7 +6,7 @@ use club_core::{Command, OfficeAnswer, Reply, SentWords, StoreFault};
 use club_values::Moment;
 use std::fmt;
 
-/// What comes to the desk: a request at a moment, or a command of the office.
+/// An event at the desk: a request at a moment, or a command of the office.
 #[derive(Clone, Copy)]
 pub enum Event<'a> {
     Asked {
@@ -20,13 +20,13 @@ pub enum Event<'a> {
 #[derive(Clone, Copy, PartialEq, Eq)]
 pub enum OfficeReply {
     Done,
-    /// The command added a key, or gave it a new root. The signature is that of the key's passes
-    /// before any caveat, 32 bytes.
+    /// The command added a key, or gave it a new root. The signature, 32 bytes, is that of the
+    /// key's passes without caveats.
     Key { signature: [u8; 32] },
     Refused(Fault),
 }
 
-/// Prints no byte of a signature: who has it can make a pass.
+/// Prints no byte of a signature, since anyone who has it can make a pass.
 impl fmt::Debug for OfficeReply {
     ghost use Rattle.std.specs.Prelude.{Some};
     ghost use Rattle.club_gate.specs.Response.{debug_text};
@@ -55,7 +55,7 @@ impl OfficeReply {
     ghost use Rattle.club_gate.specs.declared.event.OfficeReply.TheVariants.{Refused};
     ghost use Rattle.club_gate.specs.declared.fault.Fault.TheVariants.{Store};
 
-    /// Converts an answer of the rules.
+    /// Converts an answer from the rules into the office's reply.
     pub(crate) fn from_answer(answer: OfficeAnswer) -> OfficeReply
         ensures { result ≡ office_reply_of answer }
     {
@@ -68,7 +68,7 @@ impl OfficeReply {
         }
     }
 
-    /// Converts a fault of the store.
+    /// Converts a fault of the store into the office's reply.
     pub(crate) fn from_store_fault(fault: StoreFault) -> OfficeReply
         ensures { result ≡ Refused (Store fault) }
     {

@@ -5,7 +5,7 @@ use std::alloc::AllocError;
 use std::error::Error;
 use std::fmt;
 
-/// Why a command of the office, a sheet, or what the office asks to be shown is refused or fails.
+/// Why a command, a sheet or a listing for the office is refused or fails.
 #[derive(Clone, Copy, Debug, PartialEq, Eq)]
 pub enum Fault {
     /// A rule of the club refuses it.

@@ -1,14 +1,14 @@
-//! How a pass names its key: by the identifier `key:` and the name.
+//! The identifier by which a pass names its key: `key:` and the name.
 
 ghost use Rattle.std.specs.Prelude.{◌≡◌};
 ghost use Rattle.club_gate.specs.Identifier.{key_name_in as name_of};
 
 use club_values::Name;
 
-/// What the identifier of a pass begins with, before the name of its key.
+/// The prefix of a pass's identifier, before the name of its key.
 pub(crate) const KEY_PREFIX: &[u8; 4] = b"key:";
 
-/// The name of the key that an identifier names; `None` if it names none.
+/// Returns the name of the key that an identifier names; `None` if it names none.
 #[tactic(auto, unfolding(crate::specs::Identifier::key_name_in))]
 pub(crate) fn key_name_in(identifier: &[u8]) -> Option<Name>
     ensures { result ≡ name_of identifier.now }

@@ -16,17 +16,17 @@ pub fn finds_names()
     reads_names();
 }
 
-/// The reading of a text, as it is defined, is never the fault `Memory`.
+/// By its definition, the reading of a text is never the fault `Memory`.
 pub fn reads_no_lack_of_memory()
     ensures { ReadsNoLackOfMemory }
 {}
 
-/// What `Desk::show_slot` shows is the club's reply to each of its keys that asks for the slot.
+/// `Desk::show_slot` shows the reply that every key of the club would get if it asked for the slot.
 pub fn shows_slots_to_keys()
     ensures { ShowsSlotsToKeys }
 {}
 
-/// The rules see a pass as one pass: as the one that is computed from it.
+/// The rules see a text's pass as exactly one model pass, which `machine_pass` computes.
 pub fn seen_alike()
     ensures { SeenAlike }
 {
@@ -35,7 +35,7 @@ pub fn seen_alike()
     decides_signed();
 }
 
-/// A text decodes to one pass or fault: to the one that is computed from it.
+/// A text decodes to exactly one pass or fault, which `decoded_pass` computes.
 pub fn decodes()
     ensures { Decodes }
 {
@@ -43,14 +43,15 @@ pub fn decodes()
     seen_alike();
 }
 
-/// The machine sees events at the desk as one list: as the one that is computed from them.
+/// The machine sees events at the desk as exactly one list of events, which `machine_events`
+/// computes.
 pub fn sees_events()
     ensures { SeesEvents }
 {
     decodes();
 }
 
-/// The rows that the words of a text name are those that the club has for the key of its pass.
+/// The rows that the words of a text name are the club's rows for the key of its pass.
 pub fn names_its_rows()
     ensures { NamesItsRows }
 {

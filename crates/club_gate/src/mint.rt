@@ -17,8 +17,8 @@ pub const LOCATION: &[u8; 9] = b"club-desk";
 /// The most bytes of a key's identifier.
 const MAX_IDENTIFIER_LEN: usize = 28;
 
-/// The signature of a key's pass without caveats, 32 bytes: the chain of `key:NAME` under a root.
-/// Allocates nothing.
+/// Returns the signature of a key's pass without caveats, 32 bytes: the chain of `key:NAME` under a
+/// root. Allocates nothing.
 pub fn key_signature(name: &Name, root: &Root) -> [u8; 32]
     ensures { result ≡ minted_signature name.now root.now }
 {
@@ -35,7 +35,7 @@ pub fn key_signature(name: &Name, root: &Root) -> [u8; 32]
 ///
 /// # Errors
 ///
-/// There is no memory to copy a field.
+/// Fails if there is no memory to copy a field.
 pub fn minted(alloc: Global, name: &Name, signature: [u8; 32]) -> Result<Pass, AllocError>
     ensures ok { IfOk result (λ pass. pass ≡ key_pass name.now signature) }
     ensures signed { IfOk result (λ pass. (root : List ℕ)

@@ -1,5 +1,5 @@
-//! What the desk reads of the club to answer a signed pass: only what the caveats and the decision
-//! depend on.
+//! Reads from the club to answer a signed pass: only the rows and sums that the caveats and the
+//! decision depend on.
 
 ghost use Rattle.std.specs.Prelude.{◌≡◌, ◌≤◌, None, true, map, option_map};
 ghost use Rattle.pass_caveats.specs.{Fault.first_fault_of, Spending.after_spending};
@@ -22,8 +22,8 @@ use pass_caveats::{Ask, CaveatFault, Unspent};
 use pass_forms::FieldSource;
 
 impl<S: ClubStore> Desk<S> {
-    /// Reads what caveats depend on, except what the key has spent: the booking that has the number
-    /// that is asked for, and the facility. If there is such a booking, the facility is read only
+    /// Reads the booking under the request's number, and the facility. Caveats depend on nothing
+    /// else, except what the key has spent. If there is such a booking, the facility is read only
     /// if a caveat looks at its kind. The source yields the fields of the pass.
     pub(crate) fn first_view<'a, F: FieldSource<'a> + Drop>(
         &mut self,
@@ -49,9 +49,9 @@ impl<S: ClubStore> Desk<S> {
         Ok(view)
     }
 
-    /// The first caveat that refuses a request with this key. The source yields the fields of the
-    /// pass. What the key has spent is read only if what its member has used leaves the result
-    /// open.
+    /// Returns the first caveat that refuses a request with this key. The source yields the fields
+    /// of the pass. The points that the key has spent are read only if the points that its member
+    /// has used leave the result open.
     pub(crate) fn caveat_fault<'a, F: FieldSource<'a> + Drop>(
         &mut self,
         source: &F,
@@ -74,7 +74,8 @@ impl<S: ClubStore> Desk<S> {
         Ok(fault_after(source, ask, spent))
     }
 
-    /// Whether the member of a key has used no more than this, and so the key has spent no more.
+    /// Returns whether the member of a key has used at most this much. If so, the key has spent at
+    /// most this much, too.
     fn has_spent_within(&mut self, key: &KeyRow, most: u64) -> Result<bool, StoreFault>
         ensures { ReadsStore S.disk_is_clean S.represents S.fails self.old self.new result
             (λ club within. within ≡ true → IsOnRecord club key.now
@@ -104,8 +105,8 @@ impl<S: ClubStore> Desk<S> {
         })
     }
 
-    /// Adds the row, the balance and the open bookings of the key's member; `None` if the club has
-    /// no such member.
+    /// Adds the row, the balance and the open bookings of the key's member. Returns `None` if the
+    /// club has no such member.
     fn with_member(&mut self, view: View, moment: Moment) -> Result<Option<View>, StoreFault>
         ensures { ReadsStore S.disk_is_clean S.represents S.fails self.old self.new result
             (λ club found. found ≡ option_map (λ account. record view {
@@ -126,7 +127,8 @@ impl<S: ClubStore> Desk<S> {
         }))
     }
 
-    /// The view with all sums of an account: those of the key's member, and what the key has spent.
+    /// Adds all sums of an account to the view: those of the key's member, and what the key has
+    /// spent. Returns `None` if the club has no such member.
     pub(crate) fn with_sums(
         &mut self,
         view: View,
@@ -147,8 +149,9 @@ impl<S: ClubStore> Desk<S> {
         Ok(Some(View { spent, ..view }))
     }
 
-    /// Adds all that the decision depends on to a view of what caveats depend on; `None` if the
-    /// club doesn't have the key's member. The answer is the same as by the key's whole view.
+    /// Adds the rows and sums that the decision depends on to the view that caveats were tested by.
+    /// Returns `None` if the club doesn't have the key's member. The resulting view gives the same
+    /// answer as the key's full view.
     pub(crate) fn last_view(
         &mut self,
         view: View,

@@ -19,7 +19,7 @@ use club_laws::runs_with_failures::{
 };
 use std::alloc::AllocError;
 
-/// The values of an event are within their limits, by their types.
+/// The types of an event's values keep them within their limits.
 fn event_within(event: &Event)
     ensures within { IsEvent (machine_event event.now) }
     ensures bytes { IsEventOfBytes event.now }
@@ -38,20 +38,23 @@ impl<S: ClubStore> Desk<S> {
     ///
     /// # Errors
     ///
-    /// There is no memory for the replies. No event was answered, and the desk is unchanged.
+    /// Fails if there is no memory for the replies. Then no event was answered, and the desk is
+    /// unchanged.
     pub fn run(&mut self, events: &[Event]) -> Result<Vec<EventReply>, AllocError>
         ensures was_clean { S.disk_is_clean self.new → S.disk_is_clean self.old }
         ensures err { OnErr result (self.new ≡ self.old) }
         ensures lawful { S.disk_is_clean self.new → Returns S.represents self.old result
             (λ club replies. (seen : List machine.Event) → AreEventsOf events.now seen
             → IsLawfulRun club seen (responses_of replies.items)) }
-        // Each event was answered by one step, or the store failed in it, as at `ask` and `office`.
+        // Each event was answered by one step, or the store failed during it, as with `ask` and
+        // `office`.
         ensures handled { IfOk result (λ replies. AreHandled S.disk_is_clean S.represents S.fails
             self.old events.now replies.items self.new) }
-        // After a crash the store holds the club of the answered events; or that club after one
-        // event that failed since the last change; or, if the run changed nothing, what a crash
-        // could leave before it. In the first, and in each of the others that is one event from
-        // it, a repeat of what was served gets the same reply and changes nothing.
+        // After a crash the store holds the club of the answered events, or that club after one
+        // event that failed since the last change. If the run changed nothing, it may also hold a
+        // club that a crash could have left before the run. In the club of the answered events, and
+        // in each other club that is one event away from it, a repeat of a served request gets the
+        // same reply and changes nothing.
         ensures represents { S.disk_is_clean self.new → (club : Club) (others : List Club)
             → S.represents self.old club others
             → IfOk result (λ replies. (seen : List machine.Event) → AreEventsOf events.now seen

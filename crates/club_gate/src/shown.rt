@@ -1,4 +1,4 @@
-//! What the desk shows of a key's account and of a slot to whoever keeps its file.
+//! Account and slot listings for the office.
 
 ghost use Rattle.std.specs.{Prelude.{◌≡◌, ◌++◌, IfOk, OnOk}, String.string_bytes};
 ghost use Rattle.club_core.specs.Store.{ReadsStore};
@@ -13,12 +13,13 @@ use club_values::{Kind, Moment, Name, Slot};
 use std::alloc::{AllocError, Global};
 
 impl<S: ClubStore> Desk<S> {
-    /// What a key is shown of its account at a moment, and whether it is revoked and until when it
-    /// has an older root: a line a value. No root is shown. The rows stay as they are.
+    /// Lists what a key sees of its account at a moment, whether it is revoked, and until when its
+    /// older root is good, with one value per line. No root is shown, and the rows are unchanged.
     ///
     /// # Errors
     ///
-    /// `Refused(Unknown)` if no key has the name; `Store`, if memory or storage was refused.
+    /// Fails with `Refused(Unknown)` if no key has the name, and with `Store` if memory or storage
+    /// was refused.
     pub fn show_account(&mut self, key: &Name, moment: Moment) -> Result<String, Fault>
         ensures { spec.ShowsClub S.disk_is_clean S.represents S.fails self.old self.new result
             (λ club. spec.ReturnsShown (spec.shown_account club key.now moment) result) }
@@ -29,11 +30,12 @@ impl<S: ClubStore> Desk<S> {
         Ok(account_text(self.alloc, &key, &view)?)
     }
 
-    /// What every key is shown of a slot: a line a value. The rows stay as they are.
+    /// Lists what every key sees of a slot, with one value per line. The rows are unchanged.
     ///
     /// # Errors
     ///
-    /// `Refused(Unknown)` if there is no such facility; `Store`, if memory or storage was refused.
+    /// Fails with `Refused(Unknown)` if there is no such facility, and with `Store` if memory or
+    /// storage was refused.
     pub fn show_slot(&mut self, slot: &Slot) -> Result<String, Fault>
         ensures { spec.ShowsClub S.disk_is_clean S.represents S.fails self.old self.new result
             (λ club. spec.ReturnsShown (spec.shown_slot club slot.now) result) }
@@ -44,7 +46,7 @@ impl<S: ClubStore> Desk<S> {
         Ok(reply_text(self.alloc, &reply)?)
     }
 
-    // A key, and what it sees of its account; `None` if there is no key of the name.
+    // A key, and its view of its account; `None` if no key has the name.
     fn account_view(
         &mut self,
         key: &Name,
@@ -63,7 +65,8 @@ impl<S: ClubStore> Desk<S> {
         }
     }
 
-    // The reply to a view of a slot, whoever asks; `None` if the facility is unknown.
+    // The reply to a request to view a slot, which is the same for every key; `None` if the
+    // facility is unknown.
     fn slot_reply(&mut self, slot: &Slot) -> Result<Option<Reply>, StoreFault>
         ensures { ReadsStore S.disk_is_clean S.represents S.fails self.old self.new result
             (λ club reply. reply ≡ spec.slot_reply club slot.now) }
@@ -83,7 +86,7 @@ impl<S: ClubStore> Desk<S> {
     }
 }
 
-// The lines of an account, and of the key that asks for it.
+// The lines of an account and of the key that asks for it.
 fn account_text(alloc: Global, key: &Key, view: &View) -> Result<String, AllocError>
     ensures { IfOk result (λ text. string_bytes text ≡ spec.shown_account_text key.now view.now) }
 {
@@ -92,7 +95,7 @@ fn account_text(alloc: Global, key: &Key, view: &View) -> Result<String, AllocEr
     Ok(text)
 }
 
-// The lines of a reply that shows an account or a slot; any other has none.
+// The lines of a reply that shows an account or a slot. Any other reply has none.
 fn reply_text(alloc: Global, reply: &Reply) -> Result<String, AllocError>
     ensures { IfOk result (λ text. string_bytes text ≡ spec.lines (spec.named_values reply.now)) }
 {
@@ -134,7 +137,7 @@ fn slot_name(alloc: Global, slot: &Slot) -> Result<String, AllocError>
     )
 }
 
-// The lines of a facility, and of what is taken of a slot.
+// The lines of a facility and of how much of a slot is taken.
 fn push_state(
     text: &mut String,
     kind: Kind,

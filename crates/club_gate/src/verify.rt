@@ -1,6 +1,7 @@
-//! The verifier: the verdict on a request. It checks the signature first, and until then reads only
-//! the row of the key that the pass names, and its older root if the current one doesn't sign the
-//! pass. Next it reads what the caveats depend on, and last what the decision depends on.
+//! The verifier, which returns the verdict on a request. It checks the signature first. For this it
+//! reads only the row of the key that the pass names, and the key's older root if the pass isn't
+//! signed under the current one. Next it reads what the caveats depend on, and last what the
+//! decision depends on.
 
 ghost use Rattle.std.specs.Prelude.{◌≡◌, ◌≢◌, ◌≤◌, ℕ, List, length, IfOk, IsSomeAnd, None, Some};
 ghost use Rattle.std.specs.Prelude.{Ok, Err, drop, option_map};
@@ -32,7 +33,8 @@ use pass_json::laws::{
 };
 use pass_json::{JsonFields, read_json};
 
-// The computed reading of a text is that of the bytes that it wraps, or the fault of its envelope.
+// The computed reading of a text is the reading of the bytes that it wraps, or the fault of its
+// envelope.
 fn reads_by_bytes(text: &[u8])
     ensures wrapped { (form : FormOfBytes) (bytes : List ℕ)
         → IsUnwrapped text.now (Ok (form, bytes)) → length bytes ≤ max_text_len
@@ -64,7 +66,7 @@ fn identifier_from<'a, F: FieldSource<'a>>(source: &mut F) -> Option<&'a [u8]>
     }
 }
 
-/// The verdict on a text that isn't a pass. Fails if the reader ran out of memory.
+/// Returns the verdict on a text that isn't a pass. Fails if the reader ran out of memory.
 fn verdict_of_fault(fault: FormFault) -> Result<Verdict, StoreFault>
     ensures memory { fault ≡ Memory → result ≡ Err store.Memory }
     ensures refused { fault ≢ Memory
@@ -94,8 +96,8 @@ impl<S: ClubStore> Desk<S> {
     }
 
     /// Returns the row of the key that a pass names and is signed under, or the refusal. It reads
-    /// nothing of the club but that row, and the older root only for a pass that isn't signed under
-    /// the current one. An unknown key and a wrong signature get the same refusal.
+    /// nothing else of the club, except the older root for a pass that isn't signed under the
+    /// current one. An unknown key and a wrong signature get the same refusal.
     fn signer<'a, F: FieldSource<'a> + Drop>(
         &mut self,
         source: &F,
@@ -121,9 +123,9 @@ impl<S: ClubStore> Desk<S> {
         Ok(Ok(row))
     }
 
-    /// The verdict on a request with a pass whose signer is this key. If a caveat refuses the
-    /// request, no sum is read but what the key's member has used and the key has spent, and these
-    /// only if a caveat depends on them.
+    /// Returns the verdict on a request with a pass whose signer is this key. If a caveat refuses
+    /// the request, the only sums read are what the key's member has used and what the key has
+    /// spent, and these only if a caveat depends on them.
     fn verdict_under<'a, F: FieldSource<'a> + Drop>(
         &mut self,
         key: &KeyRow,
@@ -146,8 +148,8 @@ impl<S: ClubStore> Desk<S> {
         Ok(answer(view.as_ref(), true, None, request, moment))
     }
 
-    /// The verdict on a request with the pass whose fields a source yields. It scans the fields for
-    /// the signature, and scans them again for the caveats only if the pass is signed.
+    /// Returns the verdict on a request with the pass whose fields a source yields. It scans the
+    /// fields for the signature, and scans them again for the caveats only if the pass is signed.
     fn verdict_of<'a, F: FieldSource<'a> + Drop>(
         &mut self,
         source: &F,
@@ -164,8 +166,9 @@ impl<S: ClubStore> Desk<S> {
         }
     }
 
-    /// The verdict on a request with the pass that these bytes spell in a form. A pass in JSON is
-    /// parsed first, which needs memory; in the other forms the fields are parts of the bytes.
+    /// Returns the verdict on a request with the pass that these bytes spell in a form. A pass in
+    /// JSON is parsed first, which needs memory; in the other forms the fields are parts of the
+    /// bytes.
     fn verdict_on(
         &mut self,
         form: Form,
@@ -201,8 +204,8 @@ impl<S: ClubStore> Desk<S> {
         }
     }
 
-    /// The verdict on a request at a moment: its reply and its change of the club. A text that
-    /// isn't a pass is refused without a call of the store.
+    /// Returns the verdict on a request at a moment: its reply and its change of the club. Refuses
+    /// a text that isn't a pass without calling the store.
     pub(crate) fn verdict(
         &mut self,
         words: &SentWords,

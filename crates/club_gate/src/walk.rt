@@ -9,8 +9,9 @@ use pass_caveats::laws::{finds_the_fault_at, reads_what_is_understood};
 use pass_caveats::{Ask, CaveatFault, Unspent, fault_at, looks_at_kind, unspent_at};
 use pass_forms::{Field, FieldSource};
 
-/// The first caveat that isn't understood or denies the request if the key has spent this much
-/// before; `None` if all allow it. The source yields the fields of the pass, and stays unchanged.
+/// Returns the first caveat that isn't understood or denies the request of a key that has spent
+/// this much before. Returns `None` if all caveats allow it. The source yields the fields of the
+/// pass, and stays unchanged.
 pub(crate) fn fault_after<'a, F: FieldSource<'a> + Drop>(
     source: &F,
     ask: &Ask,
@@ -34,8 +35,8 @@ pub(crate) fn fault_after<'a, F: FieldSource<'a> + Drop>(
     None
 }
 
-/// The first caveat that refuses a request of a key that has spent nothing before, and the most
-/// that the key may have spent for the same result. The source stays unchanged.
+/// Returns the first caveat that refuses a request of a key that has spent nothing before, and the
+/// most that the key may have spent for the same result. The source stays unchanged.
 pub(crate) fn unspent_fault<'a, F: FieldSource<'a> + Drop>(source: &F, ask: &Ask) -> Unspent
     ensures { OfItsPass (F.left source.now) (λ pass. (spent : ℕ) → IsWithin result.slack spent
         → first_fault_of (map caveat_of pass.caveats) (after_spending spent ask.now)
@@ -62,7 +63,7 @@ pub(crate) fn unspent_fault<'a, F: FieldSource<'a> + Drop>(source: &F, ask: &Ask
     Unspent { fault: None, slack }
 }
 
-/// The lower of two bounds.
+/// Returns the lower of two bounds.
 fn least(bound: Option<u64>, other: Option<u64>) -> Option<u64>
     ensures { (spent : ℕ) → IsWithin result spent → IsWithin bound spent × IsWithin other spent }
 {
@@ -73,7 +74,8 @@ fn least(bound: Option<u64>, other: Option<u64>) -> Option<u64>
     }
 }
 
-/// Whether a caveat of a pass looks at the kind of the slot's facility. The source stays unchanged.
+/// Returns whether a caveat of a pass looks at the kind of the slot's facility. The source stays
+/// unchanged.
 pub(crate) fn has_kind<'a, F: FieldSource<'a> + Drop>(source: &F) -> bool
     ensures { OfItsPass (F.left source.now) (λ pass. result ≡ false → IsBlindPass pass) }
 {

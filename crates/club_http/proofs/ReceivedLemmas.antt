@@ -4,11 +4,11 @@ use Rattle.std.proofs.lemmas.List.{take-append-le, length-take, length-take-le}
 use Rattle.std.specs.Prelude.{IsTrue}
 use borrow.Rule.Slice.PartMut.{put_mid}
 
--- as many as a request may have
+-- the first n bytes of a buffer are at most as many as a request may have
 pub within_request : (room : List ℕ) (n : ℕ) → n ≤ 16640 → length (take n room) ≤ 16640
 within_request room n few = rw (length-take n room) (omega arith)
 
--- a buffer that was filled from a place on
+-- a buffer after bytes were read into it at a position
 pub filled : (room part : List ℕ) (len n k : ℕ) → len ≤ length room → n ≤ length part → take (len + n) (put_mid len k room part) ≡ take len room ++ take n part
 filled room part len n k within few =
     let front = length-take-le len room within in
@@ -16,6 +16,6 @@ filled room part len n k within few =
     ∙ take-append-add (take len room) _ n
     ∙ ap (λ (l : List ℕ). take len room ++ l) (take-append-le n part _ few)
 
--- if a test is false, what it tests doesn't hold
+-- if a test is false, the tested property doesn't hold
 pub not_so : (test : Bool) (P : Type 0) → test ≡ false → IsTrue test ↔ P → ¬ P
 not_so test P fails is holds = let passes : IsTrue test = is.1 holds in cc

@@ -1,20 +1,20 @@
--- The calls by which a reader gives a request, and by which a writer takes a reply (ours).
+-- The calls of a reader that returns a request, and of a writer that takes a reply (ours).
 use Rattle.std.specs.Prelude.{◌⊎◌, ℕ, ◌<◌, ◌≤◌, List, [], ◌++◌, length, take, Option, Some, None}
 use Rattle.http_request.specs.{Frame.IsWhole, Limits.max_request_len}
 
--- What a call does: the reader or writer before, how many bytes it returns, what the buffer of a read holds or what a write was given, and the
--- reader or writer after.
+-- A call: the reader or writer before it, the returned number of bytes, the buffer after a read or the bytes given to a write, and the reader or writer after
+-- it.
 abbrev pub Call : Type 0 → Type 1
 Call End = End → Option ℕ → List ℕ → End → Type 0
 
--- the reader gave the bytes in calls that each gave some, and no call was made once the request was whole
+-- the reader returned the bytes in calls that each returned some, and no call was made once the request was complete
 pub data Gives {Reader : Type 0} (Fills : Call Reader) (old : Reader) : List ℕ → Reader → Type 0 where
   nothing : Gives Fills old [] old
   more : (bytes room : List ℕ) (n : ℕ) (mid new : Reader)
       → Gives Fills old bytes mid → ¬ (IsWhole bytes) → 0 < n → Fills mid (Some n) room new
       → Gives Fills old (bytes ++ take n room) new
 
--- a last call gave none: the input had ended, or the reader failed
+-- the last call returned none: the input had ended, or the reader failed
 pub record EndsWithNone {Reader : Type 0} (Fills : Call Reader) (old : Reader) (bytes : List ℕ) (new : Reader) : Type 0 where
   pub mid : Reader
   pub room : List ℕ
@@ -22,12 +22,12 @@ pub record EndsWithNone {Reader : Type 0} (Fills : Call Reader) (old : Reader) (
   pub not_whole : ¬ (IsWhole bytes)
   pub none : Fills mid (Some 0) room new ⊎ Fills mid None room new
 
--- No more bytes were read than a request may have. No call was made once the request was whole, nor after one that gave none
+-- At most as many bytes were read as a request may have. No call was made once the request was complete, nor after a call that returned none.
 pub record ReadsNoFurther {Reader : Type 0} (Fills : Call Reader) (old : Reader) (bytes : List ℕ) (new : Reader) : Type 0 where
   pub within : length bytes ≤ max_request_len
   pub calls : Gives Fills old bytes new ⊎ EndsWithNone Fills old bytes new
 
--- calls of the writer, one after the other, and nothing else
+-- consecutive calls of the writer, and nothing else
 pub data ArePut {Writer : Type 0} (Puts : Call Writer) (old : Writer) : Writer → Type 0 where
   not_put : ArePut Puts old old
   put_again : (result : Option ℕ) (bytes : List ℕ) (mid new : Writer) → ArePut Puts old mid → Puts mid result bytes new → ArePut Puts old new

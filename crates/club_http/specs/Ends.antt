@@ -1,14 +1,12 @@
--- The effect of the calls of a reader and a writer: on the bytes to come or taken, if they are known,
--- and on a count of failures (ours).
+-- The effect of a reader's and a writer's calls (ours): on the bytes still to come or already taken, if they are known, and on a count of failures.
 use Rattle.std.specs.{Io.KnownBytes.{Keeps, Appends, Consumes, IsAtEnd}, Prelude.{ℕ, ◌==◌, ◌+◌, ◌-◌, ◌^◌, ◌<◌, ◌&&◌, min, List, length, take, nat_lt}}
 use Rattle.std.specs.Prelude.{if◌then◌else◌, Option, Some, None, ◌≡◌, MatchOption, MatchResult, Result}
 
--- one failure more; the count is a u64 that saturates
+-- one more failure; the count is a u64 that saturates
 abbrev pub one_more : ℕ → ℕ
 one_more failures = min (failures + 1) (2 ^ 64 - 1)
 
--- a call read the next bytes into the buffer, and 0 of them only at the end or into an empty buffer;
--- a failed call read none
+-- a call read the next bytes into the buffer; it read 0 bytes only at the end or into an empty buffer; a failed call read none
 abbrev pub Fills : Option (List ℕ) → Option (List ℕ) → Option ℕ → List ℕ → Type 0
 Fills old new result room = MatchOption result
     (Keeps old new)
@@ -25,13 +23,13 @@ Takes old new result bytes = MatchOption result
     (Keeps old new)
     (λ n. Appends old new (take n bytes))
 
--- all the bytes were taken; or the first n of them, fewer than all, before one failure
+-- either all the bytes were taken, or only the first n of them before one failure
 abbrev pub TakesAll : {A : Type 0} → Option (List ℕ) → Option (List ℕ) → ℕ → ℕ → List ℕ → Result A ℕ → Type 0
 TakesAll old new failures failures' bytes result = MatchResult result
     (λ _. Appends old new bytes × (failures' ≡ failures))
     (λ n. (n < length bytes) × Appends old new (take n bytes) × (failures' ≡ one_more failures))
 
--- the count after a call that writes: `None` is a failure, and so is 0 of some bytes
+-- the count after a call that writes: `None` is a failure, and so is 0 if there were bytes to write
 abbrev pub put_failures : ℕ → Option ℕ → List ℕ → ℕ
 put_failures failures None bytes = one_more failures
 put_failures failures (Some n) bytes =

@@ -10,10 +10,10 @@ pub record Replies {Desk : Type 0} (Answers : AnswerRelation Desk) (before after
     (bytes : List ℕ) (old : Desk) (reply : Reply) (new : Desk) : Type 0 where
   pub receives : Receives before after bytes
   pub reply_is : IsReplied Answers bytes old reply new
-  -- it is also the reply to all that the reader would give until its end
+  -- it is also the reply to everything that the reader would return up to its end
   pub to_all : IfSome before (λ all. IsReplied Answers all old reply new)
 
--- what an exchange did: it wrote the text of the desk's reply, or didn't ask the desk, or wrote a beginning of that text
+-- the effect of an exchange: it wrote the text of the desk's reply, or a prefix of that text, or didn't ask the desk
 abbrev pub Exchanges :
     (Reply → Type 0) → Type 0 → (List ℕ → Type 0) → Result Reply AnswerFault → Type 0
 Exchanges Decides Unasked Writes (Ok reply) = Decides reply × Writes (reply_text reply)

@@ -1,14 +1,14 @@
--- The bytes that were received of a request (ours).
+-- The received bytes of a request (ours).
 use Rattle.std.specs.{Io.KnownBytes.{Consumes, IsAtEnd}, Prelude.{ℕ, ◌≤◌, ◌⊎◌, List, length, Option}}
 use Rattle.http_request.specs.{Frame.IsWhole, Limits.max_request_len}
 
--- the bytes arrived, at most as many as a request may have; they begin with a whole request, or are the whole input
+-- the bytes arrived, at most as many as a request may have; they begin with a complete request, or are the whole input
 pub record Receives (old new : Option (List ℕ)) (bytes : List ℕ) : Type 0 where
   pub came : Consumes old new bytes
   pub within : length bytes ≤ max_request_len
   pub ends : IsWhole bytes ⊎ IsAtEnd new
 
--- the bytes that arrived before the reader failed don't begin with a whole request
+-- the bytes that arrived before the reader failed don't begin with a complete request
 pub record IsCutOff (old new : Option (List ℕ)) (bytes : List ℕ) : Type 0 where
   pub came : Consumes old new bytes
   pub within : length bytes ≤ max_request_len

@@ -3,12 +3,12 @@ use Rattle.std.specs.Prelude.{◌≡◌, ℕ, List, Ok, Err}
 use Rattle.club_core.specs.declared.{refusal.Refusal.{Refusal, TheVariants.Unavailable}, reply.Reply.{Reply, TheVariants.Refused}, request.Request.Request}
 use Rattle.http_request.specs.Words.{DecodedRequest, IsRequestReading, HoldsBody}
 
--- what a desk may reply to the text of a pass and a request, with the desk before and after
+-- the replies that a desk may give to the text of a pass and a request, with the desk before and after
 abbrev pub AnswerRelation : Type 0 → Type 1
 AnswerRelation Desk = List ℕ → Request → Desk → Reply → Desk → Type 0
 
--- the reply to a request's bytes, with the desk before and after: the parser's refusal, or the
--- desk's reply, or `Unavailable` if parsing the body ran out of memory
+-- the reply to a request's bytes, with the desk before and after: the parser's refusal, the desk's reply, or `Unavailable` if parsing the body ran out of
+-- memory
 pub data IsReplied {Desk : Type 0} (Answers : AnswerRelation Desk) (bytes : List ℕ) (old : Desk)
     (reply : Reply) (new : Desk) : Type 0 where
   parser_refusal : (refusal : Refusal) → IsRequestReading bytes (Err refusal)

@@ -1,4 +1,4 @@
-//! A `Desk` answers requests by `Desk::ask`.
+//! A `Desk` as a responder.
 
 use crate::responder::Responder;
 use club_core::{ClubStore, Reply};
@@ -6,7 +6,7 @@ use club_gate::Desk;
 use club_values::Moment;
 use http_request::Words;
 
-/// Answers by `Desk::ask`, with its contract.
+/// Answers with `Desk::ask`, under its contract.
 impl<S: ClubStore> Responder for Desk<S> {
     ghost use Rattle.club_http.specs.Desk.{AnswersBy};
 

@@ -1,19 +1,19 @@
-//! The two ends of a connection: what a request is read from, and what a reply is written to.
+//! The two ends of a connection: the reader of a request and the writer of a reply.
 
 use std::io::{Read, Write};
 
-/// What a request is read from.
+/// The reader of an exchange, from which a request is read.
 pub trait Inlet {
     ghost use Rattle.std.specs.Prelude.{◌≡◌, ◌≤◌, ℕ, List, length, Option, IfSome};
     ghost use Rattle.club_http.specs.{Calls.Call, Ends.{Fills, read_failures}};
 
-    // the bytes that are still to come, if they are known
+    // the bytes still to come, if they are known
     ghost to_come: { Self → Option (List ℕ) };
 
-    // how often a call failed
+    // the number of calls that failed
     ghost failures: { Self → ℕ };
 
-    // what one call does, as far as it is known
+    // the known effects of one call
     ghost fills: { Call Self };
 
     /// Reads the next bytes into the front of the buffer `room`, and returns how many. 0 means the
@@ -25,7 +25,7 @@ pub trait Inlet {
         ensures called { fills self.old result room.new self.new };
 }
 
-/// What a reply is written to.
+/// The writer of an exchange, to which a reply is written.
 pub trait Outlet {
     ghost use Rattle.std.specs.Prelude.{◌≡◌, ◌≤◌, ℕ, List, length, Option, IfSome};
     ghost use Rattle.club_http.specs.{Calls.Call, Ends.{Takes, put_failures}};
@@ -33,10 +33,10 @@ pub trait Outlet {
     // the bytes that it took, if they are known
     ghost taken: { Self → Option (List ℕ) };
 
-    // how often a call failed, or took none of some bytes
+    // the number of calls that failed, or took nothing although they were given bytes
     ghost failures: { Self → ℕ };
 
-    // what one call does with the bytes that it is given, as far as it is known
+    // the known effects of one call on the bytes that it is given
     ghost puts: { Call Self };
 
     /// Takes the first of the bytes, and returns how many. `None` means that the call failed.

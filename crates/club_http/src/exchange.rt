@@ -15,17 +15,17 @@ use http_request::laws::{body_stays, whole_keeps_its_reading};
 
 /// Reads a request, asks the desk, and writes the text of its reply.
 ///
-/// It reads until the request is whole, and then calls the reader no more. If the input ends
-/// before, what arrived is the request. Each call may fill the rest of the buffer, so bytes after
-/// the request may be read with it. They change nothing, and no more than `MAX_REQUEST_LEN` bytes
-/// are read in all. The face keeps what was read. The body of a request and the desk need memory;
-/// once the desk has replied, nothing does.
+/// It stops calling the reader once the request is complete. If the input ends before that, the
+/// bytes that arrived are the request. Each call may fill the rest of the buffer, so bytes after
+/// the request may be read with it. They change nothing, and at most `MAX_REQUEST_LEN` bytes are
+/// read in all. The face keeps the bytes that were read. Parsing the body and asking the desk need
+/// memory; after the desk has replied, no memory is needed.
 ///
 /// # Errors
 ///
-/// `Read` if the reader failed before the request was whole: the desk wasn't asked, and nothing was
-/// written. `Write(n)` if the writer failed or took nothing: it took the first n bytes of the
-/// reply's text, and the desk's decision is not undone.
+/// Fails with `Read` if the reader failed before the request was complete. Then the desk wasn't
+/// asked, and nothing was written. Fails with `Write(n)` if the writer failed or took nothing after
+/// the first n bytes of the reply's text. The desk's decision isn't undone.
 pub fn answer<D: Responder, R: Inlet, W: Outlet>(
     face: &mut Face,
     desk: &mut D,

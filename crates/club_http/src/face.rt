@@ -18,8 +18,8 @@ use http_request::{HeadScan, MAX_REQUEST_LEN, Routes, words_by_scan};
 use std::alloc::{AllocError, Global};
 use std::marker::Model;
 
-/// The routes of the desk, and a buffer that holds any request. Make one, and use it for all
-/// exchanges. It keeps what was read of the last request; contracts see a face as these bytes.
+/// The routes of the desk, and a buffer that holds any request. One face serves all exchanges of a
+/// server. It keeps the bytes read for the last request; contracts see a face as these bytes.
 #[derive(Drop)]
 pub struct Face {
     routes: Routes,
@@ -39,7 +39,7 @@ impl Model for Face {
         × (face.len ≤ max_request_len) };
 }
 
-/// The reply to the bytes of a request. The scan covers them.
+/// Returns the reply to the bytes of a request, which the scan covers.
 fn reply_to<D: Responder>(
     routes: &Routes,
     bytes: &[u8],
@@ -61,7 +61,7 @@ impl Face {
     ///
     /// # Errors
     ///
-    /// There is no memory for the routes or the buffer.
+    /// Fails if there is no memory for the routes or the buffer.
     pub fn new(alloc: Global) -> Result<Face, AllocError>
         ensures { IfOk result (λ face. face ≡ []) }
     {
@@ -74,20 +74,21 @@ impl Face {
         })
     }
 
-    /// The bytes of the last request, with those that the reader gave after it in the same call. If
-    /// the reader failed, the bytes that arrived before.
+    /// Returns the bytes of the last request, and any bytes after it that the reader returned in
+    /// the same call. If the reader failed, these are the bytes that arrived before.
     pub fn request(&self) -> &[u8]
         ensures { result.now ≡ self.now }
     {
         &self.buffer[..self.len]
     }
 
-    /// Reads a request, and keeps what was read; `None` if the reader fails before it is whole.
+    /// Reads a request and keeps its bytes. Returns `None` if the reader fails before the request
+    /// is complete.
     ///
-    /// It reads until the request is whole, and then calls the reader no more. If the input ends
-    /// before, what arrived is the request. Each call may fill the rest of the buffer, so bytes
-    /// after the request may be read with it, no more than `MAX_REQUEST_LEN` in all. The returned
-    /// scan covers what was read.
+    /// It stops calling the reader once the request is complete. If the input ends before that, the
+    /// bytes that arrived are the request. Each call may fill the rest of the buffer, so bytes
+    /// after the request may be read with it, at most `MAX_REQUEST_LEN` bytes in all. The returned
+    /// scan covers the bytes that were read.
     pub fn receive<R: Inlet>(&mut self, reader: &mut R) -> Option<HeadScan>
         ensures covered { IfSome result (λ scan. Covers scan self.new) }
         ensures received { IfSome result
@@ -110,8 +111,8 @@ impl Face {
         }
     }
 
-    /// The reply to the request that the face holds, with the scan that covers it. Bytes after the
-    /// request change nothing.
+    /// Returns the reply to the request in the face, which the scan covers. Bytes after the request
+    /// change nothing.
     pub fn reply<D: Responder>(&self, scan: &HeadScan, desk: &mut D, moment: Moment) -> Reply
         requires { Covers scan.now self.now }
         ensures { IsReplied (D.answers moment) self.now desk.old result desk.new }
@@ -119,13 +120,13 @@ impl Face {
         reply_to(&self.routes, self.request(), scan, desk, moment)
     }
 
-    /// Asks the desk for the reply to the request that the face holds, with the scan that covers
-    /// it, and writes its text: the second step of an exchange, after `receive`.
+    /// Asks the desk for the reply to the request in the face, which the scan covers, and writes
+    /// its text. This is the second step of an exchange, after `receive`.
     ///
     /// # Errors
     ///
-    /// `Write(n)` if the writer failed or took nothing: it took the first n bytes of the reply's
-    /// text, and the desk's decision is not undone.
+    /// Fails with `Write(n)` if the writer failed or took nothing after the first n bytes of the
+    /// reply's text. The desk's decision isn't undone.
     pub fn respond<D: Responder, W: Outlet>(
         &self,
         scan: &HeadScan,
@@ -149,7 +150,7 @@ impl Face {
         }
     }
 
-    /// Whether what the face holds is one request, with nothing after it.
+    /// Returns whether the face has exactly one request, with nothing after it.
     pub fn is_over(&self, scan: &HeadScan) -> bool
         requires { Covers scan.now self.now }
         ensures { IsTrue result ↔ IsOneRequest self.now }

@@ -6,7 +6,8 @@ use std::fmt;
 /// Why an exchange failed.
 #[derive(Clone, Copy, Debug, PartialEq, Eq)]
 pub enum AnswerFault {
-    /// The reader failed before the request was whole. Nothing was asked or written.
+    /// The reader failed before the request was complete. The desk wasn't asked, and nothing was
+    /// written.
     Read,
     /// The writer failed or took nothing, after this many bytes of the reply. The desk's decision
     /// isn't undone.

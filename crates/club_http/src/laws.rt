@@ -5,8 +5,8 @@ ghost use Rattle.club_http.specs.Laws.{RepliesToAll};
 use crate::responder::Responder;
 use http_request::laws::{body_stays, whole_keeps_its_reading};
 
-/// The reply to what was received of a request is also the reply to all that its reader would give
-/// until its end.
+/// The reply to the received bytes of a request is also the reply to everything that its reader
+/// would return up to its end.
 pub fn replies_to_all<D: Responder>()
     ensures { RepliesToAll D.answers }
 {

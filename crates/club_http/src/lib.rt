@@ -1,7 +1,7 @@
 //! One HTTP/1.1 exchange with the desk: it reads a request, asks the desk, and writes the reply.
 //!
-//! It names again what a program over it uses of the crates below: the desk and its commands, the
-//! values and rows that they are made of, and the lines of a reply's status.
+//! It re-exports what a program uses of the crates below: the desk and its commands, the values and
+//! rows in them, and the status lines of replies.
 #![tactic(auto)]
 
 mod desk;

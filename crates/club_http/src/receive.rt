@@ -8,13 +8,13 @@ ghost use Rattle.club_http.specs.Received.{Receives, IsCutOff};
 use crate::ends::Inlet;
 use http_request::HeadScan;
 
-/// Reads a request into the buffer `room` until it is whole or the input ends, and returns how many
-/// bytes arrived. Each call may fill the rest of the buffer, so bytes after the request may be
-/// among them. Afterwards the scan covers them.
+/// Reads a request into the buffer `room` until it is complete or the input ends, and returns how
+/// many bytes arrived. Each call may fill the rest of the buffer, so bytes after the request may be
+/// among them. Afterwards the scan covers all these bytes.
 ///
 /// # Errors
 ///
-/// How many bytes arrived, if the reader failed before the request was whole.
+/// Returns how many bytes arrived, if the reader failed before the request was complete.
 pub(crate) fn receive<R: Inlet>(
     reader: &mut R,
     room: &mut [u8],

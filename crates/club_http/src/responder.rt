@@ -1,15 +1,15 @@
-//! The trait of whatever answers requests.
+//! The trait of anything that answers requests.
 
 use club_core::{Reply, Request};
 use club_values::Moment;
 use http_request::Words;
 
-/// Answers requests: a desk, or a wrapper of one.
+/// Answers requests, as a desk or a wrapper of one does.
 pub trait Responder {
     ghost use Rattle.std.specs.Prelude.{ℕ};
     ghost use Rattle.club_http.specs.Replied.{AnswerRelation};
 
-    // what it may reply at a moment, with its state before and after
+    // the replies that it may give at a moment, with its state before and after
     ghost answers: { ℕ → AnswerRelation Self };
 
     /// Answers a request at a moment.

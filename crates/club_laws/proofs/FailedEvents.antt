@@ -1,4 +1,4 @@
--- Runs in which events failed: these are left out, one by one, so the laws hold of them too. The machine itself never fails.
+-- Runs in which events failed. Leaving these events out one by one shows that the laws hold for such runs, too. The machine itself never fails.
 use Rattle.club_laws.proofs.{AnswerCases.answer_cases, Common.{Cancelled, ◌≡◌, ◌≢◌, ℕ, false, arith, inl, [], ◌∷◌, refl, List, ◌++◌, length, append_assoc}}
 use Rattle.club_laws.proofs.Common.{Refused, Verdict, verdict_in, Club, empty_club, Words, Event, Asked, Commanded, step, ToMember, Response, All-nil, All-cons}
 use Rattle.club_laws.proofs.{Common.{All-head, All-tail, IsEvent, TestsTheSet, Reply, TestsTheSignature}, KeptByRuns.club_after-append}
@@ -18,7 +18,7 @@ never_unavailable club (Commanded command) e = grind arith
 
 -- ---- failed events are left out of a run, one by one; runs are cut and joined
 
--- a run has the responses and the end of the run of the answered events alone
+-- a run has the same responses and the same last club as the run of only the answered events
 pub run_of_answered : {O : Type 0} → LeavesOutFailed O
 run_of_answered presentation club last [] [] h = record { responses = refl; left = h }
 run_of_answered presentation club last (event ∷ events) (returned ∷ replies) h =
@@ -33,7 +33,7 @@ events_left presentation (event ∷ events) (returned ∷ replies) h =
     grind (arith, All-cons IsEvent event (answered_events presentation events replies) (All-head IsEvent event events h) rest)
 events_left presentation events replies h = All-nil IsEvent
 
--- a run is cut at a place, and joined again
+-- a run is split at a place, and joined again
 pub cut : {O : Type 0} → CutsRuns O
 cut presentation club last [] rest [] since e h = record { now = club; first = refl; second = h }
 cut presentation club last (event ∷ front) rest (returned ∷ before) since e h =
@@ -94,7 +94,7 @@ module _ {O : Type 0} (presentation : Presentation O) where
       → (is_unavailable reply ≡ false) × ((step club (Asked words moment)).reply ≡ ToMember reply)
   served_by_machine club next words moment reply h step = grind arith
 
-  -- a request with a serving reply was served in the machine's run of the answered events
+  -- a request whose reply served it was served in the machine's run of the answered events
   served_in_machine_run : (club now : Club) (history : List Event) (before : List (Response O)) (words : Words) (reply : Reply)
       → IsRun presentation club history before now
       → WasReturned history before words reply → WasServed club (answered_events presentation history before) words reply
@@ -139,7 +139,7 @@ cancelled_with_failures set signature presentation club last history rest before
     let one = repeat_of_step presentation parts.now parts.second.0 words moment returned reply (rw (← left) at again) parts.second.1 in
     (one.0, join presentation club last history rest before since (record { now = parts.now; first = parts.first; second = rw one.1 at parts.second.2 }))
 
--- what was served is on record after one event more
+-- a request that was served is still on record after one more event
 served_and_more : (club : Club) (history : List Event) (event : Event) (words : Words) (reply : Reply) → WasServed club history words reply
     → WasServed club (history ++ event ∷ []) words reply
 served_and_more club history event words reply w = record {

@@ -1,4 +1,4 @@
--- What every change keeps, every run keeps; and runs over two lists, one after the other.
+-- A property that every change preserves is preserved by every run; and runs over two consecutive lists.
 use Rattle.club_laws.proofs.Common.{List, [], ◌∷◌, ◌++◌, Option, Some, None, Ok, Err, refl, ap, ◌≡◌, Result, Change, OfficeFault, Club, verdict_in, after}
 use Rattle.club_laws.proofs.Common.{office_verdict, Event, Asked, Commanded, step, after_change, command_outcome, replies_of, club_after, EventReply}
 

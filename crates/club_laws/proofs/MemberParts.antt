@@ -1,4 +1,4 @@
--- Whose keys are, and a member's part: what each kind of change makes of them.
+-- The owners of keys, a member's part, and the effect of each kind of change on them.
 use Rattle.club_laws.proofs.{AnswerCases.{answer_cases, written, CommandRestsOn, change_of, command_cases}, Common.{CancelBooking, ReplaceNumbers}}
 use Rattle.club_laws.proofs.Common.{debited_member, TakeCredit, ◌≡◌, ◌≢◌, ℕ, Bool, true, List, [], ◌∷◌, ◌++◌, get_or, map, Option, Some, sym, ◌∙◌, arith, false}
 use Rattle.club_laws.proofs.Common.{cond, filter, None, All, Contains, append-nil, refl, find, AllPairs, Result, bytes_eq-Decides, ◌&&◌, ◌||◌, bytes_eq}
@@ -60,7 +60,7 @@ bookings_of-edited root older is_revoked member club =
     (λ (booking : Booking). is_key_of member club booking.key) club.bookings
     (λ k d short. is_key_of-edited root older is_revoked member club (get_or club.bookings k d).key)
 
--- if names are unique, whoever's key it is, is the member that its row names
+-- if names are unique, the owner of a key is the member that its row names
 pub owner : (club : Club) → AllPairs (λ (a : Key) (b : Key). a.name ≢ b.name) club.keys → (key : Key) → key_named key.name club ≡ Some key → (name : List ℕ)
     → is_key_of name club key.name ≡ true → name ≡ key.member
 owner club unique key known name e =
@@ -87,7 +87,7 @@ is_under_one keys booking = list_any (has_name booking.key) keys
 abbrev pub HasKnownKeys : Club → Type 0
 HasKnownKeys club = All (λ (booking : Booking). Contains (map (λ (key : Key). key.name) club.keys) booking.key) club.bookings
 
--- an edit of the rows of one name
+-- an edit of the keys' rows of one name
 key_edited : (root : Key → List ℕ) (older : Key → Option OlderRoot) (is_revoked : Key → Bool) (name : List ℕ) (club : Club) (other : List ℕ)
     → ((key : Key) → bytes_eq key.name other ≡ false → edited root older is_revoked key ≡ key)
     → part_of name (record club { keys = map (edited root older is_revoked) club.keys })
@@ -102,7 +102,7 @@ key_edited root older is_revoked name club other same =
 abbrev pub edited_member : (Member → ℕ) → (Member → ℕ) → Member → Member
 edited_member credited quota member = record member { credited = credited member; quota = quota member }
 
--- an edit of the rows of one name
+-- an edit of the members' rows of one name
 member_edited : (credited quota : Member → ℕ) (name : List ℕ) (club : Club) (other : List ℕ)
     → ((member : Member) → bytes_eq member.name other ≡ false → edited_member credited quota member ≡ member)
     → part_of name (record club { members = map (edited_member credited quota) club.members })
@@ -116,12 +116,12 @@ member_edited credited quota name club other same =
     same member (grind (arith, bytes_eq-Decides member.name name, bytes_eq-Decides member.name other))) club.members in
     grind (arith, filter-map edit (is_named name) club.members)
 
--- a key that is new has a new name
+-- a new key has a new name
 abbrev pub IsFresh : Club → Change → Type 0
 IsFresh club (InsertKey key) = key_named key.name club ≡ None
 IsFresh club change = Unit {0}
 
--- what each kind of change does to a member's part
+-- the effect of each kind of change on a member's part
 pub part_changed : (name : List ℕ) (club : Club) (change : Change) → HasKnownKeys club → IsFresh club change
     → part_of name (after change club) ≡ part_after name club change
 part_changed name club (InsertMember member) known fresh =
@@ -155,7 +155,7 @@ part_changed name club (MarkCancelled booking member refund) known fresh =
 
 -- ---- key names are unique and bookings are under known keys, before and after each change
 
--- what the laws of a member's part need of a club
+-- the properties of a club that the laws of a member's part need
 pub record IsKeyed (club : Club) : Type 0 where
   pub unique : AllPairs (λ (a : Key) (b : Key). a.name ≢ b.name) club.keys
   pub known : HasKnownKeys club

@@ -1,4 +1,4 @@
--- A total over bookings moves with the entries in each reply: charges with replies to bookings, refunds with replies to cancellations.
+-- A total over bookings grows with the entries in each reply: charges with replies to bookings, refunds with replies to cancellations.
 use Rattle.club_laws.proofs.{AnswerCases.{written, answer_cases}, Common.{true, get_or, ◌≡◌, ℕ, ◌+◌, Bool, false, cond, List, [], ◌∷◌, ◌++◌, ap, ◌∙◌, arith}}
 use Rattle.club_laws.proofs.Common.{map, Some, None, refl, not, ◌&&◌, ◌||◌, ◌==◌, filter, sum_by, find, AllPairs, bytes_eq, filter_agree, false_from_ne_true}
 use Rattle.club_laws.proofs.Common.{list_any, list_any-append, list_any_none, Booking, Verdict, Booked, Cancelled, Words, refund_at, Club, IsSound, verdict_in}
@@ -10,7 +10,7 @@ use Rattle.club_laws.specs.Points.{Entry, is_entry_of, firsts, charge_of_reply, 
 use Rattle.std.proofs.lemmas.List.Sums.{sum_by-cons}
 use Rattle.club_rows.specs.Rows.{IsBooking}
 
--- which keys and numbers are on record
+-- the keys and numbers that are on record
 abbrev pub Seen : Type 0
 Seen = List ℕ → ℕ → Bool
 
@@ -45,7 +45,7 @@ same_unseen : (p : List ℕ → Bool) (seen new_seen : Seen) (entries : List Ent
 same_unseen p seen new_seen entries h =
     ap (sum_by points_of) (filter_agree (counts p new_seen) (counts p seen) (λ entry. rw (h entry.key entry.number)) (firsts entries))
 
--- a total and the record move with the entries of a reply: whatever comes after them, the total of all is the same
+-- a total and the record grow with the entries of a reply: for any later entries, the final total is the same
 abbrev pub Moves : (List ℕ → Bool) → ℕ → ℕ → Seen → Seen → List Entry → Type 0
 Moves p total new_total seen new_seen entries =
     (rest : List Entry) → new_total + unseen_total p new_seen rest ≡ total + unseen_total p seen (entries ++ rest)
@@ -59,7 +59,7 @@ adds : (p : List ℕ → Bool) (total new_total : ℕ) (seen new_seen : Seen) (e
 adds p total new_total seen new_seen entry more kept rest =
     let later = same_unseen p (with_entry entry seen) new_seen rest kept in omega (arith, next_entry p seen entry rest)
 
--- what the bookings under these keys were charged
+-- the charges of the bookings under these keys
 abbrev pub charged : (List ℕ → Bool) → List Booking → ℕ
 charged p bookings = sum_by (λ (b : Booking). b.charge) (filter (λ (b : Booking). p b.key) bookings)
 
@@ -109,7 +109,7 @@ charge_moves p club words moment =
       cancels = λ key member slot number booking k e c. charge_cancelled p club.bookings booking.key booking.number (refund_at booking moment);
     })
 
--- what came back of the bookings under these keys
+-- the refunds of the bookings under these keys
 abbrev pub refunded : (List ℕ → Bool) → List Booking → ℕ
 refunded p bookings = sum_by (λ (b : Booking). b.refund) (filter (λ (b : Booking). p b.key) bookings)
 

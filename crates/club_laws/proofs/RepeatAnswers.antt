@@ -1,4 +1,4 @@
--- What was served is on record, stays there, and answers each repeat.
+-- A served request is on record, stays there, and answers each repeat.
 use Rattle.club_laws.proofs.{AnswerCases.{command_cases, written, answer_cases, Knows, own_booking, known_rows, whole_basis}, Common.{Option, Commanded}}
 use Rattle.club_laws.proofs.Common.{CancelBooking, ToOffice, Result, OfficeFault, command_outcome, map, true, ◌≡◌, ℕ, List, [], ◌∷◌, Some, refl, arith, find}
 use Rattle.club_laws.proofs.Common.{ap, option_map, ◌∙◌, ◌++◌, sym, Member, ◌&&◌, ◌==◌, Key, Booking, Verdict, Change, InsertBooking, MarkCancelled, Reply}
@@ -12,7 +12,7 @@ use Rattle.club_laws.specs.Repeats.{CancellationsReturnTheRecord, refund_by_offi
 use Rattle.club_core.specs.declared.request.Request.TheVariants as asked
 use Rattle.club_core.specs.Verdict as verdicts
 
--- the booking is what the request asked for, and the reply that it got
+-- the booking matches the request and the reply that the request got
 abbrev pub IsAgain : Booking → Request → Reply → Type 0
 IsAgain booking (asked.Book slot number guests) reply =
     ((same_slot booking.slot slot && booking.guests == guests) ≡ true) × (reply ≡ Booked booking.key booking.number booking.charge booking.left)
@@ -20,7 +20,7 @@ IsAgain booking (asked.Cancel slot number) reply =
     (same_slot booking.slot slot ≡ true) × (booking.cancelled ≡ true) × (reply ≡ Cancelled booking.key booking.number booking.refund)
 IsAgain booking request reply = ⊥
 
--- what was served is on record, under the key that the words name
+-- the served request is on record, under the key that the words name
 pub record IsRecorded (bookings : List Booking) (words : Words) (reply : Reply) : Type 0 where
   pub key : List ℕ
   pub key_name : key_of words.pass ≡ Some key
@@ -30,14 +30,14 @@ pub record IsRecorded (bookings : List Booking) (words : Words) (reply : Reply) 
   pub found : booking_under key number bookings ≡ Some booking
   pub again : IsAgain booking words.request reply
 
--- a cancellation doesn't change what was cancelled before
+-- a cancellation doesn't change a booking that was cancelled before
 still_again : (booking : Booking) (name : List ℕ) (n refund : ℕ) (request : Request) (reply : Reply) → IsAgain booking request reply
     → IsAgain (cancelled_booking name n refund booking) request reply
 still_again booking name n refund (asked.Book slot number guests) reply h = h
 still_again booking name n refund (asked.Cancel slot number) reply h = grind arith
 still_again booking name n refund request reply h = absurd h
 
--- a new booking loses nothing, nor does a cancellation
+-- neither a new booking nor a cancellation removes anything from the record
 stays_after : (club : Club) (change : Change) (words : Words) (reply : Reply) → IsRecorded club.bookings words reply
     → IsRecorded (after change club).bookings words reply
 stays_after club (InsertBooking booking member) words reply h = record {
@@ -98,7 +98,7 @@ recorded_when_served club words moment =
 
 -- ---- what is on record is answered by the record
 
--- the view of an accepted request holds the booking that is on record
+-- the view of an accepted request has the booking that is on record
 seen_on_record : (club : Club) (words : Words) (moment : ℕ) (basis : Basis) (reply : Reply) (r : IsRecorded club.bookings words reply)
     → basis_of club words ≡ Some basis → (view_of basis words.request moment).booking ≡ Some r.booking
 seen_on_record club words moment basis reply r is =
@@ -123,7 +123,7 @@ step_by_record set signature club words moment reply r a =
     let decided = decides_by_record r.booking words.request reply (view_of a.basis words.request moment) moment seen r.again in
     rw (a.known, a.read) (ap (verdict_outcome club) (accepted ∙ decided))
 
--- what was served within a history is on record after it
+-- a request that was served within a history is on record after it
 pub recorded_since : (club : Club) (history : List Event) (words : Words) (reply : Reply) → WasServed club history words reply
     → IsRecorded (club_after club history).bookings words reply
 recorded_since club history words reply w =

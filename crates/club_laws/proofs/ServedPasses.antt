@@ -1,4 +1,4 @@
--- What a served request shows of its pass; and that a revoked key stays revoked.
+-- The properties of a served request's pass; and a revoked key stays revoked.
 use Rattle.club_laws.proofs.{AnswerCases.{known_rows, command_cases}, Common.{◌≡◌, ℕ, ◌+◌, true, false, List, [], ◌∷◌, ◌++◌, Option, Some, None, Result, Ok}}
 use Rattle.club_laws.proofs.Common.{Err, arith, All, refl, sym, ap, ◌∙◌, subst, option_map, false_from_ne_true, All-nil, All-cons, All-head, All-tail}
 use Rattle.club_laws.proofs.Common.{TestsTheSet, TestsTheSignature, Key, Request, Pass, Words, is_signed_under, Club, key_named, Basis, basis_of, key_of}
@@ -18,7 +18,7 @@ pub record PassesTests (pass : Pass) (request : Request) (moment : ℕ) (basis :
   pub not_revoked : basis.key.revoked ≡ false
   pub faultless : first_fault_of pass.caveats (ask_of (view_of basis request moment) request moment) ≡ None
 
--- what is served passes the tests
+-- the pass of a served request passes the tests
 served_under : (pass : Pass) (request : Request) (moment : ℕ) (basis : Basis) → IsServed (answer_to (Ok pass) request moment (Some basis)).reply
     → PassesTests pass request moment basis
 served_under pass request moment basis h =
@@ -34,7 +34,7 @@ all_allowed tests n (None ∷ caveats) ask e = absurd (cc)
 all_allowed tests n (Some caveat ∷ caveats) ask e =
     All-cons (IsAllowedBy ask) (Some caveat) caveats ((tests caveat ask).1 (grind arith)) (all_allowed tests (n + 1) caveats ask (grind arith))
 
--- and a list whose caveats all allow the request has no fault
+-- a list whose caveats all allow the request has no fault
 none_at_fault : TestsTheSet → (n : ℕ) (caveats : List (Option Caveat)) (ask : Ask) → All (IsAllowedBy ask) caveats → first_fault_from n caveats ask ≡ None
 none_at_fault tests n [] ask h = refl
 none_at_fault tests n (None ∷ caveats) ask h = absurd (All-head (IsAllowedBy ask) None caveats h)
@@ -42,7 +42,7 @@ none_at_fault tests n (Some caveat ∷ caveats) ask h =
     let permitted = (tests caveat ask).0 (All-head (IsAllowedBy ask) (Some caveat) caveats h) in
     rw permitted (none_at_fault tests (n + 1) caveats ask (All-tail (IsAllowedBy ask) (Some caveat) caveats h))
 
--- what is accepted, the decision answers
+-- an accepted request is answered by the decision
 pub accepted_under : TestsTheSet → TestsTheSignature → (pass : Pass) (request : Request) (moment : ℕ) (basis : Basis)
     → IsAcceptedPass pass request moment basis → answer_to (Ok pass) request moment (Some basis) ≡ verdict_of (view_of basis request moment) request moment
 accepted_under set signature pass request moment basis h =
@@ -51,14 +51,14 @@ accepted_under set signature pass request moment basis h =
     let faultless = none_at_fault set 1 pass.caveats (ask_of (view_of basis request moment) request moment) h.permission in
     grind arith
 
--- a list without a fault has none with its end cut off
+-- a prefix of a list without a fault has no fault
 pub faultless_front : (n : ℕ) (caveats more : List (Option Caveat)) (ask : Ask) → first_fault_from n (caveats ++ more) ask ≡ None
     → first_fault_from n caveats ask ≡ None
 faultless_front n [] more ask e = refl
 faultless_front n (None ∷ caveats) more ask e = absurd (cc)
 faultless_front n (Some caveat ∷ caveats) more ask e = grind (arith, faultless_front (n + 1) caveats more ask)
 
--- so what is served is entitled
+-- the pass of a served request entitles its holder to it
 pub served_entitled : TestsTheSet → TestsTheSignature → (words : Words) (moment : ℕ) (club : Club) (pass : Result Pass PassFault) (basis : Option Basis)
     → words.pass ≡ pass → basis_of club words ≡ basis → IsServed (answer_to pass words.request moment basis).reply → IsEntitled club words moment
 served_entitled set signature words moment club (Err fault) basis e f h = absurd (h (form_refusal fault) refl)
@@ -78,7 +78,7 @@ served_entitled set signature words moment club (Ok pass) (Some basis) e f h =
       permission = all_allowed set 1 pass.caveats (ask_of (view_of basis words.request moment) words.request moment) accepted.faultless;
     }
 
--- without a basis
+-- the refusal without a basis
 pub refused_blind : (pass : Result Pass PassFault) (request : Request) (moment : ℕ) → answer_to pass request moment None ≡ refusal_verdict (blind_refusal pass)
 refused_blind pass request moment = grind arith
 
@@ -109,7 +109,7 @@ wide_under wide narrow more request moment (Some basis) e signed h =
     let is_signed = signed basis refl in
     grind arith
 
--- the same in a club: both passes have one basis, which rests on the row of their key
+-- the same in a club: both passes have the same basis, which depends on the row of their key
 pub wide_in : TestsTheSignature → MoreCaveatsNeverOpenMore
 wide_in signature wide narrow more key request moment club w n e row signed h =
     let words = words_with narrow request in
@@ -141,7 +141,7 @@ now_revoked club name =
     (λ r returned.
     let known = r.1 in grind (arith, find-map (has_name name) (revoked_key name) (λ k. refl) club.keys, found_passes (has_name name) club.keys r.0))
 
--- so it is revoked ever after
+-- a revoked key stays revoked
 revoked_since : (club : Club) (history : List Event) (name : List ℕ) → WasRevoked club history name → IsRevoked name (club_after club history)
 revoked_since club history name was =
     let start = club_after club was.front in

@@ -24,12 +24,12 @@ with_outside others state = state_with state.facility (state.held.taken + others
 own_bookings : (name : List ℕ) (club : Club) → bookings_of name (part_of name club) ≡ bookings_of name club
 own_bookings name club = rw (filter_twice (is_owned name) club.keys) (filter_twice (is_under_one (keys_of name club)) club.bookings)
 
--- the state of a slot is that in the part, with what others hold
+-- the state of a slot is the state in the part plus what others take
 own_state : (name : List ℕ) (club : Club) (slot : Option Slot) → with_outside (outside name club slot) (state_of (part_of name club) slot) ≡ state_of club slot
 own_state name club None = refl
 own_state name club (Some slot) = rw (sum_in_parts persons_of (is_in slot) (λ (booking : Booking). is_key_of name club booking.key) club.bookings)
 
--- the rows of a member's key are in the member's part: so with what others hold, it gives the basis of a request of the member's
+-- the rows of a member's key are in the member's part, so the part and what others take give the basis of the member's request
 pub own_basis : (name : List ℕ) (club : Club) (words : Words) (basis : Basis) → basis_of club words ≡ Some basis → basis.member.name ≡ name
     → option_map (with_others (outside name club (request_slot words.request))) (basis_of (part_of name club) words) ≡ Some basis
 own_basis name club words basis e same =
@@ -47,7 +47,7 @@ own_basis name club words basis e same =
 
 -- ---- the member's part follows each event of the club by the member's own entry for it
 
--- what the member's own entry for an event makes of the part, and what it replies
+-- the effect of the member's own entry for an event on the part, and its reply
 abbrev pub Follows : Club → List OwnEvent → EventReply → Club → Type 0
 Follows part [] reply next = next ≡ part
 Follows part (OwnChange change ∷ []) reply next = next ≡ after change part
@@ -57,7 +57,7 @@ Follows part (OwnAsk words moment others ∷ []) reply next =
 Follows part own reply next = ⊥
 
 module _ (name : List ℕ) (club : Club) (keyed : IsKeyed club) where
-  -- a request under a key of the member makes the same change in the part, and one under another's key none
+  -- a request under a key of the member makes the same change in the part, and a request under another member's key makes none
   asked_in_part : (words : Words) (moment : ℕ) (key : List ℕ) → key_of words.pass ≡ Some key
       → part_of name (after_change (verdict_in club words moment).change club)
       ≡ cond (is_key_of name club key) (after_change (verdict_in club words moment).change (part_of name club)) (part_of name club)
@@ -84,7 +84,7 @@ module _ (name : List ℕ) (club : Club) (keyed : IsKeyed club) where
       let theirs = owner club keyed.unique basis.key k.known name in
       grind (arith, bytes_eq-Decides basis.member.name name, bytes_eq-Decides basis.member.name basis.key.member)
 
-  -- what an answer makes of the part
+  -- the effect of an answer on the part
   abbrev FollowsAnswer : Verdict → List OwnEvent → Type 0
   FollowsAnswer verdict own = Follows (part_of name club) own (ToMember verdict.reply) (part_of name (after_change verdict.change club))
 
@@ -153,7 +153,7 @@ solo_law name club events sound = (solo name club events (keyed_from_sound club 
 pub ends_with_the_part : EndsWithThePart
 ends_with_the_part name club events sound = (solo name club events (keyed_from_sound club sound)).1
 
--- however the replies are presented, those to the member's requests are the same ones
+-- the replies to the member's requests are the same in any presentation of replies
 replies_mapped : {A B : Type 0} (f : A → B) (name : List ℕ) (club : Club) (events : List Event) (replies : List A)
     → replies_to name club events (map f replies) ≡ map f (replies_to name club events replies)
 replies_mapped f name club [] replies = refl

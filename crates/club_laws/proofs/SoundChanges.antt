@@ -1,4 +1,4 @@
--- A change whose values are within their limits, and which leaves what the club's rows allow, keeps the club sound.
+-- A change whose values are within their limits and which the club's rows allow keeps the club sound.
 use Rattle.club_laws.proofs.Common.{ReplaceNumbers, TakeCredit, ◌≡◌, ◌≢◌, ℕ, ◌≤◌, false, true, List, [], ◌∷◌, ◌++◌, get_or, map, arith, All, Contains, sum_by}
 use Rattle.club_laws.proofs.Common.{All-push, All-map, both_ways, Slot, Member, Facility, Key, Booking, persons_of, same_slot, cost_of, is_in, taken_in}
 use Rattle.club_laws.proofs.Common.{revoked_key, rotated_key, after, Club, is_key_of, bookings_of, IsSound, bytes_eq-Decides, InsertMember, AddCredit}

@@ -19,7 +19,7 @@ use Rattle.club_core.specs.Store.{IsTrueOf}
 use Rattle.club_laws.specs.SoundRuns.{ChangesFit, RunsKeepSound, StepsKeepSound}
 use Rattle.club_core.specs.declared.request.Request.TheVariants as asked
 
--- nobody has booked for a member who isn't there
+-- a member who isn't in the club has no bookings
 pub nothing_booked : (club : Club) (member : Member) → HasReferences club → All (λ (other : Member). other.name ≢ member.name) club.members
     → sum_by cost_of (bookings_of member.name club) ≤ member.credited
 nothing_booked club member refs fresh =
@@ -30,7 +30,7 @@ nothing_booked club member refs fresh =
     filter_none (λ (booking : Booking). is_key_of member.name club booking.key) club.bookings (λ k d short. rw no_keys) in
     rw none (omega arith)
 
--- nobody is in a slot of a facility that isn't there
+-- nobody booked a slot of a facility that isn't in the club
 pub nobody_in : (club : Club) (slot : Slot) → HasReferences club → All (λ (other : Facility). other.name ≢ slot.facility) club.facilities
     → taken_in slot club.bookings ≡ 0
 nobody_in club slot refs fresh =
@@ -73,7 +73,7 @@ sound_members credited quota club s limits enough =
     let balances = All-map (λ (m : Member). sum_by cost_of (bookings_of m.name club) ≤ m.credited) edit club.members enough in
     assumption
 
--- points for a member, up to the most
+-- a credit for a member, up to the maximum
 pub sound_credit : (club : Club) (name : List ℕ) (points : ℕ) (member : Member) → member_named name club ≡ Some member
     → member.credited + points ≤ 999_999_999 → IsSound club → IsSound (after (AddCredit name points) club)
 sound_credit club name points member found few s =
@@ -86,7 +86,7 @@ sound_credit club name points member found few s =
     record { name = row.name; credited = grind arith; quota = row.quota }))
     (λ k d short. let before = s.balances k d short in grind arith)
 
--- points taken of a member, of those that its bookings leave
+-- a debit of a member, of points that its bookings leave
 pub sound_debit : (club : Club) (name : List ℕ) (points : ℕ) (member : Member) → member_named name club ≡ Some member
     → sum_by cost_of (bookings_of member.name club) + points ≤ member.credited → IsSound club → IsSound (after (TakeCredit name points) club)
 sound_debit club name points member found enough s =
@@ -101,7 +101,7 @@ sound_debit club name points member found enough s =
     let is = only_named (λ (m : Member). m.name) name club.members member s.unique.members found k d short in
     grind arith)
 
--- another quota of a member
+-- a new quota of a member
 pub sound_quota : (club : Club) (name : List ℕ) (quota : ℕ) → quota ≤ 99 → IsSound club → IsSound (after (ReplaceQuota name quota) club)
 sound_quota club name quota few s =
     let edit = member_with_quota name quota in
@@ -112,7 +112,7 @@ sound_quota club name quota few s =
     record { name = row.name; credited = row.credited; quota = grind arith }))
     (λ k d short. s.balances k d short)
 
--- other numbers of a facility, which has a place for each person in each of its slots
+-- new numbers of a facility that leave a place for each person in each of its slots
 pub sound_numbers : (club : Club) (name : List ℕ) (places price opens shuts : ℕ) → are_limits places price opens shuts ≡ true
     → ((slot : Slot) → slot.facility ≡ name → taken_in slot club.bookings ≤ places) → IsSound club
     → IsSound (after (ReplaceNumbers name places price opens shuts) club)
@@ -136,7 +136,7 @@ sound_numbers club name places price opens shuts fit room s =
     grind (arith, bytes_eq-Decides (get_or club.facilities k d).name name)) in
     assumption
 
--- a slot that is open again
+-- a slot that is opened again
 pub sound_opened : (club : Club) (slot : Slot) → IsSound club → IsSound (after (MarkOpen slot) club)
 sound_opened club slot s =
     let stays : Slot → Bool = λ other. not (same_slot other slot) in
@@ -193,7 +193,7 @@ sound_marked club booking member refund found few s =
     in
     assumption
 
--- what a command makes of a sound club
+-- the effect of a command on a sound club
 pub sound_command : (club : Club) → IsSound club → (c : Command) → IsCommand c → (r : CommandRestsOn club c) → IsSound (after (change_of club c r) club)
 sound_command club s (AddMember name quota) c r =
     let member : Member = record { name = name; credited = 0; quota = quota } in

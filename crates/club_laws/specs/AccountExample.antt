@@ -1,4 +1,4 @@
--- An example of an account, which computes (ours): it counts the open bookings of all keys of the member; begun slots don't count.
+-- An example of an account, evaluated by computation (ours). It counts the open bookings of all keys of the member; slots that have begun don't count.
 use Rattle.std.specs.Prelude.{◌≡◌, true, List, [], ◌∷◌, Some, Ok, codes}
 use Rattle.club_core.specs.Examples.{opened_club, root, slot_at, noon, late, ask, served_booking, account}
 use Rattle.club_core.specs.{Run.{Event, Asked, Commanded, replies_of, ToMember, ToOffice}, declared.command.Command.TheVariants.AddKey}
@@ -10,7 +10,7 @@ abbrev pub ask_of_other_key : Request → Event
 ask_of_other_key request =
     Asked (record { pass = Ok (record { key = Some (codes "amy-2"); caveats = []; is_signed = λ _. true }); request = request }) noon
 
--- two bookings under each key, of which one has begun when the account is shown, and one was cancelled
+-- two bookings under each key: one has begun when the account is shown, and one was cancelled
 abbrev pub some_bookings : List Event
 some_bookings =
     Commanded (AddKey (codes "amy-2") (codes "amy") root)
@@ -22,7 +22,7 @@ some_bookings =
     ∷ ask asked.Account late
     ∷ []
 
--- two are open
+-- two bookings are open
 abbrev pub CountsOverAllKeys : Type 0
 CountsOverAllKeys =
     replies_of opened_club some_bookings

@@ -1,4 +1,4 @@
--- Points are neither made nor lost, and no slot is overbooked (ours).
+-- Points are neither created nor lost, and no slot is overbooked (ours).
 use Rattle.std.specs.Prelude.{◌≡◌, ℕ, ◌+◌, ◌≤◌, List, All, sum_by, Some, MatchOption}
 use Rattle.club_values.specs.declared.slot.Slot.{Slot}
 use Rattle.club_rows.specs.declared.{facility.Facility.Facility, member.Member.Member}
@@ -7,9 +7,9 @@ use Rattle.club_core.specs.{Run.{Event, Commanded, replies_of, club_after, Event
 use Rattle.club_core.specs.declared.command.Command.TheVariants.{Debit, CancelBooking}
 use Rattle.club_laws.specs.Points.{keys_given, credits_accepted, debits_accepted, charges_of_replies, refunds_given, refunds_of_replies, total_under}
 
--- The member's balance, its debits and the first charge of each booking add up to its credits and to what was first given back of each booking. That is
--- the refund of a served cancellation, or the whole charge if the office cancelled before. In a list without these two commands the debits are 0, and the
--- refunds in the replies are what was given back. Its bookings never cost more than its credit, so its balance is never below 0.
+-- The member's balance, its debits and the first charge of each booking add up to its credits and the first amount given back for each booking. That amount is
+-- the refund of a served cancellation, or the whole charge if the office cancelled before. In a list without debits and cancellations by the office, the debits
+-- are 0, and the amounts given back are the refunds in the replies. The member's bookings never cost more than its credit, so its balance is never below 0.
 pub record IsConserved (club : Club) (events : List Event) (replies : List EventReply) (member : Member) : Type 0 where
   pub balance_adds_up :
       balance_of member (bookings_of member.name club) + debits_accepted member.name events replies
@@ -29,7 +29,7 @@ IsNoCorrection (Commanded (Debit name points)) = ⊥
 IsNoCorrection (Commanded (CancelBooking key number)) = ⊥
 IsNoCorrection event = Unit {0}
 
--- so over a list without debits and cancellations by the office, balance and charges add up to credits and the first refund of each booking
+-- over a list without debits and cancellations by the office, the balance and the charges add up to the credits and the first refund of each booking
 abbrev pub ConservesWithoutCorrections : Type 0
 ConservesWithoutCorrections =
     (events : List Event) (name : List ℕ) (member : Member) → All IsEvent events → All IsNoCorrection events

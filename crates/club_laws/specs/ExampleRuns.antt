@@ -1,4 +1,4 @@
--- Example runs on which the definitions of points and repeats compute (ours).
+-- Example runs for the definitions of points and repeats, evaluated by computation (ours).
 use Rattle.club_core.specs.{Acceptance.IsAcceptedIn, Club.empty_club}
 use Rattle.club_core.specs.{Examples.{served_cancellation, served_booking, opening, opened_club, slot_at, noon, late, ask}, Pass.Words}
 use Rattle.club_core.specs.{Run.{ToOffice, Event, Commanded, replies_of, club_after, EventReply}, declared.command.Command.TheVariants.{Debit, CancelBooking}}
@@ -12,7 +12,7 @@ use Rattle.club_laws.specs.{Points.{keys_given, credits_accepted, debits_accepte
 abbrev pub at_six : ℕ
 at_six = 29_626_920
 
--- one member's list: two bookings, one of them again, its cancellation, and both of these again
+-- one member's requests: two bookings, a repeat of one of them, its cancellation, and both of these again
 abbrev pub some_events : List Event
 some_events =
     opening
@@ -24,7 +24,7 @@ some_events =
     ∷ ask (asked.Book (slot_at 18) 7 2) noon
     ∷ []
 
--- what the member was charged, credited and refunded, computed from these events and replies
+-- the member's charges, credits and refunds, computed from these events and replies
 pub record AreFigures (events : List Event) (replies : List EventReply) (charged credited refunded : ℕ) : Type 0 where
   pub charges : total_under (keys_given (codes "amy") events replies) (charges_of_replies replies) ≡ charged
   pub credits : credits_accepted (codes "amy") events replies ≡ credited
@@ -34,16 +34,16 @@ pub record AreFigures (events : List Event) (replies : List EventReply) (charged
 abbrev pub CountsEachOnce : Type 0
 CountsEachOnce = AreFigures some_events (replies_of empty_club some_events) 800 10_000 300
 
--- two debits after it, of 400 and of 9,101 points; the second is above the balance
+-- two more debits, of 400 and of 9,101 points; the second is above the balance
 abbrev pub debited_events : List Event
 debited_events = some_events ++ Commanded (Debit (codes "amy") 400) ∷ Commanded (Debit (codes "amy") 9_101) ∷ []
 
--- 400 points debited, and all else as before
+-- 400 points debited, and everything else as before
 pub record CountsADebit : Type 0 where
   pub figures : AreFigures debited_events (replies_of empty_club debited_events) 800 10_000 300
   pub debits : debits_accepted (codes "amy") debited_events (replies_of empty_club debited_events) ≡ 400
 
--- the office cancels the booking at 19, and that at 18 again, which gives nothing more back; the member cancels that at 19, too, and repeats it
+-- the office cancels the booking at 19, and again the one at 18, which refunds nothing more; the member cancels the one at 19, too, and repeats it
 abbrev pub cancelled_events : List Event
 cancelled_events =
     some_events
@@ -53,11 +53,11 @@ cancelled_events =
     ∷ ask (asked.Book (slot_at 19) 8 0) late
     ∷ []
 
--- the whole 200 points of it are given back, beside half of 600
+-- all of its 200 points are refunded, in addition to half of 600
 abbrev pub CountsACancellationOnce : Type 0
 CountsACancellationOnce = AreFigures cancelled_events (replies_of empty_club cancelled_events) 800 10_000 500
 
--- its repeats get the recorded refund and the first reply
+-- repeats of the cancellation and the booking get the recorded refund and the first reply
 abbrev pub RepeatsAfterTheOffice : Type 0
 RepeatsAfterTheOffice =
     replies_of (club_after empty_club some_events)
@@ -75,7 +75,7 @@ words_again = record {
   request = asked.Book (slot_at 18) 7 2;
 }
 
--- it is a repeat, which is accepted even when the slot has begun
+-- the words are a repeat, which is accepted even after the slot has begun
 pub record IsAcceptedRepeat (words : Words) (moment : ℕ) : Type 0 where
   pub was_served : WasServed opened_club booked_then_cancelled words (Booked (codes "amy-1") 7 600 1)
   pub acceptance : IsAcceptedIn (club_after opened_club booked_then_cancelled) words moment

@@ -17,13 +17,13 @@ abbrev pub is_unavailable : Reply → Bool
 is_unavailable (Refused Unavailable) = true
 is_unavailable reply = false
 
--- a request fails with that reply alone, and a command with such a fault alone
+-- a request has failed if this is its reply, and a command if its answer is such a fault
 abbrev pub has_failed : {O : Type 0} → Presentation O → Event → Response O → Bool
 has_failed presentation (Asked words moment) (ToMember reply) = is_unavailable reply
 has_failed presentation (Commanded command) (ToOffice answer) = presentation.is_fault answer
 has_failed presentation event returned = false
 
--- an event was answered: its response is the machine's reply, and the club made the machine's step
+-- an event was answered: its response is the machine's reply, and the club after it is the machine's next club
 pub record IsAnsweredStep {O : Type 0} (presentation : Presentation O) (club : Club) (event : Event) (returned : Response O) (next : Club) : Type 0 where
   pub success : IsFalse (has_failed presentation event returned)
   pub reply : returned ≡ present_reply presentation (step club event).reply
@@ -37,7 +37,7 @@ pub record IsWithoutEffect {O : Type 0} (presentation : Presentation O) (club : 
 abbrev pub IsStep : {O : Type 0} → Presentation O → Club → Event → Response O → Club → Type 0
 IsStep presentation club event returned next = IsAnsweredStep presentation club event returned next ⊎ IsWithoutEffect presentation club event returned next
 
--- the events were answered or failed, one after the other, with these responses, and this club is left
+-- the events were answered or failed in order, with these responses, and this is the last club
 abbrev pub IsRun : {O : Type 0} → Presentation O → Club → List Event → List (Response O) → Club → Type 0
 IsRun presentation club [] [] last = last ≡ club
 IsRun presentation club (event ∷ events) (returned ∷ replies) last =
@@ -57,7 +57,7 @@ answers presentation (event ∷ events) (returned ∷ replies) =
     if has_failed presentation event returned then answers presentation events replies else returned ∷ answers presentation events replies
 answers presentation events replies = []
 
--- the machine's run of the answered events alone gives these responses, and leaves this club
+-- the machine's run of only the answered events gives these responses and leaves this club
 pub record IsRunOfAnswered {O : Type 0} (presentation : Presentation O) (club : Club) (events : List Event) (replies : List (Response O))
     (last : Club) : Type 0 where
   pub responses : answers presentation events replies ≡ map (present_reply presentation) (replies_of club (answered_events presentation events replies))
@@ -70,20 +70,20 @@ LeavesOutFailed O =
     → IsRun presentation club events replies last
     → IsRunOfAnswered presentation club events replies last
 
--- the answered events are within their limits, if all events are
+-- if all events are within their limits, so are the answered ones
 abbrev pub LeavesEvents : Type 0 → Type 0
 LeavesEvents O =
     (presentation : Presentation O) (events : List Event) (replies : List (Response O))
     → All IsEvent events
     → All IsEvent (answered_events presentation events replies)
 
--- two runs, of which the second begins where the first ends
+-- two runs; the second begins with the club that the first leaves
 pub record AreRuns {O : Type 0} (presentation : Presentation O) (club last : Club) (front rest : List Event) (before since : List (Response O)) : Type 0 where
   pub now : Club
   pub first : IsRun presentation club front before now
   pub second : IsRun presentation now rest since last
 
--- a run can be cut in two
+-- a run can be split in two
 abbrev pub CutsRuns : Type 0 → Type 0
 CutsRuns O =
     (presentation : Presentation O) (club last : Club) (front rest : List Event) (before since : List (Response O))

@@ -1,4 +1,4 @@
--- A run with a failed credit and a failed booking, which computes (ours).
+-- An example run with a failed credit and a failed booking, evaluated by computation (ours).
 use Rattle.std.specs.Prelude.{◌≡◌, List, [], ◌∷◌, ◌++◌, Option, Some, None, is_none, map, codes}
 use Rattle.club_core.specs.{Club.empty_club, Examples.{opening, root, slot_at, noon, ask}, Run.{Event, Commanded, replies_of, Response, ToMember, ToOffice}}
 use Rattle.club_core.specs.declared.command.{Command.TheVariants.Credit, OfficeAnswer.{OfficeAnswer, TheVariants.{Done, NewKey}}}
@@ -10,7 +10,7 @@ use Rattle.club_laws.specs.Failed.{Presentation, present_reply, answered_events,
 abbrev pub presentation : Presentation (Option OfficeAnswer)
 presentation = record { shown = λ answer. Some answer; is_fault = λ returned. is_none returned }
 
--- amy joins; she is credited again, and books, which both fail; then she looks at her account
+-- amy joins; a second credit and a booking of hers fail; then she looks at her account
 abbrev pub events : List Event
 events = opening ++ Commanded (Credit (codes "amy") 5) ∷ ask (asked.Book (slot_at 18) 7 2) noon ∷ ask asked.Account noon ∷ []
 
@@ -25,7 +25,7 @@ replies =
     ∷ ToMember (AccountShown (codes "amy") 10_000 5 0 0)
     ∷ []
 
--- the other responses are those of the run without these two
+-- the other responses are those of the run without the two failed events
 abbrev pub LeavesOutFailedEvents : Type 0
 LeavesOutFailedEvents =
     answers presentation events replies

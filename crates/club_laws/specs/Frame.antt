@@ -1,4 +1,4 @@
--- Which changes and events leave a member's part unchanged (ours).
+-- The changes and events that leave a member's part unchanged (ours).
 use Rattle.std.specs.Prelude.{◌≡◌, ℕ, ◌+◌, Bool, List, [], if◌then◌else◌, Some}
 use Rattle.club_values.specs.declared.slot.Slot.{Slot}
 use Rattle.club_core.specs.{After.after, Club.{Club, IsSound, is_key_of}, Run.{Event, step}, Solo.{outside, is_own, own_part, part_of}, Sums.taken_in}
@@ -13,7 +13,7 @@ is_of_part name club change = is_own name club change
 abbrev pub part_after : List ℕ → Club → Change → Club
 part_after name club change = if is_of_part name club change then after change (part_of name club) else part_of name club
 
--- what each kind of change does to a member's part, if it leaves a sound club
+-- the effect of each kind of change on a member's part, if it leaves a sound club
 abbrev pub ChangesThePartAlike : Type 0
 ChangesThePartAlike =
     (name : List ℕ) (club : Club) (change : Change)
@@ -29,7 +29,7 @@ LeavesThePart =
     → own_part name club event ≡ []
     → part_of name (step club event).club ≡ part_of name club
 
--- in every club, so before and after each event, the persons in a slot are the member's own plus those of others
+-- in every club, and so before and after each event, the persons in a slot are the member's own plus those of others
 abbrev pub TakenIsOwnAndOthers : Type 0
 TakenIsOwnAndOthers =
     (name : List ℕ) (club : Club) (slot : Slot)

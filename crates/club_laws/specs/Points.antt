@@ -25,7 +25,7 @@ charge_of_reply reply = []
 abbrev pub charges_of_replies : List EventReply → List Entry
 charges_of_replies replies = flat_map charge_of_reply replies
 
--- the first charge told of a booking, and 0 if there is none
+-- the first charge that a reply states for a booking, or 0 if there is none
 abbrev pub charge_told : List ℕ → ℕ → List Entry → ℕ
 charge_told key number [] = 0
 charge_told key number (entry ∷ entries) = if is_entry_of key number entry then entry.points else charge_told key number entries
@@ -38,7 +38,8 @@ refund_of_reply reply = []
 abbrev pub refunds_of_replies : List EventReply → List Entry
 refunds_of_replies replies = flat_map refund_of_reply replies
 
--- what an event gave back of a booking: the refund in the reply to a served cancellation, or the first of these charges if the office cancelled it
+-- the amount that an event gave back for a booking: the refund in the reply to a served cancellation, or the first of these charges if the office cancelled the
+-- booking
 abbrev pub refund_given : List Entry → Event → EventReply → List Entry
 refund_given charges (Commanded (CancelBooking key number)) (ToOffice Done) =
     record { key = key; number = number; points = charge_told key number charges } ∷ []
@@ -48,11 +49,11 @@ abbrev pub refunds_by : List Entry → List Event → List EventReply → List E
 refunds_by charges (event ∷ events) (reply ∷ replies) = refund_given charges event reply ++ refunds_by charges events replies
 refunds_by charges events replies = []
 
--- what a run gave back of bookings, in order; without a cancellation by the office, the refunds in its replies
+-- the amounts that a run gave back for bookings, in order; without cancellations by the office, these are the refunds in its replies
 abbrev pub refunds_given : List Event → List EventReply → List Entry
 refunds_given events replies = refunds_by (charges_of_replies replies) events replies
 
--- the keys that a member was given
+-- the keys that were added for a member
 abbrev pub key_given : List ℕ → Event → EventReply → List (List ℕ)
 key_given member (Commanded (AddKey name owner root)) (ToOffice (NewKey returned seed)) = if bytes_eq owner member then name ∷ [] else []
 key_given member event reply = []
@@ -70,7 +71,7 @@ abbrev pub credits_accepted : List ℕ → List Event → List EventReply → �
 credits_accepted member (event ∷ events) (reply ∷ replies) = credit_accepted member event reply + credits_accepted member events replies
 credits_accepted member events replies = 0
 
--- the points that the office took of a member's credit; none in a list without a debit
+-- the points that the office took off a member's credit; none in a list without a debit
 abbrev pub debit_accepted : List ℕ → Event → EventReply → ℕ
 debit_accepted member (Commanded (Debit name points)) (ToOffice Done) = if bytes_eq name member then points else 0
 debit_accepted member event reply = 0

@@ -25,7 +25,7 @@ pub record WasServed (club : Club) (history : List Event) (words : Words) (reply
   pub same_key : key_of words.pass ≡ key_of first.pass
   pub same_request : words.request ≡ first.request
 
--- an accepted repeat of it gets the same reply and changes nothing, whatever happened since and whatever the moment
+-- an accepted repeat of it gets the same reply and changes nothing, after any further events and at any moment
 abbrev pub RepeatsReturnTheSame : Type 0
 RepeatsReturnTheSame =
     (club : Club) (history : List Event) (words : Words) (moment : ℕ) (reply : Reply)
@@ -46,7 +46,7 @@ RepeatsMayBeLeftOut =
     → IsAcceptedIn (club_after club history) words moment
     → MayBeLeftOut club history (Asked words moment) rest (ToMember reply)
 
--- the office cancelled a booking within the history, when it was on record as this
+-- the office cancelled a booking within the history, when this was its record
 pub record WasCancelled (club : Club) (history : List Event) (key : List ℕ) (number : ℕ) (booking : Booking) : Type 0 where
   pub front : List Event
   pub rest : List Event
@@ -54,11 +54,11 @@ pub record WasCancelled (club : Club) (history : List Event) (key : List ℕ) (n
   pub reply_is : (step (club_after club front) (Commanded (CancelBooking key number))).reply ≡ ToOffice Done
   pub found : booking_under key number (club_after club front).bookings ≡ Some booking
 
--- the refund on record after it: the whole charge, or the earlier refund of a booking that was cancelled before
+-- the refund on record after the office's cancellation: the whole charge, or the earlier refund of a booking that was already cancelled
 abbrev pub refund_by_office : Booking → ℕ
 refund_by_office booking = if booking.cancelled then booking.refund else booking.charge
 
--- an accepted cancellation of this booking after it gets the recorded refund and changes nothing, whatever happened since and whatever the moment
+-- an accepted later cancellation of this booking returns the recorded refund and changes nothing, after any further events and at any moment
 abbrev pub CancellationsReturnTheRecord : Type 0
 CancellationsReturnTheRecord =
     (club : Club) (history : List Event) (words : Words) (moment : ℕ) (key : List ℕ) (number : ℕ) (booking : Booking)

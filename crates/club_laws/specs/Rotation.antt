@@ -1,4 +1,4 @@
--- Example runs with a rotation of a key, which compute (ours).
+-- Example runs with a rotation of a key, evaluated by computation (ours).
 use Rattle.std.specs.{Prelude.{◌≡◌, ℕ, List, [], ◌∷◌, Some, Ok, replicate, codes}, Str.bytes_eq}
 use Rattle.club_core.specs.Examples.{opened_club, root, slot_at, noon, late, served_booking, account}
 use Rattle.club_core.specs.{Run.{Event, Asked, Commanded, replies_of, ToMember, ToOffice}, declared.command.Command.TheVariants.{RevokeKey, RotateKey}}
@@ -47,7 +47,7 @@ RepeatsUnderANewRoot =
     ∷ account 9_400 1 600
     ∷ []
 
--- a second rotation drops the root that the first kept, and a revoked key stays revoked
+-- a second rotation drops the root that the first one kept, and a revoked key stays revoked
 abbrev pub DropsTheOldestRoot : Type 0
 DropsTheOldestRoot =
     replies_of opened_club

@@ -1,4 +1,4 @@
--- The laws over runs in which some events failed, as statements about the responses (ours). Failed events are left out.
+-- The laws over runs in which some events failed, as statements about the responses (ours). The laws apply to the run without the failed events.
 use Rattle.club_core.specs.{Acceptance.IsAcceptedIn, Basis.key_of, Club.{Club, empty_club, member_named, IsSound}, Events.IsEvent, Pass.Words}
 use Rattle.club_core.specs.{Run.{Event, Asked, step, replies_of, club_after, ToMember, Response}, Solo.{own_events, part_of, solo_replies}}
 use Rattle.club_core.specs.declared.reply.Reply.{Reply, TheVariants.Cancelled}
@@ -51,7 +51,7 @@ pub record WasReturned {O : Type 0} (history : List Event) (replies : List (Resp
   pub same_key : key_of words.pass ≡ key_of first.pass
   pub same_request : words.request ≡ first.request
 
--- a later repeat gets the same response, unless it fails; without it, all other responses and the club at the end are the same
+-- a later repeat gets the same response, unless it fails; without it, all other responses and the last club are the same
 abbrev pub RepeatsWithFailures : Type 0 → Type 0
 RepeatsWithFailures O =
     (presentation : Presentation O) (club last : Club) (history rest : List Event) (before since : List (Response O))
@@ -63,8 +63,8 @@ RepeatsWithFailures O =
     → (IsFalse (has_failed presentation (Asked words moment) returned) → returned ≡ ToMember reply)
     × IsRun presentation club (history ++ rest) (before ++ since) last
 
--- if the office cancelled a booking, a later cancellation gets the recorded refund, unless it fails; without it, all other responses and the club at the
--- end are the same
+-- if the office cancelled a booking, a later cancellation returns the recorded refund, unless it fails; without it, all other responses and the last club are
+-- the same
 abbrev pub CancellationsWithFailures : Type 0 → Type 0
 CancellationsWithFailures O =
     (presentation : Presentation O) (club last : Club) (history rest : List Event) (before since : List (Response O))
@@ -86,8 +86,7 @@ RepeatsServedReplies club events replies =
     → IsAcceptedIn club words moment
     → step club (Asked words moment) ≡ record { reply = ToMember reply; club = club }
 
--- this holds in the club at the end of the run, and after any one further event: such as one that failed, but whose change is
--- found after a crash
+-- this holds in the last club of the run, and after any one further event, such as a failed event whose change is found after a crash
 abbrev pub RepeatsAfterOneMore : Type 0 → Type 0
 RepeatsAfterOneMore O =
     (presentation : Presentation O) (club last : Club) (events : List Event) (replies : List (Response O))
@@ -104,7 +103,7 @@ SoloLawWithFailures O =
     replies_to name club answered (answers presentation events replies)
     ≡ map ToMember (solo_replies (part_of name club) (own_events name club answered))
 
--- so they are the same in two clubs in which the member has one part, and over two lists with the same events of the member's own
+-- so they are the same in two clubs with the same part of the member, over two lists with the same own events
 abbrev pub SoloLawOfTwoWithFailures : Type 0 → Type 0
 SoloLawOfTwoWithFailures O =
     (presentation : Presentation O) (name : List ℕ) (a b last end : Club) (events others : List Event) (replies returned : List (Response O))

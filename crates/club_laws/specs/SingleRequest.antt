@@ -1,4 +1,4 @@
--- Laws of a single request: what its reply depends on, and when it is served (ours).
+-- Laws of a single request: the rows that its reply depends on, and the conditions for serving it (ours).
 use Rattle.std.specs.Prelude.{◌≡◌, ℕ, List, ◌++◌, Option, Some, None, Result, Ok, Err}
 use Rattle.pass_caveats.specs.declared.caveat.Caveat.{Caveat}
 use Rattle.club_rows.specs.declared.key.Key.{Key}
@@ -11,12 +11,12 @@ abbrev pub DependsOnTheBasisAlone : Type 0
 DependsOnTheBasisAlone =
     (words : Words) (moment : ℕ) (a b : Club) → basis_of a words ≡ basis_of b words → verdict_in a words moment ≡ verdict_in b words moment
 
--- the refusal without a basis: the fault of the text, or that the pass isn't verified
+-- the refusal without a basis: the fault of the text, or `NotVerified`
 abbrev pub blind_refusal : Result Pass PassFault → Refusal
 blind_refusal (Err fault) = form_refusal fault
 blind_refusal (Ok pass) = NotVerified
 
--- without a basis the verdict is this refusal, whatever else the club holds
+-- without a basis, the verdict is this refusal, regardless of the rest of the club
 abbrev pub RefusesWithoutABasis : Type 0
 RefusesWithoutABasis =
     (words : Words) (moment : ℕ) (club : Club) → basis_of club words ≡ None → verdict_in club words moment ≡ refusal_verdict (blind_refusal words.pass)
@@ -31,7 +31,7 @@ RefusesTheUnsigned =
     → ¬ IsSignedUnder pass key moment
     → verdict_in club words moment ≡ refusal_verdict NotVerified
 
--- a request is served only if the pass entitles to it, a repeat too
+-- a request, even a repeat, is served only if the pass entitles its holder to it
 abbrev pub ServesOnlyTheEntitled : Type 0
 ServesOnlyTheEntitled =
     (words : Words) (moment : ℕ) (club : Club) → IsServed (verdict_in club words moment).reply → IsEntitled club words moment
@@ -40,8 +40,8 @@ ServesOnlyTheEntitled =
 abbrev pub words_with : Pass → Request → Words
 words_with pass request = record { pass = Ok pass; request = request }
 
--- of two passes of one key, the wide one signed under a root of the key's row that is good at the moment, and the narrow one with
--- more caveats: what is served under the narrow one is served under the wide one, with the same reply and the same change
+-- take two passes of one key: the wide one is signed under a root of the key's row that is good at the moment, and the narrow one has more caveats; a request
+-- that is served under the narrow pass is served under the wide one, with the same reply and the same change
 abbrev pub MoreCaveatsNeverOpenMore : Type 0
 MoreCaveatsNeverOpenMore =
     (wide narrow : Pass) (more : List (Option Caveat)) (key : Key) (request : Request) (moment : ℕ) (club : Club)
@@ -53,7 +53,7 @@ MoreCaveatsNeverOpenMore =
     → IsServed (verdict_in club (words_with narrow request) moment).reply
     → verdict_in club (words_with wide request) moment ≡ verdict_in club (words_with narrow request) moment
 
--- words with the same pass and the same request get the same reply and leave the same club, in whatever form their texts were
+-- words with the same pass and the same request get the same reply and leave the same club, in any form of their texts
 abbrev pub AnswersFormsAlike : Type 0
 AnswersFormsAlike =
     (club : Club) (a b : Words) (moment : ℕ)

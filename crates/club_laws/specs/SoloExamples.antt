@@ -1,4 +1,4 @@
--- Example runs from the empty club, which compute: one member's requests, alone and among those of another (ours).
+-- Example runs from the empty club, evaluated by computation (ours): one member's requests, alone and among those of another member.
 use Rattle.club_core.specs.{Club.empty_club, Examples.{opening, root, slot_at, noon, late, ask, served_booking, account, served_cancellation}}
 use Rattle.club_core.specs.{Run.{Event, Asked, Commanded, replies_of, EventReply, ToMember}, declared.command.Command.TheVariants.{AddMember, Credit, Debit}}
 use Rattle.club_core.specs.declared.command.Command.TheVariants.{SetFacility, CancelBooking, AddKey, RevokeKey, CloseSlot, OpenSlot, SetQuota}
@@ -18,7 +18,7 @@ ask_of_bob request = Asked (record { pass = Ok (record { key = Some (codes "bob-
 abbrev pub bob_joins : List Event
 bob_joins = Commanded (AddMember (codes "bob") 5) ∷ Commanded (Credit (codes "bob") 10_000) ∷ Commanded (AddKey (codes "bob-1") (codes "bob") root) ∷ []
 
--- amy books three places of four, looks at her account, and cancels
+-- amy books three of four places, looks at her account, and cancels
 abbrev pub amy_alone : List Event
 amy_alone =
     opening ++ ask (asked.Book (slot_at 18) 7 2) noon ∷ ask asked.Account noon ∷ ask (asked.Cancel (slot_at 18) 7) noon ∷ []
@@ -26,8 +26,8 @@ amy_alone =
 abbrev pub AnswersAmyAlone : Type 0
 AnswersAmyAlone = replies_to_amy amy_alone ≡ served_booking 7 600 1 ∷ account 9_400 1 600 ∷ served_cancellation 7 600 ∷ []
 
--- The same beside bob. He books other slots and hers, under her number too, and leaves hers. He is credited and debited, gets a quota and a key, and has
--- one revoked. The office cancels a booking of his, and closes another slot and opens it again.
+-- The same requests of amy among those of bob. He books other slots and hers, even under her number, and cancels in hers. He is credited and debited, gets a
+-- quota and a key, and one of his keys is revoked. The office cancels a booking of his, and closes another slot and opens it again.
 abbrev pub amy_among_others : List Event
 amy_among_others =
     opening
@@ -90,7 +90,7 @@ ShowsAmyHerCancellation =
     ∷ served_booking 7 600 1
     ∷ []
 
--- new places and another price reach her with her next booking; what she booked before keeps its charge and its places left
+-- new places and a new price apply to her next booking; her earlier booking keeps its charge and its places left
 abbrev pub ShowsAmyNewNumbers : Type 0
 ShowsAmyNewNumbers =
     replies_to_amy

@@ -1,4 +1,4 @@
--- A member's replies in a run are those of a machine that holds the member's part alone (ours).
+-- A member's replies in a run are those of a machine that has only the member's part (ours).
 use Rattle.std.specs.Prelude.{◌≡◌, ℕ, Bool, true, false, List, [], ◌∷◌, map, if◌then◌else◌}
 use Rattle.club_core.specs.{After.after, Club.{Club, IsSound}, Run.{Event, step, after_change, replies_of, club_after, ToMember}}
 use Rattle.club_core.specs.Solo.{OwnEvent, OwnAsk, OwnChange, own_part, own_events, part_of, solo_verdict, solo_replies}
@@ -8,7 +8,7 @@ abbrev pub is_ask : List OwnEvent → Bool
 is_ask (OwnAsk words moment others ∷ events) = true
 is_ask events = false
 
--- of the replies to a list of events, those to the member's requests
+-- the replies to the member's requests, among the replies to a list of events
 abbrev pub replies_to : {R : Type 0} → List ℕ → Club → List Event → List R → List R
 replies_to name club (event ∷ events) (reply ∷ replies) =
     if is_ask (own_part name club event)
@@ -16,14 +16,14 @@ replies_to name club (event ∷ events) (reply ∷ replies) =
     else replies_to name (step club event).club events replies
 replies_to name club events replies = []
 
--- the replies to a member's requests follow from the member's part and own events, whoever else does what in between
+-- the replies to a member's requests follow from the member's part and own events, regardless of what others do in between
 abbrev pub SoloLaw : Type 0
 SoloLaw =
     (name : List ℕ) (club : Club) (events : List Event)
     → IsSound club
     → replies_to name club events (replies_of club events) ≡ map ToMember (solo_replies (part_of name club) (own_events name club events))
 
--- so if two clubs hold the same part of a member, and two lists the same events of its own, the member gets the same replies
+-- so a member gets the same replies in two clubs with the same part of the member, over two lists with the same own events
 abbrev pub SoloLawOfTwo : Type 0
 SoloLawOfTwo =
     (name : List ℕ) (a b : Club) (events others : List Event)
@@ -40,7 +40,7 @@ solo_part part (OwnChange change ∷ events) = solo_part (after change part) eve
 solo_part part (OwnAsk words moment others ∷ events) =
     solo_part (after_change (solo_verdict part words moment others).change part) events
 
--- it is the member's part at the end of the run
+-- this part is the member's part at the end of the run
 abbrev pub EndsWithThePart : Type 0
 EndsWithThePart =
     (name : List ℕ) (club : Club) (events : List Event)

@@ -17,7 +17,7 @@ EmptyIsSound = IsSound empty_club
 abbrev pub StepsKeepSound : Type 0
 StepsKeepSound = (club : Club) (event : Event) → IsSound club → IsEvent event → IsSound (step club event).club
 
--- the change that an event makes of a club
+-- the change that an event makes to a club
 abbrev pub IsChangeBy : Club → Event → Change → Type 0
 IsChangeBy club (Asked words moment) change = (verdict_in club words moment).change ≡ Some change
 IsChangeBy club (Commanded command) change = office_verdict club command ≡ Ok (Some change)
@@ -26,7 +26,7 @@ IsChangeBy club (Commanded command) change = office_verdict club command ≡ Ok 
 abbrev pub ChangesFit : Type 0
 ChangesFit = (club : Club) (event : Event) (change : Change) → IsSound club → IsEvent event → IsChangeBy club event change → FitsClub change club
 
--- a run, too, ends in a sound club
+-- a run from a sound club ends in a sound club
 abbrev pub RunsKeepSound : Type 0
 RunsKeepSound = (club : Club) (events : List Event) → IsSound club → All IsEvent events → IsSound (club_after club events)
 
@@ -44,9 +44,9 @@ pub record SuitsBooking (booking : Booking) (club : Club) : Type 0 where
   pub located : facility_named booking.slot.facility club ≡ Some facility
   pub placed : taken_in booking.slot (club.bookings ++ booking ∷ []) ≤ facility.places
 
--- A change that suits a club: its values are within their limits, a new name is free, and what a new row refers to is on record. A member is credited
--- no more than the most, and keeps the points that its bookings cost. A booking fits, and a refund is at most the charge of a booking on record.
--- New numbers of a facility leave a place for each person in each of its slots.
+-- A change that suits a club: its values are within their limits, a new name is free, and the rows that a new row refers to are on record. A member's credit is
+-- at most the maximum, and covers the points that its bookings cost. A booking fits, and a refund is at most the charge of a booking on record. New numbers of
+-- a facility leave a place for each person in each of its slots.
 abbrev pub Suits : Change → Club → Type 0
 Suits (InsertMember member) club = IsMember member × All (λ (other : Member). other.name ≢ member.name) club.members
 Suits (AddCredit name points) club = (member : Member) × (member_named name club ≡ Some member) × (member.credited + points ≤ credited_limit)

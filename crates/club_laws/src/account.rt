@@ -1,4 +1,4 @@
-//! The account: a member's open bookings are counted over all its keys.
+//! A member's account counts the open bookings of all its keys.
 
 ghost use Rattle.club_laws.specs.AccountExample.{CountsOverAllKeys};
 

@@ -5,32 +5,32 @@ ghost use Rattle.club_laws.specs.Failed.{CutsRuns, JoinsRuns, LeavesEvents, Leav
 ghost use Rattle.club_laws.specs.Failed.{NeverUnavailable, RunsWithoutFailures};
 ghost use Rattle.club_laws.specs.FailedExample.{LeavesOutFailedEvents};
 
-/// A run in which some events failed has the responses and the end of the list without them.
+/// A run in which some events failed has the same responses and the same last club as the run
+/// without these events.
 #[tactic(auto, using(crate::proofs::FailedEvents::run_of_answered))]
 pub fn leaves_out_failed<O>()
     ensures { LeavesOutFailed O }
 {}
 
-/// If all events are within their limits, those that were answered are.
+/// If all events are within their limits, so are the answered ones.
 #[tactic(auto, using(crate::proofs::FailedEvents::events_left))]
 pub fn leaves_events<O>()
     ensures { LeavesEvents O }
 {}
 
-/// A run can be cut in two: the second part begins with the club that the first leaves.
+/// A run can be split in two: the second part begins with the club that the first part leaves.
 #[tactic(auto, using(crate::proofs::FailedEvents::cut))]
 pub fn cuts_runs<O>()
     ensures { CutsRuns O }
 {}
 
-/// Two such runs can be joined to one.
+/// Two such runs can be joined into one.
 #[tactic(auto, using(crate::proofs::FailedEvents::join))]
 pub fn joins_runs<O>()
     ensures { JoinsRuns O }
 {}
 
-/// If a desk presents no answer to the office as a fault, the machine's own run is a run without
-/// failures.
+/// If a desk presents no answer to the office as a fault, the machine's own run has no failures.
 #[tactic(auto, using(crate::proofs::FailedEvents::run_without_failures))]
 pub fn runs_without_failures<O>()
     ensures { RunsWithoutFailures O }
@@ -42,8 +42,8 @@ pub fn never_unavailable()
     ensures { NeverUnavailable }
 {}
 
-/// An example: a failed credit and a failed booking change nothing, and the other replies are those
-/// of the list without them.
+/// An example: a failed credit and a failed booking change nothing, and the other replies are the
+/// same as without them.
 pub fn leaves_out_failed_events()
     ensures { LeavesOutFailedEvents }
 {}

@@ -1,8 +1,9 @@
-//! Which changes and events leave a member's part unchanged.
+//! The changes and events that leave a member's part unchanged.
 
 ghost use Rattle.club_laws.specs.Frame.{ChangesThePartAlike, LeavesThePart, TakenIsOwnAndOthers};
 
-/// A change of the club makes the same change in a member's part, or none.
+/// A change of the club either makes the same change in a member's part, or leaves the part
+/// unchanged.
 #[tactic(auto, using(crate::proofs::MemberParts::changes_the_part_alike))]
 pub fn changes_the_part_alike()
     ensures { ChangesThePartAlike }
@@ -14,7 +15,7 @@ pub fn leaves_the_part()
     ensures { LeavesThePart }
 {}
 
-/// The persons in a slot are the member's own plus those of others.
+/// The persons in a slot are the member's own plus those of other members.
 #[tactic(auto, using(crate::proofs::FilteredRows::sum_in_parts))]
 pub fn taken_is_own_and_others()
     ensures { TakenIsOwnAndOthers }

@@ -15,7 +15,7 @@ pub fn repeats_return_the_same()
     tests_the_signature();
 }
 
-/// A run without such a repeat gives the same other replies, and ends in the same club.
+/// Leaving such a repeat out of a run changes neither the other replies nor the last club.
 pub fn repeats_may_be_left_out()
     ensures { RepeatsMayBeLeftOut }
 {
@@ -23,13 +23,13 @@ pub fn repeats_may_be_left_out()
     tests_the_signature();
 }
 
-/// An example: a cancelled booking is repeated when its slot has begun, under a pass that may spend
-/// nothing. The repeat is accepted.
+/// An example: a cancelled booking is repeated after its slot has begun, under a pass that may
+/// spend nothing. The repeat is accepted.
 pub fn accepts_a_repeat()
     ensures { AcceptsARepeat }
 {}
 
-/// A cancellation of a booking that the office cancelled gets the recorded refund, and changes
+/// Cancelling a booking that the office cancelled before returns the recorded refund and changes
 /// nothing.
 pub fn cancellations_return_the_record()
     ensures { CancellationsReturnTheRecord }

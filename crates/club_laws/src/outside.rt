@@ -1,14 +1,14 @@
-//! What the solo machine sees of others.
+//! The solo machine's knowledge of other members.
 
 ghost use Rattle.club_laws.specs.Outside.{SeesNothingOfOthers, SeesTheSlotAlone};
 
-/// For a request it sees how many persons others have in the slot and whether the slot is closed,
-/// and nothing else.
+/// For a request, the solo machine sees only how many persons others have in the slot, and whether
+/// the slot is closed.
 pub fn sees_the_slot_alone()
     ensures { SeesTheSlotAlone }
 {}
 
-/// A member's own events are the same in a club with others' rows and in one without them.
+/// A member's own events are the same whether or not the club has rows of other members.
 pub fn sees_nothing_of_others()
     ensures { SeesNothingOfOthers }
 {}

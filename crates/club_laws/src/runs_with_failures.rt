@@ -16,7 +16,7 @@ pub fn keeps_sound<O>()
     ensures { SoundWithFailures O }
 {}
 
-/// Points are neither made nor lost.
+/// Points are neither created nor lost.
 pub fn conserves_points<O>()
     ensures { ConservesWithFailures O }
 {}
@@ -35,8 +35,8 @@ pub fn repeats_return_the_same<O>()
     tests_the_signature();
 }
 
-/// A cancellation of a booking that the office cancelled gets the recorded refund, and may be left
-/// out.
+/// Cancelling a booking that the office cancelled before returns the recorded refund, and may be
+/// left out.
 pub fn cancellations_return_the_record<O>()
     ensures { CancellationsWithFailures O }
 {
@@ -44,8 +44,8 @@ pub fn cancellations_return_the_record<O>()
     tests_the_signature();
 }
 
-/// A repeat of a served request gets the same reply in the club at the end of the run, and in each
-/// club that one more event would leave.
+/// A repeat of a served request gets the same reply in the last club of the run, and in each club
+/// that one more event would leave.
 pub fn repeats_after_one_more<O>()
     ensures { RepeatsAfterOneMore O }
 {
@@ -59,8 +59,8 @@ pub fn solo_law<O>()
     ensures { SoloLawWithFailures O }
 {}
 
-/// If two clubs hold the same part of a member, and two lists the same events of its own, the
-/// member gets the same replies.
+/// A member gets the same replies in two clubs with the same part of the member, in runs with the
+/// same own events.
 #[tactic(auto, using(crate::proofs::SoloRuns::solo_with_failures))]
 pub fn solo_law_of_two<O>()
     ensures { SoloLawOfTwoWithFailures O }

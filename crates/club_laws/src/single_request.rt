@@ -1,4 +1,4 @@
-//! Laws of a single request: what its reply depends on, and when it is served.
+//! Laws of a single request: the rows that its reply depends on, and the conditions for serving it.
 
 ghost use Rattle.club_laws.specs.{Revoked.ServesNoRevokedKey, SingleRequest.AnswersFormsAlike};
 ghost use Rattle.club_laws.specs.SingleRequest.{DependsOnTheBasisAlone, MoreCaveatsNeverOpenMore};
@@ -13,7 +13,7 @@ pub fn depends_on_the_basis_alone()
     ensures { DependsOnTheBasisAlone }
 {}
 
-/// Without a basis the reply is one fixed refusal, whatever else the club holds.
+/// Without a basis, the reply is one fixed refusal, regardless of the rest of the club.
 #[tactic(auto, using(crate::proofs::ServedPasses::refused_blind))]
 pub fn refuses_without_a_basis()
     ensures { RefusesWithoutABasis }
@@ -28,8 +28,8 @@ pub fn refuses_the_unsigned()
     tests_the_signature();
 }
 
-/// A request is served only if the pass names a key of the club that isn't revoked, is signed
-/// under a root of its row that is good at the moment, and each caveat allows the request.
+/// A request is served only if the pass names a key of the club that isn't revoked, is signed under
+/// a root of its row that is good at the moment, and has only caveats that allow the request.
 #[tactic(auto, using(crate::proofs::ServedPasses::served_entitled))]
 pub fn serves_only_the_entitled()
     ensures { ServesOnlyTheEntitled }
@@ -38,7 +38,7 @@ pub fn serves_only_the_entitled()
     tests_the_signature();
 }
 
-/// Once a key was revoked, no request under it is served, in any run.
+/// After a key is revoked, no run serves a request under it.
 pub fn serves_no_revoked_key()
     ensures { ServesNoRevokedKey }
 {

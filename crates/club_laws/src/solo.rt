@@ -1,4 +1,4 @@
-//! A member's replies in a run are those of a machine that holds the member's part alone.
+//! A member's replies in a run are those of a machine that has only the member's part.
 
 ghost use Rattle.club_laws.specs.SoloExamples.{AnswersAmyAlone, AnswersAmyAmongOthers};
 ghost use Rattle.club_laws.specs.SoloExamples.{ShowsAmyATakenPlace, ShowsAmyHerCancellation};
@@ -11,14 +11,14 @@ pub fn solo_law()
     ensures { SoloLaw }
 {}
 
-/// If two clubs hold the same part of a member, and two lists the same events of its own, the
-/// member gets the same replies.
+/// A member gets the same replies in two clubs with the same part of the member, in runs with the
+/// same own events.
 #[tactic(auto, using(crate::proofs::SoloRuns::solo_law))]
 pub fn solo_law_of_two()
     ensures { SoloLawOfTwo }
 {}
 
-/// The member's own events leave the member's part at the end of the run.
+/// Applying the member's own events gives the member's part at the end of the run.
 #[tactic(auto, using(crate::proofs::SoloRuns::ends_with_the_part))]
 pub fn ends_with_the_part()
     ensures { EndsWithThePart }
@@ -35,17 +35,20 @@ pub fn answers_amy_among_others()
     ensures { AnswersAmyAmongOthers }
 {}
 
-/// If another has a place in the slot, one place fewer is left, and all else is the same.
+/// If another member has a place in the slot, one place fewer is left, and everything else is the
+/// same.
 pub fn shows_amy_a_taken_place()
     ensures { ShowsAmyATakenPlace }
 {}
 
-/// A facility's new numbers hold for the member's next booking, and leave those before as they are.
+/// A facility's new numbers hold for the member's next booking, and leave earlier bookings
+/// unchanged.
 pub fn shows_amy_new_numbers()
     ensures { ShowsAmyNewNumbers }
 {}
 
-/// The office cancels another's booking and the member's own: the places and the points come back.
+/// After the office cancels another member's booking and the member's own, the places are free and
+/// the points are back.
 pub fn shows_amy_her_cancellation()
     ensures { ShowsAmyHerCancellation }
 {}

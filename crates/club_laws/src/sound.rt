@@ -14,20 +14,21 @@ pub fn steps_keep_sound()
     ensures { StepsKeepSound }
 {}
 
-/// The change that an event makes of a sound club fits it: what it carries of the club's rows is
-/// true, and the club after it is sound.
+/// The change that an event makes to a sound club fits it: the values that it carries are those of
+/// the club's rows, and the club after it is sound.
 #[tactic(auto, using(crate::proofs::SoundSteps::fits_event))]
 pub fn changes_fit()
     ensures { ChangesFit }
 {}
 
-/// A run from a sound club ends in a sound club, if the values of all events are within them.
+/// A run from a sound club ends in a sound club, if the values of all events are within the limits
+/// of their types.
 pub fn runs_keep_sound()
     ensures { RunsKeepSound }
 {}
 
-/// A change of a sound club that suits its rows leaves a sound club: all that a store has to test
-/// of a change.
+/// A change that suits the rows of a sound club leaves a sound club. So a store needs to test
+/// nothing else.
 pub fn suiting_changes_keep_sound()
     ensures { SuitingChangesKeepSound }
 {}

@@ -7,20 +7,20 @@ use Rattle.std.specs.Prelude.{map, All}
 abbrev pub edited : {X : Type 0} → (X → X) → ℕ → List X → List X
 edited f i xs = map f (take i xs) ++ drop i xs
 
--- the next element is unchanged yet
+-- the next element is still unchanged
 next : {X : Type 0} (f : X → X) (i : ℕ) (xs : List X) (d : X) → i < length xs → get_or (edited f i xs) i d ≡ get_or xs i d
 next f i [] d h = absurd (omega arith)
 next f zero (x ∷ xs) d h = refl
 next f (suc i) (x ∷ xs) d h = next f i xs d (omega arith)
 
--- once it is edited, one more element is
+-- after the next element is edited, one more element is edited
 edited-next : {X : Type 0} (f : X → X) (i : ℕ) (xs : List X) (d : X) → i < length xs
     → set (edited f i xs) i (f (get_or (edited f i xs) i d)) ≡ edited f (suc i) xs
 edited-next f i [] d h = absurd (omega arith)
 edited-next f zero (x ∷ xs) d h = refl
 edited-next f (suc i) (x ∷ xs) d h = ap (λ ys. f x ∷ ys) (edited-next f i xs d (omega arith))
 
--- what is written over the element at the index is that element, edited
+-- the element at the index is replaced by its edited value
 pub edited_more : {X : Type 0} (f : X → X) (i : ℕ) (xs ys : List X) (x y : X) → i < length xs → ys ≡ edited f i xs → y ≡ f (get_or ys i x)
     → set ys i y ≡ edited f (i + 1) xs
 edited_more f i xs ys x y h same made =
@@ -28,7 +28,7 @@ edited_more f i xs ys x y h same made =
     ∙ (ap (λ zs. set zs i (f (get_or zs i x))) same
     ∙ (edited-next f i xs x h ∙ ap (λ n. edited f n xs) (sym (add-one i))))
 
--- what holds of each edited element holds of the one that is edited next
+-- a property of each edited element also holds for the element that is edited next
 pub holds_next : {X : Type 0} (P : X → Type 0) (f : X → X) (i : ℕ) (xs ys : List X) (x : X) → i < length xs → ys ≡ edited f i xs → All P (map f xs)
     → P (f (get_or ys i x))
 holds_next P f i xs ys x h same holds =

@@ -1,4 +1,4 @@
--- A club's numbers keep within their widths: in each change, in a member's part, and after each step.
+-- A club's numbers stay within their widths: after each change, in a member's part, and after each step.
 use Rattle.std.proofs.Common.{◌≡◌, ℕ, Bool, true, List, [], ◌∷◌, refl, arith, subst, ◌+◌, ◌-◌, ◌≤◌, cond, ◌++◌, ◌<◌, false, length, get_or, ◌∙◌, sym, ap}
 use Rattle.std.proofs.lemmas.{Bool.{cond_both, and_parts, Decides.nat_tests}, List.{get_or-map, length-map}}
 use Rattle.std.proofs.lemmas.{List.{Elements.{All-head, All-tail, All-filter, All-push, All-cons}, Folds.find-append, Sums.sum_by-cons}, Option.same_Some}
@@ -44,22 +44,22 @@ pub found_kept : {X : Type 0} (p q r : X → Bool) (xs : List X) (x : X) → fin
 found_kept p q r [] x e t u = cc
 found_kept p q r (y ∷ ys) x e t u = grind (arith, λ (f : find p ys ≡ Some x). found_kept p q r ys x f t u)
 
--- the row that is found is found among those that pass another test, if it passes that
+-- if the row that is found passes another test, it is also found among the rows that pass that test
 pub find_filtered : {X : Type 0} (p q : X → Bool) (xs : List X) (x : X) → find p xs ≡ Some x → q x ≡ true → find p (filter q xs) ≡ Some x
 find_filtered p q [] x e t = cc
 find_filtered p q (y ∷ ys) x e t = grind (arith, find_filtered p q ys x)
 
--- an edit that keeps what the test looks at is an edit of the row that is found
+-- an edit that doesn't affect the test can be applied to the row that is found
 pub find-map : {X : Type 0} (p : X → Bool) (f : X → X) (xs : List X) → ((x : X) → p (f x) ≡ p x) → find p (map f xs) ≡ option_map f (find p xs)
 find-map p f [] same = refl
 find-map p f (x ∷ xs) same = grind (arith, same x, find-map p f xs same)
 
--- what each element takes is taken from the first number, down to 0
+-- each element's amount is subtracted from the first number, down to 0
 pub fold_less : {X : Type 0} (f : X → ℕ) (n : ℕ) (xs : List X) → fold (λ left x. left - f x) n xs ≡ n - sum_by f xs
 fold_less f n [] = omega arith
 fold_less f n (x ∷ xs) = omega (arith, fold_less f (n - f x) xs, sum_by-cons f x xs)
 
--- what an element adds
+-- the amount that an element adds
 abbrev pub part : {X : Type 0} → (X → ℕ) → (X → Bool) → X → ℕ
 part f p x = cond (p x) (f x) 0
 
@@ -67,7 +67,7 @@ pub sum_more : {X : Type 0} (f : X → ℕ) (p : X → Bool) (xs : List X) (y : 
 sum_more f p [] y = grind arith
 sum_more f p (x ∷ xs) y = grind (arith, sum_more f p xs y, sum_by-cons f x (filter p xs), sum_by-cons f x (filter p (xs ++ y ∷ [])))
 
--- if each edited element adds no more than the element did
+-- a sum doesn't grow if each edited element adds no more than before
 pub sum_map_le : {X : Type 0} (f : X → ℕ) (p : X → Bool) (h : X → X) (xs : List X) → All (λ x. part f p (h x) ≤ part f p x) xs
     → sum_by f (filter p (map h xs)) ≤ sum_by f (filter p xs)
 sum_map_le f p h [] le = omega arith
@@ -81,7 +81,7 @@ sum_le f p q [] le = omega arith
 sum_le f p q (x ∷ xs) le =
     let here = le x in grind (arith, sum_le f p q xs le, sum_by-cons f x (filter p xs), sum_by-cons f x (filter q xs))
 
--- fewer elements have a smaller sum
+-- fewer elements don't have a larger sum
 pub sum_filtered_le : {X : Type 0} (f : X → ℕ) (p q : X → Bool) (xs : List X) → sum_by f (filter p (filter q xs)) ≤ sum_by f (filter p xs)
 sum_filtered_le f p q [] = omega arith
 sum_filtered_le f p q (x ∷ xs) = grind (arith, sum_filtered_le f p q xs, sum_by-cons f x (filter p xs), sum_by-cons f x (filter p (filter q xs)))
@@ -222,7 +222,7 @@ fits_part name club h =
       kept = All-filter held (λ (b : Booking). b.cancelled ≡ false → b.refund ≡ 0) club.bookings h.kept;
     }
 
--- the numbers are in members, facilities and bookings
+-- only members, facilities and bookings have numbers
 pub fits_same : (a b : Club) → a.members ≡ b.members → a.facilities ≡ b.facilities → a.bookings ≡ b.bookings → FitsWidths b → FitsWidths a
 fits_same a b members facilities bookings h = record {
   credited = rw members h.credited;
@@ -235,13 +235,13 @@ fits_same a b members facilities bookings h = record {
 
 -- ---- each step keeps a club's numbers within their widths
 
--- the bookings of a member hold what each of its keys has spent
+-- the bookings of a member determine what each of its keys has spent
 spent_le : (club : Club) (key member : List ℕ) → is_key_of member club key ≡ true
     → spent_under key club.bookings ≤ sum_by cost_of (bookings_of member club)
 spent_le club key member held =
     sum_le cost_of (is_under key) (λ (b : Booking). is_key_of member club b.key) club.bookings (λ b. grind (arith, bytes_eq-Decides b.key key))
 
--- what a basis takes from the club: a key of its member, whose bookings it has, and a state that has all persons of the slot
+-- the parts that a basis takes from the club: a key, the bookings of the key's member, and a state with all persons of the slot
 record IsBasisIn (club : Club) (request : Request) (basis : Basis) : Type 0 where
   held : is_key_of basis.member.name club basis.key.name ≡ true
   owner : member_named basis.key.member club ≡ Some basis.member
@@ -249,7 +249,7 @@ record IsBasisIn (club : Club) (request : Request) (basis : Basis) : Type 0 wher
   facility : (slot : Slot) → request_slot request ≡ Some slot → facility_named slot.facility club ≡ basis.state.facility
   taken : (slot : Slot) → request_slot request ≡ Some slot → taken_in slot club.bookings ≤ basis.state.held.taken
 
--- a booking that has place and points
+-- a booking for which there are places and points
 fits_booked : (club : Club) (request : Request) (basis : Basis) (facility : Facility) (booking : Booking) → FitsWidths club → IsBasisIn club request basis
     → request_slot request ≡ Some booking.slot → basis.state.facility ≡ Some facility → booking.key ≡ basis.key.name → booking.refund ≡ 0
     → basis.state.held.taken + booking.guests + 1 ≤ facility.places → booking.charge ≤ balance_of basis.member basis.bookings
@@ -276,7 +276,7 @@ module _ (P : Option Change → Type 0) (none : P None)
   view_cases view (asked.Book slot number guests) moment books = grind (arith, nat_tests, none, books slot number guests)
   view_cases view request moment books = grind (arith, none, cancels)
 
-  -- and those in which it is answered
+  -- the ways in which a request is answered
   basis_cases : (pass : Result Pass PassFault) (request : Request) (moment : ℕ) (found : Option Basis)
       → ((basis : Basis) (slot : Slot) (number guests : ℕ) (facility : Facility) → found ≡ Some basis → request ≡ asked.Book slot number guests
       → basis.state.facility ≡ Some facility → basis.state.held.taken + guests + 1 ≤ facility.places
@@ -299,7 +299,7 @@ keeps_by club pass request moment found h is =
     fits_booked club request basis facility (new_booking (view_of basis request moment) slot number guests facility) h (is basis f) (ap request_slot r) there
     refl refl room points)
 
--- the basis of a request is such a basis
+-- the basis of a request is taken from the club in this way
 own_key : (club : Club) (name : List ℕ) (key : Key) (member : Member) → key_named name club ≡ Some key → member_named key.member club ≡ Some member
     → is_key_of member.name club key.name ≡ true
 own_key club name key member found owner =
@@ -316,7 +316,7 @@ is_basis club words basis e = record {
   taken = λ slot s. grind arith;
 }
 
--- and with what others hold of the slot too
+-- so is the basis with what others take of the slot added
 is_basis_with : (club : Club) (words : Words) (others : SlotUse) (basis : Basis) → option_map (with_others others) (basis_of club words) ≡ Some basis
     → IsBasisIn club words.request basis
 is_basis_with club words others basis e = go (basis_of club words) refl e
@@ -337,7 +337,7 @@ is_basis_with club words others basis e = go (basis_of club words) refl e
 pub keeps_answer : (club : Club) (words : Words) (moment : ℕ) → FitsWidths club → Keeps club (answer_by_basis words moment (basis_of club words)).change
 keeps_answer club words moment h = keeps_by club words.pass words.request moment (basis_of club words) h (is_basis club words)
 
--- the answer to a request in a club that holds only one member's part
+-- the answer to a request in a club that has only one member's part
 pub keeps_solo : (club : Club) (words : Words) (moment : ℕ) (others : SlotUse) → FitsWidths club
     → Keeps club (solo_verdict club words moment others).change
 keeps_solo club words moment others h =

@@ -1,4 +1,4 @@
--- Which changes need memory (ours): those that add a row.
+-- The changes that need memory (ours), which are those that add a row.
 use Rattle.std.specs.Prelude.{ℕ, ◌+◌, ◌<◌, Bool, true, false, length}
 use Rattle.club_core.specs.{Club.Club, Run.{Event, step}, declared.change.Change.{Change, TheVariants.{InsertMember, AddCredit, InsertFacility, InsertKey}}}
 use Rattle.club_core.specs.declared.change.Change.TheVariants.{TakeCredit, ReplaceNumbers, MarkRevoked, ReplaceRoot, MarkClosed, MarkOpen, ReplaceQuota}
@@ -19,7 +19,7 @@ is_growth (MarkOpen slot) = false
 is_growth (InsertBooking booking member) = true
 is_growth (MarkCancelled booking member refund) = false
 
--- how many rows a club has
+-- the number of rows that a club has
 abbrev pub row_count : Club → ℕ
 row_count club =
     length club.members + length club.facilities + length club.keys + length club.bookings + length club.closed

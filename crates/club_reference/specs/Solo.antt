@@ -1,7 +1,7 @@
--- What the solo machine sees (ours).
+-- The views of the solo machine (ours).
 use Rattle.std.specs.Prelude.{◌+◌}
 use Rattle.club_core.specs.declared.{slot_use.SlotUse.SlotUse, view.KeyView.KeyView}
 
--- a view with what others hold of the slot
+-- a view with how much of the slot others take added
 abbrev pub with_outside : SlotUse → KeyView → KeyView
 with_outside others seen = record seen { view = record seen.view { taken = seen.view.taken + others.taken; closed = others.closed } }

@@ -1,11 +1,11 @@
--- The numbers of a club fit the types that hold them (ours). This holds of the empty club, and each step preserves it.
+-- The numbers of a club fit their types (ours). This holds for the empty club, and each step preserves it.
 use Rattle.std.specs.Prelude.{◌≡◌, ℕ, ◌≤◌, false, List, Some, All}
 use Rattle.club_values.specs.declared.slot.Slot.{Slot}
 use Rattle.club_rows.specs.{Limits.{credited_limit, places_limit}, declared.{booking.Booking.Booking, facility.Facility.Facility, member.Member.Member}}
 use Rattle.club_core.specs.{Club.{Club, member_named}, Sums.{taken_in, spent_under}}
 
 pub record FitsWidths (club : Club) : Type 0 where
-  -- points are credited up to this limit, to the one member of a name
+  -- a member is credited at most this many points, and its name is unique
   pub credited : All (λ (member : Member). member.credited ≤ credited_limit) club.members
   pub unique : All (λ (member : Member). member_named member.name club ≡ Some member) club.members
   -- no slot has more persons than `places_limit`
@@ -13,5 +13,5 @@ pub record FitsWidths (club : Club) : Type 0 where
   pub taken : (slot : Slot) → taken_in slot club.bookings ≤ places_limit
   -- no key has spent more than `credited_limit`
   pub spent : (key : List ℕ) → spent_under key club.bookings ≤ credited_limit
-  -- a booking gives back nothing before it is cancelled
+  -- a booking has no refund before it is cancelled
   pub kept : All (λ (booking : Booking). booking.cancelled ≡ false → booking.refund ≡ 0) club.bookings

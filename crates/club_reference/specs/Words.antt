@@ -1,4 +1,4 @@
--- The models of the code's words: the words of the rules that they are, and their answers (ours).
+-- The words of the rules that model the code's words, and their answers (ours).
 use Rattle.std.specs.{Prelude.{◌≡◌, ◌↔◌, ℕ, List, map, Contains, IsTrue, Option, Some, None, Result, Ok, Err}, Vec.vec_items}
 use Rattle.pass_caveats.specs.Fault.{AreUnderstoodAs, first_fault_of}
 use Rattle.club_core.specs.{Answer.{answer_by_view, ask_of, form_refusal}, Pass.{Pass, Words, is_signed_under}, Verdict.refusal_verdict}
@@ -6,23 +6,23 @@ use Rattle.club_core.specs.declared.{pass_fault.PassFault.PassFault, refusal.Ref
 use Rattle.club_core.specs.declared.view.KeyView.{KeyView}
 use Rattle.club_reference.specs.declared.words.{Pass.Pass as PassInCode, Words.Words as WordsInCode}
 
--- the same key, each caveat as its text is understood, and signed under the listed roots
+-- a pass's model has the same key and the meaning of each caveat, and is signed under the listed roots
 pub record IsPassModel (pass : PassInCode) (model : Pass) : Type 0 where
   pub key : model.key ≡ pass.key
   pub caveats : AreUnderstoodAs (map vec_items pass.caveats.items) model.caveats
   pub signed : (root : List ℕ) → IsTrue (model.is_signed root) ↔ Contains pass.roots.items root
 
--- of a pass, its model; of the fault of a text, that fault
+-- the model of a pass, or the same fault of a text
 abbrev pub IsResultModel : Result PassInCode PassFault → Result Pass PassFault → Type 0
 IsResultModel (Ok pass) (Ok model) = IsPassModel pass model
 IsResultModel (Err fault) (Err other) = other ≡ fault
 IsResultModel pass model = ⊥
 
--- the same request, and the model of the pass
+-- words have the same request as their model, and the model of the pass
 abbrev pub IsModelOf : WordsInCode → Words → Type 0
 IsModelOf words model = IsResultModel words.pass model.pass × (model.request ≡ words.request)
 
--- the answer to a text, by the key that it names and the key's view
+-- the answer to a text, from the key that it names and the key's view
 abbrev pub answer_seen : Result Pass PassFault → Request → ℕ → Option KeyView → Verdict
 answer_seen (Err fault) request moment seen = refusal_verdict (form_refusal fault)
 answer_seen (Ok pass) request moment None = refusal_verdict NotVerified

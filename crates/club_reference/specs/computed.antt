@@ -1,3 +1,3 @@
--- Definitions that compute what the others of specs/ state. A law says that both agree.
+-- Functions that compute what the other definitions of `specs/` state. A law states that both agree.
 
 pub mod Words

@@ -31,7 +31,7 @@ impl Model for Club {
 }
 
 impl Club {
-    /// The empty club. It needs no memory.
+    /// Returns the empty club. It needs no memory.
     pub fn new(alloc: Global) -> Club
         ensures { result ≡ empty_club }
     {
@@ -44,7 +44,7 @@ impl Club {
         }
     }
 
-    /// A copy of the club.
+    /// Returns a copy of the club.
     pub fn duplicate(&self) -> Result<Club, AllocError>
         ensures { IfOk result (λ club. club ≡ self.now) }
     {

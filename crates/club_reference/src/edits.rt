@@ -1,4 +1,4 @@
-//! Changes of rows that are there: each changes all rows that match.
+//! Changes of existing rows. Each changes all rows that match.
 
 ghost use Rattle.std.specs.Prelude.{◌≡◌, ◌≤◌, map, All};
 ghost use Rattle.club_rows.specs.Limits.{credited_limit};
@@ -41,7 +41,7 @@ fn debit_row(member: &Member, name: &Name, points: u32) -> Member
     member
 }
 
-/// Takes points from what the member of the name was credited.
+/// Takes points off the credit of the member of the name.
 #[tactic(auto, using(crate::proofs::EditLemmas::edited_more))]
 pub(crate) fn debit(members: &mut [Member], name: &Name, points: u32)
     ensures { members.new ≡ map (after.debited_member name.now points) members.old }
@@ -61,7 +61,7 @@ fn quota_row(member: &Member, name: &Name, quota: u8) -> Member
     member
 }
 
-/// Gives the member of the name another quota.
+/// Gives the member of the name a new quota.
 #[tactic(auto, using(crate::proofs::EditLemmas::edited_more))]
 pub(crate) fn set_quota(members: &mut [Member], name: &Name, quota: u8)
     ensures { members.new ≡ map (after.member_with_quota name.now quota) members.old }
@@ -92,7 +92,7 @@ fn numbers_row(
     facility
 }
 
-/// Gives the facility of the name other places, another price and other hours.
+/// Gives the facility of the name new places, a new price and new hours.
 #[tactic(auto, using(crate::proofs::EditLemmas::edited_more))]
 pub(crate) fn set_numbers(
     facilities: &mut [Facility],
@@ -154,7 +154,7 @@ pub(crate) fn rotate(keys: &mut [Key], name: &Name, root: &Root, until: Moment)
     }
 }
 
-/// Takes the slot from the closed ones.
+/// Removes the slot from the closed slots.
 pub(crate) fn open(closed: &mut Vec<Slot>, slot: &Slot)
     ensures { closed.new.items ≡ after.closed_but slot.now closed.old.items }
 {

@@ -4,7 +4,7 @@ ghost use Rattle.club_reference.specs.Laws.{ModelsWords};
 
 use pass_caveats::laws::reads_what_is_understood;
 
-/// Words have one model: the one that is computed from them.
+/// Words have exactly one model, which `words_model` computes.
 #[tactic(auto, using(crate::proofs::WordLemmas::models_words))]
 pub fn models_words()
     ensures { ModelsWords }

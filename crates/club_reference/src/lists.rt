@@ -10,42 +10,42 @@ use club_rows::{Booking, Facility, Key, Member};
 use club_values::Slot;
 
 impl Club {
-    /// The members, oldest first.
+    /// Returns the members, oldest first.
     pub fn members(&self) -> &[Member]
         ensures { result.now ≡ self.now.members }
     {
         &self.members
     }
 
-    /// The facilities, oldest first.
+    /// Returns the facilities, oldest first.
     pub fn facilities(&self) -> &[Facility]
         ensures { result.now ≡ self.now.facilities }
     {
         &self.facilities
     }
 
-    /// The keys, oldest first.
+    /// Returns the keys, oldest first.
     pub fn keys(&self) -> &[Key]
         ensures { result.now ≡ self.now.keys }
     {
         &self.keys
     }
 
-    /// The bookings, oldest first, with those that were cancelled.
+    /// Returns the bookings, oldest first, with those that were cancelled.
     pub fn bookings(&self) -> &[Booking]
         ensures { result.now ≡ self.now.bookings }
     {
         &self.bookings
     }
 
-    /// The slots that are closed, oldest first.
+    /// Returns the slots that are closed, oldest first.
     pub fn closed_slots(&self) -> &[Slot]
         ensures { result.now ≡ self.now.closed }
     {
         &self.closed
     }
 
-    /// What is left of the points that were credited to a member.
+    /// Returns the member's balance: the points credited, less what its bookings cost.
     pub fn balance(&self, member: &Member) -> u32
         ensures { result ≡ sums.balance_of member.now
             (held_under self.now.keys member.now.name self.now.bookings) }

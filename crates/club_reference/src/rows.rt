@@ -1,4 +1,4 @@
-//! The rows of names, each found by looking at every row.
+//! Finds the row of a name by looking at every row.
 
 ghost use Rattle.std.specs.Prelude.{◌≡◌};
 
@@ -9,7 +9,7 @@ use club_values::{Name, Slot};
 impl Club {
     ghost use Rattle.club_core.specs.Club as clubs;
 
-    /// The member of this name.
+    /// Returns the member of this name.
     pub(crate) fn member_named(&self, name: &Name) -> Option<Member>
         ensures { result ≡ clubs.member_named name.now self.now }
     {
@@ -19,7 +19,7 @@ impl Club {
             .copied()
     }
 
-    /// The facility of this name.
+    /// Returns the facility of this name.
     pub(crate) fn facility_named(&self, name: &Name) -> Option<Facility>
         ensures { result ≡ clubs.facility_named name.now self.now }
     {
@@ -29,14 +29,14 @@ impl Club {
             .copied()
     }
 
-    /// The key of this name.
+    /// Returns the key of this name.
     pub(crate) fn key_named(&self, name: &Name) -> Option<Key>
         ensures { result ≡ clubs.key_named name.now self.now }
     {
         self.keys.iter().find(|key| key.name == *name).copied()
     }
 
-    /// Whether the slot is closed.
+    /// Returns whether the slot is closed.
     pub(crate) fn is_closed(&self, slot: &Slot) -> bool
         ensures { result ≡ clubs.is_closed slot.now self.now }
     {

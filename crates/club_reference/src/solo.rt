@@ -1,5 +1,5 @@
-//! The solo machine: it holds only one member's part of the club, and sees of others only what they
-//! hold of the slot of each request.
+//! The solo machine. It has only one member's part of the club. For each request it is told how
+//! much of the slot other members take, and nothing else about them.
 
 ghost use Rattle.std.specs.Prelude.{◌≡◌, ◌≤◌, ◌<◌, ◌^◌, IfOk, IfSome, OnOk, OnErr, filter};
 ghost use Rattle.std.specs.{Prelude.option_map, Str.bytes_eq};
@@ -56,7 +56,7 @@ fn bookings_of(
         .collect(alloc)
 }
 
-/// The persons whom others booked into the slot.
+/// Returns the number of persons whom other members booked into the slot.
 fn taken_by_others(keys: &[Key], bookings: &[Booking], member: &Name, slot: &Slot) -> u32
     requires { sums.taken_in slot.now (others_under keys.now member.now bookings.now) < 2 ^ 32 }
     ensures { result ≡ sums.taken_in slot.now (others_under keys.now member.now bookings.now) }
@@ -69,7 +69,7 @@ fn taken_by_others(keys: &[Key], bookings: &[Booking], member: &Name, slot: &Slo
         .sum()
 }
 
-/// A view with what others hold of its slot.
+/// Adds to a view how much of its slot other members take.
 fn with_outside(seen: Option<KeyView>, others: SlotUse) -> Option<KeyView>
     requires { IfSome seen (λ s. s.view.taken ≤ 50) }
     ensures { result ≡ option_map (with_outside others) seen }
@@ -85,7 +85,7 @@ impl Club {
     ghost use Rattle.club_core.specs.Run.{after_change};
     ghost use Rattle.club_core.specs.Solo as solo;
 
-    /// The rows of a member, and the facilities.
+    /// Returns the rows of a member, and the facilities.
     pub fn part(&self, member: &Name) -> Result<Club, AllocError>
         ensures { IfOk result (λ part. part ≡ solo.part_of member.now self.now) }
     {
@@ -103,7 +103,8 @@ impl Club {
         })
     }
 
-    /// What others than the member hold of the requested slot; nothing if there is no slot.
+    /// Returns how much of the requested slot other members take, which is nothing if there is no
+    /// slot.
     #[tactic(auto, using(crate::proofs::WidthLemmas::sum_filtered_le))]
     pub fn outside(&self, member: &Name, slot: Option<Slot>) -> SlotUse
         ensures { result ≡ solo.outside member.now self.now slot }
@@ -123,7 +124,7 @@ impl Club {
         }
     }
 
-    /// The answer to a request on a member's part, with what others hold of its slot.
+    /// Returns the answer to a request on a member's part, given how much of its slot others take.
     #[tactic(auto, using(crate::proofs::WordLemmas::answers_seen, crate::proofs::WordLemmas::seen_with_others))]
     fn answer_alone(&self, words: &Words, moment: Moment, others: SlotUse) -> Verdict
         ensures value { result ≡ solo.solo_verdict self.now (words_model words.now) moment others }
@@ -134,12 +135,13 @@ impl Club {
         words.verdict(seen.as_ref(), moment)
     }
 
-    /// Answers a request on a member's part, with what others hold of its slot, and makes the
-    /// request's change. Only a new booking needs memory; if it is refused, the part is unchanged.
+    /// Answers a request on a member's part, given how much of its slot others take, and applies
+    /// the request's change. Only a new booking needs memory; if that is refused, the part is
+    /// unchanged.
     ///
     /// # Errors
     ///
-    /// Memory was refused.
+    /// Fails if memory was refused.
     pub fn ask_alone(
         &mut self,
         words: &Words,

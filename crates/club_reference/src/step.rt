@@ -17,7 +17,7 @@ use std::alloc::AllocError;
 impl Club {
     ghost use Rattle.club_reference.specs.Widths.{FitsWidths};
 
-    /// The reply to a request at a moment, and its change.
+    /// Returns the reply to a request at a moment, and its change.
     #[tactic(auto, using(crate::proofs::WordLemmas::answers_seen))]
     fn answer(&self, words: &Words, moment: Moment) -> Verdict
         ensures value { result ≡ verdict_in self.now (words_model words.now) moment }
@@ -27,7 +27,7 @@ impl Club {
         words.verdict(self.view_for(words, moment).as_ref(), moment)
     }
 
-    /// The change of a command, `None` if nothing is left to change, or why it is refused.
+    /// Returns the change of a command, `None` if nothing is left to change, or why it is refused.
     fn change_of(&self, command: &Command) -> Result<Option<Change>, OfficeFault>
         ensures value { result ≡ office_verdict self.now command.now }
         ensures fits { FitsWidths self.now }
@@ -36,12 +36,12 @@ impl Club {
         decide_command(&self.command_view(command), command)
     }
 
-    /// Answers a request at a moment, and makes its change. Only a new booking needs memory; if it
-    /// is refused, the club is unchanged.
+    /// Answers a request at a moment, and applies its change. Only a new booking needs memory; if
+    /// that is refused, the club is unchanged.
     ///
     /// # Errors
     ///
-    /// Memory was refused.
+    /// Fails if memory was refused.
     pub fn ask(&mut self, words: &Words, moment: Moment) -> Result<Reply, AllocError>
         ensures outcome { IfOk result (λ reply. (model : rules.Words) × IsModelOf words.now model
             × (outcome (machine.ToMember reply) self.new
@@ -61,12 +61,12 @@ impl Club {
         }
     }
 
-    /// Answers a command of the office, and makes its change. Only a new row needs memory; if it is
-    /// refused, the club is unchanged.
+    /// Answers a command of the office, and applies its change. Only a new row needs memory; if
+    /// that is refused, the club is unchanged.
     ///
     /// # Errors
     ///
-    /// Memory was refused.
+    /// Fails if memory was refused.
     pub fn office(&mut self, command: &Command) -> Result<OfficeAnswer, AllocError>
         ensures outcome { IfOk result (λ answer. outcome (machine.ToOffice answer) self.new
             ≡ machine.step self.old (machine.Commanded command.now)) }

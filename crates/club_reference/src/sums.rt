@@ -1,4 +1,4 @@
-//! Sums over bookings, each computed anew from all of them.
+//! Sums over bookings. Each call computes them from all bookings.
 
 ghost use Rattle.std.specs.Prelude.{◌≡◌, ◌-◌, ◌<◌, ◌^◌, fold};
 ghost use Rattle.club_values.specs.declared.slot.Slot.{Slot as SlotRow};
@@ -9,21 +9,21 @@ ghost use Rattle.club_reference.specs.Held.{is_held, held_under};
 use club_rows::{Booking, BookingNumber, Key, Member};
 use club_values::{Moment, Name, Slot};
 
-/// What a booking has cost.
+/// Returns the points that a booking has cost.
 fn cost(booking: &Booking) -> u32
     ensures { result ≡ sums.cost_of booking.now }
 {
     booking.charge.saturating_sub(booking.refund)
 }
 
-/// The guests of a booking and its member.
+/// Returns the number of persons of a booking: its guests and its member.
 pub(crate) fn persons(booking: &Booking) -> u32
     ensures { result ≡ persons_of booking.now }
 {
     u32::from(booking.guests.persons())
 }
 
-/// Whether a key of this name is the member's.
+/// Returns whether the member has a key of this name.
 pub(crate) fn is_held(keys: &[Key], member: &Name, name: &Name) -> bool
     ensures { result ≡ is_held keys.now member.now name.now }
 {
@@ -32,7 +32,7 @@ pub(crate) fn is_held(keys: &[Key], member: &Name, name: &Name) -> bool
         .any(|key| key.name == *name)
 }
 
-/// The persons who booked the slot.
+/// Returns the number of persons who booked the slot.
 pub(crate) fn persons_in(bookings: &[Booking], slot: &Slot) -> u32
     requires { sums.taken_in slot.now bookings.now < 2 ^ 32 }
     ensures { result ≡ sums.taken_in slot.now bookings.now }
@@ -44,7 +44,7 @@ pub(crate) fn persons_in(bookings: &[Booking], slot: &Slot) -> u32
         .sum()
 }
 
-/// The most persons in a slot of the facility, of whatever day; 0 if it has no booking.
+/// Returns the most persons in any slot of the facility, on any day; 0 if it has no booking.
 pub(crate) fn most_persons_at(bookings: &[Booking], facility: &Name) -> u32
     requires { (slot : SlotRow) → sums.taken_in slot bookings.now < 2 ^ 32 }
     ensures { result ≡ sums.most_taken_in facility.now bookings.now }
@@ -58,7 +58,7 @@ pub(crate) fn most_persons_at(bookings: &[Booking], facility: &Name) -> u32
         )
 }
 
-/// What the key has spent over the member's bookings.
+/// Returns the points that the key has spent, summed over the member's bookings.
 pub(crate) fn spent(keys: &[Key], bookings: &[Booking], member: &Name, name: &Name) -> u64
     requires { sums.spent_under name.now (held_under keys.now member.now bookings.now) < 2 ^ 64 }
     ensures { result ≡ sums.spent_under name.now (held_under keys.now member.now bookings.now) }
@@ -85,7 +85,7 @@ fn left_of(keys: &[Key], bookings: &[Booking], member: &Member) -> u32
         )
 }
 
-/// What is left of the points credited to the member.
+/// Returns the member's balance: the points credited, less what its bookings cost.
 pub(crate) fn balance(keys: &[Key], bookings: &[Booking], member: &Member) -> u32
     ensures { result ≡ sums.balance_of member.now
         (held_under keys.now member.now.name bookings.now) }
@@ -93,7 +93,7 @@ pub(crate) fn balance(keys: &[Key], bookings: &[Booking], member: &Member) -> u3
     left_of(keys, bookings, member)
 }
 
-/// The member's bookings that are still to come.
+/// Returns the number of the member's bookings that are still to come.
 pub(crate) fn open_count(keys: &[Key], bookings: &[Booking], member: &Name, moment: Moment) -> u64
     ensures { result ≡ sums.count_to_come moment (held_under keys.now member.now bookings.now) }
 {
@@ -104,7 +104,7 @@ pub(crate) fn open_count(keys: &[Key], bookings: &[Booking], member: &Name, mome
         .count() as u64
 }
 
-/// The booking under the key and number, whoever's key it is.
+/// Returns the booking under the key and number, whichever member has the key.
 pub(crate) fn booking_under(
     bookings: &[Booking],
     name: &Name,
@@ -118,7 +118,7 @@ pub(crate) fn booking_under(
         .copied()
 }
 
-/// The member's booking under the key and number.
+/// Returns the member's booking under the key and number.
 pub(crate) fn recorded_booking(
     keys: &[Key],
     bookings: &[Booking],

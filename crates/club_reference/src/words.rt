@@ -20,8 +20,8 @@ pub struct Pass {
     pub roots: Vec<Root>,
 }
 
-/// The words of a request: the parsed pass, or why the text isn't one, and the request. The form in
-/// which the pass was written isn't part of them.
+/// The words of a request: the parsed pass or why the text isn't one, and the request. The words
+/// don't include the form in which the pass was written.
 #[derive(Drop)]
 pub struct Words {
     pub pass: Result<Pass, PassFault>,
@@ -33,14 +33,14 @@ impl Pass {
     ghost use Rattle.club_core.specs.Pass.{is_signed_under};
     ghost use Rattle.club_reference.specs.computed.Words.{pass_model};
 
-    /// Whether it is signed under this root.
+    /// Returns whether the pass is signed under this root.
     fn is_signed(&self, root: &Root) -> bool
         ensures { result ≡ (pass_model self.now).is_signed root.now }
     {
         self.roots.iter().any(|signing| *signing == *root)
     }
 
-    /// Whether it is signed under a root of the key that is good at the moment.
+    /// Returns whether the pass is signed under a root of the key that is good at the moment.
     pub fn is_signed_under(&self, key: &Key, moment: Moment) -> bool
         ensures { result ≡ is_signed_under (pass_model self.now) key.now moment }
     {
@@ -53,7 +53,7 @@ impl Pass {
         }
     }
 
-    /// The first of its caveats that isn't understood or doesn't allow what is asked.
+    /// Returns the first caveat that isn't understood or doesn't allow the request.
     pub fn first_fault(&self, ask: &Ask) -> Option<CaveatFault>
         ensures { result ≡ first_fault_of (pass_model self.now).caveats ask.now }
     {
@@ -66,8 +66,8 @@ impl Words {
     ghost use Rattle.club_reference.specs.Words.{IsModelOf, answer_seen};
     ghost use Rattle.club_reference.specs.computed.Words.{words_model};
 
-    /// The key that the pass names; `None` if the text isn't a pass, or its identifier names no
-    /// key.
+    /// Returns the key that the pass names; `None` if the text isn't a pass, or its identifier
+    /// names no key.
     pub fn key(&self) -> Option<Name>
         ensures { result ≡ key_of (words_model self.now).pass }
     {
@@ -77,8 +77,8 @@ impl Words {
         }
     }
 
-    /// The answer by that key and its view of the request, with its change; `seen` is `None` if the
-    /// club has no such key.
+    /// Returns the answer and its change, from the view of the key that the pass names. `seen` is
+    /// `None` if the club has no such key.
     pub fn answer(&self, seen: Option<&KeyView>, moment: Moment) -> Verdict
         ensures { (model : rules.Words) × IsModelOf self.now model
             × (result ≡ answer_seen model.pass model.request moment (option_copied seen.entry)) }
@@ -87,7 +87,7 @@ impl Words {
         self.verdict(seen, moment)
     }
 
-    /// The answer, by the model that is computed from the words.
+    /// Returns the answer, stated with the computed model of the words.
     pub(crate) fn verdict(&self, seen: Option<&KeyView>, moment: Moment) -> Verdict
         ensures { result
             ≡ answer_seen (words_model self.now).pass self.now.request moment

@@ -10,7 +10,7 @@ same_slot a b = bytes_eq a.facility b.facility && a.day == b.day && a.hour == b.
 abbrev pub persons_of : Booking → ℕ
 persons_of booking = booking.guests + 1
 
--- how many minutes before a slot's start all points are refunded: those of a day
+-- how long before a slot's start all points are refunded, in minutes: one day
 abbrev pub full_refund_ahead : ℕ
 full_refund_ahead = minutes_a_day
 

@@ -1,4 +1,4 @@
--- What a facility charges, and when it can be booked (ours).
+-- The charges of a facility, and the times when it can be booked (ours).
 use Rattle.std.specs.Prelude.{ℕ, ◌+◌, ◌*◌, ◌&&◌, Bool, nat_lt, nat_le}
 use Rattle.club_values.specs.{Moment.minutes_a_day, Slot.start_of, declared.slot.Slot.Slot}
 use Rattle.club_rows.specs.declared.facility.Facility.{Facility}
@@ -10,11 +10,11 @@ charge_of facility guests = facility.price * (guests + 1)
 abbrev pub is_open_at : Facility → ℕ → Bool
 is_open_at facility hour = nat_le facility.opens hour && nat_lt hour facility.shuts
 
--- how many minutes ahead a slot may begin: those of 60 days
+-- how far ahead a slot may begin, in minutes: 60 days
 abbrev pub booking_window : ℕ
 booking_window = 60 * minutes_a_day
 
--- the hour is within the opening hours, and the slot begins after the moment, at most the window later
+-- the hour is within the opening hours, and the slot begins after the moment, but not after the booking window's end
 abbrev pub is_bookable : Facility → Slot → ℕ → Bool
 is_bookable facility slot moment =
     is_open_at facility slot.hour && nat_lt moment (start_of slot) && nat_le (start_of slot) (moment + booking_window)

@@ -2,7 +2,7 @@
 use Rattle.std.specs.Prelude.{ℕ, ◌-◌, ◌*◌, ◌≤◌, List, length}
 use Rattle.club_values.specs.{Hour.hours_a_day, Number.number_limit, Slot.guests_limit}
 
--- the most points that a member is ever credited, and the most bookings that a member may have open
+-- the most points that can ever be credited to a member, and the most bookings that a member may have open
 abbrev pub credited_limit : ℕ
 credited_limit = number_limit
 

@@ -9,13 +9,13 @@ use crate::facility::{MAX_PLACES, MAX_PRICE};
 use crate::guests::Guests;
 use club_values::{MINUTES_A_DAY, Moment, Name, Slot};
 
-/// The most points of a booking's charge: those of all places at the highest price.
+/// The highest charge of a booking, in points: all places at the highest price.
 pub const MAX_CHARGE: u32 = MAX_PLACES * MAX_PRICE;
 
-/// The most places left after a booking: those after a booking of one person.
+/// The most places left after a booking, which has at least one person.
 const MAX_LEFT: u32 = MAX_PLACES - 1;
 
-/// How many minutes before a slot's start all points are refunded: those of a day.
+/// How long before a slot's start all points are refunded, in minutes: one day.
 const FULL_REFUND_MINUTES: u64 = MINUTES_A_DAY as u64;
 
 /// A booking of a slot. A booking that was cancelled keeps its row.
@@ -46,7 +46,7 @@ pub struct BookingColumns<'a> {
     pub guests: i64,
     pub charge: i64,
     pub left: i64,
-    /// The number 1 once it is cancelled, 0 before.
+    /// 1 if the booking is cancelled, else 0.
     pub cancelled: i64,
     pub refund: i64,
 }
@@ -54,8 +54,8 @@ pub struct BookingColumns<'a> {
 impl Booking {
     ghost use Rattle.club_rows.specs.{Booking.refund_at, Columns.IsBookingOf};
 
-    /// The points refunded for a cancellation at this moment, if the slot hasn't begun: all of them
-    /// a day or more ahead, else half of them, rounded down.
+    /// Returns the points refunded for a cancellation at this moment, before the slot begins. They
+    /// are the whole charge a day or more ahead, else half of it, rounded down.
     pub fn refund_at(&self, moment: Moment) -> u32
         ensures { result ≡ refund_at self.now moment }
     {
@@ -66,7 +66,7 @@ impl Booking {
         }
     }
 
-    /// The booking of these columns; `None` if a value is outside its limits.
+    /// Returns the booking of these columns; `None` if a value is outside its limits.
     pub fn from_columns(columns: &BookingColumns<'_>) -> Option<Booking>
         ensures { Reads (IsBookingOf columns.now) result }
     {

@@ -31,7 +31,7 @@ impl Model for BookingNumber {
 }
 
 impl BookingNumber {
-    /// The booking number of this value; `None` for 0, and above 999,999,999.
+    /// Returns the booking number of this value; `None` for 0 and for numbers above 999,999,999.
     pub fn new(number: u32) -> Option<BookingNumber>
         ensures within { IsSome result ↔ IsBookingNumber number }
         ensures value { IfSome result (λ booking. booking ≡ number) }
@@ -42,7 +42,7 @@ impl BookingNumber {
         Some(BookingNumber { number })
     }
 
-    /// The number.
+    /// Returns the number.
     pub fn get(self) -> u32
         ensures value { result ≡ self }
         ensures within { IsBookingNumber result }

@@ -10,7 +10,7 @@ use club_values::{HOURS_A_DAY, Hour, Kind, Name};
 /// The most places of a slot.
 pub const MAX_PLACES: u32 = 50;
 
-/// The highest price of a facility, in points for a person and a slot.
+/// The highest price of a facility, in points per person and slot.
 pub const MAX_PRICE: u32 = 9_999;
 
 /// The latest hour at which a facility shuts: the end of the day.
@@ -23,11 +23,11 @@ pub struct Facility {
     pub kind: Kind,
     /// The places of a slot, one for each person, 1 to 50.
     pub places: u8,
-    /// The points for a person and a slot, 0 to 9,999.
+    /// The price in points per person and slot, 0 to 9,999.
     pub price: u16,
     /// The first hour that can be booked, 0 to 23.
     pub opens: u8,
-    /// The hour at which the last slot ends, later than `opens`, to 24.
+    /// The hour at which the last slot ends, later than `opens` and at most 24.
     pub shuts: u8,
 }
 
@@ -45,21 +45,21 @@ pub struct FacilityColumns<'a> {
 impl Facility {
     ghost use Rattle.club_rows.specs.{Columns.IsFacilityOf, Facility.{charge_of, is_open_at}};
 
-    /// The charge of a booking with so many guests, in points.
+    /// Returns the charge of a booking with this many guests, in points.
     pub fn charge(&self, guests: Guests) -> u32
         ensures { result ≡ charge_of self.now guests }
     {
         u32::from(self.price) * u32::from(guests.persons())
     }
 
-    /// Whether the facility is open in this hour.
+    /// Returns whether the facility is open in this hour.
     pub fn is_open_at(&self, hour: Hour) -> bool
         ensures { result ≡ is_open_at self.now hour }
     {
         self.opens <= hour.number() && hour.number() < self.shuts
     }
 
-    /// The facility of these columns; `None` if a value is outside its limits.
+    /// Returns the facility of these columns; `None` if a value is outside its limits.
     pub fn from_columns(columns: &FacilityColumns<'_>) -> Option<Facility>
         ensures { Reads (IsFacilityOf columns.now) result }
     {

@@ -6,7 +6,8 @@ ghost use Rattle.club_rows.specs.Limits.{IsGuests};
 use club_values::MAX_GUESTS;
 use std::marker::Model;
 
-/// The guests of a booking, not counting its member, 0 to 49. Contracts see it as its number.
+/// The number of guests of a booking, 0 to 49, not counting its member. Contracts see it as that
+/// number.
 #[derive(Clone, Copy, Debug, PartialEq, Eq, PartialOrd, Ord)]
 pub struct Guests {
     count: u8,
@@ -27,7 +28,7 @@ impl Model for Guests {
 }
 
 impl Guests {
-    /// That many guests; `None` above 49.
+    /// Returns this many guests; `None` above 49.
     pub fn new(count: u8) -> Option<Guests>
         ensures within { IsSome result ↔ IsGuests count }
         ensures value { IfSome result (λ guests. guests ≡ count) }
@@ -38,7 +39,7 @@ impl Guests {
         Some(Guests { count })
     }
 
-    /// The number of guests.
+    /// Returns the number of guests.
     pub fn get(self) -> u8
         ensures value { result ≡ self }
         ensures within { IsGuests result }
@@ -46,7 +47,7 @@ impl Guests {
         self.count
     }
 
-    /// The number of persons: the guests and the member.
+    /// Returns the number of persons: the guests and the member.
     pub fn persons(self) -> u8
         ensures value { result ≡ self + 1 }
         ensures within { IsGuests self }

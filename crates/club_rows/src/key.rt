@@ -27,8 +27,8 @@ pub struct KeyRow {
 impl KeyRow {
     ghost use Rattle.club_rows.specs.Columns.{IsKeyOf};
 
-    /// The row of the columns `name`, `member`, `root` and `revoked`; `None` if a value is outside
-    /// its limits.
+    /// Returns the row of the columns `name`, `member`, `root` and `revoked`; `None` if a value is
+    /// outside its limits.
     pub fn from_columns(name: &[u8], member: &[u8], root: &[u8], revoked: i64) -> Option<KeyRow>
         ensures { Reads (IsKeyOf name.now member.now root.now revoked) result }
     {
@@ -59,7 +59,7 @@ pub struct Key {
 impl Key {
     ghost use Rattle.club_rows.specs.Key.{key_of_row, older_root_at, row_of_key};
 
-    /// The key of a row and its older root; `None` if the key was never rotated.
+    /// Returns the key with this row and older root, which is `None` if the key was never rotated.
     pub fn new(row: KeyRow, older: Option<OlderRoot>) -> Key
         ensures { result ≡ key_of_row row older }
     {
@@ -72,7 +72,7 @@ impl Key {
         }
     }
 
-    /// Its row, without the older root.
+    /// Returns the key's row, without the older root.
     pub fn row(&self) -> KeyRow
         ensures { result ≡ row_of_key self.now }
     {
@@ -84,8 +84,8 @@ impl Key {
         }
     }
 
-    /// The older root, if it is good at the moment: if the moment is strictly earlier than its end.
-    /// The key's own root is always good.
+    /// Returns the older root if it is good at the moment, which must be strictly earlier than the
+    /// root's end. The key's own root is always good.
     pub fn older_root_at(&self, moment: Moment) -> Option<&Root>
         ensures { option_copied result ≡ older_root_at self.now.older moment }
     {

@@ -6,7 +6,7 @@ use crate::columns::number_within;
 use club_values::Name;
 use club_values::digits::MAX_NUMBER;
 
-/// The most points that a member is ever credited.
+/// The most points that can ever be credited to a member.
 pub const MAX_CREDITED: u32 = MAX_NUMBER;
 
 /// The most bookings that a member may have open.
@@ -25,8 +25,8 @@ pub struct Member {
 impl Member {
     ghost use Rattle.club_rows.specs.Columns.{IsMemberOf};
 
-    /// The member of the columns `name`, `credited` and `quota`; `None` if a value is outside its
-    /// limits.
+    /// Returns the member of the columns `name`, `credited` and `quota`; `None` if a value is
+    /// outside its limits.
     pub fn from_columns(name: &[u8], credited: i64, quota: i64) -> Option<Member>
         ensures { Reads (IsMemberOf name.now credited quota) result }
     {

@@ -37,7 +37,7 @@ impl Model for Root {
 }
 
 impl Root {
-    /// The root of these bytes; `None` if they are fewer than 16 or more than 64.
+    /// Returns the root of these bytes; `None` if they are fewer than 16 or more than 64.
     pub fn new(bytes: &[u8]) -> Option<Root>
         ensures within { IsSome result ↔ IsRoot bytes.now }
         ensures value { IfSome result (λ root. root ≡ bytes.now) }
@@ -49,7 +49,7 @@ impl Root {
         Some(Root { bytes })
     }
 
-    /// The bytes of the root.
+    /// Returns the bytes of the root.
     pub fn as_bytes(&self) -> &[u8]
         ensures value { result.now ≡ self.now }
         ensures within { IsRoot result.now }

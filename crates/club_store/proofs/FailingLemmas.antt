@@ -1,4 +1,4 @@
--- What fails after a reading has failed since before it; and a change keeps the clubs sound.
+-- A failure after a read is also a failure since before the read; and a change keeps the clubs sound.
 use Rattle.std.specs.Prelude.{Option, Some, None, Result, Ok, Err, IfErr}
 use Rattle.std.proofs.{Common.{arith, [], ◌∷◌, Ok, Err}, lemmas.{List.Elements.{All-cons, All-head, All-nil, All-tail}, Result.MatchResult-weaker}}
 use Rattle.club_core.specs.{After.after, Club.{Club, IsSound}, Store.{Changes, ReadsStore}, declared.{change.Change.Change, store.StoreFault.StoreFault}}
@@ -14,7 +14,7 @@ module _ {S A : Type 0} (g : Ghosts S) (old new : Held S) (first : Result A Stor
   fails_since None fault later it = later_fault g old new later first IsReturned fault clean reads it
   fails_since (Some change) fault later it = change_fault g old new later first IsReturned change fault clean reads it
 
--- a read of the tables is one of a store of sound clubs
+-- a read of the tables is a read of a store of sound clubs
 pub reads_sound : {S A : Type 0} {g : Ghosts S} {old new : Held S} {result : Result A StoreFault} {IsReturned : Club → A → Type 0}
     → ReadsClub g old new result IsReturned → ReadsStore (λ (held : Held S). HasCleanDisk (state g held)) (sound_in g) (Fails g) old new result IsReturned
 reads_sound {g = g} {old = old} {new = new} {result = result} {IsReturned = IsReturned} reads = record {

@@ -1,4 +1,4 @@
--- What the parts of a view make together.
+-- A view put together from its parts.
 use Rattle.std.proofs.{Common.{◌≡◌, ℕ, suc, Bool, true, List, [], ◌∷◌, Option, Some, None, refl, sym, ap, subst, ◌∙◌, arith, inl, inr}, lemmas.Bool.cases_Bool}
 use Rattle.std.proofs.lemmas.Slice.Eq.{bytes_eq-Decides}
 use Rattle.std.specs.{Prelude.{find, Contains, option_map, option_and_then}, Str.bytes_eq}
@@ -8,7 +8,7 @@ use Rattle.club_core.specs.{Laws.{OwnBookings, HasOwnBookings}, Request.{request
 use Rattle.club_core.specs.{Sums.{balance_of, booking_under, count_to_come, spent_under}, declared.account.MemberAccount.MemberAccount}
 use Rattle.club_core.specs.declared.request.Request.{Request}
 
--- what is found is an element, and passes
+-- an element that is found is in the list and passes the test
 pub found : {X : Type 0} (p : X → Bool) (xs : List X) (x : X) → find p xs ≡ Some x → Contains xs x × (p x ≡ true)
 found p [] x h = absurd (cc)
 found p (y ∷ xs) x h = elim (cases_Bool (p y)) [
@@ -30,7 +30,7 @@ accounted club (Some member) account h =
     let same : member ≡ account.member = ap (λ (a : MemberAccount). a.member) (sym e) in
     (ap Some same, ap (λ (a : MemberAccount). a.balance) e ∙ ap (λ (m : Member). balance_of m (bookings_of m.name club)) same)
 
--- the key, with its view by all of its bookings, is as the bookings of its member show it
+-- the key and its view over all of its bookings are the same as over the bookings of its member
 pub seen_is : OwnBookings → (club : Club) (name : List ℕ) (key : Key) (account : MemberAccount) (request : Request) (moment : ℕ)
     → key_named name club ≡ Some key → Some account ≡ account_named key.member club → key_view_in club name request moment ≡ Some (record {
       key = key;

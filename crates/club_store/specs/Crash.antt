@@ -1,4 +1,4 @@
--- What a crash leaves of a store, and what reopening it recovers (ours).
+-- The state of a store after a crash, and the club that reopening recovers (ours).
 use Rattle.std.specs.Prelude.{List, [], ◌∷◌, ◌⊎◌, IsTrue}
 use Rattle.sqlite_disk.specs.declared.Disk as disk
 use Rattle.sqlite.specs.{Files.{HoldsDatabase, over_files}, Recovery.Image, State.{State, Opens, IsLive}, Store.Ghosts, Tree.Trees, View.IsClean}
@@ -17,12 +17,12 @@ pub record IsOpenedOn (state : State) (clubs : List Club) : Type 0 where
   pub live : IsLive state
   pub left : IsLeftOf state.committed.trees clubs
 
--- the state represents one of these clubs, and every crash recovers that one
+-- the state represents one of these clubs, and that club is recovered after every crash
 abbrev pub RepresentsOne : State → List Club → Type 0
 RepresentsOne state [] = ⊥
 RepresentsOne state (club ∷ clubs) = Represents state club [] ⊎ RepresentsOne state clubs
 
--- one of these clubs is found, and every crash recovers that one
+-- one of these clubs is found, and that club is recovered after every crash
 abbrev pub OneIsFound : State → List Club → Type 0
 OneIsFound state [] = ⊥
 OneIsFound state (club ∷ clubs) = IsFound state club [] ⊎ OneIsFound state clubs

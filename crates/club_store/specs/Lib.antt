@@ -3,6 +3,6 @@ pub mod Held
 pub mod Opening
 pub mod Limits
 pub mod Failing
--- passes on the definitions of what tables hold, and of reads and changes
+-- re-exports the definitions of tables, reads and changes
 pub use Rattle.club_tables.specs.Tables
 pub use Rattle.club_tables.specs.ReadsAndChanges

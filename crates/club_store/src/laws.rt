@@ -19,7 +19,7 @@ pub fn files_hold_one_of<D: Disk>(store: &FileStore<D>)
 {}
 
 /// The crash law: reopening the files after a crash recovers exactly one of the clubs that the old
-/// store could recover to, and every later crash recovers that club.
+/// store could recover to, and after every later crash that club is recovered again.
 pub fn one_club_recovered<D: Disk, Q: Start>(
     before: &FileStore<D>,
     after: &Store<FileStore<FileFrom<Q>>>,
@@ -28,18 +28,19 @@ pub fn one_club_recovered<D: Disk, Q: Start>(
         OpensFrom left after.now → ∥ RepresentsOne (file_state after.now) clubs ∥₁ }
 {}
 
-/// The disk of a store in memory is clean: it returns what was written, and nobody else writes it.
+/// The disk of a store in memory is clean: it returns what was written, and nobody else writes to
+/// it.
 pub fn memory_disk_is_clean(store: &Store<MemStore>)
     ensures { HasCleanDisk (state over_memory store.now) }
 {}
 
-/// So is the disk of a store over files in memory.
+/// The disk of a store over files in memory is clean.
 pub fn disk_of_files_in_memory_is_clean(store: &Store<FileStore<Memory>>)
     ensures { HasCleanDisk (file_state store.now) }
 {}
 
-/// It stays clean if the files fail from one of their calls on: a crash stops the machine, but no
-/// read returns other bytes than were written.
+/// The disk of a store over files in memory stays clean if all calls fail from some call on. A
+/// crash stops the machine, but no read returns bytes other than those written.
 pub fn disk_of_files_that_stop_is_clean(store: &Store<FileStore<Fuse<Memory>>>)
     ensures { HasCleanDisk (file_state store.now) }
 {}

@@ -36,8 +36,8 @@ use std::alloc::Global;
 use std::marker::Model;
 use std::rt::HostRuntime;
 
-/// The tables of a club over a connection, which is in no transaction between calls. Contracts see
-/// it as the connection.
+/// The tables of a club over a connection. Between calls, the connection isn't in a transaction.
+/// Contracts see it as the connection.
 #[derive(Drop)]
 pub struct Store<S: Alter> {
     pub(crate) tables: Tables<S>,
@@ -55,7 +55,7 @@ impl<S: Alter> Model for Store<S> {
 }
 
 impl Store<MemStore> {
-    /// A new database in memory, with the tables of an empty club.
+    /// Returns a new database in memory, with the tables of an empty club.
     pub fn open_in_memory(alloc: Global) -> Result<Store<MemStore>, StoreFault>
         ensures opened { IfOk result (λ store. Represents (state over_memory store) empty_club []) }
         ensures fault { IfErr result IsMemoryFault }
@@ -72,10 +72,11 @@ impl Store<MemStore> {
 }
 
 impl<Q: Start> Store<FileStore<FileFrom<Q>>> {
-    /// Opens the tables in the file at a path, and makes the file if there is none. `start`
-    /// represents what the file and its log hold. If it fails, it returns what is left beside the
-    /// fault: the connection that `adopt` refused, or the files that weren't opened; nothing of a
-    /// file that another program has open. The path `:memory:`, which names no file, is `Storage`.
+    /// Opens the tables in the file at a path, and creates the file if it is missing. `start`
+    /// represents the contents of the file and its log. On failure, it returns the fault with the
+    /// connection that `adopt` refused or with the files that weren't opened. It returns only the
+    /// fault if another program has the file open. The path `:memory:` names no file and fails with
+    /// `Storage`.
     pub fn open_file(
         rt: &HostRuntime,
         path: &str,
@@ -104,9 +105,9 @@ impl<Q: Start> Store<FileStore<FileFrom<Q>>> {
 
 impl<S: Alter + Drop> Store<S> {
     /// Takes over a connection whose database has the tables of a club. An empty database gets the
-    /// tables of an empty club; version 1 is migrated. If it fails, nothing is changed, and it
-    /// returns the connection beside the fault: `Storage` for another version, other tables, or a
-    /// connection in a transaction.
+    /// tables of an empty club, and version 1 is migrated. On failure nothing is changed, and it
+    /// returns the fault with the connection. The fault is `Storage` for another version, other
+    /// tables, or a connection in a transaction.
     pub fn adopt(
         alloc: Global,
         connection: Connection<S>,
@@ -144,8 +145,8 @@ impl<S: Alter + Drop> Store<S> {
     }
 
     /// Consumes the connection, and returns the engine's store below it. After a crash that store
-    /// holds the current club or one of the possible crash states. A crash within a call is a disk
-    /// that fails from there on, so it is covered too.
+    /// holds the current club or one of the possible crash states. This covers a crash during a
+    /// call, which is a disk that fails from that point on.
     pub fn into_store(self) -> S
         ensures was_clean { IsClean (S.Store.view result) → HasCleanDisk (state S.Store self) }
         ensures numbered { IsClean (S.Store.view result) → IsTrue
@@ -168,8 +169,8 @@ impl<S: Alter> Store<S> {
         self.tables.into_connection()
     }
 
-    /// The key of this name; `None` if there is none. A row out of its limits is a fault of
-    /// storage.
+    /// Returns the key of this name; `None` if there is none. A row outside its limits is a fault
+    /// of storage.
     pub fn key(&mut self, name: &Name) -> Result<Option<Key>, StoreFault>
         ensures reads { ReadsClub S.Store self.old self.new result
             (λ club key. key ≡ key_named name.now club) }
@@ -182,8 +183,8 @@ impl<S: Alter> Store<S> {
         Ok(Some(Key::new(row, older)))
     }
 
-    /// The member of this name; `None` if there is none. A row out of its limits is a fault of
-    /// storage.
+    /// Returns the member of this name; `None` if there is none. A row outside its limits is a fault
+    /// of storage.
     pub fn member(&mut self, name: &Name) -> Result<Option<Member>, StoreFault>
         ensures reads { ReadsClub S.Store self.old self.new result
             (λ club member. member ≡ member_named name.now club) }
@@ -195,8 +196,8 @@ impl<S: Alter> Store<S> {
         }
     }
 
-    /// The member of this name with its balance, in points; `None` if there is none. A row out of
-    /// its limits is a fault of storage.
+    /// Returns the member of this name with its balance, in points; `None` if there is none. A row
+    /// out of its limits is a fault of storage.
     pub fn account(&mut self, member: &Name) -> Result<Option<MemberAccount>, StoreFault>
         ensures reads { ReadsClub S.Store self.old self.new result
             (λ club account. account ≡ account_named member.now club) }
@@ -211,8 +212,8 @@ impl<S: Alter> Store<S> {
         }
     }
 
-    /// How many of a member's bookings are open at a moment: not cancelled, of slots that begin
-    /// later.
+    /// Returns how many of a member's bookings are open at a moment: not cancelled, in slots that
+    /// begin later.
     pub fn open_count(&mut self, member: &Name, moment: Moment) -> Result<u64, StoreFault>
         ensures reads { ReadsClub S.Store self.old self.new result
             (λ club count. count ≡ count_to_come moment (bookings_of member.now club)) }
@@ -220,7 +221,7 @@ impl<S: Alter> Store<S> {
         self.tables.open_count(member, moment)
     }
 
-    /// The points that a key has spent.
+    /// Returns the points that a key has spent.
     pub fn spent(&mut self, key: &Name) -> Result<u64, StoreFault>
         ensures reads { ReadsClub S.Store self.old self.new result
             (λ club spent. spent ≡ spent_under key.now club.bookings) }
@@ -228,8 +229,8 @@ impl<S: Alter> Store<S> {
         self.tables.spent(key)
     }
 
-    /// The facility of this name; `None` if there is none. A row out of its limits is a fault of
-    /// storage.
+    /// Returns the facility of this name; `None` if there is none. A row outside its limits is a
+    /// fault of storage.
     pub fn facility(&mut self, name: &Name) -> Result<Option<Facility>, StoreFault>
         ensures reads { ReadsClub S.Store self.old self.new result
             (λ club facility. facility ≡ facility_named name.now club) }
@@ -238,8 +239,8 @@ impl<S: Alter> Store<S> {
         self.tables.facility(name)
     }
 
-    /// The most persons in a slot of the facility of this name, of whatever day: 0 if nobody booked
-    /// one.
+    /// Returns the most persons in any slot of the facility of this name, on any day; 0 if nobody
+    /// booked one.
     pub fn most_taken(&mut self, facility: &Name) -> Result<u32, StoreFault>
         ensures reads { ReadsClub S.Store self.old self.new result
             (λ club most. most ≡ most_taken_in facility.now club.bookings) }
@@ -247,7 +248,7 @@ impl<S: Alter> Store<S> {
         self.tables.most_taken(facility)
     }
 
-    /// The use of a slot: the persons who booked it, and whether it is closed.
+    /// Returns the use of a slot: the persons who booked it, and whether it is closed.
     pub fn slot(&mut self, slot: &Slot) -> Result<SlotUse, StoreFault>
         ensures reads { ReadsClub S.Store self.old self.new result
             (λ club found. found ≡ slot_use club slot.now) }
@@ -255,8 +256,8 @@ impl<S: Alter> Store<S> {
         self.tables.slot(slot)
     }
 
-    /// The day's bookings that aren't cancelled, in the order of the day sheet: by facility, hour,
-    /// key and number.
+    /// Returns the day's bookings that aren't cancelled, in the order of the day sheet: by
+    /// facility, hour, key and number.
     pub fn day(&mut self, day: Day) -> Result<Vec<Booking>, StoreFault>
         ensures reads { ReadsClub S.Store self.old self.new result
             (λ club rows. AreRowsOf club day rows.items) }
@@ -265,7 +266,8 @@ impl<S: Alter> Store<S> {
         self.tables.day(self.alloc, day)
     }
 
-    /// The facility of a request's slot; `None` if it is unknown, or the request has no slot.
+    /// Returns the facility of a request's slot; `None` if it is unknown or the request has no
+    /// slot.
     fn facility_for(&mut self, request: &Request) -> Result<Option<Facility>, StoreFault>
         ensures reads { ReadsClub S.Store self.old self.new result
             (λ club facility. facility ≡ (state_of club (request_slot request.now)).facility) }
@@ -277,7 +279,7 @@ impl<S: Alter> Store<S> {
         }
     }
 
-    /// The use of a request's slot; none if the request has no slot.
+    /// Returns the use of a request's slot. Without a slot, nothing is used.
     fn use_for(&mut self, request: &Request) -> Result<SlotUse, StoreFault>
         ensures reads { ReadsClub S.Store self.old self.new result
             (λ club found. found ≡ (state_of club (request_slot request.now)).held) }
@@ -291,7 +293,7 @@ impl<S: Alter> Store<S> {
         }
     }
 
-    /// The booking of a key under the request's number; `None` if there is no number, or no
+    /// Returns the booking of a key under the request's number; `None` if there is no number, or no
     /// booking.
     fn booking_for(&mut self, key: &Name, request: &Request) -> Result<Option<Booking>, StoreFault>
         ensures reads { ReadsClub S.Store self.old self.new result
@@ -306,10 +308,10 @@ impl<S: Alter> Store<S> {
         }
     }
 
-    /// The key of this name, with its older root, and its view of a request at a moment: what it
-    /// has spent, its booking under the number, its member's row, balance and open bookings, and
-    /// the slot's state. `None` if the key is unknown. A row out of its limits is a fault of
-    /// storage.
+    /// Returns the key of this name with its older root, and its view of a request at a moment. The
+    /// view has what the key has spent, its booking under the number, its member's row, balance and
+    /// open bookings, and the slot's state. Returns `None` if the key is unknown. A row outside its
+    /// limits is a fault of storage.
     pub fn view(
         &mut self,
         key: &Name,
@@ -346,16 +348,16 @@ impl<S: Alter> Store<S> {
         Ok(Some(KeyView { key, view }))
     }
 
-    /// Makes a change, in one transaction, if it fits the club: if what it says of the club's rows
-    /// is true, and the club after it is sound. If it doesn't fit, the call fails, and leaves
-    /// nothing of the change. If the call fails, the club is unchanged; after a crash the store may
-    /// hold the changed club, if the change fits.
+    /// Applies a change that fits the club, in one transaction: its values are those of the club's
+    /// rows, and the club after it is sound. Fails without effect if the change doesn't fit. If the
+    /// call fails for another reason, the club is unchanged, but after a crash the store may hold
+    /// the changed club.
     ///
     /// # Errors
     ///
-    /// The database refused a statement or the commit. A change that doesn't fit is `Storage`, but
-    /// if memory was refused first: a value is out of its limits, a statement breaks a rule of the
-    /// tables, or inserted or updated no row.
+    /// Fails if the database refused a statement or the commit. A change that doesn't fit fails
+    /// with `Storage`, unless memory was refused first: a value is outside its limits, a statement
+    /// breaks a rule of the tables, or a statement inserts or updates no row.
     pub fn apply(&mut self, change: &Change) -> Result<(), StoreFault>
         ensures makes { ChangesClub S.Store change.now self.old self.new result }
     {
@@ -393,8 +395,8 @@ impl<S: Alter> Store<S> {
         }
     }
 
-    /// The booking of a key under a number; `None` if there is none. A row out of its limits is a
-    /// fault of storage.
+    /// Returns the booking of a key under a number; `None` if there is none. A row out of its
+    /// limits is a fault of storage.
     pub fn booking(
         &mut self,
         key: &Name,
@@ -409,21 +411,21 @@ impl<S: Alter> Store<S> {
         self.tables.booking(key, number)
     }
 
-    /// Inserts a member, in one transaction. Fails as `apply`.
+    /// Inserts a member, in one transaction. Fails as `apply` does.
     pub fn insert_member(&mut self, member: &Member) -> Result<(), StoreFault>
         ensures makes { ChangesClub S.Store (InsertMember member.now) self.old self.new result }
     {
         self.tables.insert_member(member)
     }
 
-    /// Adds points to what a member was credited, in one transaction. Fails as `apply`.
+    /// Adds points to a member's credit, in one transaction. Fails as `apply` does.
     pub fn add_credit(&mut self, member: &Name, points: u32) -> Result<(), StoreFault>
         ensures makes { ChangesClub S.Store (AddCredit member.now points) self.old self.new result }
     {
         self.tables.add_credit(member, points)
     }
 
-    /// Takes points back that a member was credited, in one transaction. Fails as `apply`.
+    /// Takes points off a member's credit, in one transaction. Fails as `apply` does.
     pub fn take_credit(&mut self, member: &Name, points: u32) -> Result<(), StoreFault>
         ensures makes { ChangesClub S.Store (TakeCredit member.now points)
             self.old self.new result }
@@ -431,7 +433,7 @@ impl<S: Alter> Store<S> {
         self.tables.take_credit(member, points)
     }
 
-    /// Gives a member another quota, in one transaction. Fails as `apply`.
+    /// Gives a member a new quota, in one transaction. Fails as `apply` does.
     pub fn replace_quota(&mut self, member: &Name, quota: u8) -> Result<(), StoreFault>
         ensures makes { ChangesClub S.Store (ReplaceQuota member.now quota)
             self.old self.new result }
@@ -439,14 +441,14 @@ impl<S: Alter> Store<S> {
         self.tables.replace_quota(member, quota)
     }
 
-    /// Inserts a facility, in one transaction. Fails as `apply`.
+    /// Inserts a facility, in one transaction. Fails as `apply` does.
     pub fn insert_facility(&mut self, facility: &Facility) -> Result<(), StoreFault>
         ensures makes { ChangesClub S.Store (InsertFacility facility.now) self.old self.new result }
     {
         self.tables.insert_facility(facility)
     }
 
-    /// Gives a facility other numbers, in one transaction. Fails as `apply`.
+    /// Gives a facility new numbers, in one transaction. Fails as `apply` does.
     pub fn replace_numbers(
         &mut self,
         facility: &Name,
@@ -462,23 +464,23 @@ impl<S: Alter> Store<S> {
             .replace_numbers(facility, places, price, opens, shuts)
     }
 
-    /// Inserts a key, in one transaction. Fails as `apply`, and with `Storage` if the key has an
-    /// older root.
+    /// Inserts a key, in one transaction. Fails as `apply` does, and with `Storage` if the key has
+    /// an older root.
     pub fn insert_key(&mut self, key: &Key) -> Result<(), StoreFault>
         ensures makes { ChangesClub S.Store (InsertKey key.now) self.old self.new result }
     {
         self.tables.insert_key(key)
     }
 
-    /// Marks a key revoked, in one transaction. Fails as `apply`.
+    /// Marks a key revoked, in one transaction. Fails as `apply` does.
     pub fn revoke_key(&mut self, key: &Name) -> Result<(), StoreFault>
         ensures makes { ChangesClub S.Store (MarkRevoked key.now) self.old self.new result }
     {
         self.tables.revoke_key(key)
     }
 
-    /// Gives a key a new root, in one transaction. Its former root becomes its older root, good
-    /// until the moment, and replaces an earlier one. Fails as `apply`.
+    /// Gives a key a new root, in one transaction. Its former root becomes its older root, is good
+    /// until the moment, and replaces any earlier older root. Fails as `apply` does.
     pub fn replace_root(
         &mut self,
         key: &Name,
@@ -500,14 +502,14 @@ impl<S: Alter> Store<S> {
         self.tables.replace_root(&rotation)
     }
 
-    /// Marks a slot closed, in one transaction. Fails as `apply`.
+    /// Marks a slot closed, in one transaction. Fails as `apply` does.
     pub fn close_slot(&mut self, slot: &Slot) -> Result<(), StoreFault>
         ensures makes { ChangesClub S.Store (MarkClosed slot.now) self.old self.new result }
     {
         self.tables.close_slot(slot)
     }
 
-    /// Marks a slot open, in one transaction. Fails as `apply`.
+    /// Marks a slot open, in one transaction. Fails as `apply` does.
     pub fn open_slot(&mut self, slot: &Slot) -> Result<(), StoreFault>
         ensures makes { ChangesClub S.Store (MarkOpen slot.now) self.old self.new result }
     {

@@ -36,7 +36,7 @@ pub(crate) fn is_facility(facility: &Facility) -> bool
         && u32::from(facility.shuts) <= LAST_HOUR
 }
 
-/// Whether the numbers are within the limits of a facility.
+/// Returns whether the numbers are within the limits of a facility.
 pub(crate) fn are_numbers(places: u8, price: u16, opens: u8, shuts: u8) -> bool
     ensures { result ≡ are_limits places price opens shuts }
 {

@@ -9,7 +9,7 @@ impl FromRows for u32 {
 
     ghost holds = { IsMostIn };
 
-    /// The most persons of rows of `taken`; 0 without rows.
+    /// Returns the most persons of rows of `taken`; 0 without rows.
     fn from_rows(rows: &[Row]) -> Option<u32> {
         let mut most = 0u32;
         for row in rows {

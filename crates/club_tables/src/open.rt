@@ -45,7 +45,7 @@ const TABLE_STATEMENTS: [Statement<'static>; 10] = statements![
     texts::ADD_VERSION,
 ];
 
-/// Whether the rows hold this version, and nothing else.
+/// Returns whether the rows hold this version, and nothing else.
 fn is_version(rows: &[Row], version: u8) -> bool
     ensures one { rows.now ≡ version_values version ∷ [] → IsTrue result }
     ensures only { IsTrue result → (row : _) × (rows.now ≡ row ∷ []) × HasValues row

@@ -16,14 +16,14 @@ use club_rows::{Booking, Facility, Key, Member, OlderRoot, Root};
 use club_values::{Moment, Name, Slot};
 use sqlite::types::ValueRef;
 
-/// A truth value as 0 or 1.
+/// Returns a truth value as 0 or 1.
 fn bool_as_number(value: bool) -> i64
     ensures { result ≡ pos (truth value) }
 {
     if value { 1 } else { 0 }
 }
 
-/// The columns of a new member.
+/// Returns the columns of a new member.
 pub(crate) fn of_member(member: &Member) -> [ValueRef<'_>; 3]
     ensures { bound result ≡ TextValue member.now.name ∷ whole member.now.credited ∷ whole
         member.now.quota ∷ [] }
@@ -35,7 +35,7 @@ pub(crate) fn of_member(member: &Member) -> [ValueRef<'_>; 3]
     ]
 }
 
-/// The columns of a facility.
+/// Returns the columns of a facility.
 pub(crate) fn of_facility(facility: &Facility) -> [ValueRef<'_>; 6]
     ensures { bound result ≡ facility_values facility.now }
 {
@@ -49,7 +49,7 @@ pub(crate) fn of_facility(facility: &Facility) -> [ValueRef<'_>; 6]
     ]
 }
 
-/// A facility, and the numbers that it gets.
+/// Returns a facility, and the numbers that it gets.
 pub(crate) fn of_numbers(
     facility: &Name,
     places: u8,
@@ -68,7 +68,7 @@ pub(crate) fn of_numbers(
     ]
 }
 
-/// The columns of a key.
+/// Returns the columns of a key.
 pub(crate) fn of_key(key: &Key) -> [ValueRef<'_>; 4]
     ensures { bound result ≡ key_values key.now }
 {
@@ -88,7 +88,7 @@ pub struct Rotation {
     pub older: OlderRoot,
 }
 
-/// A key, and its older root.
+/// Returns a key, and its older root.
 pub(crate) fn of_older_root(rotation: &Rotation) -> [ValueRef<'_>; 3]
     ensures { bound result ≡ TextValue rotation.now.key ∷ older_root_values rotation.now.older }
 {
@@ -99,7 +99,7 @@ pub(crate) fn of_older_root(rotation: &Rotation) -> [ValueRef<'_>; 3]
     ]
 }
 
-/// A key, its new root, and its former root.
+/// Returns a key, its new root, and its former root.
 pub(crate) fn of_root(rotation: &Rotation) -> [ValueRef<'_>; 3]
     ensures { bound result ≡ TextValue rotation.now.key ∷ BlobValue rotation.now.root ∷ BlobValue
         rotation.now.older.root ∷ [] }
@@ -111,7 +111,7 @@ pub(crate) fn of_root(rotation: &Rotation) -> [ValueRef<'_>; 3]
     ]
 }
 
-/// The columns of a booking.
+/// Returns the columns of a booking.
 pub(crate) fn of_booking(booking: &Booking) -> [ValueRef<'_>; 10]
     ensures { bound result ≡ booking_values booking.now }
 {
@@ -129,7 +129,7 @@ pub(crate) fn of_booking(booking: &Booking) -> [ValueRef<'_>; 10]
     ]
 }
 
-/// A member, and points that the member is credited, or that are taken back.
+/// Returns a member, and points that the member is credited, or that are taken back.
 pub(crate) fn of_credit(member: &Name, points: u32) -> [ValueRef<'_>; 2]
     ensures { bound result ≡ TextValue member.now ∷ whole points ∷ [] }
 {
@@ -139,7 +139,7 @@ pub(crate) fn of_credit(member: &Name, points: u32) -> [ValueRef<'_>; 2]
     ]
 }
 
-/// A member, and the member's quota.
+/// Returns a member, and the member's quota.
 pub(crate) fn of_quota(member: &Name, quota: u8) -> [ValueRef<'_>; 2]
     ensures { bound result ≡ TextValue member.now ∷ whole quota ∷ [] }
 {
@@ -149,7 +149,7 @@ pub(crate) fn of_quota(member: &Name, quota: u8) -> [ValueRef<'_>; 2]
     ]
 }
 
-/// A slot.
+/// Returns a slot.
 pub(crate) fn of_slot(slot: &Slot) -> [ValueRef<'_>; 3]
     ensures { bound result ≡ name_values slot.now }
 {
@@ -160,7 +160,7 @@ pub(crate) fn of_slot(slot: &Slot) -> [ValueRef<'_>; 3]
     ]
 }
 
-/// A member, a moment, and its day.
+/// Returns a member, a moment, and its day.
 pub(crate) fn of_open(member: &Name, moment: Moment) -> [ValueRef<'_>; 3]
     ensures { bound result ≡ TextValue member.now ∷ whole moment ∷ whole
         (moment / minutes_a_day) ∷ [] }
@@ -172,7 +172,7 @@ pub(crate) fn of_open(member: &Name, moment: Moment) -> [ValueRef<'_>; 3]
     ]
 }
 
-/// A member, what a booking costs, the booking's key, and its slot.
+/// Returns a member, what a booking costs, the booking's key, and its slot.
 pub(crate) fn of_charge<'a>(member: &'a Name, booking: &'a Booking) -> [ValueRef<'a>; 6]
     ensures { bound result ≡ charge_values member.now (cost_of booking.now) booking.now.key
         booking.now.slot }
@@ -188,8 +188,8 @@ pub(crate) fn of_charge<'a>(member: &'a Name, booking: &'a Booking) -> [ValueRef
     ]
 }
 
-/// A member, a refund, which is subtracted from what the member's bookings have cost, and the
-/// booking's key.
+/// Returns a member, a refund, which is subtracted from what the member's bookings have cost, and
+/// the booking's key.
 pub(crate) fn of_return<'a>(
     member: &'a Name,
     booking: &'a Booking,
@@ -205,7 +205,7 @@ pub(crate) fn of_return<'a>(
     ]
 }
 
-/// A slot, and persons to be added.
+/// Returns a slot, and persons to be added.
 fn of_persons(slot: &Slot, persons: i64) -> [ValueRef<'_>; 4]
     ensures { bound result ≡ name_values slot.now ++ IntValue persons ∷ [] }
 {
@@ -217,7 +217,7 @@ fn of_persons(slot: &Slot, persons: i64) -> [ValueRef<'_>; 4]
     ]
 }
 
-/// A booking's slot, and the persons that it takes: 0 if it is cancelled.
+/// Returns a booking's slot, and the persons that it takes: 0 if it is cancelled.
 pub(crate) fn of_places(booking: &Booking) -> [ValueRef<'_>; 4]
     ensures { bound result ≡ name_values booking.now.slot ++ IntValue
         (pos (persons_taken booking.now)) ∷ [] }
@@ -230,7 +230,7 @@ pub(crate) fn of_places(booking: &Booking) -> [ValueRef<'_>; 4]
     of_persons(&booking.slot, i64::from(persons))
 }
 
-/// A booking's slot, and its persons, which are subtracted.
+/// Returns a booking's slot, and its persons, which are subtracted.
 pub(crate) fn of_freed(booking: &Booking) -> [ValueRef<'_>; 4]
     ensures { bound result ≡ name_values booking.now.slot ++ IntValue
         (neg_ℤ (pos (persons_of booking.now))) ∷ [] }
@@ -239,7 +239,7 @@ pub(crate) fn of_freed(booking: &Booking) -> [ValueRef<'_>; 4]
     of_persons(&booking.slot, -persons)
 }
 
-/// The columns of a booking as it is on record, and its refund.
+/// Returns the columns of a booking as it is on record, and its refund.
 pub(crate) fn of_refund(booking: &Booking, refund: u32) -> [ValueRef<'_>; 11]
     ensures { bound result ≡ booking_values booking.now ++ whole refund ∷ [] }
 {

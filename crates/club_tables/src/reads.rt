@@ -30,7 +30,7 @@ use sqlite::types::ValueRef;
 use sqlite::{Alter, params};
 use std::alloc::Global;
 
-/// Whether a booking that was found has this key and number.
+/// Returns whether a booking that was found has this key and number.
 fn is_named(found: &Option<Booking>, key: &Name, number: BookingNumber) -> bool
     ensures { IsTrue result ↔ IfSome found.now
         (λ booking. (booking.key ≡ key.now) × (booking.number ≡ number)) }
@@ -60,7 +60,7 @@ impl<S: Alter> Tables<S> {
         }
     }
 
-    /// The row of the key of this name; `None` if there is none.
+    /// Returns the row of the key of this name; `None` if there is none.
     pub fn key(&mut self, name: &Name) -> Result<Option<KeyRow>, StoreFault>
         ensures reads { ReadsClub S.Store self.old self.new result
             (λ club key. key ≡ option_map row_of_key (key_named name.now club)) }
@@ -71,7 +71,7 @@ impl<S: Alter> Tables<S> {
         self.answer(texts::KEY, &[ValueRef::Text(name.as_bytes())])
     }
 
-    /// The older root of the key of this name; `None` if it was never rotated.
+    /// Returns the older root of the key of this name; `None` if it was never rotated.
     pub fn older_root(&mut self, key: &Name) -> Result<Option<OlderRoot>, StoreFault>
         ensures reads { ReadsClub S.Store self.old self.new result
             (λ club older. older ≡ older_root_of key.now club) }
@@ -83,8 +83,8 @@ impl<S: Alter> Tables<S> {
         self.answer(texts::OLDER_ROOT, &[ValueRef::Text(key.as_bytes())])
     }
 
-    /// The row of the member of this name, with what the member's bookings have cost; `None` if
-    /// there is none.
+    /// Returns the row of the member of this name, with what the member's bookings have cost;
+    /// `None` if there is none.
     pub fn member(&mut self, name: &Name) -> Result<Option<MemberRow>, StoreFault>
         ensures reads { ReadsClub S.Store self.old self.new result
             (λ club row. row ≡ option_map (member_row club) (member_named name.now club)) }
@@ -95,7 +95,7 @@ impl<S: Alter> Tables<S> {
         self.answer(texts::MEMBER, &[ValueRef::Text(name.as_bytes())])
     }
 
-    /// The facility of this name; `None` if there is none.
+    /// Returns the facility of this name; `None` if there is none.
     pub fn facility(&mut self, name: &Name) -> Result<Option<Facility>, StoreFault>
         ensures reads { ReadsClub S.Store self.old self.new result
             (λ club facility. facility ≡ facility_named name.now club) }
@@ -106,7 +106,7 @@ impl<S: Alter> Tables<S> {
         self.answer(texts::FACILITY, &[ValueRef::Text(name.as_bytes())])
     }
 
-    /// The use of a slot: the persons who booked it, and whether it is closed.
+    /// Returns the use of a slot: the persons who booked it, and whether it is closed.
     pub fn slot(&mut self, slot: &Slot) -> Result<SlotUse, StoreFault>
         ensures reads { ReadsClub S.Store self.old self.new result
             (λ club found. found ≡ slot_use club slot.now) }
@@ -116,8 +116,8 @@ impl<S: Alter> Tables<S> {
         self.answer(texts::SLOT, &of_slot(slot))
     }
 
-    /// The most persons in a slot of the facility of this name, of whatever day: 0 if nobody booked
-    /// one.
+    /// Returns the most persons in a slot of the facility of this name, of whatever day: 0 if
+    /// nobody booked one.
     pub fn most_taken(&mut self, facility: &Name) -> Result<u32, StoreFault>
         ensures reads { ReadsClub S.Store self.old self.new result
             (λ club most. most ≡ most_taken_in facility.now club.bookings) }
@@ -127,8 +127,8 @@ impl<S: Alter> Tables<S> {
         self.answer(texts::TAKEN, &[ValueRef::Text(facility.as_bytes())])
     }
 
-    /// The booking of a key with a number; `None` if there is none. A row of another booking is a
-    /// fault of storage, too.
+    /// Returns the booking of a key with a number; `None` if there is none. A row of another
+    /// booking is a fault of storage, too.
     pub fn booking(
         &mut self,
         key: &Name,
@@ -156,8 +156,8 @@ impl<S: Alter> Tables<S> {
         }
     }
 
-    /// The day's bookings that aren't cancelled, in the order of the day sheet: by facility, hour,
-    /// key and number.
+    /// Returns the day's bookings that aren't cancelled, in the order of the day sheet: by
+    /// facility, hour, key and number.
     pub fn day(&mut self, alloc: Global, day: Day) -> Result<Vec<Booking>, StoreFault>
         ensures reads { ReadsClub S.Store self.old self.new result
             (λ club rows. AreRowsOf club day rows.items) }
@@ -176,7 +176,7 @@ impl<S: Alter> Tables<S> {
         bookings_in(alloc, &rows)
     }
 
-    /// The points that a key has spent: what its bookings cost.
+    /// Returns the points that a key has spent: what its bookings cost.
     pub fn spent(&mut self, key: &Name) -> Result<u64, StoreFault>
         ensures reads { ReadsClub S.Store self.old self.new result
             (λ club spent. spent ≡ spent_under key.now club.bookings) }
@@ -186,7 +186,7 @@ impl<S: Alter> Tables<S> {
         self.answer(texts::COSTS_UNDER_KEY, &[ValueRef::Text(key.as_bytes())])
     }
 
-    /// How many of a member's bookings aren't cancelled and begin later than the moment.
+    /// Returns how many of a member's bookings aren't cancelled and begin later than the moment.
     pub fn open_count(&mut self, member: &Name, moment: Moment) -> Result<u64, StoreFault>
         ensures reads { ReadsClub S.Store self.old self.new result
             (λ club count. count ≡ count_to_come moment (bookings_of member.now club)) }

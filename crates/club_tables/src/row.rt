@@ -54,7 +54,7 @@ pub(crate) fn integer_at(row: &Row, at: usize) -> Option<i64>
     }
 }
 
-/// The whole number of a column, 0 to a limit.
+/// Returns the whole number of a column, 0 to a limit.
 pub(crate) fn number_within(row: &Row, at: usize, high: u32) -> Option<u32>
     ensures { Reads (λ n. (n ≤ high) × (column row.now at ≡ whole n)) result }
 {
@@ -107,7 +107,7 @@ impl<T: FromRow> FromRows for Option<T> {
 
     ghost holds = { IsFirst T.yields };
 
-    /// The value of the first row; `None` if there is no row.
+    /// Returns the value of the first row; `None` if there is no row.
     fn from_rows(rows: &[Row]) -> Option<Option<T>> {
         match rows.first() {
             None => Some(None),
@@ -124,7 +124,7 @@ impl FromRows for SlotUse {
 
     ghost holds = { IsUse };
 
-    /// The use of a slot: none if there is no row.
+    /// Returns the use of a slot: none if there is no row.
     fn from_rows(rows: &[Row]) -> Option<SlotUse> {
         match rows {
             [] => Some(SlotUse {
@@ -142,7 +142,7 @@ impl FromRow for MemberRow {
 
     ghost yields = { IsMemberIn };
 
-    /// A member's row, of the columns `name`, `credited`, `quota` and `used`.
+    /// Returns a member's row, of the columns `name`, `credited`, `quota` and `used`.
     fn from_row(row: &Row) -> Option<MemberRow> {
         let member = Member::from_columns(
             text_at(row, 0)?,
@@ -174,7 +174,7 @@ impl FromRow for OlderRoot {
 
     ghost yields = { IsOlderRootIn };
 
-    /// The older root of a key, of the columns `root` and `until`.
+    /// Returns the older root of a key, of the columns `root` and `until`.
     fn from_row(row: &Row) -> Option<OlderRoot> {
         let root = Root::new(bytes_at(row, 0)?)?;
         let until = Moment::from_number(number_within(row, 1, u32::MAX)?)?;
@@ -187,7 +187,7 @@ impl FromRow for Facility {
 
     ghost yields = { IsFacilityIn };
 
-    /// A facility's row.
+    /// Returns a facility's row.
     fn from_row(row: &Row) -> Option<Facility> {
         let columns = FacilityColumns {
             name: text_at(row, 0)?,
@@ -206,7 +206,7 @@ impl FromRow for Booking {
 
     ghost yields = { IsBookingIn };
 
-    /// A booking's row.
+    /// Returns a booking's row.
     fn from_row(row: &Row) -> Option<Booking> {
         let columns = BookingColumns {
             key: text_at(row, 0)?,

@@ -7,7 +7,7 @@ use crate::row::{FromRows, number_within};
 use club_rows::MAX_CHARGE;
 use sqlite::Row;
 
-/// The charge of a row, within its limit, less its refund, at most the charge.
+/// Returns the charge of a row, within its limit, less its refund, at most the charge.
 fn cost_of(row: &Row) -> Option<u32>
     ensures { Reads (IsCostIn row.now) result }
 {
@@ -21,7 +21,7 @@ impl FromRows for u64 {
 
     ghost holds = { AreCosts };
 
-    /// The cost of rows of charge and refund.
+    /// Returns the cost of rows of charge and refund.
     fn from_rows(rows: &[Row]) -> Option<u64> {
         let mut sum = 0u64;
         for row in rows {

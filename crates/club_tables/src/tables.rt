@@ -33,7 +33,7 @@ impl<S: Alter> Model for Tables<S> {
 }
 
 impl<S: Alter> Tables<S> {
-    /// The tables over this connection, which is in no transaction.
+    /// Returns the tables over this connection, which is in no transaction.
     pub fn over(connection: Connection<S>) -> Tables<S>
         requires { connection.in_transaction ≡ false }
         ensures { result ≡ connection }

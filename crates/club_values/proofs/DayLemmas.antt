@@ -1,4 +1,4 @@
--- The date of a day by arithmetic is the calendar's.
+-- The date computed by arithmetic is the calendar's date.
 use Rattle.std.proofs.Common.{◌≡◌, ℕ, ◌+◌, ◌-◌, ◌*◌, ◌/◌, ◌%◌, ◌<◌, ◌≤◌, ◌≢◌, cond, Bool, true, false, nat_lt, refl, suc, ◌∙◌, ltb-true, ltb-false, sym, List}
 use Rattle.std.proofs.{Common.{◌++◌, arith, to_z, of_z, w16, pos, ◌+ℤ◌}, lemmas.Bool.Decides.nat_tests}
 use Rattle.jiff_core.specs.{Calendar.{IsCivilDate, days_from_civil, day_count}, Date.epoch_day, March.march_days, declared.civil.date.Date.Date}
@@ -70,7 +70,7 @@ civil_date n h =
     let b = march_year_bounds n h in
     dated (march_year n) (day_of_march_year n) n _ refl b.0 b.1 b.2 (λ common. omega arith) h.1 b.3
 
--- a day has one date
+-- a day has only one date
 one_date : (n y m d y₂ m₂ d₂ : ℕ) → IsDateOf y m d n → IsDateOf y₂ m₂ d₂ n → (y ≡ y₂) × (m ≡ m₂) × (d ≡ d₂)
 unfolding date_record
 one_date n y m d y₂ m₂ d₂ a b = grind (arith, epoch_day_injective (date_record y m d a.0) (date_record y₂ m₂ d₂ b.0))
@@ -88,7 +88,7 @@ year_bounds q r n b test low high small h e = grind arith
 pub date_bounds : (n : ℕ) → IsDay n → (2000 ≤ year_of n) × (year_of n ≤ 2099) × (month_of n ≤ 12) × (day_of_month n ≤ 31)
 date_bounds n h = grind (arith, march_year_bounds, year_bounds, civil_date, days_in_month_bounds)
 
--- the year of a day's date, as the code gets it
+-- the year of a day's date, as the code computes it
 pub year_after_cast : (n : ℕ) (d : Date) → IsDay n → epoch_day d ≡ pos n → to_z w16 (of_z w16 d.year) ≡ pos (year_of n)
 year_after_cast n d h e = grind (arith, date_bounds, date_of_day, back_small w16)
 

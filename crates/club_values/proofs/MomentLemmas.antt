@@ -3,7 +3,7 @@ use Rattle.std.proofs.{Common.{◌≡◌, ℕ, ◌/◌, ◌%◌, List, [], ◌�
 use Rattle.club_values.specs.{Day.{SpellsDay, day_text}, Digits.two_digits, Moment.{IsMoment, time_text, SpellsTime, SpellsMoment, moment_text}}
 use Rattle.club_values.proofs.{DayLemmas.{day_text-spells, spells-day_text, day_text_injective}, DigitLemmas.two_digits_injective}
 
--- the date is the first ten bytes, and the time what follows
+-- the date is the first ten bytes, and the time is the rest
 parts_of : (text : List ℕ) (n : ℕ) (s : SpellsMoment text n) → (take 10 text ≡ s.date) × (drop 10 text ≡ s.time)
 parts_of text n s = grind (arith, common_steps)
 
@@ -53,7 +53,7 @@ moment_text_injective a b h k e =
     let minute = two_digits_injective (a % 60) (b % 60) [] [] (ap (drop 14) e) in
     omega arith
 
--- the text as the code puts it together
+-- the text as the code joins its parts
 pub joined_text : (date t₁ t₂ : List ℕ) (day minute n : ℕ) → SpellsDay date day → t₁ ≡ two_digits (minute / 60) → t₂ ≡ two_digits (minute % 60) →
     day ≡ n / 1440 → minute ≡ n % 1440 →
     get_or date 0 0 ∷ get_or date 1 0 ∷ get_or date 2 0 ∷ get_or date 3 0 ∷ get_or date 4 0 ∷ get_or date 5 0 ∷ get_or date 6 0 ∷ get_or date 7 0 ∷ get_or date

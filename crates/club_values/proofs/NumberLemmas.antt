@@ -29,7 +29,7 @@ pub digits_read : {E : Type 0} (text read : List ℕ) (r : Result ℕ E) → are
     result_ok r ≡ number_of_digits text
 digits_read text read r few e parses = grind (arith, Decides-few_digits, value_below, parse_gives own 32 text r)
 
--- a zero with more digits after it
+-- a zero followed by more digits
 abbrev pub leads_with_zero : List ℕ → Bool
 leads_with_zero text = nat_lt 1 (length text) && slice_index text 0 == 48
 
@@ -40,7 +40,7 @@ spells_value text h no_zero = grind (arith, value_below, decimal-digits_value ow
 leading_zero : (n : ℕ) → n < 2 ^ 64 → get_or (decimal n) 0 0 ≡ 48 → length (decimal n) ≡ 1
 leading_zero n h e = grind (arith, common_steps, first_decimal, decimal_digit)
 
--- what spells a number has such digits
+-- a text that spells a number has such digits
 are_digits_of : (text : List ℕ) (n : ℕ) → SpellsNumber text n → AreFewDigits text × (¬ ((1 < length text) × (get_or text 0 0 ≡ 48)))
 are_digits_of text n s = grind (arith, decimal_nonempty n, length-decimal-le 9 n, digits_decimal own n, leading_zero n)
 

@@ -1,4 +1,4 @@
--- The functions `.._of_text` return exactly what the text spells.
+-- The functions `.._of_text` return exactly the value that the text spells.
 use Rattle.std.proofs.Common.{◌≡◌, ◌↔◌, ℕ, Bool, true, cond, List, [], Option, Some, None, refl, sym, subst, Decides, arith}
 use Rattle.std.proofs.lemmas.{Bool.Decides.{Decides-like, Decides-ltb}, Slice.Eq.bytes_eq-Decides}
 use Rattle.std.specs.{Prelude.{◌&&◌, not}, Str.Parse.digits_value}
@@ -12,7 +12,7 @@ use Rattle.club_values.proofs.{DayLemmas.{day_text-spells, spells-day_text}, Gue
 use Rattle.club_values.proofs.{MomentLemmas.{moment_text-spells, spells-moment_text}, NumberLemmas.{leads_with_zero, Decides-number, value_of-number}}
 use Rattle.club_values.proofs.TestLemmas.{Decides-is_name, Decides-range}
 
--- a value that is computed back from its text is returned exactly if the text spells it
+-- a value that is computed from a text is returned if and only if the text spells it
 found : {A : Type 0} (Spells : A → Type 0) (guess : A) (test : Bool) → Decides test (Spells guess) → ((x : A) → Spells x → guess ≡ x) → (x : A) →
     (cond test (Some guess) None ≡ Some x) ↔ Spells x
 found Spells guess test d same x = grind arith
@@ -23,7 +23,7 @@ found_where : {A : Type 0} (text : List ℕ) (Spells Fits : A → Type 0) (guess
     ((x : A) → Fits x → guess (text_of x) ≡ x) → (x : A) → (where_spelled text (guess text) (text_of (guess text)) (fits (guess text)) ≡ Some x) ↔ Spells x
 found_where text Spells Fits guess text_of fits decides to from again x = grind (arith, found, decides, to, from, again, bytes_eq-Decides)
 
--- so a parser of the same values returns what such a function returns
+-- so a parser of the same values returns the same result as such a function
 pub same_reading : {A : Type 0} (Spells : A → Type 0) (found r : Option A) → ((x : A) → (found ≡ Some x) ↔ Spells x) → Reads Spells r → r ≡ found
 same_reading Spells found (Some x) agrees h = sym ((agrees x).1 h)
 same_reading Spells None None agrees h = refl

@@ -1,4 +1,4 @@
--- What a request may do, and the texts (ours).
+-- The actions of requests, and their texts (ours).
 use Rattle.std.specs.Prelude.{ℕ, List, codes}
 use Rattle.club_values.specs.declared.action.Action.{Action, TheVariants.{View, Book, Cancel, Account}}
 

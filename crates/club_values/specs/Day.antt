@@ -21,7 +21,7 @@ date_text year month day = four_digits year ++ 45 ∷ two_digits month ++ 45 ∷
 abbrev pub IsDateOf : ℕ → ℕ → ℕ → ℕ → Type 0
 IsDateOf year month day n = IsCivilDate (pos year) month day × (days_from_civil (pos year) month day ≡ pos n)
 
--- the text is that of a real date of these years, and n is the date's number (ours)
+-- the text is a real date of these years, and n is the date's number (ours)
 pub record SpellsDay (text : List ℕ) (n : ℕ) : Type 0 where
   pub year : ℕ
   pub month : ℕ
@@ -65,6 +65,6 @@ month_of n = if nat_lt 12 (march_month n) then march_month n - 12 else march_mon
 abbrev pub day_of_month : ℕ → ℕ
 day_of_month n = (5 * day_of_march_year n + 461) % 153 / 5 + 1
 
--- the one text of a day
+-- the only text of a day
 unfoldable pub day_text : ℕ → List ℕ
 day_text n = date_text (year_of n) (month_of n) (day_of_month n)

@@ -8,7 +8,7 @@ minutes_an_hour = 60
 abbrev pub minutes_a_day : ℕ
 minutes_a_day = hours_a_day * minutes_an_hour
 
--- the civil minutes of the first day to the last, as minutes since 1970-01-01T00:00 (ours)
+-- the first and the last civil minute, as minutes since 1970-01-01T00:00 (ours)
 abbrev pub first_moment : ℕ
 first_moment = first_day * minutes_a_day
 
@@ -22,7 +22,7 @@ IsMoment n = (first_moment ≤ n) × (n ≤ last_moment)
 abbrev pub time_text : ℕ → ℕ → List ℕ
 time_text hour minute = 84 ∷ two_digits hour ++ 58 ∷ two_digits minute
 
--- an hour to 23 and a minute to 59, and n is the minute of the day
+-- an hour from 0 to 23 and a minute from 0 to 59, and n is the minute of the day
 pub record SpellsTime (text : List ℕ) (n : ℕ) : Type 0 where
   pub hour : ℕ
   pub minute : ℕ
@@ -42,7 +42,7 @@ pub record SpellsMoment (text : List ℕ) (n : ℕ) : Type 0 where
   pub spells_time : SpellsTime time minute
   pub number : n ≡ day * minutes_a_day + minute
 
--- the one text of a moment
+-- the only text of a moment
 unfoldable pub moment_text : ℕ → List ℕ
 moment_text n =
     day_text (n / minutes_a_day) ++ time_text (n % minutes_a_day / minutes_an_hour) (n % minutes_an_hour)

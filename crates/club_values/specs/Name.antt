@@ -9,7 +9,7 @@ is_name_byte byte = is_in_range 97 122 byte || is_in_range 48 57 byte || byte ==
 abbrev pub max_name_len : ℕ
 max_name_len = 24
 
--- one such byte or more, the first no hyphen (ours)
+-- one or more such bytes; the first isn't a hyphen (ours)
 pub record IsName (bytes : List ℕ) : Type 0 where
   pub nonempty : 0 < length bytes
   pub short : length bytes ≤ max_name_len

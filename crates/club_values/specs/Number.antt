@@ -12,7 +12,7 @@ number_limit = 999_999_999
 abbrev pub are_few_digits : List ℕ → Bool
 are_few_digits text = nat_lt 0 (length text) && nat_le (length text) max_digits && list_all is_ascii_digit text
 
--- the number of so many digits, leading zeros allowed; none for any other text
+-- the number that this many digits spell, with leading zeros allowed; none for any other text
 abbrev pub number_of_digits : List ℕ → Option ℕ
 number_of_digits text = if are_few_digits text then Some (digits_value 10 text) else None
 

@@ -1,4 +1,4 @@
-//! The actions that a request may ask for.
+//! The actions that a request can ask for.
 
 ghost use Rattle.std.specs.Prelude.{◌≡◌, Some};
 ghost use Rattle.club_values.specs.{Action.action_text, Reading.Reads};
@@ -32,7 +32,7 @@ fn action_in(text: &[u8]) -> Option<Action>
 }
 
 impl Action {
-    /// The action with this text: `view`, `book`, `cancel` or `account`.
+    /// Returns the action with this text: `view`, `book`, `cancel` or `account`.
     pub fn read(text: &[u8]) -> Option<Action>
         ensures spelled { Reads (λ action. text.now ≡ action_text action) result }
         ensures function { result ≡ action_of_text text.now }
@@ -40,7 +40,7 @@ impl Action {
         action_in(text)
     }
 
-    /// The text of the action.
+    /// Returns the text of the action.
     pub fn text(self) -> &'static str
         ensures { result.now ≡ action_text self }
     {

@@ -1,10 +1,10 @@
-//! ASCII bytes as text.
+//! Converts ASCII bytes to text.
 
 ghost use Rattle.std.specs.{Prelude.{◌≡◌}, Str.IsAscii};
 
 use std::str;
 
-/// ASCII bytes as text.
+/// Returns ASCII bytes as text.
 pub fn text_of(bytes: &[u8]) -> &str
     requires { IsAscii bytes.now }
     ensures { result.now ≡ bytes.now }

@@ -18,7 +18,7 @@ pub(crate) const FIRST_DAY: u16 = 10_957;
 /// The number of the last day, 2099-12-31.
 pub(crate) const LAST_DAY: u16 = 47_481;
 
-/// The days from the earliest date that `jiff_core` has to 1970-01-01.
+/// The number of days from the earliest date of `jiff_core` to 1970-01-01.
 const DAYS_BEFORE_1970: u32 = 4_371_587;
 
 /// A day from 2000-01-01 to 2099-12-31. Contracts see it as its number, the days since 1970-01-01.
@@ -42,7 +42,7 @@ impl Model for Day {
     ghost inverse = { λ n. record { number = n } };
 }
 
-/// The year, month and day of a text `YYYY-MM-DD`, of any digits.
+/// Returns the year, month and day of a text `YYYY-MM-DD`, which may have any digits.
 fn parts_of(text: &[u8]) -> Option<(u16, u8, u8)>
     ensures { Reads (λ p. AreDateParts text.now p.0 p.1 p.2) result }
 {
@@ -56,7 +56,7 @@ fn parts_of(text: &[u8]) -> Option<(u16, u8, u8)>
     Some((u16::from(century) * 100 + u16::from(year), month, day))
 }
 
-/// The date of a text `YYYY-MM-DD`.
+/// Returns the date of a text `YYYY-MM-DD`.
 fn date_of(text: &[u8]) -> Option<Date>
     ensures { Reads (IsDateText text.now) result }
 {
@@ -72,7 +72,7 @@ fn day_in(text: &[u8]) -> Option<Day>
 }
 
 impl Day {
-    /// The day with this number of days since 1970-01-01; `None` out of range.
+    /// Returns the day with this number of days since 1970-01-01; `None` out of range.
     pub fn from_number(number: u16) -> Option<Day>
         ensures within { IsSome result ↔ IsDay number }
         ensures value { IfSome result (λ day. day ≡ number) }
@@ -83,7 +83,7 @@ impl Day {
         Some(Day { number })
     }
 
-    /// The days since 1970-01-01.
+    /// Returns the days since 1970-01-01.
     pub fn number(self) -> u16
         ensures value { result ≡ self }
         ensures within { IsDay result }
@@ -91,7 +91,7 @@ impl Day {
         self.number
     }
 
-    /// The day of a date; `None` out of range.
+    /// Returns the day of a date; `None` out of range.
     pub fn from_date(date: Date) -> Option<Day>
         ensures { Reads (λ day. IsDay day × (epoch_day date ≡ pos day)) result }
     {
@@ -99,7 +99,7 @@ impl Day {
         Day::from_number(number)
     }
 
-    /// The date in the calendar.
+    /// Returns the date in the calendar.
     pub fn date(self) -> Date
         ensures same { epoch_day result ≡ pos self }
         ensures within { IsDay self }
@@ -107,7 +107,7 @@ impl Day {
         Date::from_days_since_min(u32::from(self.number) + DAYS_BEFORE_1970)
     }
 
-    /// The year, the month from 1 and the day of the month from 1.
+    /// Returns the year, the month from 1 and the day of the month from 1.
     pub fn year_month_day(self) -> (u16, u8, u8)
         ensures date { IsDateOf result.0 result.1 result.2 self }
         ensures years { (2000 ≤ result.0) × (result.0 ≤ 2099) }
@@ -117,14 +117,14 @@ impl Day {
         (date.year as u16, date.month, date.day)
     }
 
-    /// The day of the week.
+    /// Returns the day of the week.
     pub fn weekday(self) -> Weekday
         ensures { result ≡ weekday_of self }
     {
         self.date().weekday()
     }
 
-    /// The text `YYYY-MM-DD`.
+    /// Returns the text `YYYY-MM-DD`.
     pub fn text(self) -> [u8; 10]
         ensures value { result ≡ day_text self }
         ensures spelled { SpellsDay result self }
@@ -137,7 +137,7 @@ impl Day {
         [y1, y2, y3, y4, b'-', m1, m2, b'-', d1, d2]
     }
 
-    /// The day of a text `YYYY-MM-DD`; `None` if the text isn't a real date in range.
+    /// Returns the day of a text `YYYY-MM-DD`; `None` if the text isn't a real date in range.
     pub fn read(text: &[u8]) -> Option<Day>
         ensures spelled { Reads (SpellsDay text.now) result }
         ensures function { result ≡ day_of_text text.now }

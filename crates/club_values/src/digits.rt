@@ -1,4 +1,4 @@
-//! Decimal digits, parsed and written.
+//! Parses and writes decimal digits.
 
 ghost use Rattle.std.specs.{Char.is_ascii_digit, List.list_all, Prelude.{◌≡◌, ◌<◌, ◌++◌, [], ◌∷◌}};
 ghost use Rattle.club_values.specs.{Number.SpellsNumber, Reading.Reads};
@@ -11,10 +11,10 @@ use crate::ascii::text_of;
 /// The most digits of a number.
 const MAX_DIGITS: usize = 9;
 
-/// The greatest number of so many digits.
+/// The greatest number of `MAX_DIGITS` digits.
 pub const MAX_NUMBER: u32 = 999_999_999;
 
-/// The number that two decimal digits spell; `None` if either isn't a digit.
+/// Returns the number that two decimal digits spell; `None` if either isn't a digit.
 pub fn read_two(tens: u8, ones: u8) -> Option<u8>
     ensures { Reads (λ n. (n < 100) × (tens ∷ ones ∷ [] ≡ spec.two_digits n)) result }
 {
@@ -25,7 +25,7 @@ pub fn read_two(tens: u8, ones: u8) -> Option<u8>
     }
 }
 
-/// The two decimal digits of a number below 100.
+/// Returns the two decimal digits of a number below 100.
 pub fn two_digits(n: u8) -> [u8; 2]
     requires { n < 100 }
     ensures { result ≡ spec.two_digits n }
@@ -45,7 +45,8 @@ fn are_few_digits(text: &[u8]) -> bool
     !text.is_empty() && text.len() <= MAX_DIGITS && are_digits(text)
 }
 
-/// The number of 1 to 9 decimal digits, leading zeros allowed; `None` for any other text.
+/// Returns the number that 1 to 9 decimal digits spell, with leading zeros allowed; `None` for any
+/// other text.
 #[tactic(auto, using(crate::proofs::NumberLemmas::digits_read))]
 pub fn read_digits(text: &[u8]) -> Option<u32>
     ensures { result ≡ number.number_of_digits text.now }
@@ -66,8 +67,8 @@ fn number_in(text: &[u8]) -> Option<u32>
     read_digits(text)
 }
 
-/// The number of decimal digits without leading zeros, up to 999,999,999; `None` for any other
-/// text.
+/// Returns the number that decimal digits without leading zeros spell, up to 999,999,999; `None`
+/// for any other text.
 #[tactic(auto, using(crate::proofs::TextOfLemmas::reads_numbers))]
 pub fn read_number(text: &[u8]) -> Option<u32>
     ensures spelled { Reads (SpellsNumber text.now) result }

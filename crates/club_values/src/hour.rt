@@ -41,7 +41,7 @@ fn hour_in(text: &[u8]) -> Option<Hour>
 }
 
 impl Hour {
-    /// The hour with this number; `None` from 24 on.
+    /// Returns the hour with this number; `None` from 24 on.
     pub fn from_number(number: u8) -> Option<Hour>
         ensures within { IsSome result ↔ IsHour number }
         ensures value { IfSome result (λ hour. hour ≡ number) }
@@ -53,7 +53,7 @@ impl Hour {
         }
     }
 
-    /// The number of the hour.
+    /// Returns the number of the hour.
     pub fn number(self) -> u8
         ensures value { result ≡ self }
         ensures within { IsHour result }
@@ -61,7 +61,7 @@ impl Hour {
         self.number
     }
 
-    /// The hour of a text of two digits, `00` to `23`; `None` for any other.
+    /// Returns the hour of a text of two digits, `00` to `23`; `None` for any other text.
     pub fn read(text: &[u8]) -> Option<Hour>
         ensures spelled { Reads (SpellsHour text.now) result }
         ensures function { result ≡ hour_of_text text.now }
@@ -69,7 +69,7 @@ impl Hour {
         hour_in(text)
     }
 
-    /// The text of two digits.
+    /// Returns the text of two digits.
     pub fn text(self) -> [u8; 2]
         ensures value { result ≡ digits.two_digits self }
         ensures spelled { SpellsHour result self }

@@ -29,7 +29,7 @@ impl<const N: usize> Model for InlineBytes<N> {
 }
 
 impl<const N: usize> InlineBytes<N> {
-    /// These bytes; `None` if they are more than `N`.
+    /// Stores these bytes; returns `None` if there are more than `N`.
     pub fn new(bytes: &[u8]) -> Option<InlineBytes<N>>
         ensures within { IsSome result ↔ (length bytes.now ≤ N) }
         ensures value { IfSome result (λ stored. stored ≡ bytes.now) }
@@ -45,7 +45,7 @@ impl<const N: usize> InlineBytes<N> {
         })
     }
 
-    /// The bytes.
+    /// Returns the bytes.
     pub fn as_bytes(&self) -> &[u8]
         ensures value { result.now ≡ self.now }
         ensures within { length result.now ≤ N }

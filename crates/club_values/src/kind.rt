@@ -25,7 +25,7 @@ fn kind_in(text: &[u8]) -> Option<Kind>
 }
 
 impl Kind {
-    /// The kind with this text: `court`, `boat` or `room`.
+    /// Returns the kind with this text: `court`, `boat` or `room`.
     pub fn read(text: &[u8]) -> Option<Kind>
         ensures spelled { Reads (λ kind. text.now ≡ kind_text kind) result }
         ensures function { result ≡ kind_of_text text.now }
@@ -33,7 +33,7 @@ impl Kind {
         kind_in(text)
     }
 
-    /// The text of the kind.
+    /// Returns the text of the kind.
     pub fn text(self) -> &'static str
         ensures { result.now ≡ kind_text self }
     {

@@ -4,39 +4,39 @@ ghost use Rattle.club_values.specs.Laws.{ReadsNames, ReadsNumbers, ReadsKinds, R
 ghost use Rattle.club_values.specs.Laws.{ReadsDays, ReadsHours, ReadsMoments, IsTextOfDay};
 ghost use Rattle.club_values.specs.Laws.{IsTextOfMoment, DistinctDayTexts, DistinctMomentTexts};
 
-/// `name_of_text` returns a name exactly if the text is a name, and the name is the text.
+/// `name_of_text` returns a name if and only if the text is a name, and then the name is the text.
 pub fn reads_names()
     ensures { ReadsNames }
 {}
 
-/// `decimal_of_text` returns a number exactly if the text spells that number.
+/// `decimal_of_text` returns a number if and only if the text spells that number.
 pub fn reads_numbers()
     ensures { ReadsNumbers }
 {}
 
-/// `kind_of_text` returns a kind exactly if the text spells that kind.
+/// `kind_of_text` returns a kind if and only if the text spells that kind.
 #[tactic(auto, using(crate::proofs::TextOfLemmas::reads_kinds))]
 pub fn reads_kinds()
     ensures { ReadsKinds }
 {}
 
-/// `action_of_text` returns an action exactly if the text spells that action.
+/// `action_of_text` returns an action if and only if the text spells that action.
 #[tactic(auto, using(crate::proofs::TextOfLemmas::reads_actions))]
 pub fn reads_actions()
     ensures { ReadsActions }
 {}
 
-/// `day_of_text` returns a day exactly if the text spells that day.
+/// `day_of_text` returns a day if and only if the text spells that day.
 pub fn reads_days()
     ensures { ReadsDays }
 {}
 
-/// `hour_of_text` returns an hour exactly if the text spells that hour.
+/// `hour_of_text` returns an hour if and only if the text spells that hour.
 pub fn reads_hours()
     ensures { ReadsHours }
 {}
 
-/// `moment_of_text` returns a moment exactly if the text spells that moment.
+/// `moment_of_text` returns a moment if and only if the text spells that moment.
 pub fn reads_moments()
     ensures { ReadsMoments }
 {}

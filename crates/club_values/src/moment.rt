@@ -45,7 +45,7 @@ impl Model for Moment {
     ghost inverse = { λ n. record { number = n } };
 }
 
-/// The minute of the day of a text `THH:MM`.
+/// Returns the minute of the day of a text `THH:MM`.
 fn minute_of(text: &[u8]) -> Option<u16>
     ensures { Reads (SpellsTime text.now) result }
 {
@@ -74,7 +74,7 @@ fn moment_in(text: &[u8]) -> Option<Moment>
 }
 
 impl Moment {
-    /// The moment with this number of minutes since 1970-01-01T00:00; `None` out of range.
+    /// Returns the moment with this number of minutes since 1970-01-01T00:00; `None` out of range.
     pub fn from_number(number: u32) -> Option<Moment>
         ensures within { IsSome result ↔ IsMoment number }
         ensures value { IfSome result (λ moment. moment ≡ number) }
@@ -85,7 +85,7 @@ impl Moment {
         Some(Moment { number })
     }
 
-    /// The moment at a minute of a day; `None` from minute 1,440 on.
+    /// Returns the moment at a minute of a day; `None` from minute 1,440 on.
     pub fn new(day: Day, minute: u16) -> Option<Moment>
         ensures within { IsSome result ↔ (minute < minutes_a_day) }
         ensures value { IfSome result (λ moment. moment ≡ day * minutes_a_day + minute) }
@@ -98,7 +98,7 @@ impl Moment {
         })
     }
 
-    /// The minutes since 1970-01-01T00:00.
+    /// Returns the minutes since 1970-01-01T00:00.
     pub fn number(self) -> u32
         ensures value { result ≡ self }
         ensures within { IsMoment result }
@@ -106,7 +106,7 @@ impl Moment {
         self.number
     }
 
-    /// The day of the moment.
+    /// Returns the day of the moment.
     pub fn day(self) -> Day
         ensures value { result ≡ self / minutes_a_day }
         ensures within { IsDay result }
@@ -115,7 +115,7 @@ impl Moment {
         Day::from_number(number as u16).unwrap()
     }
 
-    /// The minutes since the day began, 0 to 1,439.
+    /// Returns the minutes since the day began, 0 to 1,439.
     pub fn minute_of_day(self) -> u16
         ensures value { result ≡ self % minutes_a_day }
         ensures within { result < minutes_a_day }
@@ -123,7 +123,7 @@ impl Moment {
         (self.number % u32::from(MINUTES_A_DAY)) as u16
     }
 
-    /// The moment of a text `YYYY-MM-DDTHH:MM`; `None` if the text isn't a moment in range.
+    /// Returns the moment of a text `YYYY-MM-DDTHH:MM`; `None` if the text isn't a moment in range.
     pub fn read(text: &[u8]) -> Option<Moment>
         ensures spelled { Reads (SpellsMoment text.now) result }
         ensures function { result ≡ moment_of_text text.now }
@@ -131,7 +131,7 @@ impl Moment {
         moment_in(text)
     }
 
-    /// The text `YYYY-MM-DDTHH:MM`.
+    /// Returns the text `YYYY-MM-DDTHH:MM`.
     pub fn text(self) -> [u8; 16]
         ensures value { result ≡ moment_text self }
         ensures spelled { SpellsMoment result self }

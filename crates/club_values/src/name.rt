@@ -19,8 +19,8 @@ use std::marker::Model;
 /// The most bytes of a name.
 pub const MAX_NAME_LEN: usize = 24;
 
-/// A name of a member, a key or a facility: 1 to 24 bytes of `a` to `z`, `0` to `9` and `-`, the
-/// first not `-`. Contracts see it as its bytes. Names are ordered by their bytes.
+/// A name of a member, a key or a facility: 1 to 24 bytes of `a` to `z`, `0` to `9` and `-`, and
+/// the first byte isn't `-`. Contracts see it as its bytes. Names are ordered by their bytes.
 #[derive(Clone, Copy)]
 pub struct Name {
     bytes: InlineBytes<MAX_NAME_LEN>,
@@ -58,7 +58,7 @@ fn name_in(text: &[u8]) -> Option<Name>
 }
 
 impl Name {
-    /// Whether the bytes are a name.
+    /// Returns whether the bytes are a name.
     pub fn is_name(text: &[u8]) -> bool
         ensures { IsTrue result ↔ IsName text.now }
     {
@@ -67,7 +67,7 @@ impl Name {
             && text.iter().all(|byte| is_name_byte(*byte))
     }
 
-    /// The text as a name; `None` if it isn't one.
+    /// Returns the text as a name; `None` if it isn't one.
     pub fn read(text: &[u8]) -> Option<Name>
         ensures named { IsSome result ↔ IsName text.now }
         ensures value { IfSome result (λ name. name ≡ text.now) }
@@ -76,7 +76,7 @@ impl Name {
         name_in(text)
     }
 
-    /// The bytes of the name.
+    /// Returns the bytes of the name.
     pub fn as_bytes(&self) -> &[u8]
         ensures value { result.now ≡ self.now }
         ensures name { IsName result.now }
@@ -84,7 +84,7 @@ impl Name {
         self.bytes.as_bytes()
     }
 
-    /// The name as text.
+    /// Returns the name as text.
     pub fn as_str(&self) -> &str
         ensures value { result.now ≡ self.now }
         ensures name { IsName result.now }

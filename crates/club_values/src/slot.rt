@@ -22,10 +22,10 @@ pub struct Slot {
 impl Slot {
     ghost use Rattle.club_values.specs.Slot.{start_of};
 
-    /// The minute at which the slot begins, counted from 1970-01-01T00:00.
+    /// Returns the minute at which the slot begins, counted from 1970-01-01T00:00.
     pub fn start(&self) -> u32
         ensures value { result ≡ start_of self.now }
-        // It ends with the last day.
+        // The day after the last one doesn't exist, so the slot ends with the last day.
         ensures bound { result + minutes_an_hour ≤ last_moment + 1 }
     {
         u32::from(self.day.number()) * u32::from(MINUTES_A_DAY)

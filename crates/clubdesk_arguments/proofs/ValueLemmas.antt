@@ -11,7 +11,7 @@ short : (bytes : List ℕ) → (length bytes < 16) ⊎ (64 < length bytes) → h
 short bytes (inl few) = grind (arith, nat_tests)
 short bytes (inr many) = grind (arith, nat_tests)
 
--- the root that is made of bytes
+-- a root made from bytes
 pub root_made : (bytes : List ℕ) (made : Option (List ℕ)) → (IsSome made ↔ IsRoot bytes) → IfSome made (λ root. root ≡ bytes)
     → made ≡ has_key_root_length bytes
 root_made bytes (Some root) within value = let b : IsRoot bytes = within.0 refl in rw (value, long bytes b) refl
@@ -30,7 +30,7 @@ unknown : (n : ℕ) → (n < 1) ⊎ (booking_number_limit < n) → where_between
 unknown n (inl few) = grind (arith, nat_tests)
 unknown n (inr many) = grind (arith, nat_tests)
 
--- the booking number that is made of a number
+-- a booking number made from a number
 pub number_made : (n : ℕ) (made : Option ℕ) → (IsSome made ↔ IsBookingNumber n) → IfSome made (λ number. number ≡ n)
     → made ≡ where_between 1 booking_number_limit (Some n)
 number_made n (Some number) within value = let b : IsBookingNumber n = within.0 refl in rw (value, known n b) refl

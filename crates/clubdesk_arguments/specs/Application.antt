@@ -6,7 +6,7 @@ use Rattle.clubdesk_arguments.specs.declared.table.CommandName.{CommandName, The
 use Rattle.clubdesk_arguments.specs.declared.table.CommandName.TheVariants.{RevokeKey, RotateKey, CloseSlot, OpenSlot, CancelBooking, Sheet, Serve, ShowAccount}
 use Rattle.clubdesk_arguments.specs.declared.table.CommandName.TheVariants.{ShowSlot}
 
--- positional arguments that must be given; the first is the file
+-- required positional arguments, of which FILE comes first
 abbrev pub positionals_over_file : List Text → List Rule
 positionals_over_file names = map (λ name. as_required (positional_named name)) (codes "FILE" ∷ names)
 
@@ -38,9 +38,10 @@ log_flag = flag_named (codes "log")
 abbrev slot_positionals : List Rule
 slot_positionals = positionals_over_file (codes "FACILITY" ∷ codes "DAY" ∷ codes "HOUR" ∷ [])
 
--- `add-key FILE KEY MEMBER [ROOT] [--root-stdin] [--form FORM]`, and `rotate-key FILE KEY ROOT [MOMENT] [--root-stdin] [--form FORM]`: if the last
--- argument of a rotation is left out, the one before it is the moment. The others have all of their arguments, and
--- `serve --port P --count N [--zone RULE] [--at MOMENT] [--patience SECONDS] [--log]`, `show-account [--zone RULE] [--at MOMENT]`
+-- The commands with optional arguments are `add-key FILE KEY MEMBER [ROOT] [--root-stdin] [--form FORM]` and
+-- `rotate-key FILE KEY ROOT [MOMENT] [--root-stdin] [--form FORM]`. If the last argument of a rotation is left out, the one before it is the moment. All other
+-- commands need all of their positional arguments. The commands with other options are
+-- `serve --port P --count N [--zone RULE] [--at MOMENT] [--patience SECONDS] [--log]` and `show-account [--zone RULE] [--at MOMENT]`.
 unfoldable pub clubdesk : Table CommandName
 clubdesk = record {
   title = codes "clubdesk";

@@ -16,7 +16,7 @@ use Rattle.clubdesk_arguments.specs.declared.task.Work.TheVariants.{Office, Root
 use Rattle.club_clock.specs.{Zone.zone_of, declared.clock.Clock.{Clock, TheVariants.{Fixed, InZone}}}
 use Rattle.clubdesk_arguments.specs.declared.table.CommandName.TheVariants as command
 
--- the `?` of the logic
+-- bind for results, like `?` in code
 infixl 10 ◌>>=◌
 abbrev pub ◌>>=◌ : {A B : Type 0} → Option A → (A → Option B) → Option B
 Some x >>= f = f x
@@ -26,14 +26,14 @@ None >>= f = None
 abbrev pub number_value : Text → List Row → Option ℕ
 number_value id rows = parse_number (value_in id rows)
 
--- a key's command with the root of its argument, or without the argument as it waits for one
+-- a key's command with the root of its argument, or still without a root if there is no such argument
 abbrev pub key_work : KeyCommand → Option Text → Option Work
 key_work given None = Some (Rootless given)
 key_work given (Some argument) = do
   root ← key_root_of argument
   Some (Office (Key given root))
 
--- the last argument of a rotation, which is the moment, and the argument before it, which is the root's, if there are two
+-- the last argument of a rotation, which is the moment, and the one before it, which is the root if both are given
 abbrev pub rotation_moment_in : List Row → Text
 rotation_moment_in rows = unwrap_or (first_of (codes "MOMENT") rows) (value_in (codes "ROOT-OR-MOMENT") rows)
 
@@ -45,7 +45,7 @@ rotation_root_in rows = option_and_then (λ (moment : Text). first_of (codes "RO
 abbrev pub unless_bad : Option Work → Result Work (Refusal Unit)
 unless_bad work = ok_or work (bad_value tt)
 
--- A root is given by its argument, or by the input, which the flag asks for; that is checked before the form.
+-- A root is given either by its argument or by the input, which the flag asks for. This is checked before the form.
 abbrev pub root_and_form : Option Text → Bool → Result Form (Refusal Unit) → Result (Option Text × Form) (Refusal Unit)
 root_and_form (Some argument) true form = Err (refused_as kind.ArgumentConflict)
 root_and_form None false form = Err (refused_as kind.MissingRequiredArgument)
@@ -55,7 +55,7 @@ root_and_form argument by_input (Ok form) = Ok (argument, form)
 abbrev pub root_and_form_in : Option Text → List Row → Result (Option Text × Form) (Refusal Unit)
 root_and_form_in argument rows = root_and_form argument (is_set (codes "root-stdin") rows) (form_given rows)
 
--- both are checked before the other values
+-- the root and the form are checked before the other values
 abbrev pub of_root_and_form : List Row → (Option Text → Form → List Row → Option Work) → Result (Option Text × Form) (Refusal Unit)
     → Result Work (Refusal Unit)
 of_root_and_form rows of (Err refusal) = Err refusal
@@ -68,7 +68,7 @@ over_file file (Ok work) = Ok (record { file = file; work = work })
 -- ---- the commands, each from the values that its arguments spell, as they are read
 
 module _ (read : Readers) where
-  -- the argument of this name, as a name
+  -- the argument of this name, parsed as a name of the club
   abbrev pub name_value : Text → List Row → Option Text
   name_value id rows = read.name (value_in id rows)
 
@@ -160,7 +160,7 @@ module _ (read : Readers) where
     day ← read.day (value_in (codes "DAY") rows)
     Some (Office (Sheet day))
 
-  -- the moment that `--at` fixes, else the clock in the zone
+  -- the moment that `--at` fixes, or else the clock in the zone
   abbrev pub clock_of : Text → Option Text → Option Clock
   clock_of zone None = Some (InZone zone)
   clock_of zone (Some at) = do
@@ -211,7 +211,7 @@ module _ (read : Readers) where
   abbrev pub job_of : JobOf CommandName JobModel Unit
   job_of name rows = over_file (value_in (codes "FILE") rows) (work_named name rows)
 
--- The results of reading the arguments of a row, whose values are exactly those that they spell.
+-- The results of reading the arguments of a row: the values are exactly those that the arguments spell.
 pub record ReadsValues (name : CommandName) (rows : List Row) (result : Result JobModel (ArgumentsFault Unit)) : Type 0 where
   pub read : Readers
   pub exact : ReadExactly read
@@ -227,7 +227,7 @@ ReadsArguments arguments result = ReadsJob clubdesk ReadsValues arguments result
 abbrev pub AskFor : List Text → Text → Work → Type 0
 AskFor arguments file work = ReadsArguments arguments (Ok (Perform (record { file = file; work = work })))
 
--- A call answers a root's argument and a form, or the fault that applies, or out of memory in place of either.
+-- A call returns a root's argument and a form, or the fault that applies; it may run out of memory instead.
 abbrev pub AnswersRoot : Result (Option Text × Form) (Refusal Unit) → Result (Option (Bor Text) × Form) (ArgumentsFault Unit) → Type 0
 AnswersRoot expected (Ok answer) = expected ≡ Ok (option_map (λ text. text.now) answer.0, answer.1)
 AnswersRoot expected (Err fault) = Answers expected (Err fault)

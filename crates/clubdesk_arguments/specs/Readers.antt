@@ -10,7 +10,7 @@ pub record Readers : Type 0 where
   pub hour : List ℕ → Option ℕ
   pub moment : List ℕ → Option ℕ
 
--- Each returns a value if and only if the text spells it. So all such readers return the same.
+-- Each reader returns a value if and only if the text spells it. So all such readers return the same values.
 pub record ReadExactly (read : Readers) : Type 0 where
   pub names : (text name : List ℕ) → (read.name text ≡ Some name) ↔ (IsName text × (name ≡ text))
   pub kinds : (text : List ℕ) (kind : Kind) → (read.kind text ≡ Some kind) ↔ (text ≡ kind_text kind)

@@ -1,4 +1,4 @@
--- The values that arguments spell, beside those of the club's own texts (ours).
+-- The values of arguments, except those whose texts `club_values` parses (ours).
 use Rattle.std.specs.Prelude.{ℕ, ◌&&◌, List, length, nat_le, if◌then◌else◌, Option, Some, None, option_and_then}
 use Rattle.command_line.specs.Root.{root_of}
 use Rattle.club_values.specs.Number.{number_of_digits}
@@ -12,7 +12,7 @@ abbrev pub where_between : ℕ → ℕ → Option ℕ → Option ℕ
 where_between least most None = None
 where_between least most (Some number) = if nat_le least number && nat_le number most then Some number else None
 
--- a port of TCP, 0 for any that is free
+-- a port of TCP; 0 for any free port
 abbrev pub port_of : List ℕ → Option ℕ
 port_of text = where_between 0 65_535 (parse_number text)
 
@@ -24,13 +24,13 @@ count_of text = where_between 1 1_000_000 (parse_number text)
 abbrev pub booking_number_of : List ℕ → Option ℕ
 booking_number_of text = where_between 1 booking_number_limit (parse_number text)
 
--- a limit of time, 1 to 3,600 seconds
+-- a timeout, 1 to 3,600 seconds
 abbrev pub patience_of : List ℕ → Option ℕ
 patience_of text = where_between 1 3_600 (parse_number text)
 
 abbrev pub has_key_root_length : List ℕ → Option (List ℕ)
 has_key_root_length bytes = if nat_le min_root_len (length bytes) && nat_le (length bytes) max_root_len then Some bytes else None
 
--- the root of 16 to 64 bytes that the text spells in hexadecimal, in either case of letters
+-- the root of 16 to 64 bytes that the text spells in hexadecimal, with letters in either case
 unfoldable pub key_root_of : List ℕ → Option (List ℕ)
 key_root_of text = option_and_then has_key_root_length (root_of text)

@@ -18,11 +18,11 @@ use command_line::{ArgumentsFault, is_set, value_of};
 use pass_forms::Form;
 use std::alloc::Global;
 
-/// The work of this command.
+/// Returns the work of this command.
 ///
 /// # Errors
 ///
-/// The same as `Job::read`.
+/// Fails as `Job::read` does.
 pub fn work_of<'a>(
     alloc: Global,
     name: CommandName,
@@ -159,7 +159,8 @@ fn rotate_key<'a>(arguments: &ArgMatches<'a>, root: Option<&str>, form: Form) ->
     key_work(KeyCommand { name, change, form }, root)
 }
 
-// A key's command with the root of its argument, or without the argument as it waits for one.
+// A key's command with the root of its argument, or still without a root if there is no such
+// argument.
 fn key_work<'a>(command: KeyCommand, root: Option<&str>) -> Option<Work<'a>>
     ensures { result ≡ spec.key_work command (option_map (λ text. text.now) root.entry) }
 {
@@ -256,7 +257,7 @@ fn slot_of(arguments: &ArgMatches<'_>) -> Option<Slot>
     })
 }
 
-// The moment that `--at` fixes, else the clock in the zone.
+// The moment that `--at` fixes, or else the clock in the zone.
 fn clock_of<'a>(zone: Zone<'a>, at: Option<&str>) -> Option<Clock<'a>>
     ensures { result ≡ spec.clock_of text_readers zone.entry
         (option_map (λ text. text.now) at.entry) }

@@ -1,4 +1,4 @@
-//! Why a command failed, with the exit status and the line.
+//! Why a command failed, with its exit status and the line that it prints.
 
 use club_core::{OfficeFault, StoreFault};
 use command_line::ArgumentsFault;
@@ -8,11 +8,11 @@ use std::{error, fmt, io};
 /// Why a command failed. Its `Display` is the line for standard error.
 #[derive(Debug, Drop)]
 pub enum Fault {
-    /// The office refuses the command.
+    /// A rule of the club refuses the command.
     Refused(OfficeFault),
     /// `clap` refused the arguments, or `--form` names none of the three forms.
     Arguments(clap::Error),
-    /// An argument doesn't spell a value of its place.
+    /// An argument, or a root from standard input, isn't a valid value.
     BadValue,
     /// Memory ran out.
     Memory,
@@ -22,7 +22,8 @@ pub enum Fault {
     ClockOutOfRange,
     /// The output couldn't be written, or the server couldn't listen.
     InputOutput,
-    /// A server was handed the command, and didn't answer: it may have carried it out or not.
+    /// A server was handed the command and didn't answer. The command may or may not have been
+    /// carried out.
     NoAnswer,
     /// A server was handed the command, and answered with this status and line.
     Answered { status: u8, line: String },
@@ -32,7 +33,7 @@ impl Fault {
     ghost use Rattle.std.specs.Prelude.{◌≡◌};
     ghost use Rattle.clubdesk_arguments.specs.Fault.{fault_status};
 
-    /// The exit status, 1 to 8, or the one with which a server answered.
+    /// Returns the exit status, 1 to 8, or the status with which a server answered.
     pub fn status(&self) -> u8
         ensures { result ≡ fault_status self.now }
     {

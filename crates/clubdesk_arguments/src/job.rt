@@ -18,13 +18,14 @@ impl<'a> command_line::Job<'a> for Job<'a> {
 
     ghost Reads = { ReadsValues };
 
-    /// Returns the job over the file that the arguments name. Checks first that a root is given
-    /// once, then the form, then the other values.
+    /// Returns the job, with the file that the arguments name. First checks that exactly one root
+    /// is given, then the form, then the other values.
     ///
     /// # Errors
     ///
-    /// `Refused` if a root is given twice or not at all, or the form is unknown. `BadValue` if
-    /// another argument is invalid. `Memory` only if memory was refused.
+    /// Fails with `Refused` if a root is given twice or not at all, or the form is unknown. Fails
+    /// with `BadValue` if another argument is invalid, and with `Memory` only if memory was
+    /// refused.
     fn read(
         alloc: Global,
         name: CommandName,
@@ -32,7 +33,7 @@ impl<'a> command_line::Job<'a> for Job<'a> {
     ) -> Result<Job<'a>, ArgumentsFault<()>>
         ensures { ReadsValues name (rows_of (found_of arguments.now)) result }
     {
-        // By this law the values of the job are exactly those that the arguments spell.
+        // By this law, the values of the job are exactly those that the arguments state.
         readers_are_exact();
         let file = value_of(arguments, "FILE");
         match work_of(alloc, name, arguments) {

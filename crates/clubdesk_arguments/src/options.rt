@@ -1,4 +1,4 @@
-//! The arguments of a command, out of what `clap` found.
+//! The values of a command's arguments, taken from what `clap` found.
 
 ghost use Rattle.std.specs.Prelude.{◌≡◌, option_map};
 ghost use Rattle.clap.specs.Words.{first_of, found_of, rows_of};
@@ -14,21 +14,21 @@ use command_line::{ArgumentsFault, arguments_fault, is_set, read_form, value_of}
 use pass_forms::Form;
 use std::alloc::Global;
 
-/// The value of an argument, parsed as a name.
+/// Returns the value of an argument, parsed as a name.
 pub fn name_of(arguments: &ArgMatches<'_>, id: &str) -> Option<Name>
     ensures { result ≡ spec.name_value text_readers id.now (rows_of (found_of arguments.now)) }
 {
     Name::read(value_of(arguments, id).as_bytes())
 }
 
-/// The value of an argument, parsed as a number.
+/// Returns the value of an argument, parsed as a number.
 pub fn number_at(arguments: &ArgMatches<'_>, id: &str) -> Option<u32>
     ensures { result ≡ spec.number_value id.now (rows_of (found_of arguments.now)) }
 {
     parse_number(value_of(arguments, id))
 }
 
-/// The value of an option, if it is given.
+/// Returns the value of an option, if it is given.
 pub fn given<'a>(arguments: &ArgMatches<'a>, id: &str) -> Option<&'a str>
     ensures { option_map (λ text. text.now) result
         ≡ first_of id.now (rows_of (found_of arguments.now)) }
@@ -36,7 +36,8 @@ pub fn given<'a>(arguments: &ArgMatches<'a>, id: &str) -> Option<&'a str>
     arguments.get_str(id)
 }
 
-/// The argument of a new root of a key; `None` if the moment is the last argument.
+/// Returns the argument with a key's new root; `None` if the root's argument was left out, so that
+/// the moment is the last one.
 pub fn rotation_root<'a>(arguments: &ArgMatches<'a>) -> Option<&'a str>
     ensures { option_map (λ text. text.now) result
         ≡ spec.rotation_root_in (rows_of (found_of arguments.now)) }
@@ -47,7 +48,7 @@ pub fn rotation_root<'a>(arguments: &ArgMatches<'a>) -> Option<&'a str>
     }
 }
 
-/// The last argument, which is the moment.
+/// Returns the last argument, which is the moment.
 pub fn rotation_moment<'a>(arguments: &ArgMatches<'a>) -> &'a str
     ensures { result.now ≡ spec.rotation_moment_in (rows_of (found_of arguments.now)) }
 {
@@ -57,13 +58,13 @@ pub fn rotation_moment<'a>(arguments: &ArgMatches<'a>) -> &'a str
     }
 }
 
-/// The argument of a root, `None` if it is read from the input, by `--root-stdin`; and the form
-/// that `--form` names.
+/// Returns the argument with a root, or `None` if `--root-stdin` asks to read it from the input;
+/// and the form that `--form` names.
 ///
 /// # Errors
 ///
-/// `Refused` if there is neither the argument nor the flag, or both, or else if the form is none of
-/// the three; `Memory`.
+/// Fails with `Refused` if there is neither the argument nor the flag, if there are both, or if the
+/// form is none of the three. Fails with `Memory` if memory was refused.
 pub fn root_and_form<'a>(
     alloc: Global,
     arguments: &ArgMatches<'_>,

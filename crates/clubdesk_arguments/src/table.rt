@@ -203,7 +203,7 @@ const ADD_KEY_ARGUMENTS: &[Argument] = &[
 const ROTATE_KEY_ARGUMENTS: &[Argument] = &[
     FILE,
     KEY,
-    // Its place is the root's, or with `--root-stdin` the moment's.
+    // This is the place of the root, or of the moment if `--root-stdin` is given.
     Argument::NeededPositionalAs("ROOT-OR-MOMENT", "ROOT"),
     Argument::Positional("MOMENT"),
     ROOT_BY_INPUT,
@@ -225,7 +225,7 @@ const SERVE_ARGUMENTS: &[Argument] = &[
     Argument::Flag("log", "Logs each connection in a line on standard error"),
 ];
 
-/// The program.
+/// The program `clubdesk` with its commands.
 static CLUBDESK: Program<CommandName> = Program {
     name: "clubdesk",
     about: "The desk of a club: its office, its day sheet and its server",

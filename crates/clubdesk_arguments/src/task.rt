@@ -1,4 +1,4 @@
-//! Jobs of the program, as arguments ask for them.
+//! The jobs that the program's arguments can ask for.
 
 use club_clock::Clock;
 use club_core::Command;
@@ -10,15 +10,15 @@ use std::marker::Model;
 /// A task of the office.
 #[derive(Drop)]
 pub enum Task<'a> {
-    /// A command that makes no pass.
+    /// A command that prints no pass.
     Give(Command),
-    /// A command that gives a key this root, and makes its pass.
+    /// A command that gives a key this root, and prints its pass.
     Key(KeyCommand, Root),
     /// The day sheet of a day.
     Sheet(Day),
-    /// The account that the desk shows to a key, at the moment of the clock.
+    /// The listing of a key's account, at the moment of the clock.
     ShowAccount { key: Name, clock: Clock<'a> },
-    /// A slot as the desk shows it.
+    /// The listing of a slot.
     ShowSlot(Slot),
 }
 
@@ -42,13 +42,14 @@ pub enum KeyChange {
 /// The settings of the server.
 #[derive(Drop)]
 pub struct Service<'a> {
-    /// The port to listen at, on the loopback address; 0 for any that is free.
+    /// The port on the loopback address to listen at; 0 for any free port.
     pub port: u16,
     /// The number of connections to serve, 1 to 1,000,000.
     pub count: u32,
-    /// The source of the moments.
+    /// The clock that gives each request its moment.
     pub clock: Clock<'a>,
-    /// The seconds that a client may take to send its request, and to read its reply, 1 to 3,600.
+    /// The timeout for a client to send its request, and again to read its reply, 1 to 3,600
+    /// seconds.
     pub patience: u32,
     /// Whether each connection is logged.
     pub log: bool,

@@ -1,4 +1,4 @@
-//! The values of arguments, except those with a text of the club's own.
+//! The values of arguments, except those whose texts `club_values` parses.
 
 ghost use Rattle.std.specs.Prelude.{◌≡◌};
 ghost use Rattle.clubdesk_arguments.specs.Values as spec;
@@ -59,7 +59,7 @@ pub fn patience_of(text: &str) -> Option<u32>
     Some(number)
 }
 
-/// Reads a root of 16 to 64 bytes in hexadecimal, in either case of letters.
+/// Reads a root of 16 to 64 bytes in hexadecimal, with letters in either case.
 pub fn root_of(text: &str) -> Option<Root>
     ensures { result ≡ spec.key_root_of text.now }
 {

@@ -1,4 +1,4 @@
--- What arguments ask for, what is handed over, and how work ends.
+-- The job that arguments ask for, the bytes that are handed over, and the end of work.
 use Rattle.std.proofs.Common.{◌≡◌, ℕ, List, Option, Result, Ok, Err, subst, ◌∙◌, inl, inr, refl}
 use Rattle.clap.specs.Words.{Text}
 use Rattle.jiff_core.specs.declared.timestamp.Timestamp.{Timestamp}
@@ -18,7 +18,7 @@ asks_for given arguments read job whole work same reads is as_whole asked =
     let as_asked : read ≡ Perform (record { file = job.file; work = work }) = is ∙ rw (← as_whole, ← asked) refl in
     subst (λ (it : Asked JobModel). ReadsArguments arguments (Ok it)) as_asked (subst (λ (texts : List Text). ReadsArguments texts (Ok read)) same reads)
 
--- the bytes that a server was given are those of the command
+-- the bytes that a server was given encode the command
 pub handed_reply : {V : Type 0} (Gives : Giving V) (visit : V) (root : Text) (arguments : List Text) (given bytes : List ℕ) (reply : Option (ℕ × List ℕ))
     (answer : Result (List ℕ) Fault) → given ≡ bytes → bytes ≡ command_bytes root arguments → Gives visit given reply → IsReply reply answer
     → IsHandedOver Gives visit root arguments answer

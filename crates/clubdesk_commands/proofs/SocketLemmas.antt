@@ -1,4 +1,4 @@
--- A server over connections of any kind is one over sockets, of which less is said.
+-- A server over connections of any kind is also a server over sockets, about which the contracts say less.
 use Rattle.std.proofs.Common.{ℕ, List}
 use Rattle.club_clock.specs.Moments.{GivesMoment}
 use Rattle.club_http.specs.Replied.{AnswerRelation}

@@ -1,4 +1,4 @@
--- What the desk of a server does with a command that was handed to it (ours).
+-- The effect of a command that was handed to a server's desk (ours).
 use Rattle.std.specs.{Prelude.{◌≡◌, ◌⊎◌, ℕ, List, [], ◌++◌, take, slice_get, codes, IfSome, Option, Some, None, Result, Ok, Err}, String.string_bytes}
 use Rattle.clap.specs.{Words.Text, declared.error.Error.Error}
 use Rattle.jiff_core.specs.declared.timestamp.Timestamp.{Timestamp}
@@ -11,34 +11,34 @@ use Rattle.clubdesk_arguments.specs.declared.{fault.Fault.TheVariants.{Arguments
 use Rattle.clubdesk_arguments.specs.declared.task.{Task.TheVariants.Key, Work.TheVariants.{Office, Rootless, Serve}}
 use Rattle.clubdesk_commands.specs.{Does.Does, HandedCommand.{SpellsCommand, SpellsNoCommand}, Input.root_in_input}
 
--- the status of an answer and its text; of a fault its line, or that memory was refused for that
+-- the status of an answer and its text; the text of a fault is its line, unless memory for the line was refused
 abbrev pub AnswersWith : Result (List ℕ) Fault → Answer → Type 0
 AnswersWith (Ok text) answer = (answer.carried.status ≡ 0) × (string_bytes answer.text ≡ text)
 AnswersWith (Err fault) answer =
     ((answer.carried.status ≡ fault_status fault) × IfSome (fault_line fault) (λ line. string_bytes answer.text ≡ line))
     ⊎ (answer.carried.status ≡ 4)
 
--- what a log is given of a command of this name: `office` and the first 24 bytes of the name
+-- the words that a log gets for a command of this name: `office` and the first 24 bytes of the name
 abbrev pub named_line : Option Text → List ℕ
 named_line (Some name) = codes "office " ++ take 24 name ++ codes " "
 named_line None = []
 
--- of a command with this answer: nothing if `clap` refused its arguments, among which it found no name
+-- the words that a log gets for a command with this answer: none if `clap` refused its arguments, since it found no name among them
 abbrev pub logged_line : Result (List ℕ) Fault → Option Text → List ℕ
 logged_line (Err (Arguments error)) name = []
 logged_line answer name = named_line name
 
--- an answer with this status, of which a log is given nothing
+-- an answer with this status, for which a log gets no words
 abbrev pub IsUnnamed : ℕ → Answer → Type 0
 IsUnnamed status answer = (answer.carried.status ≡ status) × (answer.carried.line ≡ [])
 
--- arguments ask for a text, or for a server, which are none of the office's
+-- arguments ask for a text or for a server, which aren't commands of the office
 pub data AskOther (arguments : List Text) : Type 0 where
   text_asked : (text : Error) → ReadsArguments arguments (Ok (ShowText text)) → AskOther arguments
   server_asked : (file : Text) (service : Service) → AskFor arguments file (Serve service) → AskOther arguments
 
 module _ {Store : Type 0} (Clean : Store → Type 0) (Represents : Store → Club → List Club → Type 0) (Given : Option Timestamp → Type 0) where
-  -- a command with these arguments: they are read as those of a command without a server, and done, with this root if they leave it to the input; or
+  -- a command with these arguments: either they are read as without a server, with this root if they leave it to the input, and the command is carried out; or
   -- they or the root are refused, and nothing is done
   pub data DoesArguments (root : Text) (arguments : List Text) (answer : Result (List ℕ) Fault) (old new : Store) : Type 0 where
     task_done : (file : Text) (task : Task) → AskFor arguments file (Office task) → Does Clean Represents Given task answer old new
@@ -50,8 +50,8 @@ module _ {Store : Type 0} (Clean : Store → Type 0) (Represents : Store → Clu
     arguments_refused : (fault : ArgumentsFault Unit) → ReadsArguments arguments (Err fault) → answer ≡ Err (of_arguments fault) → new ≡ old
         → DoesArguments root arguments answer old new
 
-  -- A command is done once, and a log is given its name, which is the second argument. Bytes that spell none, and arguments that ask for nothing of
-  -- the office's, change nothing.
+  -- A command is carried out once, and a log gets its name, which is the second argument. Bytes that encode no command change nothing, and neither do arguments
+  -- that ask for no command of the office.
   pub data CarriesOutBy (bytes : List ℕ) (old : Store) (answer : Answer) (new : Store) : Type 0 where
     command_done : (root : Text) (arguments : List Text) (result : Result (List ℕ) Fault) → SpellsCommand bytes root arguments
         → DoesArguments root arguments result old new
@@ -63,11 +63,11 @@ module _ {Store : Type 0} (Clean : Store → Type 0) (Represents : Store → Clu
 
 -- ---- with the machine's clock, which stays the same
 
--- what a desk over a store answers
+-- the replies of a desk over a store
 abbrev pub answers_with_clock : {S C : Type 0} → (ℕ → AnswerRelation S) → ℕ → AnswerRelation (S × C)
 answers_with_clock Answers moment text request old reply new = Answers moment text request old.0 reply new.0 × (new.1 ≡ old.1)
 
--- what it does with a command, by the instants that the clock may give
+-- the effect of a command at such a desk, given the instants that the clock may show
 abbrev pub carries_out_with_clock : {S C : Type 0} → (C → Option Timestamp → Type 0) → ((Option Timestamp → Type 0) → CommandRelation S)
     → CommandRelation (S × C)
 carries_out_with_clock Shows Carries bytes old answer new = Carries (Shows old.1) bytes old.0 answer new.0 × (new.1 ≡ old.1)

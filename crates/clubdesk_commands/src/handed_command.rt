@@ -10,18 +10,18 @@ use std::convert::AsStr;
 use std::str;
 
 /// A command that is handed over: the root that it read from standard input, empty if it read none,
-/// and its arguments, of which the first is the program's name.
+/// and its arguments. The first argument is the program's name.
 #[derive(Drop)]
 pub struct HandedCommand {
     pub root: String,
     pub arguments: Vec<String>,
 }
 
-/// The bytes of a command.
+/// Encodes a command as bytes.
 ///
 /// # Errors
 ///
-/// There is no memory for them.
+/// Fails if there is no memory for the bytes.
 pub fn command_bytes<S: AsStr>(
     alloc: Global,
     root: &str,
@@ -57,12 +57,12 @@ fn push_piece(bytes: &mut Vec<u8>, text: &str) -> Result<(), AllocError>
     Ok(())
 }
 
-/// The command that bytes spell; `None` if they spell none. Its root and its arguments are UTF-8
-/// without zero bytes, and its arguments are as many as it says.
+/// Decodes the bytes of a command, and returns `None` if they don't encode one. The root and the
+/// arguments must be UTF-8 without zero bytes, and the number of arguments must be the encoded one.
 ///
 /// # Errors
 ///
-/// There is no memory for the command.
+/// Fails if there is no memory for the command.
 pub fn read_command(alloc: Global, bytes: &[u8]) -> Result<Option<HandedCommand>, AllocError>
     ensures { IfOk result (λ command. spec.IsCommandOf bytes.now command) }
 {
@@ -86,7 +86,7 @@ pub fn read_command(alloc: Global, bytes: &[u8]) -> Result<Option<HandedCommand>
     }
 }
 
-// The arguments of which a text has the pieces; `None` if it has something after the last piece.
+// The arguments that a text's pieces encode; `None` if the text has something after the last piece.
 fn split_arguments(alloc: Global, text: &str) -> Result<Option<Vec<String>>, AllocError>
     ensures { IfOk result (λ arguments. MatchOption arguments (spec.EndsWithoutZero text.now)
         (λ arguments. (text.now ≡ spec.pieces (map string_bytes arguments.items))

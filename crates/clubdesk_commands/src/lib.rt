@@ -1,5 +1,5 @@
-//! The commands of `clubdesk`: what its arguments ask for, done at a database, or by the server
-//! that has it open.
+//! The commands of `clubdesk`. A command that the arguments ask for is carried out on a database,
+//! or by the server that has it open.
 #![tactic(auto)]
 
 mod handed_command;

@@ -1,4 +1,4 @@
-//! The tasks of the office, over a desk.
+//! The tasks of the office, carried out at a desk.
 
 ghost use Rattle.std.specs.{Prelude.{◌≡◌, IfErr, IfSome}, String.string_bytes};
 ghost use Rattle.clubdesk_commands.specs.Does as spec;
@@ -14,13 +14,14 @@ use pass_forms::Form;
 use pass_json::write_any;
 use std::alloc::Global;
 
-/// Does a task at a desk, and returns the answer.
+/// Carries out a task at a desk, and returns the answer.
 ///
 /// # Errors
 ///
-/// `Refused`, `Memory` and `Storage` if the desk returns them; `Memory` also if there was none for
-/// the text of a command's answer, and then no command was given; `ClockOutOfRange` if the clock
-/// shows no moment at which to look. The club is unchanged.
+/// Fails with `Refused`, `Memory` or `Storage` if the desk returns them. Fails with `Memory` also
+/// if there was none for the text of a command's answer; then the desk got no command. Fails with
+/// `ClockOutOfRange` if a listing needs the moment and the clock shows none. In each case the club
+/// is unchanged.
 pub(crate) fn carry_out<C: Instants, S: ClubStore>(
     alloc: Global,
     machine: &C,
@@ -52,7 +53,7 @@ pub(crate) fn carry_out<C: Instants, S: ClubStore>(
     }
 }
 
-// Gives a command to the desk, and returns a text if it is carried out.
+// Gives a command to the desk, and returns a text if the desk carries it out.
 fn give<S: ClubStore>(desk: &mut Desk<S>, command: &Command, text: String) -> Result<String, Fault>
     ensures given { spec.IsGiven S.disk_is_clean S.represents command.now (string_bytes text)
         (text_of result) desk.old desk.new }
@@ -90,7 +91,7 @@ fn key_command(name: Name, change: KeyChange, root: Root) -> Command
     }
 }
 
-// The answer to what the desk returned.
+// The answer for a result of the desk.
 fn answer_of_desk(returned: Result<String, club_gate::Fault>) -> Result<String, Fault>
     ensures is { text_of result ≡ spec.answer_of_desk returned }
     ensures worked { IfErr result IsWorkFault }

@@ -1,4 +1,4 @@
-//! A desk that a server serves, with the office at it.
+//! A server's desk, which also carries out the office's commands.
 
 ghost use Rattle.std.specs.Prelude.{◌≡◌, map, MatchOption, Err, option_copied, option_map};
 ghost use Rattle.std.specs.String.{string_bytes};
@@ -23,17 +23,17 @@ use std::marker::Model;
 /// The status of a command that was done.
 const DONE: u8 = 0;
 
-/// The status of bytes that spell no command of the office.
+/// The status of bytes that encode no command of the office.
 const NO_COMMAND: u8 = 2;
 
-/// The status of a command whose answer memory was refused for.
+/// The status of a command that got no memory for its answer.
 const OUT_OF_MEMORY: u8 = 4;
 
-/// More letters than a command's name has.
+/// The most letters of a command's name that are logged. No command's name is longer.
 const MAX_NAME_LEN: usize = 24;
 
-/// A desk over an open store, and what its office needs besides: memory, and the machine's clock.
-/// Contracts see the store and that clock.
+/// A desk over an open store, with the memory and the machine's clock that the office's commands
+/// need. Contracts see the store and the clock.
 #[derive(Drop)]
 pub struct OfficeDesk<'a, S: ClubStore, C> {
     desk: Desk<S>,
@@ -50,7 +50,7 @@ impl<'a, S: ClubStore, C> Model for OfficeDesk<'a, S, C> {
 impl<'a, S: ClubStore, C: Instants> OfficeDesk<'a, S, C> {
     ghost use Rattle.std.specs.Prelude.{◌≡◌};
 
-    /// A desk over this store.
+    /// Returns a desk over this store.
     pub fn new(alloc: Global, machine: &'a C, store: S) -> OfficeDesk<'a, S, C>
         ensures { result ≡ (store, machine.now) }
     {
@@ -61,7 +61,7 @@ impl<'a, S: ClubStore, C: Instants> OfficeDesk<'a, S, C> {
         }
     }
 
-    /// The store.
+    /// Returns the store.
     pub fn into_store(self) -> S
         ensures { result ≡ self.entry.0 }
     {
@@ -101,7 +101,8 @@ impl<S: ClubStore, C: Instants> Office for OfficeDesk<'_, S, C> {
     }
 }
 
-// Does what a command asks for; `None` if it asks for nothing of the office's.
+// Carries out a command. Returns `None` if its arguments ask for something other than a command of
+// the office.
 fn answer_command<S: ClubStore, C: Instants>(
     alloc: Global,
     machine: &C,

@@ -45,7 +45,7 @@ pub fn run_process<
     }
 }
 
-/// Returns the exit status of a run that ended so, and prints the line of its fault.
+/// Returns the exit status for a run's result, and prints the line of its fault.
 pub fn finish<P: FaultLines>(process: &P, ended: Result<(), Fault>) -> u8
     ensures status { result ≡ spec.exit_status ended }
     ensures line { IfErr ended (λ fault. P.asked process.now (fault_output fault)) }

@@ -18,22 +18,23 @@ use std::alloc::{AllocError, Global};
 use std::convert::AsStr;
 use std::io::{Read, Write};
 
-/// Runs the program on its arguments, of which the first is its name. The machine's clock is that
-/// by which a server without `--at` has its moments, and its connections their limits of time.
+/// Runs the program on its arguments, which begin with its name. `machine` is the clock for
+/// timeouts and, without `--at`, for the moments of a server's requests.
 ///
-/// The arguments are checked before a database is reached. A server opens it once, and closes it at
-/// its end; meanwhile other runs hand their commands to it. Without a server a run opens it once,
-/// and closes it before it writes. Only a root is read, which `--root-stdin` asks for: in
-/// hexadecimal, one line feed at its end taken off, after the arguments and before the database is
-/// reached. Help and the version are written as `clap` makes them. Only `serve` with `--log` notes
-/// each client and each command in the log.
+/// The arguments are checked before a database is reached. A server opens the database once, and
+/// closes it at the end; meanwhile other runs hand their commands to the server. Without a server,
+/// a run opens the database once, and closes it before it writes its output. The only input is a
+/// root in hexadecimal, if `--root-stdin` asks for it. It is read after the arguments and before
+/// the database is reached, without one line feed at its end. Help and the version are written as
+/// `clap` makes them. Only `serve` with `--log` notes each client and each command in the log.
 ///
 /// # Errors
 ///
-/// Of the arguments: `Arguments` and `BadValue`, the latter also of a root that was read. `Refused`
-/// as the office rules; `Storage`, also if the database can't be opened; `Memory`; after these
-/// nothing was written. `ClockOutOfRange` and `InputOutput` may come after a beginning of the
-/// output; if the input can't be read, nothing was written.
+/// Fails with `Arguments` or `BadValue` if the arguments are wrong, and with `BadValue` also if the
+/// input isn't a root. Fails with `Refused` if a rule forbids the command, with `Storage` if the
+/// database fails or can't be opened, and with `Memory` if memory is refused. After all these
+/// faults nothing was written. `ClockOutOfRange` and `InputOutput` may come after a part of the
+/// output was written; if the input can't be read, nothing was written.
 pub fn run<C: Instants + MonotonicClock, D: Databases, S: AsStr, R: Read, W: Write, G: Log>(
     rt: &HostRuntime,
     machine: &C,
@@ -83,8 +84,9 @@ pub fn run<C: Instants + MonotonicClock, D: Databases, S: AsStr, R: Read, W: Wri
     }
 }
 
-// Does a task of the office: by the server that has the database open, or at the database itself.
-// That is closed before the answer is written, so that a writer that waits doesn't keep it.
+// Carries out a task of the office, by the server that has the database open, or on the database
+// itself. It closes the database before it writes the answer, so that a blocked writer doesn't keep
+// the database open.
 fn perform<C: Instants, D: Databases, S: AsStr, W: Write>(
     alloc: Global,
     machine: &C,
@@ -133,8 +135,8 @@ fn hand_over<V: Visit + Drop, S: AsStr>(
     }
 }
 
-// The bytes of a command: arguments, and the root of the task that they ask for, which they may
-// lack. It is empty if the task has none.
+// The bytes of a command: its arguments, and the root of its task, which the arguments may lack.
+// The root is empty if the task has none.
 fn handed_bytes<S: AsStr>(
     alloc: Global,
     arguments: &[S],

@@ -20,16 +20,16 @@ use std::net::TcpListener;
 use std::os::unix::net::UnixListener;
 use std::time::Duration;
 
-/// Where the server listens.
+/// The address at which the server listens.
 const LOOPBACK: &str = "127.0.0.1";
 
-/// Serves over the database of a name, which it opens before it writes, and closes at the end.
-/// Commands of the office come by the database's door meanwhile.
+/// Serves the database of a name. It opens the database before it writes its address, and closes it
+/// at the end. Meanwhile commands of the office come through the database's door.
 ///
 /// # Errors
 ///
-/// As `serve`; and `Storage` and `Memory` if the database can't be opened, or has no door: then
-/// nothing was written.
+/// Fails as `serve` does. Fails also with `Storage` or `Memory` if the database can't be opened or
+/// its door can't be made; then nothing was written.
 pub fn serve_file<C: Instants + MonotonicClock, D: Databases, W: Write, G: Log>(
     rt: &HostRuntime,
     machine: &C,
@@ -71,15 +71,17 @@ pub fn serve_file<C: Instants + MonotonicClock, D: Databases, W: Write, G: Log>(
     outcome
 }
 
-/// Listens on the loopback address, writes where, and serves the clients, and the commands that
-/// come by the door: each client at the moment that the service fixes, or that the machine's clock
-/// shows in its zone, and under limits of the service's patience by that clock. If a log is asked
-/// for, it notes each.
+/// Listens on the loopback address, writes the address and port, and serves clients and the
+/// commands that come through the door. Each client is served at the moment that the service fixes,
+/// or else at the moment that the machine's clock shows in the service's zone. The machine's clock
+/// also measures the service's patience with a client. If a log is asked for, it notes each client
+/// and command.
 ///
 /// # Errors
 ///
-/// `InputOutput` if the server can't listen, or the writer failed; `Memory`: nothing was served.
-/// `ClockOutOfRange` if the clock shows no moment of the club's at a client, which ends the server.
+/// Fails with `InputOutput` if the server can't listen or the writer failed, and with `Memory` if
+/// memory is refused; then nothing was served. Fails with `ClockOutOfRange` if the clock shows no
+/// moment within the club's years when a client comes, which ends the server.
 pub fn serve<D: Office, C: Instants + MonotonicClock, W: Write, G: Log>(
     rt: &HostRuntime,
     machine: &C,
@@ -117,7 +119,8 @@ pub fn serve<D: Office, C: Instants + MonotonicClock, W: Write, G: Log>(
     }
 }
 
-// Listens, allocates all memory that the server needs before a request comes, and writes where.
+// Listens, allocates all memory that the server needs before the first request, and writes the
+// address and port.
 fn listen<W: Write>(
     rt: &HostRuntime,
     port: u16,
@@ -143,7 +146,8 @@ fn listen<W: Write>(
     }
 }
 
-// Listens at a port of the loopback address, and returns it; for 0 the system chooses one.
+// Listens at a port of the loopback address, and returns the port. For port 0, the system chooses
+// one.
 fn bind(rt: &HostRuntime, port: u16) -> io::Result<(TcpListener, u16)>
     ensures { IfOk result (λ bound. spec.IsPortFor port bound.1) }
 {
@@ -156,7 +160,7 @@ fn bind(rt: &HostRuntime, port: u16) -> io::Result<(TcpListener, u16)>
     Ok((listener, chosen))
 }
 
-// The program's outcome for a server's.
+// The program's result for a server's result.
 fn outcome_of(outcome: Result<(), ClockOutOfRange>) -> Result<(), Fault>
     ensures { result ≡ spec.outcome_of_server outcome }
 {

@@ -1,12 +1,12 @@
--- A command that is handed to one server after the other (ours).
+-- A command that is handed to one server after another (ours).
 use Rattle.std.specs.Prelude.{◌≡◌, ℕ, List, Option, IsSomeAnd}
 
--- what handing a command to the next server does: the servers before, the bytes of the command, the answer's status and text, if there is one, and
--- the servers after
+-- the effect of handing a command to the next server: the servers before, the bytes of the command, the answer's status and text, if there is one, and the
+-- servers after
 abbrev pub Handing : Type 0 → Type 1
 Handing Servers = Servers → List ℕ → Option (ℕ × List ℕ) → Servers → Type 0
 
--- The answer's status is 9: nothing was done.
+-- The answer's status is 9, which means that nothing was done.
 abbrev pub IsNothingDone : Option (ℕ × List ℕ) → Type 0
 IsNothingDone answer = IsSomeAnd answer (λ told. told.0 ≡ 9)
 
@@ -16,7 +16,7 @@ pub data IsHandedInVain {Servers : Type 0} (Hands : Handing Servers) (command : 
   once_more : (told : Option (ℕ × List ℕ)) (mid last : Servers) → IsHandedInVain Hands command first mid → Hands mid command told last
       → IsNothingDone told → IsHandedInVain Hands command first last
 
--- The command was handed over, with this answer, and before only in vain.
+-- The command was handed over with this answer; each time before, nothing was done.
 pub record IsHandedOn {Servers : Type 0} (Hands : Handing Servers) (command : List ℕ) (first : Servers) (answer : Option (ℕ × List ℕ))
     (last : Servers) : Type 0 where
   pub mid : Servers

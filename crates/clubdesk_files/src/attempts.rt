@@ -1,26 +1,26 @@
-//! Attempts that are repeated, with short sleeps between them.
+//! Repeats attempts, with short sleeps between them.
 
 ghost use Rattle.clubdesk_files.specs.Attempts.{GainsWithin};
 
 use std::thread;
 use std::time::{Clock, Duration};
 
-/// How many milliseconds the program sleeps after a failed attempt.
+/// How long the program sleeps after a failed attempt, in milliseconds.
 pub(crate) const SLEEP_MILLIS: u64 = 10;
 
 /// The number of attempts in a second.
 pub const ATTEMPTS_A_SECOND: u32 = 100;
 
-/// Something that other programs may hold, and that is tried for repeatedly.
+/// A resource that other programs may hold, and that is tried for repeatedly.
 pub trait Attempts {
     type Gain;
 
     ghost use Rattle.clubdesk_files.specs.Attempts.{Gains};
 
-    // what an attempt returns, with the state before and after
+    // the results of an attempt, with the state before and after
     ghost gains: { Gains Self Self.Gain };
 
-    /// Tries once; `None` if it failed.
+    /// Tries once, and returns `None` if that failed.
     fn attempt(&mut self) -> Option<Self::Gain>
         ensures { gains self.old result self.new };
 }

@@ -1,4 +1,4 @@
-//! The files beside a database.
+//! The files next to a database.
 
 ghost use Rattle.std.specs.Prelude.{◌≡◌, ◌↔◌, ◌⊎◌, IsTrue};
 
@@ -12,7 +12,7 @@ use std::os::unix::fs::{FileTypeExt, MetadataExt, OpenOptionsExt};
 use std::path::Path;
 use std::{fs, io};
 
-/// The mode of new files: their owner may read and write them, and nobody else.
+/// The mode of new files: only their owner may read and write them.
 pub(crate) const OWNERS_MODE: u32 = 0o600;
 
 /// The name of a database in memory, which has no files.
@@ -27,9 +27,9 @@ const OFFICE: &str = "-office";
 /// The user id of root.
 const ROOT: u32 = 0;
 
-/// The folder of a database, opened, and the database's name in it. Links on the way are resolved.
-/// A path by the folder's descriptor is short enough for a socket's address, however long the
-/// folder's own is.
+/// The opened folder of a database, and the database's name in it. Links on the way are resolved. A
+/// path through the folder's descriptor is short enough for a socket's address, even if the
+/// folder's own path is too long.
 #[derive(Drop)]
 pub(crate) struct Place {
     folder: File,
@@ -37,8 +37,8 @@ pub(crate) struct Place {
 }
 
 impl Place {
-    /// The place of the database of this path. If the file is gone, but not its folder, it is that
-    /// of its name in the folder: a server that has it open goes on.
+    /// Returns the place of the database at this path. If the file is gone but its folder is there,
+    /// the place is that of the name in the folder, since a server that has the file open goes on.
     pub fn find(rt: &HostRuntime, file: &str) -> io::Result<Place> {
         match fs::canonicalize(rt, file) {
             Ok(whole) => Place::of(rt, whole.as_path()),
@@ -60,7 +60,7 @@ impl Place {
         Ok(Place { folder, name })
     }
 
-    /// The path of the door.
+    /// Returns the path of the door.
     pub fn door(&self, rt: &HostRuntime) -> Result<String, AllocError> {
         self.path(rt, OFFICE)
     }
@@ -82,12 +82,12 @@ impl Place {
         }
     }
 
-    /// Whether a socket has the door's name that may be the door of this database.
+    /// Returns whether the door's name is that of a socket which may be the door of this database.
     ///
     /// # Errors
     ///
-    /// `InvalidData` if something else has the name, or the socket of a user who may not make the
-    /// door.
+    /// Fails with `InvalidData` if something else has the name, or the socket belongs to a user who
+    /// may not make the door.
     pub fn has_door(&self, rt: &HostRuntime) -> io::Result<bool> {
         let path = self.door(rt)?;
         match fs::symlink_metadata(rt, path.as_str()) {
@@ -105,15 +105,16 @@ impl Place {
     }
 }
 
-/// Whether a user may make the door of a database: its owner, the caller and root may. Anyone who
-/// may write to the folder can put a socket there, and would get what is sent to it.
+/// Returns whether a user may make the door of a database: its owner, the caller and root may. The
+/// check is needed because anyone who can write to the folder could put a socket there and would
+/// get the commands sent to it.
 pub fn may_make_door(user: u32, owner: u32, caller: u32) -> bool
     ensures { IsTrue result ↔ ((user ≡ owner) ⊎ (user ≡ caller) ⊎ (user ≡ ROOT)) }
 {
     user == owner || user == caller || user == ROOT
 }
 
-/// The fault of a door that can't be made or used.
+/// Returns the fault of a door that can't be made or used.
 pub(crate) fn fault_of(error: &io::Error) -> StoreFault {
     match error.kind() {
         ErrorKind::OutOfMemory => StoreFault::Memory,
@@ -121,7 +122,7 @@ pub(crate) fn fault_of(error: &io::Error) -> StoreFault {
     }
 }
 
-/// The file of a socket, by its number in its file system. No other file gets that number while a
+/// The file of a socket, identified by its inode number. No other file gets that number while a
 /// listener has the socket.
 #[derive(Clone, Copy, Drop)]
 pub(crate) struct SocketFile {
@@ -129,13 +130,13 @@ pub(crate) struct SocketFile {
 }
 
 impl SocketFile {
-    /// The file at a path.
+    /// Returns the file at a path.
     pub fn at(rt: &HostRuntime, path: &str) -> io::Result<SocketFile> {
         let inode = fs::symlink_metadata(rt, path)?.ino();
         Ok(SocketFile { inode })
     }
 
-    /// Removes it from a path, if it is still what is there.
+    /// Removes the file from a path, if this file is still there.
     pub fn remove(self, rt: &HostRuntime, path: &str) {
         match SocketFile::at(rt, path) {
             Ok(found) if found.inode == self.inode => {
@@ -146,7 +147,7 @@ impl SocketFile {
     }
 }
 
-/// Creates an empty file for its owner alone, if nothing has its name.
+/// Creates an empty file that only its owner may read and write, if nothing has its name.
 pub(crate) fn make_private(rt: &HostRuntime, file: &str) {
     if file != IN_MEMORY {
         let mut options = OpenOptions::new();

@@ -1,4 +1,5 @@
-//! The door of a server, in the file system: a socket beside the database, for its owner alone.
+//! The door of a server in the file system: a socket next to the database, which only its owner may
+//! use.
 
 use crate::beside::{IN_MEMORY, OWNERS_MODE, Place, SocketFile};
 use desk_server::Door;
@@ -13,21 +14,21 @@ use std::{fs, io};
 /// How many commands may wait.
 const BACKLOG: i32 = 128;
 
-/// The socket of a server's door. It is removed when this is dropped, unless the door of another
-/// server is there, whose file took the name of this one's. A database in memory has no door.
+/// The socket of a server's door. The socket's file is removed when this value is dropped, unless
+/// another server's door has taken its name. A database in memory has no door.
 pub struct FileDoor<'a> {
     rt: &'a HostRuntime,
     at: Option<(Place, SocketFile, UnixListener)>,
 }
 
 impl<'a> FileDoor<'a> {
-    /// Makes the door of a database, in place of the socket that a killed server left. Only the
-    /// program that has the database open calls this, so nobody listens at a socket that is there.
+    /// Makes the door of a database, and replaces a socket that a killed server left. Only the
+    /// program that has the database open calls this, so nobody listens at an existing socket.
     ///
     /// # Errors
     ///
-    /// The door's name has something other than a socket, or the socket of a user who may not make
-    /// the door; the folder can't be written; or memory is refused.
+    /// Fails if the door's name is that of something other than a socket, or of a socket whose user
+    /// may not make the door. Fails also if the folder can't be written, or memory is refused.
     pub fn make(rt: &'a HostRuntime, file: &str) -> io::Result<FileDoor<'a>> {
         if file == IN_MEMORY {
             return Ok(FileDoor { rt, at: None });
@@ -46,7 +47,7 @@ impl<'a> FileDoor<'a> {
     }
 }
 
-// Binds a socket at a path. The mode of its file is that of its descriptor, less the umask, so
+// Binds a socket at a path. The mode of its file is the mode of its descriptor less the umask, so
 // nobody else can connect at any time.
 fn bind_private(rt: &HostRuntime, path: &str) -> io::Result<UnixListener> {
     let address = SocketAddr::from_pathname(path)?;

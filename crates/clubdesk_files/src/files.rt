@@ -12,7 +12,7 @@ use crate::visit::FileVisit;
 use club_core::StoreFault;
 use desk_server::{Databases, Reached};
 
-/// How often the program tries to open a file that another one has: for ten seconds.
+/// The most attempts to open a file that another program has open. They take ten seconds.
 const MAX_OPENINGS: u32 = 10 * ATTEMPTS_A_SECOND;
 
 /// Databases in files, by their paths.
@@ -26,7 +26,7 @@ pub struct Files<'a> {
 }
 
 impl<'a> Files<'a> {
-    /// The system's files, with none opened yet.
+    /// Returns the system's files, with none opened yet.
     pub fn new(rt: &'a HostRuntime) -> Files<'a>
         ensures tried { result.tried ≡ 0 }
         ensures closed { result.closed ≡ 0 }
@@ -74,8 +74,8 @@ impl<'a> Databases for Files<'a> {
         }
     }
 
-    // Committed changes are in the log beside the file until they are copied into the file, which
-    // is done here. If that fails, the log keeps them for the next opening.
+    // Committed changes are in the log next to the file until this copies them into the file. If
+    // copying fails, the log keeps them for the next opening.
     fn close(&mut self, named: FileClub) {
         self.closed = self.closed.saturating_add(1);
         let NamedStore { store, file: _ } = named;

@@ -1,4 +1,4 @@
-//! A command that is handed to a server, over a reader and a writer.
+//! Hands a command to a server over a reader and a writer.
 
 ghost use Rattle.std.specs.{Io.KnownBytes.Consumes, Prelude.{IfOk, OnOk, codes}};
 ghost use Rattle.std.specs.String.{string_bytes};
@@ -10,12 +10,12 @@ use std::io::{self, ErrorKind, Read, Write};
 use std::net::Shutdown;
 use std::os::unix::net::UnixStream;
 
-/// A writer that can tell its reader that nothing more comes.
+/// A writer that can tell its reader that no more bytes will come.
 pub trait CommandWriter: Write {
-    // what telling the end does, with the writer before and after
+    // the effect of telling the end, with the writer before and after
     ghost ends: { Self → Self → Type 0 };
 
-    /// Tells the end.
+    /// Tells the reader that no more bytes will come.
     fn end(&mut self) -> io::Result<()>
         ensures { OnOk result (ends self.old self.new) };
 }
@@ -33,7 +33,7 @@ impl CommandWriter for &UnixStream {
 ///
 /// # Errors
 ///
-/// The reader's, and `InvalidData` if what comes isn't the greeting.
+/// Returns the reader's error, or `InvalidData` if the bytes aren't the greeting.
 pub fn greeted<R: Read>(reader: &mut R) -> io::Result<()>
     ensures { OnOk result
         (Consumes (R.remaining reader.old) (R.remaining reader.new) (codes "!")) }
@@ -47,13 +47,14 @@ pub fn greeted<R: Read>(reader: &mut R) -> io::Result<()>
     }
 }
 
-/// Sends a command and its end, and reads the answer: the status, the text, and the byte that ends
-/// it.
+/// Sends a command, tells its end, and reads the answer: the status, the text, and the byte that
+/// ends it.
 ///
 /// # Errors
 ///
-/// The writer's: the command wasn't sent whole. The reader's, and `UnexpectedEof` if the answer
-/// isn't whole: nobody knows then whether the command was carried out.
+/// Returns the writer's error if the command wasn't completely sent. Returns the reader's error, or
+/// `UnexpectedEof` if the answer is incomplete; then it is unknown whether the command was carried
+/// out.
 pub fn answered<R: Read, W: CommandWriter>(
     alloc: Global,
     reader: &mut R,

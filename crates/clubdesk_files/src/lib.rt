@@ -1,5 +1,6 @@
-//! Databases in files. One program has a file open at a time. A server has a door beside its file,
-//! by which the office's commands are handed to it; without a server they open the file themselves.
+//! Databases in files. Only one program at a time has a file open. A server has a door next to its
+//! file, through which it gets the office's commands. Without a server, commands open the file
+//! themselves.
 #![tactic(auto)]
 
 mod attempts;

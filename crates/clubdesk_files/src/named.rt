@@ -12,21 +12,21 @@ use club_values::{Day, Moment, Name, Slot};
 
 /// An open file that another program may remove.
 pub trait Removable {
-    // the file was found without a name, or couldn't be looked at
+    // the file was found to have no name, or couldn't be checked
     ghost is_lost: { Self → Type 0 };
 
-    // the file was found with a name
+    // the file was found to have a name
     ghost is_found: { Self → Type 0 };
 
-    /// Whether the file still has a name in its file system. What is written to a file without one
-    /// is gone once it is closed.
+    /// Returns whether the file still has a name in its file system. Data written to a file without
+    /// a name is lost when the file is closed.
     fn has_name(&self) -> bool
         ensures lost { OnFalse result (is_lost self.now) }
         ensures found { IsTrue result → is_found self.now };
 }
 
-/// A store over a file. Once the file has no name any more, what begins a request or a command
-/// fails: nothing is acknowledged that no other program would find.
+/// A store over a file. Once the file has lost its name, the first read of each request or command
+/// fails, so that no change is acknowledged that other programs couldn't find.
 #[derive(Drop)]
 pub struct NamedStore<S, F> {
     pub store: S,
@@ -47,8 +47,8 @@ impl<S, F: Removable> NamedStore<S, F> {
     }
 }
 
-/// Each event begins with the row of a key, a facility, a member's account or a day's bookings.
-/// These are returned only if the file was found with a name.
+/// Each event begins by reading the row of a key, a facility, a member's account or a day's
+/// bookings. These are returned only if the file was found to have a name.
 impl<S: ClubStore, F: Removable> ClubStore for NamedStore<S, F> {
     ghost use Rattle.clubdesk_files.specs.Named.{FailsOrIsLost};
 

@@ -7,24 +7,24 @@ use std::io::ErrorKind;
 use std::os::unix::fs::MetadataExt;
 use std::{fs, io};
 
-/// The most descriptors among which the one of a store is looked for.
+/// The number of descriptors that are searched for the one of a store.
 const MAX_DESCRIPTORS: u32 = 1_024;
 
-/// The file that a store has open, with a descriptor of its own. The system answers a question by a
-/// descriptor in less than a fifth of the time that it needs for a path.
+/// The file that a store has open, with its own descriptor. A check through a descriptor takes less
+/// than a fifth of the time of a check by path.
 #[derive(Drop)]
 pub struct OpenFile {
-    // `None` if the file isn't looked at
+    // `None` if the file isn't checked
     file: Option<File>,
 }
 
 impl OpenFile {
-    /// The file of a database that a store of this program has open. A database in memory has none,
-    /// and is not looked at.
+    /// Returns the file of a database that a store of this program has open. A database in memory
+    /// has no file, so nothing is checked.
     ///
     /// # Errors
     ///
-    /// The path leads to no file that is open, or memory is refused.
+    /// Fails if the path leads to no open file, or memory is refused.
     pub(crate) fn at(rt: &HostRuntime, name: &str) -> io::Result<OpenFile> {
         if name == IN_MEMORY {
             return Ok(OpenFile::unwatched());
@@ -43,7 +43,7 @@ impl OpenFile {
         Err(io::Error::from(ErrorKind::NotFound))
     }
 
-    /// A file that isn't looked at, as for a command that has it open for a moment.
+    /// Returns a file that isn't checked, for a command that has it open only for a moment.
     pub(crate) fn unwatched() -> OpenFile {
         OpenFile { file: None }
     }

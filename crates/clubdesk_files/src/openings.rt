@@ -1,4 +1,4 @@
-//! Attempts to open a database that other programs open too.
+//! Attempts to open a database that other programs also open.
 
 use crate::attempts::Attempts;
 use crate::beside::{fault_of, make_private};
@@ -17,8 +17,8 @@ type FileStoreOfClub = Store<FileStore<FileFrom<Unknown>>>;
 /// The store of a club in a file that may lose its name.
 pub type FileClub = NamedStore<FileStoreOfClub, OpenFile>;
 
-// Opens the database in a file; if it is missing, creates it for its owner alone. `None` while
-// another program has it open.
+// Opens the database in a file. If the file is missing, creates it so that only its owner may use
+// it. Returns `None` while another program has it open.
 fn try_open(rt: &HostRuntime, name: &str) -> Option<Result<FileStoreOfClub, StoreFault>> {
     make_private(rt, name);
     match Store::open_file(rt, name, Unknown) {
@@ -51,8 +51,8 @@ impl<'a> Attempts for ServerOpenings<'a, '_> {
     }
 }
 
-/// The office's attempts to reach a database: by the door of its server, or by opening it. An
-/// attempt fails if another program has the file, or a server ends before it greets.
+/// The office's attempts to reach a database, through the door of its server or by opening it. An
+/// attempt fails if another program has the file open, or a server ends before it greets.
 #[derive(Drop)]
 pub struct OfficeOpenings<'a, 'n> {
     pub rt: &'a HostRuntime,

@@ -1,4 +1,4 @@
-//! A command that is handed over until a server gets it whole.
+//! Hands a command over until a server gets all of it.
 
 ghost use Rattle.std.specs.Prelude.{◌≡◌, ◌↔◌, ℕ, List, IsTrue, Some};
 ghost use Rattle.desk_server.specs.Databases.{in_bytes};
@@ -13,32 +13,33 @@ use std::os::unix::net::UnixStream;
 use std::thread;
 use std::time::{Clock, Duration, Instant};
 
-/// The seconds that the server has to take a command and to answer it.
+/// The timeout for a server to take a command and answer it, in seconds.
 const ANSWER_SECONDS: u64 = 600;
 
-/// A command is tried again within this many seconds.
+/// How long a command is retried, in seconds.
 const RETRY_SECONDS: u64 = 10;
 
-/// The most attempts before the last.
+/// The most retries of a command.
 const MAX_RETRIES: u32 = 10 * ATTEMPTS_A_SECOND;
 
-/// The servers that a command finds, one after the other.
+/// The servers that a command finds, one after another.
 pub trait Servers {
     ghost use Rattle.desk_server.specs.Databases.{in_bytes};
     ghost use Rattle.clubdesk_files.specs.Retried.{Handing};
 
-    // what handing a command to the next server does
+    // the effect of handing a command to the next server
     ghost hands: { Handing Self };
 
     /// Hands a command to the next server, if there is one now. Returns the answer's status and
-    /// text, `NOTHING_DONE` if no server got the command whole, and `None` if nobody knows.
+    /// text. The status is `NOTHING_DONE` if no server got the complete command. Returns `None` if
+    /// it is unknown whether the command was carried out.
     fn hand_over(&mut self, command: &[u8]) -> Option<(u8, String)>
         ensures { hands self.old command.now (in_bytes result) self.new };
 }
 
-/// Hands a command to a server, and returns the last answer's status and text; `None` if there is
-/// no answer. If nothing was done, it tries again for ten seconds. A command that may have been
-/// carried out is never sent again.
+/// Hands a command to a server, and returns the last answer's status and text, or `None` if there
+/// is no answer. If nothing was done, it retries for ten seconds. It never resends a command that
+/// may have been carried out.
 pub fn hand_over_until_done<S: Servers, C: Clock>(
     clock: &C,
     servers: &mut S,
@@ -70,7 +71,7 @@ fn is_nothing_done(answer: &Option<(u8, String)>) -> bool
     }
 }
 
-// Whether it is before an instant, if there is one. If the clock can't be read, it isn't.
+// Whether the time is before an instant, if there is one. Returns false if the clock can't be read.
 fn is_before<C: Clock>(clock: &C, until: Option<Instant>) -> bool {
     match (until, clock.instant_now()) {
         (Some(until), Some(now)) => now < until,
@@ -90,7 +91,8 @@ pub fn hand_over_to(
     limit_answer(&stream).ok()?;
     match answered(alloc, &mut &stream, &mut &stream, command) {
         Ok(answer) => Some(answer),
-        // The server closed before it had read the whole command, so it can't carry it out.
+        // The server closed the connection before it had read the whole command, so it can't carry
+        // it out.
         Err(error) => match error.kind() {
             ErrorKind::BrokenPipe | ErrorKind::ConnectionReset => nothing_done(alloc),
             _ => None,
@@ -98,13 +100,13 @@ pub fn hand_over_to(
     }
 }
 
-// The answer of a server that got no whole command.
+// The answer of a server that didn't get the whole command.
 fn nothing_done(alloc: Global) -> Option<(u8, String)> {
     let text = format!(in alloc; "{NOTHING_DONE_TEXT}").ok()?;
     Some((NOTHING_DONE, text))
 }
 
-// Limits how long the server may take a command, and answer it.
+// Limits the time in which the server may take a command, and answer it.
 fn limit_answer(stream: &UnixStream) -> io::Result<()> {
     let most = Some(Duration::from_secs(ANSWER_SECONDS));
     stream.set_read_timeout(most)?;

@@ -1,9 +1,9 @@
-//! A user of databases, which runs over those in files without naming their types.
+//! A user of databases, which runs over databases in files without naming their types.
 
 use crate::files::Files;
 use desk_server::Databases;
 
-/// What runs over databases, whichever they are.
+/// Code that runs over databases of any type.
 pub trait DatabasesUser {
     type Outcome;
 
@@ -15,8 +15,9 @@ pub trait DatabasesUser {
         ensures { outcomes self result };
 }
 
-/// Runs a user over databases in files, with none opened yet. The user is proved over any
-/// databases. So its proof needs no store in a file, whose type has all of the engine in it.
+/// Runs a user over databases in files, with none opened yet. The user is proved over databases of
+/// any type. So its proof doesn't involve a store in a file, whose type contains the whole database
+/// engine.
 pub fn run_over_files<U: DatabasesUser>(rt: &HostRuntime, user: U) -> U::Outcome
     ensures { U.outcomes user result }
 {

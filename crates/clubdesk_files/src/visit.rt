@@ -1,4 +1,4 @@
-//! A command that is given to a server.
+//! Gives a command to a server.
 
 use crate::beside::{Place, fault_of};
 use crate::handover::greeted;
@@ -10,25 +10,26 @@ use std::io::ErrorKind;
 use std::os::unix::net::UnixStream;
 use std::time::Duration;
 
-/// How many seconds the server has to greet: longer than one client can hold it under the default
-/// patience.
+/// The timeout for a server's greeting, in seconds. It is longer than one client can keep the
+/// server busy under the default patience.
 const GREETING_SECONDS: u64 = 60;
 
-/// A server of a database, which has greeted.
+/// A server of a database, which has sent its greeting.
 #[derive(Drop)]
 pub struct FileVisit<'a> {
     rt: &'a HostRuntime,
     file: String,
-    // `None` once the command was handed over: the next attempt looks for a server again
+    // `None` after the command was handed over; the next attempt looks for a server again
     greeted: Option<UnixStream>,
 }
 
 impl<'a> FileVisit<'a> {
-    /// Waits for the greeting of the server of a database, over a connection to its door.
+    /// Waits for the greeting of a database's server, over a connection to its door.
     ///
     /// # Errors
     ///
-    /// It doesn't greet in time, or otherwise; the connection fails; or memory is refused.
+    /// Fails if the server doesn't greet in time or sends something else, if the connection fails,
+    /// or if memory is refused.
     pub fn over(rt: &'a HostRuntime, file: &str, stream: UnixStream) -> io::Result<FileVisit<'a>> {
         let file = format!(in rt.alloc(); "{file}")?;
         stream.set_read_timeout(Some(Duration::from_secs(GREETING_SECONDS)))?;
@@ -38,24 +39,24 @@ impl<'a> FileVisit<'a> {
     }
 }
 
-/// The result of a look at the door of a database.
+/// The result of looking for a server at a database's door.
 #[derive(Drop)]
 pub(crate) enum Found<'a> {
-    /// A server has greeted.
+    /// A server has sent its greeting.
     Server(FileVisit<'a>),
     /// A server ended before it greeted. Nothing was sent.
     Ended,
-    /// Nobody listens, the database's name is too long for a door, or root's door keeps this user
-    /// out: then the lock of the file says whether a server has it.
+    /// Nobody listens, the database's name is too long for a door, or root's door doesn't let this
+    /// user in. Then the lock of the file tells whether a server has it open.
     Nobody,
 }
 
-/// Connects to the server of a database, and waits for its greeting.
+/// Connects to the database's server and waits for its greeting.
 ///
 /// # Errors
 ///
-/// The server doesn't greet in time, or otherwise; the door can't be used; a user who may not make
-/// the door made it; or memory is refused. Nothing was sent.
+/// Fails if the server doesn't greet in time or sends something else, if the door can't be used or
+/// its maker may not make it, or if memory is refused. Then nothing was sent.
 pub(crate) fn find_server<'a>(rt: &'a HostRuntime, file: &str) -> Result<Found<'a>, StoreFault> {
     match connect(rt, file) {
         Ok(stream) => match FileVisit::over(rt, file, stream) {
@@ -75,13 +76,14 @@ pub(crate) fn find_server<'a>(rt: &'a HostRuntime, file: &str) -> Result<Found<'
     }
 }
 
-/// Connects to the door of a database, which links may lead to.
+/// Connects to the door of a database. The path may lead to the database through links.
 ///
 /// # Errors
 ///
-/// `NotFound` and `ConnectionRefused` if nobody listens; `InvalidInput` if the name is too long for
-/// a door; `PermissionDenied` if root's door keeps this user out; `InvalidData` if a user who may
-/// not make the door made it; others if the door can't be used.
+/// Fails with `NotFound` or `ConnectionRefused` if nobody listens, with `InvalidInput` if the name
+/// is too long for a door, and with `PermissionDenied` if root's door doesn't let this user in.
+/// Fails with `InvalidData` if a user who may not make the door made it, and with other errors if
+/// the door can't be used.
 pub fn connect(rt: &HostRuntime, file: &str) -> io::Result<UnixStream> {
     let place = Place::find(rt, file)?;
     if !place.has_door(rt)? {
@@ -92,7 +94,7 @@ pub fn connect(rt: &HostRuntime, file: &str) -> io::Result<UnixStream> {
 }
 
 impl FileVisit<'_> {
-    // The next server of the file, which has greeted; `None` if there is none now.
+    // The next server of the file, which has sent its greeting; `None` if there is no server now.
     fn next(&mut self) -> Option<UnixStream> {
         match self.greeted.take() {
             Some(stream) => Some(stream),

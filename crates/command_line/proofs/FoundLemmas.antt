@@ -13,7 +13,7 @@ use Rattle.command_line.specs.Given.{Given, rule_given, row_given, are_apart}
 pub same_text : (text : Text) → bytes_eq text text ≡ true
 same_text text = (bytes_eq-Decides text text).1 refl
 
--- rows before that of an argument are passed over
+-- rows before an argument's row are skipped
 past : (id : Text) (change : Found → List Found) (missing before tail : List Found) → has_row id before ≡ false
     → at_row id change missing (before ++ tail) ≡ before ++ at_row id change missing tail
 past id change missing [] tail new = refl
@@ -21,7 +21,7 @@ past id change missing (row ∷ before) tail new =
     let parts = or_parts (bytes_eq row.id id) (has_row id before) new in
     rw parts.0 (ap (λ (rows : List Found). row ∷ rows) (past id change missing before tail parts.1))
 
--- an argument's first row comes last
+-- the first row of an argument is added at the end
 pub added : (name : Text) (values : List Text) (rows : List Found) → has_row name rows ≡ false
     → at_row name (more_values CommandLine values) (row_given name values ∷ []) rows ≡ rows ++ row_given name values ∷ []
 added name values rows new =
@@ -36,7 +36,7 @@ pub set_row : (name : Text) (values : List Text) (rows : List Found) → has_row
 set_row name values rows new =
     ap (at_row name (more_values CommandLine values) (row_given name values ∷ [])) (untouched name rows new) ∙ added name values rows new
 
--- a row with more values
+-- more values are added to an argument's row
 pub grown : (name : Text) (some more : List Text) (rows : List Found) → has_row name rows ≡ false
     → at_row name (more_values CommandLine more) (row_given name more ∷ []) (rows ++ row_given name some ∷ []) ≡ rows ++ row_given name (some ++ more) ∷ []
 grown name some more rows new =

@@ -1,4 +1,4 @@
--- How clap walks over what a row is given.
+-- The walk of clap over the values that a row is given.
 use Rattle.std.proofs.Common.{◌≡◌, ◌∙◌, ℕ, ◌==◌, ◌&&◌, Bool, true, false, not, List, [], ◌∷◌, ◌++◌, Option, Some, None, is_some, append_assoc, fold, refl, sym}
 use Rattle.std.proofs.{Common.{ap, ap₂, inl, inr, codes, cond, map, subst, arith}, Math.Bool.and-false, lemmas.Bool.{and_parts, cond_both, cases_Bool}}
 use Rattle.std.proofs.lemmas.{Bool.Decides.nat_tests, List.{append-nil, Folds.list_any_at}}
@@ -27,15 +27,15 @@ long_alone : (first : ℕ) (name : Text) → not (list_any (λ byte. byte == 61)
     → long_of (codes "--" ++ (first ∷ name)) ≡ Some (first ∷ name, None)
 long_alone first name named = ap (λ parts. Some parts) (name_and_value-without (first ∷ name) (lacks (first ∷ name) named))
 
--- what is held, with these rows and what waits
+-- the state of a walk with these rows and this pending argument
 abbrev held_with : List Found → Option (Text × List Text) → Held
 held_with rows pending = record { rows = rows; pending = pending; skip = 0 }
 
--- between options
+-- the walk between two options
 abbrev at_option : List Found → Option (Text × List Text) → Walk
 at_option rows pending = record (walk_from nothing_held) { held = held_with rows pending }
 
--- after `--`, where the positional argument at this place comes next
+-- the walk after `--`, where the positional argument at this place comes next
 abbrev at_place : List Found → Option (Text × List Text) → Waiting → ℕ → Walk
 at_place rows pending waiting place = record {
   held = held_with rows pending;
@@ -62,7 +62,7 @@ module _ (s : Shape) where
   IsStep : Walk → Text → Walk → Type 0
   IsStep w argument next = (walked s.rules [] w argument ≡ next) × (turn_fault s [] w argument ≡ [])
 
-  -- these rows, once what waits is used, and using it doesn't fail
+  -- using the pending argument gives these rows, and doesn't fail
   abbrev Holds : Held → List Found → Type 0
   Holds held now = ((settled s.rules held).rows ≡ now) × (settle_fault s.rules again held ≡ [])
 
@@ -80,14 +80,14 @@ module _ (s : Shape) where
     on.3,
   )
 
-  -- the walk ends here
+  -- the walk ends at this point
   stands : (w : Walk) (arguments : List Text) (now : List Found) → arguments ≡ [] → Holds w.held now → Settles w arguments now
   unfolding Settles walk_fault
   stands w arguments now none holds = rw none (w, refl, refl, holds)
 
   -- ---- options
 
-  -- what becomes of an argument that reads so, and why it fails
+  -- the effect of an argument that is parsed as a long option, and why it fails
   abbrev after_long : Text → Held → Option (Text × Option Text) → Walk
   after_long argument held long =
       let met = long_or_other s.rules idle argument long held in after_step s.rules argument (record (walk_from nothing_held) { held = held }) met.0 met.1
@@ -155,7 +155,7 @@ module _ (s : Shape) where
 
   -- ---- positional arguments
 
-  -- a text that stands for itself: what waited is used, and the text waits
+  -- a plain text: the pending argument is used, and the text becomes pending
   positional_step : (rule : Rule) (place : ℕ) (rows now : List Found) (pending : Option (Text × List Text)) (waiting : Waiting) (argument : Text)
       → arg_by_index s.rules place ≡ Some rule → takes_several rule ≡ false → Holds (held_with rows pending) now
       → IsStep (at_place rows pending waiting place) argument
@@ -170,7 +170,7 @@ module _ (s : Shape) where
     rw by_place (cond_both (is_pending rule pending && takes_several rule) [] _ (λ kinds. kinds ≡ []) (λ _. refl) (λ _. holds.1)),
   )
 
-  -- more texts of the argument that takes several
+  -- more texts for the argument that takes several
   more_walked : (required : Bool) (name : Text) (place : ℕ) (rows before : List Found) (some : List Text) (last : Text) (more : List Text)
       → IsFound s.rules (with_index place (filled (record (positionals_named name) { required = required }))) → has_row name before ≡ false
       → Holds (held_with rows (Some (name, last ∷ []))) (before ++ row_given name some ∷ [])
@@ -221,13 +221,13 @@ module _ (s : Shape) where
 
   -- ---- the options, and then the positional arguments
 
-  -- the walk goes on from these rows
+  -- the walk continues from these rows
   GoesOn : List Text → List Found → List Found → Type 0
   GoesOn tail last now = (rows : List Found) (pending : Option (Text × List Text)) → Holds (held_with rows pending) now → are_new now last ≡ true
       → Settles (at_option rows pending) tail (now ++ last)
 
   module _ (tail : List Text) (last : List Found) where
-    -- it goes on from these rows with those of what is given
+    -- the walk continues from these rows with the rows of the given values
     OptionsGoOn : List Given → List Found → Type 0
     OptionsGoOn given now = (rows : List Found) (pending : Option (Text × List Text)) → Holds (held_with rows pending) now
         → are_new now (option_rows given ++ last) ≡ true → Settles (at_option rows pending) (options_spelled given ++ tail) (now ++ (option_rows given ++ last))
@@ -285,7 +285,7 @@ module _ (s : Shape) where
   positionals_after_options given found ordered rows pending holds new = step_on _ _ (codes "--") (positionals_spelled given) _ (dashes_step rows pending)
       (positionals_walked 1 given rows (option_rows given) pending idle found new ordered holds)
 
-  -- nothing fails, and the rows of what is given are found
+  -- nothing fails, and the rows of the given values are found
   pub given_taken : (given : List Given) (others : List Rule) (arguments : List Text) → s.rules ≡ filled_from 1 (map rule_given given ++ others)
       → are_apart [] s.rules ≡ true → are_options_named given ≡ true → are_new [] (rows_given given) ≡ true → is_in_order given ≡ true
       → end_fault s (rows_given given) ≡ [] → AreSpelled given arguments

@@ -1,4 +1,4 @@
--- Words that clap reads enter one of a program's commands.
+-- The words that clap accepts name one of a program's commands.
 use Rattle.std.proofs.Common.{◌≡◌, ℕ, Bool, true, false, List, [], ◌∷◌, Option, Some, None, is_some, refl, codes, fold, not, ◌&&◌}
 use Rattle.std.proofs.lemmas.Bool.{false_from_ne_true, cond_both}
 use Rattle.std.specs.{List.list_any, Str.bytes_eq}
@@ -9,7 +9,7 @@ use Rattle.clap.specs.Walk.{after_step, done, long_or_other, nothing_held, optio
 use Rattle.clap.specs.Walk.{to_positional, value, waits, walk, walk_from, walked, word_met, subcommand as enters, arg_by_index, finished, settled, walked_from}
 use Rattle.clap.specs.Words.{App, Kinds, Row, Rule, Shape, Text}
 
--- of two lists of kinds in turn, both are empty if the whole is
+-- if the combination of two lists of kinds is empty, both lists are
 or_else_nil : (a b : Kinds) → or_else a b ≡ [] → (a ≡ []) × (b ≡ [])
 or_else_nil [] b h = (refl, h)
 or_else_nil (k ∷ ks) b h = cc
@@ -99,7 +99,7 @@ check_needs s rows false needs clear =
     (not (s.subcommand_negates_reqs && false) && list_any (λ a. a.required && not (is_given a.id rows)) s.rules) clear in
     cc
 
--- a command that needs a subcommand has entered one, and one with `help` among them another than that
+-- a command that needs a subcommand has entered one, which isn't `help` even if `help` is among the subcommands
 pub enters_command : (a : App) (words : List Text) → a.top.subcommand_required ≡ true → built_fault a nothing_held words ≡ []
     → let stop = stop_after a.top.rules (names_of a) words in
     (is_some (entered a stop) ≡ true) × (a.top.disable_help_subcommand ≡ false → StopsNotAtHelp stop)

@@ -19,7 +19,7 @@ none_by_length text h = go (decode_of text) refl
     go (Ok bytes) same =
         let long = (decode_of-ok text bytes same).2 in grind (arith, nat_tests)
 
--- the root that decoding into the first n bytes of a buffer gives, for half as many bytes as digits
+-- the root decoded into the first n bytes of a buffer, with half as many bytes as digits
 pub root_of_decoded : (text out buffer : List ℕ) (n : ℕ) (r : Result Unit FromHexError) → n ≡ length text / 2 → 1 ≤ n → n ≤ 64 → n ≤ length buffer
     → MatchResult (decode_sized text (length (take n buffer))) (λ bytes. (r ≡ Ok tt) × (out ≡ bytes)) (λ e. r ≡ Err e)
     → MatchResult r (λ _. (root_of text ≡ Some out) × (length out ≡ n)) (λ _. root_of text ≡ None)

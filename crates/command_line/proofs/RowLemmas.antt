@@ -1,4 +1,4 @@
--- The row of a table that a name enters takes what it is given.
+-- The table's row of a name takes the values that it is given.
 use Rattle.std.proofs.Common.{◌≡◌, ◌∙◌, true, false, List, [], ◌∷◌, ◌++◌, Option, Some, None, append_assoc, fold, refl, sym, ap, ap₂, codes, map, find, drop}
 use Rattle.std.proofs.{Common.{is_some, IsSome, option_map, subst, inl, inr}, lemmas.Bool.{and_parts, false_from_ne_true, both_ways, cases_Bool}}
 use Rattle.std.proofs.lemmas.{List.append-nil, Slice.Eq.bytes_eq-Decides}
@@ -41,7 +41,7 @@ no_other_name : (name : Text) → bytes_eq name (codes "help") ≡ false → byt
 no_other_name name other =
     false_from_ne_true _ (λ is. both_ways _ other ((bytes_eq-Decides name (codes "help")).1 (sym ((bytes_eq-Decides (codes "help") name).0 is))))
 
--- the row of a name other than `help`, as clap builds it under the program
+-- the row of a name other than `help`, as clap builds it for the program
 shape_found : {C : Type 0} (above : Shape) (entries : List (Entry C)) (name : Text) → bytes_eq name (codes "help") ≡ false
     → find (λ s. answers_to name (label_of s)) (map built_leaf (map (inherited above) (map shape_of_entry entries) ++ help_shape ∷ []))
     ≡ option_map (λ entry. built_leaf (inherited above (shape_of_entry entry))) (entry_named name entries)
@@ -73,7 +73,7 @@ module _ {C : Type 0} (title : Text) (first : Entry C) (others : List (Entry C))
   abbrev app : App
   app = built (with_more (program_named title) (map shape_of_entry (first ∷ others)))
 
-  -- what the commands inherit from
+  -- the shape that the commands inherit from
   abbrev above : Shape
   above = with_leaf_noted (marked_built (with_more (program_named title) []).top)
 

@@ -22,7 +22,7 @@ positionals_named name = record (new_rule name) { action = Some Append; value_na
 abbrev pub as_required : Rule → Rule
 as_required rule = record rule { required = true }
 
--- with a value in place of an option that is left out
+-- a rule with a default for an option that is left out
 abbrev pub with_default : Text → Rule → Rule
 with_default value rule = record rule { defaults = value ∷ [] }
 
@@ -30,11 +30,11 @@ with_default value rule = record rule { defaults = value ∷ [] }
 abbrev pub form_option : Rule
 form_option = option_named (codes "form")
 
--- the same, with V2 as the default
+-- `--form FORM`, with V2 as the default
 abbrev pub form_or_v2 : Rule
 form_or_v2 = with_default (codes "v2") form_option
 
--- it has a version, and a command must be named
+-- a program's shape: it has a version, and a command must be named
 abbrev pub as_program : Shape → Shape
 as_program top = record top { has_version = true; subcommand_required = true }
 
@@ -42,7 +42,7 @@ as_program top = record top { has_version = true; subcommand_required = true }
 abbrev pub program_named : Text → App
 program_named name = on_top as_program (new_app name)
 
--- the command is of this application, and none of its options is global
+-- the command was built for this application, and none of its options is global
 pub record IsMade (app : App) (made : Command) : Type 0 where
   pub app_is : app_of made ≡ app
   pub local : (out-Command made).has_globals ≡ false

@@ -1,4 +1,4 @@
--- Options, and what `clap` says of arguments (ours).
+-- Options, and the results of `clap` for arguments (ours).
 use Rattle.std.specs.{Prelude.{◌≡◌, ◌≢◌, ◌⊎◌, Bool, List, [], codes, unwrap_or}, Str.bytes_eq}
 use Rattle.clap.specs.{Words.{IsAmong, Kinds, Row, Text, first_of, kind_of}, declared.error.kind.ErrorKind.ErrorKind}
 use Rattle.clap.specs.declared.error.kind.ErrorKind.TheVariants as kind
@@ -12,7 +12,7 @@ value_in id rows = unwrap_or (first_of id rows) []
 abbrev pub is_set : Text → List Row → Bool
 is_set id rows = bytes_eq (value_in id rows) (codes "true")
 
--- arguments that ask for a text: help, or the version
+-- arguments that ask for a text, which is the help or the version
 abbrev pub HasText : Kinds → Type 0
 HasText kinds = IsAmong kind.DisplayHelp kinds ⊎ IsAmong kind.DisplayVersion kinds
 

@@ -1,4 +1,4 @@
--- What the arguments of a row are given, how that is spelled, and what clap finds of it (ours).
+-- Values for the arguments of a row, their texts on the command line, and what clap finds for them (ours).
 use Rattle.std.specs.{List.list_any, Option.option_map_or, Prelude.{◌≡◌, ◌⊎◌, ◌==◌, ◌&&◌, ◌||◌, Bool, true, false, not, List, [], ◌∷◌, ◌++◌, Some, None, codes}}
 use Rattle.std.specs.{Prelude.{fold, is_some, map, unwrap_or, if◌then◌else◌}, Str.bytes_eq}
 use Rattle.clap.specs.{Faults.{check_fault, defaults_fault}, Kinds.{Kinds, or_else}, Lexer.strip_byte, Simple.{built_leaf, new_shape, wants_index}}
@@ -6,8 +6,8 @@ use Rattle.clap.specs.{Walk.{has_long, has_row, is_empty, reading_by, with_defau
 use Rattle.clap.specs.declared.parser.matches.ValueSource.TheVariants.{CommandLine}
 use Rattle.command_line.specs.Application.{flag_named, option_named, positional_named, positionals_named}
 
--- An argument of a row with what it is given: an option with its value, spelled as one text or two, whether it is required, its defaults, its name
--- and the value; a flag; a positional argument; some of them, the first apart; or nothing.
+-- An argument of a row with its value. An option has whether its value is spelled in one text or two, whether it is required, its defaults, its name and the
+-- value. The other cases are a flag, a positional argument, several of them with the first one separate, or an argument that is left out.
 pub data Given : Type 0 where
   option_given : Bool → Bool → List Text → Text → Text → Given
   flag_given : Text → Given
@@ -30,14 +30,14 @@ options_spelled (option_given false required defaults name value ∷ given) = (c
 options_spelled (flag_given name ∷ given) = (codes "--" ++ name) ∷ options_spelled given
 options_spelled (_ ∷ given) = options_spelled given
 
--- no positional argument follows several
+-- the positional arguments; none follows an argument that takes several
 abbrev pub positionals_spelled : List Given → List Text
 positionals_spelled [] = []
 positionals_spelled (positional_given required name value ∷ given) = value ∷ positionals_spelled given
 positionals_spelled (positionals_given required name first more ∷ given) = first ∷ more
 positionals_spelled (_ ∷ given) = positionals_spelled given
 
--- what clap finds of an argument with these values
+-- what clap finds for an argument with these values
 abbrev pub row_given : Text → List Text → Found
 row_given name values = record { id = name; values = values; count = None; source = Some CommandLine; reading = reading_by (positional_named name) }
 
@@ -60,13 +60,13 @@ rows_given given = option_rows given ++ positional_rows given
 abbrev pub shape_given : Text → List Given → Shape
 shape_given name given = built_leaf (record (new_shape name) { rules = map rule_given given })
 
--- the values that are given, and the defaults of what is left out
+-- the given values, and the defaults of arguments that are left out
 abbrev pub found_given : Text → List Given → List Found
 found_given name given = fold with_default (rows_given given) (shape_given name given).rules
 
 -- ---- what is computed of a row that is written out
 
--- no argument before this one has its name or its place
+-- no earlier argument has this one's name or place
 abbrev is_apart : List Rule → Rule → Bool
 is_apart before rule =
     not (list_any (λ other. bytes_eq other.id rule.id) before)
@@ -77,7 +77,7 @@ abbrev pub are_apart : List Rule → List Rule → Bool
 are_apart before [] = true
 are_apart before (rule ∷ rules) = is_apart before rule && are_apart (before ++ rule ∷ []) rules
 
--- no two rows are of one argument
+-- no two rows belong to the same argument
 abbrev pub are_new : List Found → List Found → Bool
 are_new before [] = true
 are_new before (row ∷ rows) = not (has_row row.id before) && are_new (before ++ row ∷ []) rows
@@ -87,7 +87,7 @@ abbrev is_option_name : Text → Bool
 is_option_name [] = false
 is_option_name (first ∷ rest) = not (list_any (λ byte. byte == 61) (first ∷ rest))
 
--- the options have such names, and no value that is a text of its own begins with a dash
+-- the options have such names, and no value that is a separate text begins with a dash
 abbrev pub are_options_named : List Given → Bool
 are_options_named [] = true
 are_options_named (option_given joined required defaults name value ∷ given) =
@@ -101,18 +101,18 @@ has_no_positionals (positional_given required name value ∷ given) = false
 has_no_positionals (positionals_given required name first more ∷ given) = false
 has_no_positionals (_ ∷ given) = has_no_positionals given
 
--- no positional argument is given after several ones, nor after one that is left out
+-- no positional argument is given after one that takes several, nor after one that is left out
 abbrev pub is_in_order : List Given → Bool
 is_in_order [] = true
 is_in_order (positionals_given required name first more ∷ given) = has_no_positionals given
 is_in_order (left_out rule ∷ given) = if wants_index rule then has_no_positionals given else is_in_order given
 is_in_order (_ ∷ given) = is_in_order given
 
--- clap's last checks of what was found: its defaults, and what is required
+-- clap's last checks of what it found, for defaults and required arguments
 abbrev pub end_fault : Shape → List Found → Kinds
 end_fault shape rows = or_else (defaults_fault rows shape.rules) (check_fault shape (fold with_default rows shape.rules) false)
 
--- A row may be given this: its arguments differ and are in order, each that is required is there, and its name isn't `help`.
+-- A row can be given these values: its arguments differ and are in order, each required one is there, and the row's name isn't `help`.
 abbrev pub can_be_given : Text → List Given → Bool
 can_be_given name given =
     let shape = shape_given name given in
@@ -121,13 +121,13 @@ can_be_given name given =
     && (are_new [] (rows_given given)
     && (are_options_named given && (is_in_order given && is_empty (end_fault shape (rows_given given))))))
 
--- the options, and after `--` the positional arguments; the dashes may be left out if there are none
+-- the options, then `--`, then the positional arguments; the dashes may be left out if there are no positional arguments
 abbrev pub AreSpelled : List Given → List Text → Type 0
 AreSpelled given arguments =
     (arguments ≡ options_spelled given ++ codes "--" ∷ positionals_spelled given)
     ⊎ ((arguments ≡ options_spelled given) × (has_no_positionals given ≡ true))
 
--- an argument that is given the value of its name
+-- an argument whose value is looked up by its name
 abbrev pub given_by : (Text → Text) → Rule → Given
 given_by value rule =
     if is_some rule.long

@@ -1,4 +1,4 @@
--- What arguments ask for: the job of a row, from the values that they give it (ours).
+-- The job that arguments ask for: the command of a row, with the values of its arguments (ours).
 use Rattle.std.specs.{Option.ok_or, Prelude.{◌≡◌, ◌⊎◌, List, [], Option, Some, None, Result, Ok, Err, codes}}
 use Rattle.clap.specs.{Words.{Row, Text, kind_of}, declared.error.kind.ErrorKind.ErrorKind}
 use Rattle.clap.specs.declared.error.kind.ErrorKind.TheVariants as kind
@@ -7,18 +7,18 @@ use Rattle.command_line.specs.{Arguments.{HasText, IsRefusedAs, value_in}, FormN
 use Rattle.command_line.specs.declared.{errors.ArgumentsFault.{ArgumentsFault, TheVariants.{Refused, BadValue, Memory}}, job.Asked.Asked}
 use Rattle.command_line.specs.declared.job.Asked.TheVariants.{ShowText, Perform}
 
--- why a row's arguments ask for nothing: an error of this kind, or the value that one of them doesn't spell
+-- why a row's arguments ask for no job: an error of this kind, or an invalid argument
 pub data Refusal (V : Type 0) : Type 0 where
   refused_as : ErrorKind → Refusal V
   bad_value : V → Refusal V
 
--- the ? of the logic
+-- bind for results, like `?` in code
 infixl 10 ◌>>=◌
 abbrev pub ◌>>=◌ : {A B V : Type 0} → Result A (Refusal V) → (A → Result B (Refusal V)) → Result B (Refusal V)
 Ok x >>= f = f x
 Err refusal >>= f = Err refusal
 
--- what a program's rows ask for, or why for nothing, as a function of what clap found of their arguments
+-- the job of a program's row, or why there is none, as a function of what clap found for the row's arguments
 abbrev pub JobOf : Type 0 → Type 0 → Type 0 → Type 0
 JobOf C J V = C → List Row → Result J (Refusal V)
 
@@ -26,14 +26,14 @@ JobOf C J V = C → List Row → Result J (Refusal V)
 abbrev pub form_given : {V : Type 0} → List Row → Result Form (Refusal V)
 form_given rows = ok_or (form_named (value_in (codes "form") rows)) (refused_as kind.InvalidValue)
 
--- A call returns what is asked for, or the fault that applies, or out of memory in place of either.
+-- A call returns the job, or the fault that applies; it may run out of memory instead.
 abbrev pub Answers : {A V : Type 0} → Result A (Refusal V) → Result A (ArgumentsFault V) → Type 0
 Answers expected (Ok answer) = expected ≡ Ok answer
 Answers expected (Err (Refused error)) = expected ≡ Err (refused_as (kind_of error))
 Answers expected (Err (BadValue value)) = expected ≡ Err (bad_value value)
 Answers expected (Err Memory) = Unit {0}
 
--- the results that reading the values of a program's rows may have, of what clap found of their arguments
+-- the results that reading a row's values may have, from what clap found for its arguments
 abbrev pub ReadsRow : Type 0 → Type 0 → Type 0 → Type 1
 ReadsRow C J V = C → List Row → Result J (ArgumentsFault V) → Type 0
 

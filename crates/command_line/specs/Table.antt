@@ -6,7 +6,7 @@ use Rattle.command_line.specs.{Given.{can_be_given, given_by, rule_given}, decla
 use Rattle.command_line.specs.declared.table.Argument.TheVariants.{Positional, NeededPositional, NeededPositionalAs, Positionals, NeededPositionals}
 use Rattle.command_line.specs.declared.table.{Program.Program, Row.Row}
 
--- what a row asks for, its name, and the rules of its arguments in their order
+-- the command of a row, its name, and the rules of its arguments in order
 pub record Entry (C : Type 0) : Type 0 where
   pub command : C
   pub name : Text
@@ -43,14 +43,14 @@ with_entries app entries = fold with_subcommand app (map (λ entry. (entry_app e
 abbrev pub app_of_table : {C : Type 0} → Table C → App
 app_of_table table = with_entries (program_named table.title) table.entries
 
--- clap's errors for the arguments, the program's name first; empty if it accepts them
+-- clap's errors for the arguments, which begin with the program's name; empty if clap accepts them
 unfoldable pub refusals : {C : Type 0} → Table C → List Text → Kinds
 refusals table arguments = fault_of (app_of_table table) arguments
 
 abbrev pub entry_named : {C : Type 0} → Text → List (Entry C) → Option (Entry C)
 entry_named name entries = find (λ entry. bytes_eq entry.name name) entries
 
--- the row that clap found, with what it found of the row's arguments
+-- the row that clap found, with what it found for the row's arguments
 abbrev pub asked_in : {C : Type 0} → Table C → Option (Text × List Found) → Option (C × List Found)
 asked_in table found = option_and_then (λ found. option_map (λ entry. (entry.command, found.1))
     (entry_named found.0 table.entries)) found
@@ -58,8 +58,8 @@ asked_in table found = option_and_then (λ found. option_map (λ entry. (entry.c
 unfoldable pub asked : {C : Type 0} → Table C → List Text → Option (C × List Found)
 asked table arguments = asked_in table (subcommand_of (app_of_table table) arguments)
 
--- What clap has to make of a table, which each program's table computes to: it reads the arguments of any row by rules that
--- don't speak of one another, and each row can be given all of its arguments, whatever their values.
+-- The conditions on a table, which each program's table meets by computation. Clap reads the arguments of any row by rules that don't refer to one another.
+-- Each row can be given all of its arguments, with any values.
 pub record IsGood {C : Type 0} (table : Table C) : Type 0 where
   pub free : is_simple_and_free (app_of_table table) ≡ true
   pub rules : (value : Text → Text) → map (λ entry. map rule_given (map (given_by value) entry.rules)) table.entries ≡ map (λ entry. entry.rules) table.entries

@@ -1,4 +1,5 @@
-//! Why arguments ask for nothing, and the errors that `clap` doesn't find itself, with its usage.
+//! The faults of arguments, including the errors that `clap` doesn't find itself, with the usage
+//! text that `clap` makes.
 
 ghost use Rattle.clap.specs.declared.error.kind.ErrorKind.TheVariants as kinds;
 ghost use Rattle.command_line.specs.Arguments.{IsOfKind};
@@ -8,12 +9,12 @@ use clap::Error;
 use clap::error::ErrorKind;
 use std::alloc::{AllocError, Global};
 
-/// Why arguments ask for nothing.
+/// Why arguments don't ask for a job.
 #[derive(Debug, Drop)]
 pub enum ArgumentsFault<V> {
     /// `clap`'s error, with its text.
     Refused(Error),
-    /// An argument spells no value of its place.
+    /// An argument isn't a valid value.
     BadValue(V),
     /// Memory ran out.
     Memory,
@@ -30,7 +31,7 @@ impl<V> From<AllocError> for ArgumentsFault<V> {
     }
 }
 
-/// The fault of arguments that aren't UTF-8, which `clap` isn't given.
+/// Returns the fault of arguments that aren't UTF-8. `clap` never gets such arguments.
 pub fn text_fault<C: Commands, V>(alloc: Global) -> ArgumentsFault<V>
     ensures { IsOfKind kinds.ValueValidation result }
 {
@@ -38,7 +39,7 @@ pub fn text_fault<C: Commands, V>(alloc: Global) -> ArgumentsFault<V>
     arguments_fault::<C, V>(alloc, ErrorKind::ValueValidation, message)
 }
 
-/// The fault of a name that is no form's.
+/// Returns the fault of an unknown form's name.
 pub fn form_fault<C: Commands, V>(alloc: Global, name: &str) -> ArgumentsFault<V>
     ensures { IsOfKind kinds.InvalidValue result }
 {
@@ -50,7 +51,7 @@ pub fn form_fault<C: Commands, V>(alloc: Global, name: &str) -> ArgumentsFault<V
     }
 }
 
-/// A fault of this kind and with this message.
+/// Returns a fault of this kind with this message.
 pub fn arguments_fault<C: Commands, V>(
     alloc: Global,
     kind: ErrorKind,

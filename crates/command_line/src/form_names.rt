@@ -1,11 +1,11 @@
-//! The forms by their names.
+//! The names of the forms on the command line.
 
 ghost use Rattle.std.specs.Prelude.{◌≡◌};
 ghost use Rattle.command_line.specs.FormName as spec;
 
 use pass_forms::Form;
 
-/// The name of a form: `v1`, `v2` or `json`.
+/// Returns the name of a form: `v1`, `v2` or `json`.
 pub fn form_name(form: Form) -> &'static str
     ensures { result.now ≡ spec.form_name form }
 {
@@ -16,7 +16,7 @@ pub fn form_name(form: Form) -> &'static str
     }
 }
 
-/// The form of this name; `None` for any other text.
+/// Returns the form of this name; `None` for any other text.
 pub fn form_named(name: &str) -> Option<Form>
     ensures { result ≡ spec.form_named name.now }
 {

@@ -9,11 +9,11 @@ use crate::signal::is_interrupted;
 use std::io::{self, ErrorKind, Read};
 
 /// Reads to the end of the input, or until the buffer is full, and returns the number of bytes
-/// read. A read that a signal interrupts is tried again.
+/// read. Retries a read that a signal interrupts.
 ///
 /// # Errors
 ///
-/// The reader's error, but never that a signal interrupted it.
+/// Returns the reader's error, except an interruption by a signal.
 pub fn fill<R: Read>(reader: &mut R, buffer: &mut [u8]) -> io::Result<usize>
     ensures bytes { IfOk result (λ count. (count ≤ length buffer.new)
         × ReadsAtMost (length buffer.new) (R.remaining reader.old) (R.remaining reader.new)
@@ -51,7 +51,7 @@ fn read_after<R: Read>(reader: &mut R, buffer: &mut [u8], filled: usize) -> io::
     reader.read(&mut buffer[filled..])
 }
 
-/// The bytes without one line feed at their end.
+/// Returns the bytes without one line feed at their end.
 pub fn without_line_feed(bytes: &[u8]) -> &[u8]
     ensures { result.now ≡ strip_last 10 bytes.now }
 {

@@ -1,4 +1,4 @@
-//! What arguments ask for: the job of a row, from the values that they give it.
+//! Parses arguments into a job: the command of a row, with the values of its arguments.
 
 ghost use Rattle.std.specs.Prelude.{◌≡◌, IsSome, map};
 ghost use Rattle.clap.specs.Words.{found_of, rows_of, subcommand_rows_of};
@@ -16,7 +16,7 @@ use pass_forms::Form;
 use std::alloc::Global;
 use std::convert::AsStr;
 
-/// What arguments ask for.
+/// What the arguments of a program ask for.
 #[derive(Drop)]
 pub enum Asked<J> {
     /// The help text or the version, which `clap` made.
@@ -25,11 +25,11 @@ pub enum Asked<J> {
     Perform(J),
 }
 
-/// What a program's commands ask for, with the values of their arguments.
+/// A command of a program with the values of its arguments.
 pub trait Job<'a> {
     type Command: Commands;
 
-    /// A value that an argument doesn't spell.
+    /// The kind of an invalid argument.
     type BadValue;
 
     ghost use Rattle.clap.specs.Words.{found_of, rows_of};
@@ -38,7 +38,7 @@ pub trait Job<'a> {
     // the results that reading a row's values may have
     ghost Reads: { ReadsRow Self.Command Self Self.BadValue };
 
-    /// What a command asks for, by what `clap` found of its arguments.
+    /// Returns the job of a command, from the arguments that `clap` found.
     fn read(
         alloc: Global,
         command: Self::Command,
@@ -47,20 +47,20 @@ pub trait Job<'a> {
         ensures { Reads command (rows_of (found_of options.now)) result };
 }
 
-/// What the arguments ask of the program. The first is its name. `clap` checks them first, then the
-/// command its values.
+/// Returns what the arguments ask of the program. The first argument is the program's name. `clap`
+/// checks the arguments first, then the command checks its values.
 ///
 /// # Errors
 ///
-/// `Refused` if `clap` refuses the arguments, or as the command does; `BadValue` as the command
-/// does; `Memory` only if an allocation fails.
+/// Fails with `Refused` if `clap` refuses the arguments or the command does, with `BadValue` if the
+/// command finds an invalid value, and with `Memory` only if an allocation fails.
 pub fn read_job<'a, J: Job<'a>, S: AsStr>(
     alloc: Global,
     arguments: &'a [S],
 ) -> Result<Asked<J>, ArgumentsFault<J::BadValue>>
     ensures { ReadsJob J.Command.table J.Reads (map S.text arguments.entry.now) result }
 {
-    // By this law the arguments that are accepted name a row.
+    // By this law, arguments that are accepted name a row.
     arguments_name_a_row::<J::Command>();
     let Ok(application) = J::Command::application(alloc) else {
         return Err(ArgumentsFault::Memory);
@@ -97,11 +97,12 @@ fn job_found<'a, J: Job<'a>>(
     J::read(alloc, command, &options)
 }
 
-/// The form that `--form` names.
+/// Returns the form that `--form` names.
 ///
 /// # Errors
 ///
-/// `Refused` if it is none of the three; `Memory` only if an allocation fails.
+/// Fails with `Refused` if the name is none of the three, and with `Memory` only if an allocation
+/// fails.
 pub fn read_form<C: Commands, V>(
     alloc: Global,
     options: &ArgMatches<'_>,

@@ -1,5 +1,5 @@
-//! What both command-line programs share: how a command line is built and parsed, roots and forms
-//! as their arguments spell them, input within a limit, and whole texts as output.
+//! The parts that both command-line programs share: building and parsing a command line, roots and
+//! forms as arguments, reading input up to a limit, and writing a whole text.
 #![tactic(auto)]
 
 mod errors;

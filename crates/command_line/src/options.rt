@@ -1,4 +1,4 @@
-//! Options: how they are made, and what `clap` found of them.
+//! Makes options, and reads the values that `clap` found for them.
 
 ghost use Rattle.std.specs.Prelude.{◌≡◌, false};
 ghost use Rattle.clap.specs.Words.{found_of, rows_of, rule_of};
@@ -8,7 +8,7 @@ ghost use Rattle.command_line.specs.Arguments.{is_set, value_in};
 use clap::{Arg, ArgAction, ArgMatches};
 use std::alloc::Global;
 
-/// `--NAME VALUE`
+/// Makes the option `--NAME VALUE`.
 pub fn make_option<'a>(alloc: Global, name: &'a str, value: &'a str, help: &'a str) -> Arg<'a>
     ensures rule { rule_of result ≡ spec.option_named name.entry.now }
     ensures local { result.global ≡ false }
@@ -19,7 +19,7 @@ pub fn make_option<'a>(alloc: Global, name: &'a str, value: &'a str, help: &'a s
         .help(help)
 }
 
-/// `--NAME`
+/// Makes the flag `--NAME`.
 pub fn make_flag<'a>(alloc: Global, name: &'a str, help: &'a str) -> Arg<'a>
     ensures rule { rule_of result ≡ spec.flag_named name.entry.now }
     ensures local { result.global ≡ false }
@@ -30,7 +30,7 @@ pub fn make_flag<'a>(alloc: Global, name: &'a str, help: &'a str) -> Arg<'a>
         .help(help)
 }
 
-/// A positional argument
+/// Makes a positional argument.
 pub fn make_positional<'a>(alloc: Global, name: &'a str) -> Arg<'a>
     ensures rule { rule_of result ≡ spec.positional_named name.entry.now }
     ensures local { result.global ≡ false }
@@ -38,7 +38,7 @@ pub fn make_positional<'a>(alloc: Global, name: &'a str) -> Arg<'a>
     Arg::new(alloc, name).value_name(name)
 }
 
-/// Any number of positional arguments
+/// Makes an argument that takes any number of positional values.
 pub fn make_positionals<'a>(alloc: Global, name: &'a str, value: &'a str, help: &'a str) -> Arg<'a>
     ensures rule { rule_of result ≡ spec.positionals_named name.entry.now }
     ensures local { result.global ≡ false }
@@ -49,14 +49,14 @@ pub fn make_positionals<'a>(alloc: Global, name: &'a str, value: &'a str, help: 
         .help(help)
 }
 
-/// The value of an option; empty if it was left out.
+/// Returns the value of an option, or an empty text if the option was left out.
 pub fn value_of<'a>(options: &ArgMatches<'a>, id: &str) -> &'a str
     ensures { result.now ≡ value_in id.now (rows_of (found_of options.now)) }
 {
     options.get_str(id).unwrap_or("")
 }
 
-/// Whether a flag was given, which `clap` represents by the text `true`.
+/// Returns whether a flag was given, which `clap` represents by the text `true`.
 pub fn is_set(options: &ArgMatches<'_>, id: &str) -> bool
     ensures { result ≡ is_set id.now (rows_of (found_of options.now)) }
 {

@@ -7,12 +7,11 @@ ghost use Rattle.command_line.specs.Output.{AppendsFront};
 use crate::signal::is_interrupted;
 use std::io::{self, ErrorKind, Write};
 
-/// Writes a text and flushes the writer. A write or a flush that a signal interrupts is tried
-/// again.
+/// Writes a text and flushes the writer. Retries a write or a flush that a signal interrupts.
 ///
 /// # Errors
 ///
-/// The writer's error, but never that a signal interrupted it. A beginning of the text, or all of
+/// Returns the writer's error, except an interruption by a signal. A prefix of the text, or all of
 /// it, may have been written by then.
 pub fn write_text<W: Write>(writer: &mut W, text: &str) -> io::Result<()>
     ensures ok { OnOk result (Appends (W.contents writer.old) (W.contents writer.new) text.now) }
@@ -24,11 +23,11 @@ pub fn write_text<W: Write>(writer: &mut W, text: &str) -> io::Result<()>
     flush(writer)
 }
 
-/// Flushes the writer. A flush that a signal interrupts is tried again.
+/// Flushes the writer. Retries a flush that a signal interrupts.
 ///
 /// # Errors
 ///
-/// The writer's error, but never that a signal interrupted it.
+/// Returns the writer's error, except an interruption by a signal.
 pub fn flush<W: Write>(writer: &mut W) -> io::Result<()>
     ensures bytes { Keeps (W.contents writer.old) (W.contents writer.new) }
     ensures retried { IfErr result (λ error. error_kind error ≢ ErrorKind.Interrupted) }
@@ -42,7 +41,8 @@ pub fn flush<W: Write>(writer: &mut W) -> io::Result<()>
     Err(io::Error::from(ErrorKind::TimedOut))
 }
 
-// Writes until all bytes are taken. Unlike `write_all`, its contract states what an error leaves.
+// Writes until all bytes are taken. Unlike that of `write_all`, its contract states how much was
+// written when an error occurs.
 fn write_bytes<W: Write>(writer: &mut W, bytes: &[u8]) -> io::Result<()>
     ensures ok { OnOk result (Appends (W.contents writer.old) (W.contents writer.new) bytes.now) }
     ensures err { OnErr result

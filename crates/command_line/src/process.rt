@@ -1,4 +1,4 @@
-//! What a program does with the arguments of its process, and with a fault.
+//! Reads the arguments of a process, and prints the line of a fault.
 
 ghost use Rattle.std.specs.{Prelude.{IfErr, IfOk, map}, String.string_bytes};
 ghost use Rattle.clap.specs.declared.error.kind.ErrorKind.TheVariants as kinds;
@@ -11,19 +11,20 @@ use std::env::{self, Env};
 use std::fmt::{self, Display};
 use std::io;
 
-/// A process that was given arguments.
+/// A process that got arguments.
 pub trait GivenArguments {
     ghost use Rattle.std.specs.{Prelude.{List, IfOk, map}, String.string_bytes};
     ghost use Rattle.clap.specs.Words.{Text};
 
-    // the arguments that it may have been given
+    // the arguments that it may have got
     ghost given: { Self → List Text → Type 0 };
 
-    /// All arguments, of which the first is the program's name.
+    /// Returns all arguments. The first one is the program's name.
     ///
     /// # Errors
     ///
-    /// `OutOfMemory`; any other kind if an argument isn't UTF-8.
+    /// Fails with `OutOfMemory` if an allocation fails, and with any other kind if an argument
+    /// isn't UTF-8.
     fn arguments(&self, alloc: Global) -> io::Result<Vec<String>>
         ensures { IfOk result (λ arguments. given self.now (map string_bytes arguments.items)) };
 }
@@ -37,14 +38,14 @@ impl<R: Env + AllocGlobal> GivenArguments for R {
     }
 }
 
-/// Where a program prints the line of a fault.
+/// A place where a program prints the line of a fault.
 pub trait FaultLines {
     ghost use Rattle.std.specs.Prelude.{ℕ, List, Option};
 
-    // a text that it was asked to print, if that is known
+    // a text that it was asked to print, if known
     ghost asked: { Self → Option (List ℕ) → Type 0 };
 
-    /// Prints a text. If that fails, there is nowhere to report it.
+    /// Prints a text. A failure to print is ignored, since it can't be reported anywhere.
     fn print_text<F: Display>(&self, text: &F)
         ensures { asked self.now (F.output text.now) };
 }
@@ -58,11 +59,11 @@ impl<R: Eprint> FaultLines for R {
     }
 }
 
-/// The arguments of the process, of which the first is the program's name.
+/// Returns the arguments of the process. The first one is the program's name.
 ///
 /// # Errors
 ///
-/// `Refused` if they aren't UTF-8; `Memory` only if an allocation fails.
+/// Fails with `Refused` if an argument isn't UTF-8, and with `Memory` only if an allocation fails.
 pub fn given_arguments<P: GivenArguments, C: Commands, V>(
     alloc: Global,
     process: &P,
@@ -78,7 +79,8 @@ pub fn given_arguments<P: GivenArguments, C: Commands, V>(
     }
 }
 
-/// Prints the line of a fault on standard error. The text of `clap` ends its lines itself.
+/// Prints the line of a fault on standard error. It adds a line feed, except to a text from `clap`,
+/// which already ends with one.
 pub fn report<P: FaultLines, F: Display>(process: &P, fault: &F, is_text_of_clap: bool)
     ensures { P.asked process.now (printed is_text_of_clap (F.output fault.now)) }
 {
@@ -89,7 +91,7 @@ pub fn report<P: FaultLines, F: Display>(process: &P, fault: &F, is_text_of_clap
     }
 }
 
-// A text, and the line feed after it.
+// A text with a line feed after it.
 #[derive(Drop)]
 struct Line<'a, F> {
     text: &'a F,

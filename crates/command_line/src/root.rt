@@ -42,7 +42,7 @@ impl Root {
         }
     }
 
-    /// The bytes of the root.
+    /// Returns the bytes of the root.
     pub fn as_slice(&self) -> &[u8]
         ensures { result.now ≡ self.now }
     {

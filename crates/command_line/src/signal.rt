@@ -4,7 +4,7 @@ ghost use Rattle.std.specs.{IoError.error_kind, Prelude.{◌≡◌, ◌↔◌, I
 
 use std::io::{Error, ErrorKind};
 
-/// Whether a signal interrupted the call, which may be tried again.
+/// Returns whether a signal interrupted the call, which may be tried again.
 pub(crate) fn is_interrupted(error: &Error) -> bool
     ensures { IsTrue result ↔ (error_kind error.now ≡ ErrorKind.Interrupted) }
 {

@@ -15,25 +15,25 @@ use std::alloc::{AllocError, Global};
 pub enum Argument {
     /// `--NAME VALUE`
     Value(&'static str, &'static str, &'static str),
-    /// The same, which must be given.
+    /// `--NAME VALUE`, which is required.
     Needed(&'static str, &'static str, &'static str),
-    /// The same, with a default as its last part.
+    /// `--NAME VALUE`, with a default as its last part.
     Or(&'static str, &'static str, &'static str, &'static str),
     /// `--NAME`
     Flag(&'static str, &'static str),
     /// A positional argument. Its name is what its help calls it, and it has no other help.
     Positional(&'static str),
-    /// The same, which must be given.
+    /// A required positional argument, like `Positional`.
     NeededPositional(&'static str),
-    /// The same, which its help calls by another name.
+    /// A required positional argument, which its help calls by another name.
     NeededPositionalAs(&'static str, &'static str),
     /// Any number of positional arguments.
     Positionals(&'static str, &'static str, &'static str),
-    /// One positional argument or more.
+    /// One or more positional arguments.
     NeededPositionals(&'static str, &'static str, &'static str),
 }
 
-/// A command: what it asks for, its name, its help, which ends with a text, and its arguments.
+/// A command: what it asks for, its name, its help with the text at the end, and its arguments.
 pub struct Row<C: Copy> {
     pub command: C,
     pub name: &'static str,
@@ -59,18 +59,18 @@ pub trait Commands: Copy {
     // the rows
     ghost table: { Table Self };
 
-    /// The program as `clap` takes it, whose arguments its contract covers.
+    /// Returns the program as `clap` takes it, whose arguments its contract covers.
     fn application<'a>(alloc: Global) -> Result<Command<'a>, AllocError>
         ensures made { IfOk result (λ made. app_of made ≡ app_of_table table) }
         ensures good { IsGood table };
 
-    /// The command of this name.
+    /// Returns the command of this name.
     fn named(name: &str) -> Option<Self>
         ensures { result ≡ option_map (λ entry. entry.command)
             (entry_named name.now table.entries) };
 }
 
-/// The program as `clap` takes it.
+/// Returns the program as `clap` takes it.
 pub fn make_application<'a, C: Copy>(
     alloc: Global,
     program: &Program<C>,
@@ -119,7 +119,7 @@ fn make_argument<'a>(alloc: Global, argument: Argument) -> Arg<'a>
     }
 }
 
-/// What the first row of this name asks for.
+/// Returns what the first row of this name asks for.
 pub fn command_named<C: Copy>(rows: &[Row<C>], name: &str) -> Option<C>
     ensures { result ≡ option_map (λ entry. entry.command)
         (entry_named name.now (map entry_of rows.now)) }

@@ -11,7 +11,7 @@ use std::alloc::{AllocError, Global};
 /// The version of both programs, which `--version` prints.
 const VERSION: &str = "0.1.0";
 
-/// A program without its commands. Its long help ends with its exit statuses.
+/// Returns a program without its commands. Its long help ends with its exit statuses.
 pub fn make_program<'a>(
     alloc: Global,
     name: &'a str,
@@ -27,19 +27,19 @@ pub fn make_program<'a>(
         .subcommand_required(true)
 }
 
-/// A command without options. Its help ends with the text `help`.
+/// Returns a command without options. `help` is the text at the end of its help.
 pub fn new_command<'a>(alloc: Global, name: &'a str, about: &'a str, help: &'a str) -> Command<'a>
     ensures { IsMade (new_app name.entry.now) result }
 {
     Command::new(alloc, name).about(about).after_help(help)
 }
 
-/// The command with one more option, flag or positional argument. It takes a result, so that the
-/// steps that make a command need no `?` between them.
+/// Adds an option, flag or positional argument to a command. Takes a `Result` so that calls chain
+/// without `?`.
 ///
 /// # Errors
 ///
-/// `AllocError` if an allocation fails, here or in the command.
+/// Fails if an allocation fails, here or in the command.
 pub fn with_argument<'a>(
     command: Result<Command<'a>, AllocError>,
     argument: Arg<'a>,
@@ -51,11 +51,11 @@ pub fn with_argument<'a>(
     command?.arg(argument)
 }
 
-/// The program with one more command.
+/// Adds a command to a program.
 ///
 /// # Errors
 ///
-/// `AllocError` if an allocation fails, here, in the program or in the command.
+/// Fails if an allocation fails, here, in the program or in the command.
 pub fn with_command<'a>(
     program: Result<Command<'a>, AllocError>,
     command: Result<Command<'a>, AllocError>,

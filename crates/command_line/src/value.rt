@@ -1,4 +1,4 @@
-//! Values that arguments spell.
+//! Values that arguments state as texts.
 
 ghost use Rattle.std.specs.Prelude.{◌≡◌, ℕ, List, Option};
 ghost use Rattle.clap.specs.Words.{found_of, rows_of};
@@ -11,11 +11,11 @@ use crate::root::Root;
 use clap::ArgMatches;
 use pass_forms::Form;
 
-/// A value that a text may spell.
+/// A value that is parsed from a text.
 pub trait Value {
     ghost spelled: { List ℕ → Option Self };
 
-    /// The value that the text spells.
+    /// Returns the value that the text spells, or `None` if it spells none.
     fn read(text: &str) -> Option<Self>
         ensures { result ≡ spelled text.now };
 }
@@ -36,7 +36,8 @@ impl Value for Form {
     }
 }
 
-/// The value of an option; `None` if its text spells none, or is left out.
+/// Returns the value of an option; `None` if its text isn't a valid value, or the option was left
+/// out.
 pub fn read_value<V: Value>(options: &ArgMatches<'_>, id: &str) -> Option<V>
     ensures { result ≡ V.spelled (value_in id.now (rows_of (found_of options.now))) }
 {

@@ -1,4 +1,4 @@
--- What the calls of an accepted connection keep.
+-- Properties that the calls of an accepted connection preserve.
 use Rattle.std.proofs.{Common.{◌∙◌, ℕ, List, Option, ap, refl}, KnownBytes.{Keeps-refl, Keeps-trans}}
 use Rattle.desk_server.specs.{Accepted.{HasMoved, HasWaited}, declared.timed.Accepted.Accepted}
 

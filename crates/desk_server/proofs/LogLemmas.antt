@@ -1,4 +1,4 @@
--- The lines of a log, from what it notes.
+-- The lines of a log, from the fates that it notes.
 use Rattle.std.proofs.Common.{◌≡◌, ℕ, List, [], ◌∷◌, ◌++◌, append_assoc, append-nil, ap, sym, ◌∙◌}
 use Rattle.std.specs.Prelude.{Option}
 use Rattle.desk_server.specs.{Laws.WritesLines, Log.{AreWritten, IsTextWritten, line_text}, Served.{AreNotedMeanwhile, IsBegun, Notes, Turn, fates_in}}
@@ -6,7 +6,7 @@ use Rattle.desk_server.specs.declared.log.Fate.{Fate, TheVariants.{Absent, Overr
 use Rattle.desk_server.specs.Log as log
 use Rattle.desk_server.specs.Served as served
 
--- the fates of one turn more
+-- the fates after one more turn
 fates_more : (turns : List Turn) (turn : Turn) → fates_in (turns ++ turn ∷ []) ≡ fates_in turns ++ (turn.meanwhile ++ turn.fate ∷ [])
 fates_more [] turn = append-nil (turn.meanwhile ++ turn.fate ∷ [])
 fates_more (first ∷ turns) turn =
@@ -21,7 +21,7 @@ module _ {Log : Type 0} (Begins : Log → Log → Type 0) (Noted : Notes Log) (t
   abbrev Written : Log → List Fate → Log → Type 0
   Written old fates new = AreWritten (taken old) (failures old) fates (taken new) (failures new)
 
-  -- a note more
+  -- the lines after one more note
   line_behind : (old l : Log) (fates : List Fate) (fate : Fate) (new : Log) → Written old fates l → Noted l fate new → Written old (fates ++ fate ∷ []) new
   line_behind old l fates fate new before noted =
       let line = writes l fate new noted in
@@ -36,7 +36,7 @@ module _ {Log : Type 0} (Begins : Log → Log → Type 0) (Noted : Notes Log) (t
   if_begun old l begun fates Overrun same before = rw same before
   if_begun old l begun fates fate begins before = begun_keeps old l begun fates begins before
 
-  -- the notes of commands meanwhile more
+  -- the lines after the notes of further commands meanwhile
   lines_behind : (old l new : Log) (fates more : List Fate) → Written old fates l → AreNotedMeanwhile Begins Noted l more new
       → Written old (fates ++ more) new
   lines_behind old l _ fates _ before served.no_note = rw (append-nil fates) before

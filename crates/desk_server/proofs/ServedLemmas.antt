@@ -1,4 +1,4 @@
--- Turns one after the other.
+-- Consecutive turns.
 use Rattle.std.proofs.Common.{◌≡◌, ℕ, ◌+◌, List, [], ◌∷◌, ◌++◌, ◌≤◌, length, arith, length-append}
 use Rattle.club_clock.specs.Moments.{GivesMoment}
 use Rattle.club_http.specs.Replied.{AnswerRelation}
@@ -12,7 +12,7 @@ clients_more (first ∷ turns) turn = omega (arith, clients_more turns turn)
 
 module _ {Clock Desk Source Log : Type 0} (Gives : GivesMoment Clock) (Answers : ℕ → AnswerRelation Desk) (Carries : CommandRelation Desk)
     (Ended : Ends) (waited failures : Source → ℕ) (Begins : Log → Log → Type 0) (Noted : Notes Log) where
-  -- the turns so far: so many are clients', and at least so many are commands
+  -- the turns so far, with the number of clients' turns and a lower bound on the number of commands
   pub record SoFar (clients commands : ℕ) (s s' : Source) (c : Clock) (d : Desk) (l : Log) (c' : Clock) (d' : Desk) (l' : Log) : Type 0 where
     pub turns : List Turn
     pub so_many : clients_in turns ≡ clients
@@ -25,7 +25,7 @@ module _ {Clock Desk Source Log : Type 0} {Gives : GivesMoment Clock} {Answers :
     {Ended : Ends} {waited failures : Source → ℕ} {Begins : Log → Log → Type 0} {Noted : Notes Log} {clients commands : ℕ} {s s1 : Source}
     {c c1 : Clock} {d d1 : Desk} {l l1 : Log}
     (first : SoFar Gives Answers Carries Ended waited failures Begins Noted clients commands s s1 c d l c1 d1 l1) where
-  -- one turn more
+  -- one more turn
   pub one_more : (turn : Turn) (clients' commands' : ℕ) (s' : Source) (c' : Clock) (d' : Desk) (l' : Log) → clients' ≡ clients + client_in turn.fate
       → commands' ≤ commands + 1 → IsDue first.turns turn.fate
       → ServesOne Gives Answers Carries Ended c1 d1 (failures s1) turn.meanwhile turn.fate c' d' (failures s') → IsNoted Begins Noted l1 turn l'
@@ -40,7 +40,7 @@ module _ {Clock Desk Source Log : Type 0} {Gives : GivesMoment Clock} {Answers :
     called = rw (length-append first.turns (turn ∷ [])) called;
   }
 
-  -- one call more
+  -- one more call
   pub one_call : (s' : Source) → CountsOn (waited s1) 1 (waited s') → CountsOn (waited s) (length first.turns + 1) (waited s')
   one_call s' waits fits = let before = first.called (omega arith) in let last = waits (omega arith) in omega arith
 

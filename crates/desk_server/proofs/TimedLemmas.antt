@@ -5,7 +5,7 @@ use borrow.Rule.Slice.PartMut.{put_mid}
 use Rattle.std.specs.Io.KnownBytes.{Keeps}
 use Rattle.desk_server.specs.{Limits.{AreInterrupted, Calls}, declared.limit.Limit.Limit}
 
--- a buffer that was filled from a place on
+-- a buffer after bytes were read into it at a position
 pub filled : (room part : List ℕ) (len n k : ℕ) → len ≤ length room → n ≤ length part → take (len + n) (put_mid len k room part) ≡ take len room ++ take n part
 filled room part len n k within few =
     let front = length-take-le len room within in
@@ -13,7 +13,7 @@ filled room part len n k within few =
     ∙ take-append-add (take len room) _ n
     ∙ ap (λ (l : List ℕ). take len room ++ l) (take-append-le n part _ few)
 
--- all calls so far were interrupted, and kept what is known of both ends
+-- all calls so far were interrupted, and left the known bytes of both ends unchanged
 pub record Interrupted {C Stream : Type 0} (Shows : C → Option ℕ → Type 0) (Does : Calls Stream) (near far : Stream → Option (List ℕ)) (limit : Limit C)
     (first : Stream) (n : ℕ) (last : Stream) : Type 0 where
   pub repeated : AreInterrupted Shows Does limit first n last

@@ -1,4 +1,4 @@
--- An accepted connection under limits of time (ours).
+-- An accepted connection with time limits (ours).
 use Rattle.std.specs.{Duration.as_nanos, Io.KnownBytes.{Appends, Keeps}, Prelude.{◌≡◌, ℕ, List, Option, IsSomeAnd, Result, Ok, Err}}
 use Rattle.club_core.specs.declared.reply.Reply.{Reply}
 use Rattle.club_http.specs.{Calls.{ArePut, ReadsNoFurther}, Exchange.{reader_failures, writer_failures}, Received.{IsCutOff, Receives}}
@@ -6,18 +6,18 @@ use Rattle.club_http.specs.declared.fault.AnswerFault.{AnswerFault, TheVariants.
 use Rattle.http_request.specs.Frame.{IsOneRequest}
 use Rattle.desk_server.specs.{Between.Awaits, Limits.{Calls, IsCalledUnder, StartsLimit, TakesAtMost}, declared.timed.Accepted.Accepted}
 
--- only its stream moved on
+-- only its stream changed
 abbrev pub HasMoved : {S C : Type 0} → Accepted S C → Accepted S C → Type 0
 HasMoved old new = new ≡ record old { stream = new.stream }
 
 module _ {S C : Type 0} (Shows : C → Option ℕ → Type 0) (Does : Calls S) (kept : S → Option (List ℕ)) where
-  -- A read under the limit of the reads, which waits for nothing once that is over. The stream took no bytes.
+  -- A read under the limit of the reads, which doesn't wait once that is over. The stream took no bytes.
   pub record IsRead (old : Accepted S C) (result : Option ℕ) (room : List ℕ) (new : Accepted S C) : Type 0 where
     pub same : new ≡ record old { stream = new.stream; read_failures = new.read_failures }
     pub limited : IsCalledUnder Shows Does old.reading old.stream result new.stream
     pub writes_nothing : Keeps (kept old.stream) (kept new.stream)
 
-  -- A write under the limit of the writes, which begins with the first one. It waits for nothing once that is over. The stream gave no bytes.
+  -- A write under the limit of the writes, which starts with the first write. It doesn't wait once that limit is over. No bytes were read from the stream.
   pub record IsWritten (old : Accepted S C) (result : Option ℕ) (bytes : List ℕ) (new : Accepted S C) : Type 0 where
     pub same : new ≡ record old { stream = new.stream; writing = new.writing; write_failures = new.write_failures }
     pub begins : StartsLimit Shows old.clock.now (as_nanos old.patience) old.writing new.writing
@@ -25,32 +25,32 @@ module _ {S C : Type 0} (Shows : C → Option ℕ → Type 0) (Does : Calls S) (
     pub reads_nothing : Keeps (kept old.stream) (kept new.stream)
 
 module _ {S C : Type 0} (to_come taken : S → Option (List ℕ)) where
-  -- A wait for a command or the client. The stream gave and took no bytes.
+  -- A wait for a command or the client. No bytes were read from the stream or written to it.
   pub record HasWaited (old new : Accepted S C) : Type 0 where
     pub same : new ≡ record old { stream = new.stream; command_first = new.command_first }
     pub reads_nothing : Keeps (to_come old.stream) (to_come new.stream)
     pub writes_nothing : Keeps (taken old.stream) (taken new.stream)
 
-  -- Some of what the client still sends was read, at most 65,536 bytes, and nothing was written.
+  -- At most 65,536 of the bytes that the client still sends were read, and nothing was written.
   pub record TakesRest (old new : Accepted S C) : Type 0 where
     pub same : HasMoved old new
     pub bytes : TakesAtMost 65_536 (to_come old.stream) (to_come new.stream)
     pub writes_nothing : Keeps (taken old.stream) (taken new.stream)
 
-  -- the bytes that came are the request; or what came before the reader failed
+  -- the bytes that came are those of the request, or those that came before the reader failed
   abbrev pub Comes : Result Reply AnswerFault → Accepted S C → List ℕ → Accepted S C → Type 0
   Comes (Ok reply) old bytes new = Receives (to_come old.stream) (to_come new.stream) bytes
   Comes (Err (Write n)) old bytes new = Receives (to_come old.stream) (to_come new.stream) bytes
   Comes (Err Read) old bytes new = IsCutOff (to_come old.stream) (to_come new.stream) bytes
 
-  -- after a reply that was written whole the rest is read, if more may come than the one request
+  -- after a reply that was completely written, the rest of the input is read if more than one request may come
   abbrev pub IsEnded : Result Reply AnswerFault → List ℕ → Accepted S C → Accepted S C → Type 0
   IsEnded (Ok reply) bytes old new = (IsOneRequest bytes → new ≡ old) × TakesRest old new
   IsEnded (Err fault) bytes old new = new ≡ old
 
   module _ (Shows : C → Option ℕ → Type 0) (Reads Writes : Calls S) where
-    -- How an exchange went. The request came by calls of the reader, of which none was made once it was whole; then the reply was written by calls of
-    -- the writer alone; and after that the connection was ended. All that was written are these bytes.
+    -- The course of an exchange. The request came by calls of the reader, and no call was made once it was complete. Then the reply was written by calls of the
+    -- writer alone, and after that the connection was ended. Exactly these bytes were written.
     pub record Talks (old : Accepted S C) (bytes written : List ℕ) (outcome : Result Reply AnswerFault) (new : Accepted S C) : Type 0 where
       pub heard : Accepted S C
       pub sent : Accepted S C

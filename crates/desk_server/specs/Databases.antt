@@ -1,9 +1,9 @@
--- What opening and closing databases by their names may do (ours).
+-- The effects that opening and closing databases by name may have (ours).
 use Rattle.std.specs.{Prelude.{ℕ, List, Option, Some, None, Result, String}, String.string_bytes}
 use Rattle.club_core.specs.declared.store.StoreFault.{StoreFault}
 use Rattle.desk_server.specs.declared.databases.Reached.{Reached}
 
--- what opening a name returns, with the databases before and after
+-- the result of opening a name, with the databases before and after
 abbrev pub Opening : Type 0 → Type 0 → Type 1
 Opening Databases Store = Databases → List ℕ → Result Store StoreFault → Databases → Type 0
 
@@ -11,11 +11,11 @@ Opening Databases Store = Databases → List ℕ → Result Store StoreFault →
 abbrev pub Closing : Type 0 → Type 0 → Type 1
 Closing Databases Store = Databases → Store → Databases → Type 0
 
--- what reaching a name returns, with the databases before and after: a store that was opened, or a server that takes commands
+-- the result of reaching a name, with the databases before and after: a store that was opened, or a server that takes commands
 abbrev pub Reaching : Type 0 → Type 0 → Type 0 → Type 1
 Reaching Databases Store Visit = Databases → List ℕ → Result (Reached Store Visit) StoreFault → Databases → Type 0
 
--- what giving the bytes of a command to a server returns: the status of its answer and the bytes of the text, if there is an answer
+-- the result of giving the bytes of a command to a server: the status of its answer and the bytes of the text, if there is an answer
 abbrev pub Giving : Type 0 → Type 1
 Giving Visit = Visit → List ℕ → Option (ℕ × List ℕ) → Type 0
 

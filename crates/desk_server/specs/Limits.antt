@@ -1,4 +1,4 @@
--- Limits of time (ours).
+-- Time limits (ours).
 use Rattle.std.specs.Io.KnownBytes.{Consumes}
 use Rattle.std.specs.Prelude.{◌≡◌, ◌⊎◌, ℕ, ◌+◌, ◌-◌, ◌*◌, ◌^◌, ◌<◌, ◌≤◌, nat_lt, if◌then◌else◌, List, length, Option, Some, None, IfSome, IsSomeAnd, option_map}
 use Rattle.std.specs.{Time.instant_nanos, declared.time.Instant.Instant}
@@ -8,12 +8,12 @@ use Rattle.desk_server.specs.declared.{limit.Limit.Limit, timed.Waited.{Waited, 
 abbrev pub nanos_of : Option Instant → Option ℕ
 nanos_of instant = option_map instant_nanos instant
 
--- a time of the clock plus so many nanoseconds; none if the clock can't be read or has no such time
+-- a time of the clock plus this many nanoseconds; none if the clock can't be read or has no such time
 abbrev pub due_after : ℕ → Option ℕ → Option ℕ
 due_after patience None = None
 due_after patience (Some now) = if nat_lt (now + patience) (2 ^ 63 * 1_000_000_000) then Some (now + patience) else None
 
--- the nanoseconds until a deadline; 0 after it, without one, or if the clock can't be read
+-- the nanoseconds until a deadline; 0 if it has passed, if there is none, or if the clock can't be read
 abbrev pub left_until : Option ℕ → Option ℕ → ℕ
 left_until (Some due) (Some now) = due - now
 left_until due now = 0
@@ -22,39 +22,39 @@ left_until due now = 0
 abbrev pub AtShown : (Option ℕ → Type 0) → (Option ℕ → Type 0) → Type 0
 AtShown Shows P = (shown : Option ℕ) × Shows shown × P shown
 
--- a limit that begins with the first call: unchanged if it has begun, else this much later than the call
+-- a limit that starts with the first call: unchanged if it has started, else this much later than the call
 abbrev pub StartsLimit : {C : Type 0} → (C → Option ℕ → Type 0) → C → ℕ → Option (Limit C) → Option (Limit C) → Type 0
 StartsLimit Shows clock patience (Some limit) new = new ≡ Some limit
 StartsLimit Shows clock patience None new = IsSomeAnd new (λ limit. (limit.clock.now ≡ clock)
     × AtShown (Shows clock) (λ shown. nanos_of limit.due ≡ due_after patience shown))
 
--- a call of a stream that waits at most so many nanoseconds, and how it ended
+-- a call of a stream that waits at most this many nanoseconds, and its result
 abbrev pub Calls : Type 0 → Type 1
 Calls Stream = Stream → ℕ → Waited → Stream → Type 0
 
--- the bytes that a call moved, if it ended so
+-- the number of bytes that a call moved, if it moved any
 abbrev pub moved : Waited → Option ℕ
 moved (Moved n) = Some n
 moved Interrupted = None
 moved Failed = None
 
--- how a call ended that a signal didn't interrupt
+-- the result of a call that no signal interrupted
 abbrev pub ended : Option ℕ → Waited
 ended (Some n) = Moved n
 ended None = Failed
 
--- a call with `left` nanoseconds left: with none it is made all the same, and may not wait
+-- a call with `left` nanoseconds left: with none left it is still made, but may not wait
 abbrev pub IsCalled : {Stream : Type 0} → Calls Stream → ℕ → Stream → Option ℕ → Stream → Type 0
 IsCalled Does left old result new = Does old left (ended result) new
 
--- so many calls that a signal interrupted, each with the time that was left of a limit, at a time that its clock may show
+-- this many calls that a signal interrupted, each with the time left of a limit, at a time that its clock may show
 pub data AreInterrupted {C Stream : Type 0} (Shows : C → Option ℕ → Type 0) (Does : Calls Stream) (limit : Limit C) (first : Stream) : ℕ → Stream → Type 0 where
   not_called : AreInterrupted Shows Does limit first 0 first
   once_more : (n : ℕ) (old new : Stream) → AreInterrupted Shows Does limit first n old
       → AtShown (Shows limit.clock.now) (λ shown. Does old (left_until (nanos_of limit.due) shown) Interrupted new)
       → AreInterrupted Shows Does limit first (n + 1) new
 
--- A call with the time that is left of a limit. If a signal interrupts it, it is repeated with what is then left, fewer than 2 ^ 64 times.
+-- A call with the time left of a limit. If a signal interrupts it, it is repeated with the time then left, fewer than 2 ^ 64 times.
 pub record IsCalledUnder {C Stream : Type 0} (Shows : C → Option ℕ → Type 0) (Does : Calls Stream) (limit : Limit C) (old : Stream) (result : Option ℕ)
     (new : Stream) : Type 0 where
   pub interruptions : ℕ
@@ -63,7 +63,7 @@ pub record IsCalledUnder {C Stream : Type 0} (Shows : C → Option ℕ → Type 
   pub called : AtShown (Shows limit.clock.now) (λ shown. IsCalled Does (left_until (nanos_of limit.due) shown) last result new)
       ⊎ (interruptions ≡ 2 ^ 64 - 1) × (result ≡ None) × (new ≡ last)
 
--- a call under a limit, and what it moved, at most so many bytes; at the stream's other end nothing moved
+-- a call under a limit, and the number of bytes that it moved, at most this many; at the stream's other end nothing moved
 pub record EndsUnder {C Stream : Type 0} (Shows : C → Option ℕ → Type 0) (Does : Calls Stream) (limit : Limit C) (old : Stream) (result : Option ℕ)
     (new : Stream) (most : ℕ) (Moved Still : Type 0) : Type 0 where
   pub within : IfSome result (λ n. n ≤ most)
@@ -71,6 +71,6 @@ pub record EndsUnder {C Stream : Type 0} (Shows : C → Option ℕ → Type 0) (
   pub still : Still
   pub limited : IsCalledUnder Shows Does limit old result new
 
--- the call took at most so many bytes
+-- the call took at most this many bytes
 abbrev pub TakesAtMost : ℕ → Option (List ℕ) → Option (List ℕ) → Type 0
 TakesAtMost most old new = (bytes : List ℕ) × (length bytes ≤ most) × Consumes old new bytes

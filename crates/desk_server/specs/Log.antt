@@ -11,7 +11,7 @@ use Rattle.desk_server.specs.{RequestLine.{method_of, path_of}, declared.log.Fat
 abbrev pub or_dash : Option (List ℕ) → List ℕ
 or_dash word = unwrap_or word (codes "-")
 
--- the status of a reply that was written whole
+-- the status of a reply that was written completely
 abbrev pub written_status : Result Reply AnswerFault → Option ℕ
 written_status (Ok reply) = Some (status_of reply)
 written_status (Err fault) = None
@@ -22,8 +22,8 @@ words_text moment method path status microseconds =
     or_dash (option_map moment_text moment) ++ codes " " ++ or_dash method ++ codes " " ++ or_dash path ++ codes " "
     ++ or_dash (option_map decimal status) ++ codes " " ++ decimal microseconds ++ codes "\n"
 
--- The moment, the method, the path and the status of a client, and the microseconds that it took. Of a command the moment, `office`, its name, its
--- exit status and the microseconds; name and status are missing if no command came whole.
+-- The line of a client has the moment, the method, the path, the status, and the time taken in microseconds. The line of a command has the moment, `office`,
+-- its name, its exit status and the time taken in microseconds; name and status are missing if no complete command came.
 unfoldable pub line_text : Fate → ℕ → List ℕ
 line_text Absent microseconds = words_text None None None None microseconds
 line_text Overrun microseconds = words_text None None None None microseconds
@@ -34,7 +34,7 @@ line_text (Commanded moment (Some carried)) microseconds =
 line_text (Exchanged moment line outcome) microseconds =
     words_text (Some moment) (method_of line) (path_of line) (written_status outcome) microseconds
 
--- the writer took the whole text; or it failed, and took a prefix of it
+-- the writer took all of the text, or it failed and took a prefix
 abbrev pub IsTextWritten : Option (List ℕ) → Option (List ℕ) → ℕ → ℕ → List ℕ → Type 0
 IsTextWritten taken taken' failures failures' text =
     (Appends taken taken' text × (failures' ≡ failures))

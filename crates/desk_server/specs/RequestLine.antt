@@ -1,4 +1,4 @@
--- What a log shows of a request line (ours).
+-- The parts of a request line that a log shows (ours).
 use Rattle.std.specs.{Borrow.Bor, Char.{is_ascii_digit, is_ascii_lowercase, is_ascii_uppercase}, List.list_all, Prelude.{ℕ, ◌+◌, Bool, ◌==◌, ◌||◌, ◌&&◌, List}}
 use Rattle.std.specs.Prelude.{length, take, drop, position, nat_lt, nat_le, Option, Some, None, option_map, option_and_then, if◌then◌else◌}
 

@@ -1,5 +1,4 @@
--- A server: it serves what arrives, clients and commands of the office, one after the other, and commands also while a client's request is awaited
--- (ours).
+-- A server (ours). It serves clients and commands of the office one after the other, and carries out commands also while it waits for a client's request.
 use Rattle.std.specs.Io.KnownBytes.{Appends}
 use Rattle.std.specs.Prelude.{◌≡◌, ℕ, suc, ◌+◌, ◌^◌, ◌<◌, ◌≤◌, length, List, [], ◌∷◌, ◌++◌, take, Option, Some, None, IfSome, Result, MatchResult}
 use Rattle.std.specs.String.{string_bytes}
@@ -9,11 +8,11 @@ use Rattle.club_http.specs.{Ends.one_more, Exchange.Exchanges, Replied.{AnswerRe
 use Rattle.desk_server.specs.declared.{log.Fate.{Fate, TheVariants.{Absent, Overrun, Unanswered, Exchanged, Commanded}}, office.Answer.Answer}
 use Rattle.desk_server.specs.declared.{office.Carried.Carried, serve.ClockOutOfRange.ClockOutOfRange}
 
--- a u64 counter grows by so many, as long as it doesn't overflow
+-- a u64 counter grows by this number, as long as it doesn't overflow
 abbrev pub CountsOn : ℕ → ℕ → ℕ → Type 0
 CountsOn count more count' = count + more < 2 ^ 64 → count' ≡ count + more
 
--- what the desk does with the bytes of a command: the desk before, the answer, and the desk after
+-- the effect of a command's bytes: the desk before, the answer, and the desk after
 abbrev pub CommandRelation : Type 0 → Type 1
 CommandRelation Desk = List ℕ → Desk → Answer → Desk → Type 0
 
@@ -29,8 +28,8 @@ Ends = List ℕ → List ℕ → Result Reply AnswerFault → Type 0
 abbrev pub HasTalked : {Client : Type 0} → Talk Client → Ends
 HasTalked {Client} Talks bytes written outcome = (old : Client) × (new : Client) × Talks old bytes written outcome new
 
--- What an exchange with this outcome did to the desk, and what it wrote. The reply is the desk's to the bytes that came. Its text was written and
--- nothing else, or the first n bytes of it if the writer failed. If the reader failed, the desk is unchanged, and nothing was written.
+-- The effect of an exchange with this outcome on the desk, and the bytes that it wrote. The reply is the desk's reply to the bytes that came. Exactly its text
+-- was written, or the first n bytes of it if the writer failed. If the reader failed, the desk is unchanged, and nothing was written.
 abbrev pub IsExchanged : {Desk : Type 0} → AnswerRelation Desk → List ℕ → Desk → List ℕ → Result Reply AnswerFault → Desk → Type 0
 IsExchanged Answers bytes old written outcome new = Exchanges
     (λ reply. IsReplied Answers bytes old reply new)
@@ -38,8 +37,8 @@ IsExchanged Answers bytes old written outcome new = Exchanges
     (λ text. written ≡ text)
     outcome
 
--- What a connection of the office did to the desk: one command was carried out, once, whether or not its answer was taken. If no command came whole,
--- the desk is unchanged.
+-- The effect of a connection of the office on the desk: one command was carried out, exactly once, whether or not its answer was taken. If no complete command
+-- came, the desk is unchanged.
 abbrev pub IsCarriedOut : {Desk : Type 0} → CommandRelation Desk → Desk → Option Carried → Desk → Type 0
 IsCarriedOut Carries old None new = new ≡ old
 IsCarriedOut Carries old (Some carried) new =
@@ -57,7 +56,7 @@ pub record AnswersCommand {Desk : Type 0} (Carries : CommandRelation Desk) (byte
   pub same : carried ≡ answer.carried
   pub writes : (n : ℕ) × Appends taken taken' (take n (answer_bytes answer.carried.status (string_bytes answer.text)))
 
--- A turn of the server: an arrival with its fate, and with the fates of the commands that were carried out meanwhile, while its request was awaited.
+-- A turn of the server: an arrival with its fate, and the fates of the commands that were carried out while its request was awaited.
 pub record Turn : Type 0 where
   pub meanwhile : List Fate
   pub fate : Fate
@@ -66,22 +65,22 @@ pub record Turn : Type 0 where
 abbrev pub alone : Fate → Turn
 alone fate = record { meanwhile = []; fate = fate }
 
--- the fates in the order in which they ended: a client's after those of the commands meanwhile
+-- the fates in the order in which they ended: a client's fate comes after those of the commands meanwhile
 abbrev pub fates_in : List Turn → List Fate
 fates_in [] = []
 fates_in (turn ∷ turns) = (turn.meanwhile ++ turn.fate ∷ []) ++ fates_in turns
 
--- what a fate adds to the number of clients: a command is none
+-- the number of clients that a fate counts as: 1, or 0 for a command
 abbrev pub client_in : Fate → ℕ
 client_in (Commanded moment carried) = 0
 client_in fate = 1
 
--- how many of these turns were clients'
+-- the number of these turns that were clients' turns
 abbrev pub clients_in : List Turn → ℕ
 clients_in [] = 0
 clients_in (turn ∷ turns) = client_in turn.fate + clients_in turns
 
--- An overrun comes only after 2 ^ 64 - 1 turns.
+-- An overrun occurs only after 2 ^ 64 - 1 turns.
 abbrev pub IsDue : List Turn → Fate → Type 0
 IsDue turns Overrun = 2 ^ 64 ≤ suc (length turns)
 IsDue turns fate = Unit {0}
@@ -89,7 +88,7 @@ IsDue turns fate = Unit {0}
 -- ---- the clock, the desk and what arrives
 
 module _ {Clock Desk : Type 0} (Gives : GivesMoment Clock) (Carries : CommandRelation Desk) where
-  -- commands one after the other, each carried out whether or not the clock gives a moment
+  -- consecutive commands, each carried out whether or not the clock gives a moment
   pub data AreCommanded (clock : Clock) (desk : Desk) : List Fate → Clock → Desk → Type 0 where
     no_command : AreCommanded clock desk [] clock desk
     one_command : (fates : List Fate) (moment : Option ℕ) (carried : Option Carried) (c : Clock) (d : Desk) (c' : Clock) (d' : Desk)
@@ -97,8 +96,8 @@ module _ {Clock Desk : Type 0} (Gives : GivesMoment Clock) (Carries : CommandRel
         → AreCommanded clock desk (fates ++ Commanded moment carried ∷ []) c' d'
 
 module _ {Clock Desk : Type 0} (Gives : GivesMoment Clock) (Answers : ℕ → AnswerRelation Desk) (Carries : CommandRelation Desk) (Ended : Ends) where
-  -- What a client did to the clock and the desk: the clock gave its moment, commands were carried out meanwhile, each at a moment of its own, and
-  -- then it had an exchange with the desk as these had left it, which such a connection may have.
+  -- The effect of a client on the clock and the desk. The clock gave its moment. Commands were carried out meanwhile, each at its own moment. Then the client
+  -- had an exchange with the desk that the commands left, with an outcome that such a connection may have.
   pub record IsAttended (meanwhile : List Fate) (moment : ℕ) (line : List ℕ) (outcome : Result Reply AnswerFault) (clock : Clock) (desk : Desk)
       (clock' : Clock) (desk' : Desk) : Type 0 where
     pub given : Clock
@@ -111,8 +110,8 @@ module _ {Clock Desk : Type 0} (Gives : GivesMoment Clock) (Answers : ℕ → An
     pub exchanged : IsExchanged (Answers moment) bytes left written outcome desk'
     pub ended : Ended bytes written outcome
 
-  -- What one arrival did to the clock, the desk and the count of failed calls. If waiting failed, only the count grew. A command is carried out,
-  -- whether or not the clock gives a moment. Only a client has commands meanwhile. At an overrun one client counts that never came.
+  -- The effect of one arrival on the clock, the desk and the count of failed calls. If waiting failed, only the count grew. A command is carried out whether or
+  -- not the clock gives a moment. Only during a client's turn can commands come meanwhile. An overrun counts as one client that never came.
   abbrev pub ServesOne : Clock → Desk → ℕ → List Fate → Fate → Clock → Desk → ℕ → Type 0
   ServesOne clock desk failures meanwhile Absent clock' desk' failures' =
       (meanwhile ≡ []) × (failures' ≡ one_more failures) × (clock' ≡ clock) × (desk' ≡ desk)
@@ -124,15 +123,15 @@ module _ {Clock Desk : Type 0} (Gives : GivesMoment Clock) (Answers : ℕ → An
       (meanwhile ≡ []) × (failures' ≡ failures) × Gives clock moment clock' × IsCarriedOut Carries desk carried desk'
   ServesOne clock desk failures meanwhile Unanswered clock' desk' failures' = ⊥
 
-  -- turns one after the other
+  -- consecutive turns
   pub data AreServed (clock : Clock) (desk : Desk) (failures : ℕ) : List Turn → Clock → Desk → ℕ → Type 0 where
     none : AreServed clock desk failures [] clock desk failures
     more : (turns : List Turn) (turn : Turn) (c : Clock) (d : Desk) (f : ℕ) (c' : Clock) (d' : Desk) (f' : ℕ)
         → AreServed clock desk failures turns c d f → IsDue turns turn.fate → ServesOne c d f turn.meanwhile turn.fate c' d' f'
         → AreServed clock desk failures (turns ++ turn ∷ []) c' d' f'
 
-  -- How a server of so many clients ends: it served all; or it stopped at one for whom the clock gave no moment. These are the turns of all that it
-  -- waited for.
+  -- The end of a server for this many clients: it served them all, or it stopped because the clock failed. These are the turns of all arrivals that it waited
+  -- for.
   pub record ServesTurns (all : List Turn) (count : ℕ) (clock : Clock) (desk : Desk) (failures : ℕ) (outcome : Result Unit ClockOutOfRange)
       (clock' : Clock) (desk' : Desk) (failures' : ℕ) : Type 0 where
     pub turns : List Turn
@@ -142,7 +141,7 @@ module _ {Clock Desk : Type 0} (Gives : GivesMoment Clock) (Answers : ℕ → An
         (λ done. (clients_in turns ≡ count) × (clock' ≡ last) × (all ≡ turns))
         (λ stopped. (clients_in turns < count) × Gives last None clock' × (all ≡ turns ++ alone Unanswered ∷ []))
 
-  -- such a server, with what holds besides of its turns
+  -- such a server, with a further property of its turns
   pub record Serves (count : ℕ) (clock : Clock) (desk : Desk) (failures : ℕ) (outcome : Result Unit ClockOutOfRange) (clock' : Clock) (desk' : Desk)
       (failures' : ℕ) (Besides : List Turn → Type 0) : Type 0 where
     pub all : List Turn
@@ -151,24 +150,25 @@ module _ {Clock Desk : Type 0} (Gives : GivesMoment Clock) (Answers : ℕ → An
 
 -- ---- the log
 
--- what a log does with the fate of an arrival
+-- the effect of noting the fate of an arrival on a log
 abbrev pub Notes : Type 0 → Type 1
 Notes Log = Log → Fate → Log → Type 0
 
 module _ {Log : Type 0} (Begins : Log → Log → Type 0) (Noted : Notes Log) where
-  -- commands meanwhile, each begun and then noted, in their order
+  -- the commands meanwhile, each begun and then noted, in order
   pub data AreNotedMeanwhile (log : Log) : List Fate → Log → Type 0 where
     no_note : AreNotedMeanwhile log [] log
     one_note : (fates : List Fate) (fate : Fate) (l begun l' : Log) → AreNotedMeanwhile log fates l → Begins l begun → Noted begun fate l'
         → AreNotedMeanwhile log (fates ++ fate ∷ []) l'
 
-  -- what was accepted is begun
+  -- if the arrival was accepted, the log notes that it begins
   abbrev pub IsBegun : Log → Fate → Log → Type 0
   IsBegun log Absent begun = begun ≡ log
   IsBegun log Overrun begun = begun ≡ log
   IsBegun log fate begun = Begins log begun
 
-  -- A turn: what was accepted is begun, then the commands meanwhile are begun and noted, and then it is noted itself. The rest is only noted.
+  -- The log of a turn. An arrival that was accepted is begun, then the commands meanwhile are begun and noted, and then its own fate is noted. Any other
+  -- arrival is only noted.
   pub record IsNoted (log : Log) (turn : Turn) (log' : Log) : Type 0 where
     pub begun : Log
     pub awaited : Log
@@ -176,7 +176,7 @@ module _ {Log : Type 0} (Begins : Log → Log → Type 0) (Noted : Notes Log) wh
     pub meanwhile : AreNotedMeanwhile begun turn.meanwhile awaited
     pub notes : Noted awaited turn.fate log'
 
-  -- all of them, in their order
+  -- all turns are logged, in order
   pub data AreNoted (log : Log) : List Turn → Log → Type 0 where
     nothing : AreNoted log [] log
     one_noted : (turns : List Turn) (turn : Turn) (l l' : Log) → AreNoted log turns l → IsNoted l turn l' → AreNoted log (turns ++ turn ∷ []) l'
@@ -184,13 +184,13 @@ module _ {Log : Type 0} (Begins : Log → Log → Type 0) (Noted : Notes Log) wh
 -- ---- the clock, the desk and the log
 
 module _ {Clock Desk Log : Type 0} (Gives : GivesMoment Clock) (Carries : CommandRelation Desk) (Begins : Log → Log → Type 0) (Noted : Notes Log) where
-  -- some commands meanwhile, carried out and noted, in their order
+  -- the commands meanwhile, carried out and noted in order
   pub record Meanwhile (clock : Clock) (desk : Desk) (log : Log) (clock' : Clock) (desk' : Desk) (log' : Log) : Type 0 where
     pub fates : List Fate
     pub commanded : AreCommanded Gives Carries clock desk fates clock' desk'
     pub noted : AreNotedMeanwhile Begins Noted log fates log'
 
-  -- An exchange: while the request was awaited, commands were carried out and noted; then the outcome is as at the desk that they left.
+  -- An exchange: while the request was awaited, commands were carried out and noted; then the exchange took place with the desk that they left.
   pub record ExchangesBetween {Client : Type 0} (Answers : AnswerRelation Desk) (ToCome : Client → Option (List ℕ)) (Talks : Talk Client)
       (bytes : List ℕ) (clock : Clock) (desk : Desk) (log : Log) (client : Client) (outcome : Result Reply AnswerFault) (clock' : Clock)
       (desk' : Desk) (log' : Log) (client' : Client) : Type 0 where
@@ -198,6 +198,6 @@ module _ {Clock Desk Log : Type 0} (Gives : GivesMoment Clock) (Carries : Comman
     pub written : List ℕ
     pub meanwhile : Meanwhile clock desk log clock' left log'
     pub exchanged : IsExchanged Answers bytes left written outcome desk'
-    -- it is so also by all that the client would give until its end
+    -- the same holds for everything that the client would send up to its end
     pub to_all : IfSome (ToCome client) (λ all. IsExchanged Answers all left written outcome desk')
     pub talked : Talks client bytes written outcome client'

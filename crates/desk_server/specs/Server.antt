@@ -1,4 +1,4 @@
--- What a server does to its arrivals, its clock, its desk and its log (ours).
+-- The effect of a server on its arrivals, its clock, its desk and its log (ours).
 use Rattle.std.specs.Prelude.{ℕ, length, Option, Result}
 use Rattle.club_clock.specs.Moments.{GivesMoment}
 use Rattle.club_http.specs.Replied.{AnswerRelation}
@@ -12,7 +12,7 @@ module _ {Clock Desk Log : Type 0} (Gives : GivesMoment Clock) (Begins : Log →
       (moment : Option ℕ) × (carried : Option Carried) × (begun : Log) × Begins log begun × Noted begun (Commanded moment carried) log'
       × Gives clock moment clock' × IsCarriedOut Carries desk carried desk'
 
-  -- a server of so many clients of a source, which counts each call, with a log, which notes each arrival
+  -- a server for this many clients of a source, which counts each call, with a log, which notes each arrival
   abbrev pub ServesLogged : {Source : Type 0} → (ℕ → AnswerRelation Desk) → CommandRelation Desk → Ends → (Source → ℕ) → (Source → ℕ) → ℕ
       → Source → Clock → Desk → Log → Result Unit ClockOutOfRange → Source → Clock → Desk → Log → Type 0
   ServesLogged Answers Carries Ended waited failures count source clock desk log result source' clock' desk' log' =
@@ -20,7 +20,7 @@ module _ {Clock Desk Log : Type 0} (Gives : GivesMoment Clock) (Begins : Log →
       (λ turns. CountsOn (waited source) (length turns) (waited source') × AreNoted Begins Noted log turns log')
 
 module _ {Clock Desk : Type 0} (Gives : GivesMoment Clock) where
-  -- the same without a log
+  -- such a server without a log
   abbrev pub ServesOn : {Source : Type 0} → (ℕ → AnswerRelation Desk) → CommandRelation Desk → Ends → (Source → ℕ) → (Source → ℕ) → ℕ
       → Source → Clock → Desk → Result Unit ClockOutOfRange → Source → Clock → Desk → Type 0
   ServesOn Answers Carries Ended waited failures count source clock desk result source' clock' desk' =

@@ -1,4 +1,4 @@
-//! Commands of the office, and those that come between the pieces of a client's request.
+//! Commands of the office, including those that come between the pieces of a client's request.
 
 ghost use Rattle.std.specs.Prelude.{◌≡◌, IfNone, IfSome};
 ghost use Rattle.http_request.specs.Front.{Covers};
@@ -16,8 +16,8 @@ use club_http::{Face, HeadScan, Inlet};
 pub trait Handover {
     ghost use Rattle.desk_server.specs.Served.{IsCarriedOut};
 
-    /// Reads a command, has the desk carry it out, and writes the answer; `None` if no command came
-    /// whole.
+    /// Reads a command, has the desk carry it out, and writes the answer. Returns `None` if no
+    /// complete command came.
     fn carry_out<D: Office>(&mut self, desk: &mut D) -> Option<Carried>
         ensures { IsCarriedOut D.commands desk.old result desk.new };
 }
@@ -39,18 +39,17 @@ pub(crate) fn carry_out<O: Handover + Drop, M: Moments, D: Office, G: Log>(
     log.note(&Fate::Commanded { moment, carried });
 }
 
-/// A client's reader that waits for the office, too.
+/// A client's reader that also waits for the office.
 pub trait Waits: Inlet {
     ghost use Rattle.std.specs.{Io.KnownBytes.Keeps, Prelude.{◌≡◌}};
 
     type Command: Handover + Drop;
 
-    // what one wait does, as far as it is known
+    // the known effects of one wait
     ghost waits: { Self → Self → Type 0 };
 
-    /// Waits until the client is to be read, and returns the command that comes before, if one
-    /// does. The client is to be read once its bytes or its end are there, its time is over, or
-    /// waiting failed.
+    /// Waits until the client can be read, or a command comes first, which is returned. The client
+    /// can be read once its bytes or its end have arrived, its time is over, or waiting failed.
     fn command_before(&mut self) -> Option<Self::Command>
         ensures reads_nothing { Keeps (Self.to_come self.old) (Self.to_come self.new) }
         ensures counted { Self.failures self.new ≡ Self.failures self.old }
@@ -89,8 +88,8 @@ impl<R: Waits, M: Moments, D: Office, G: Log> Inlet for Between<'_, '_, '_, '_, 
     }
 }
 
-/// Reads a request, as `Face::receive` does, and carries out the commands that come while it is
-/// awaited. Each has a moment of its own, and is logged. It is the first step of an exchange, and
+/// Reads a request as `Face::receive` does, and carries out the commands that come while it waits.
+/// Each command has its own moment and is logged. This is the first step of an exchange;
 /// `Face::respond` is the second.
 pub fn receive_between<R: Waits, M: Moments, D: Office, G: Log>(
     face: &mut Face,

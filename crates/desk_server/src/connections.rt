@@ -1,4 +1,4 @@
-//! Connections of clients and of the office, and what they come from.
+//! Connections of clients and of the office, and their source.
 
 use crate::between::{Handover, Waits, receive_between};
 use crate::limit::MonotonicClock;
@@ -15,20 +15,20 @@ pub trait Connection {
     ghost use Rattle.std.specs.Prelude.{ℕ, List, Option};
     ghost use Rattle.desk_server.specs.Served.{ExchangesBetween, Talk};
 
-    // the bytes that are still to come of it, if they are known
+    // the bytes still to come from it, if they are known
     ghost to_come: { Self → Option (List ℕ) };
 
-    // the exchanges that it may have
+    // the outcomes that an exchange with it may have
     ghost talks: { Talk Self };
 
-    /// One exchange with the desk, at a moment. While the request is awaited, commands are carried
-    /// out and logged, each at a moment of its own; then the desk changed, and was written, as the
-    /// returned outcome says. The bytes that were read of the request stay in the face. Bytes
-    /// after a whole request change nothing, read or not.
+    /// Carries out one exchange with the desk at a moment. While it waits for the request, it
+    /// carries out and logs commands, each at its own moment. The returned outcome says how the
+    /// desk changed and what was written. The bytes read for the request stay in the face. Bytes
+    /// after a complete request change nothing, whether they are read or not.
     ///
     /// # Errors
     ///
-    /// As `club_http::answer`.
+    /// Fails as `club_http::answer` does.
     fn exchange<M: Moments, D: Office, G: Log>(
         &mut self,
         face: &mut Face,
@@ -42,8 +42,8 @@ pub trait Connection {
             result moments.new desk.new log.new self.new };
 }
 
-/// Its bytes and commands take turns, if both are there, also after a command that couldn't be
-/// accepted. A command that is carried out meanwhile doesn't extend the patience.
+/// If both its bytes and commands are ready, they take turns, even after a command that couldn't be
+/// accepted. Carrying out a command doesn't extend the client's patience.
 impl<S: ClientStream, C: MonotonicClock> Waits for Accepted<'_, S, C> {
     ghost use Rattle.desk_server.specs.Accepted.{HasWaited};
 
@@ -73,8 +73,8 @@ impl<S: ClientStream, C: MonotonicClock> Waits for Accepted<'_, S, C> {
     }
 }
 
-/// The two steps of `club_http::answer`, at this connection's ends, but that commands are carried
-/// out while the request is awaited.
+/// Takes the two steps of `club_http::answer` at this connection's ends, except that it carries out
+/// commands while it waits for the request.
 impl<S: ClientStream, C: MonotonicClock> Connection for Accepted<'_, S, C> {
     ghost use Rattle.desk_server.specs.{Accepted.Talks, Served.ExchangesBetween};
 
@@ -115,10 +115,10 @@ impl<S: ClientStream, C: MonotonicClock> Accepted<'_, S, C> {
     ghost use Rattle.std.specs.Prelude.{◌≡◌, IsTrue};
     ghost use Rattle.desk_server.specs.Accepted.{TakesRest};
 
-    // Ends a connection whose reply was written. A socket that is closed while bytes of its client
-    // are unread resets the connection, and a client that is still sending may then lose its reply.
-    // So if its request isn't over, this ends the writing side first, and then reads what the
-    // client still sends.
+    // Ends a connection whose reply was written. Closing a socket with unread bytes resets the
+    // connection, and a client that is still sending may then lose its reply. So if more bytes may
+    // come, this shuts down the writing side first, and then reads the bytes that the client still
+    // sends.
     fn end(&mut self, over: bool)
         ensures over { IsTrue over → self.new ≡ self.old }
         ensures rest { TakesRest S.to_come S.taken self.old self.new }
@@ -129,7 +129,7 @@ impl<S: ClientStream, C: MonotonicClock> Accepted<'_, S, C> {
     }
 }
 
-/// What came.
+/// The result of waiting for an arrival.
 #[derive(Drop)]
 pub enum Arrival<C, O> {
     Client(C),
@@ -138,7 +138,7 @@ pub enum Arrival<C, O> {
     Nobody,
 }
 
-/// What clients and commands come from.
+/// The source of clients and commands.
 pub trait Arrivals {
     type Client: Connection + Drop;
 

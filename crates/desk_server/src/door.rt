@@ -13,25 +13,26 @@ use std::io;
 use std::os::unix::net::{UnixListener, UnixStream};
 use std::time::Duration;
 
-/// What the server sends when it has accepted a connection of the office. Only then the sender
-/// sends its command: one that has gone by then has sent none.
+/// The byte that the server sends when it has accepted a connection of the office. The sender sends
+/// its command only after this greeting, so a sender that left earlier has sent none.
 pub const GREETING: [u8; 1] = *b"!";
 
-/// The most bytes of a command, less one.
+/// The size of the buffer for a command, in bytes: one more than the longest command.
 pub const MAX_COMMAND_LEN: usize = 8_192;
 
-/// The last byte of an answer. Arguments have no zero byte, so no text of an answer has one, and an
-/// answer that was cut doesn't end with it.
+/// The last byte of an answer. Arguments have no zero byte, so no answer's text has one, and a
+/// truncated answer doesn't end with it.
 pub const ANSWER_END: [u8; 1] = [0];
 
-/// The status of the answer to what isn't a whole command: nothing was done, nor will be.
+/// The status of the answer to bytes that aren't a complete command: nothing was done, and nothing
+/// will be.
 pub const NOTHING_DONE: u8 = 9;
 
-/// The text of that answer.
+/// The text of the answer with status `NOTHING_DONE`.
 pub const NOTHING_DONE_TEXT: &str = "nothing was done";
 
-/// The milliseconds that the office has to send its command, and again to take the answer. Clients
-/// wait meanwhile.
+/// The timeout for the office to send its command, and again for it to take the answer, in
+/// milliseconds. Clients wait meanwhile.
 const OFFICE_MILLISECONDS: u64 = 200;
 
 /// A connection of the office that a door accepted.
@@ -48,15 +49,15 @@ impl<'c, C: MonotonicClock> Handed<'c, C> {
         Ok(Handed { stream, clock })
     }
 
-    // Both ends of the connection, with the limit of the office from now on.
+    // Both ends of the connection, with the office's time limit starting now.
     fn ends(&self) -> Accepted<'c, &UnixStream, C> {
         let patience = Duration::from_millis(OFFICE_MILLISECONDS);
         Accepted::new(&self.stream, self.clock, patience)
     }
 }
 
-/// Reads the bytes of a command up to the end of the input, and returns how many; `None` if the
-/// reader fails, or the buffer is full before the end.
+/// Reads the bytes of a command up to the end of the input, and returns how many. Returns `None` if
+/// the reader fails, or the buffer is full before the end.
 pub fn read_command<R: Inlet>(reader: &mut R, room: &mut [u8]) -> Option<usize>
     ensures { IfSome result (λ n. (n ≤ length room.new)
         × Consumes (R.to_come reader.old) (R.to_come reader.new) (take n room.new)
@@ -73,8 +74,8 @@ pub fn read_command<R: Inlet>(reader: &mut R, room: &mut [u8]) -> Option<usize>
     None
 }
 
-/// Has the desk carry out a command, and writes its answer. Whether the writer takes it changes
-/// nothing.
+/// Has the desk carry out a command, and writes its answer. The command's effect stays even if the
+/// writer fails.
 pub fn answer_command<D: Office, W: Outlet>(desk: &mut D, bytes: &[u8], writer: &mut W) -> Carried
     ensures { AnswersCommand D.commands bytes.now desk.old (W.taken writer.old)
         result desk.new (W.taken writer.new) }
@@ -84,7 +85,8 @@ pub fn answer_command<D: Office, W: Outlet>(desk: &mut D, bytes: &[u8], writer: 
     carried
 }
 
-/// Writes an answer: the status, the text and the end, or a prefix of them if the writer fails.
+/// Writes an answer: the status, the text and the end byte, or a prefix of them if the writer
+/// fails.
 pub fn put_answer<W: Outlet>(writer: &mut W, status: u8, text: &str)
     ensures { (n : ℕ) × Appends (W.taken writer.old) (W.taken writer.new)
         (take n (answer_bytes status text.now)) }
@@ -100,8 +102,8 @@ pub fn put_answer<W: Outlet>(writer: &mut W, status: u8, text: &str)
     }
 }
 
-/// Greets the sender, reads its command, and answers it; if none came whole, it says that nothing
-/// was done.
+/// Greets the sender, reads its command, and answers it. If no complete command came, the answer
+/// says that nothing was done.
 impl<C: MonotonicClock> Handover for Handed<'_, C> {
     fn carry_out<D: Office>(&mut self, desk: &mut D) -> Option<Carried> {
         if put_all(&mut self.ends(), &GREETING).is_err() {

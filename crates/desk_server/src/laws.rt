@@ -6,7 +6,7 @@ use crate::log::{Log, LogLines};
 use club_http::Outlet;
 use std::time::Clock;
 
-/// After a log of lines has noted connections, it has written the line of each, in their order.
+/// A log of lines that has noted connections has written a line for each, in their order.
 pub fn a_log_has_its_lines<'a, W: Outlet, C: Clock + 'a>()
     ensures { WritesLines ⟦<LogLines<'a, W, C> as Log>⟧.begins ⟦<LogLines<'a, W, C> as Log>⟧.notes
         (λ log. W.taken log.writer) (λ log. W.failures log.writer) }

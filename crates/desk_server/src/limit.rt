@@ -1,4 +1,4 @@
-//! A limit of time.
+//! Time limits by a monotonic clock.
 
 use std::thread;
 use std::time::{Clock, Duration, Instant};
@@ -8,10 +8,10 @@ pub trait MonotonicClock {
     ghost use Rattle.std.specs.Prelude.{ℕ, Option};
     ghost use Rattle.desk_server.specs.Limits.{nanos_of};
 
-    // the nanoseconds that it may show; none if it can't be read
+    // the times that it may show, in nanoseconds; none if it can't be read
     ghost shows: { Self → Option ℕ → Type 0 };
 
-    /// The instant now; `None` if the clock can't be read.
+    /// Returns the instant now; `None` if the clock can't be read.
     fn instant_now(&self) -> Option<Instant>
         ensures { shows self.now (nanos_of result) };
 
@@ -43,8 +43,8 @@ impl<'c, C: MonotonicClock> Limit<'c, C> {
     ghost use Rattle.std.specs.{Duration.as_nanos, Prelude.{◌≡◌}};
     ghost use Rattle.desk_server.specs.Limits.{AtShown, due_after, left_until, nanos_of};
 
-    /// The deadline that is this much later than now. If the clock can't be read, or has no such
-    /// time, the limit is over at once.
+    /// Returns the deadline that is this much later than now. If the clock can't be read or has no
+    /// such time, the deadline has already passed.
     pub fn after(clock: &'c C, patience: Duration) -> Limit<'c, C>
         ensures clock { result.clock ≡ clock.entry }
         ensures due { AtShown (C.shows clock.entry.now)
@@ -57,7 +57,7 @@ impl<'c, C: MonotonicClock> Limit<'c, C> {
         Limit { clock, due }
     }
 
-    /// The time until the deadline; zero if it has passed, or the clock can't be read.
+    /// Returns the time until the deadline; zero if it has passed, or the clock can't be read.
     pub fn left(&self) -> Duration
         ensures { AtShown (C.shows self.now.clock.now)
             (λ shown. as_nanos result ≡ left_until (nanos_of self.now.due) shown) }

@@ -1,4 +1,4 @@
-//! The listeners of a server: clients come over TCP, and commands of the office by its door.
+//! The listeners of a server: clients come over TCP, and commands of the office through its door.
 
 use crate::connections::{Arrival, Arrivals};
 use crate::door::Handed;
@@ -14,21 +14,21 @@ use std::os::fd::{AsRawFd, RawFd};
 use std::os::unix::net::UnixListener;
 use std::time::Duration;
 
-/// The milliseconds that the server sleeps after waiting or accepting failed, so that a listener
-/// that keeps failing doesn't use up all clients at once.
+/// How long the server sleeps after waiting or accepting failed, in milliseconds. Without this
+/// pause, a listener that keeps failing would use up the count of clients at once.
 const REST_MILLISECONDS: u64 = 10;
 
-/// No descriptor: `poll` passes over it.
+/// No descriptor; `poll` ignores it.
 const NO_DESCRIPTOR: RawFd = -1;
 
-/// The time of a wait without an end, as `poll` takes it.
+/// The timeout of an endless wait, as `poll` takes it.
 const NO_END: i32 = -1;
 
-/// A client of a listener, or a command that came by a door.
+/// A client of a listener, or a command that came through a door.
 type Arrived<'a, C> = Arrival<Accepted<'a, ClientSocket<'a, C>, C>, Handed<'a, C>>;
 
-/// Clients of a listener, each with the same patience, and, if there is a door, commands of the
-/// office. If both wait they take turns.
+/// Clients of a listener, each with the same patience, and commands of the office if there is a
+/// door. If both are waiting, they take turns.
 #[derive(Drop)]
 pub struct Listening<'a, C> {
     clients: &'a TcpListener,
@@ -44,7 +44,7 @@ pub struct Listening<'a, C> {
 impl<'a, C: MonotonicClock> Listening<'a, C> {
     ghost use Rattle.std.specs.Prelude.{◌≡◌};
 
-    /// A source whose `next` wasn't called yet. This clock measures the limits.
+    /// Returns a source on which `next` hasn't been called. The clock measures its time limits.
     pub fn new(
         clients: &'a TcpListener,
         door: Option<&'a UnixListener>,
@@ -65,9 +65,9 @@ impl<'a, C: MonotonicClock> Listening<'a, C> {
         }
     }
 
-    // Waits until a command or a client is there. A connection that was gone before it was accepted
-    // is waited for no more. One of the office that can't be accepted is no client: it is tried
-    // again after a rest, and clients that wait come before.
+    // Waits until a command or a client has arrived. Drops a connection that was gone before it was
+    // accepted. A connection of the office that can't be accepted doesn't count as a client:
+    // accepting it is tried again after a pause, and waiting clients come first.
     fn wait(&self) -> Arrived<'a, C> {
         let door = match self.door {
             Some(door) => door.as_raw_fd(),

@@ -9,19 +9,21 @@ use crate::request_line::RequestLine;
 use club_http::{AnswerFault, Line, Moment, Outlet, Reply, put_all, status_of};
 use std::time::{Clock, Instant};
 
-/// The word of a command, in place of a method.
+/// The word that the line of a command has in place of a method.
 const OFFICE: &[u8] = b"office";
 
-/// What became of an arrival.
+/// The outcome of an arrival.
 #[derive(Drop)]
 pub enum Fate {
     /// Waiting failed.
     Absent,
-    /// More commands came than a u64 counts: a client counts that never came.
+    /// The u64 counter of commands is full, so this turn counts as a client that never came.
     Overrun,
-    /// A client's connection was closed unanswered, since the clock showed no moment of the club's.
+    /// A client's connection was closed unanswered, since the clock showed no moment within the
+    /// club's years.
     Unanswered,
-    /// A connection of the office, at this moment: its command was carried out, or none came whole.
+    /// The office connected at this moment. Its command was carried out, or no complete command
+    /// came.
     Commanded {
         moment: Option<Moment>,
         carried: Option<Carried>,
@@ -35,8 +37,9 @@ pub enum Fate {
     },
 }
 
-/// A log of clients and commands. It is called as each begins and ends, and changes nothing of the
-/// outcome. Commands that come while a client's request is awaited begin and end within the client.
+/// A log of clients and commands. It is called when each begins and ends, and doesn't affect the
+/// outcome. Commands that come while the server waits for a client's request begin and end between
+/// that client's two calls.
 pub trait Log {
     ghost use Rattle.desk_server.specs.Served.{Notes};
 
@@ -50,7 +53,7 @@ pub trait Log {
     fn begin(&mut self)
         ensures { begins self.old self.new };
 
-    /// Notes how it ended.
+    /// Notes how the client or command ended.
     fn note(&mut self, fate: &Fate)
         ensures { notes self.old fate.now self.new };
 }
@@ -70,21 +73,23 @@ impl Log for Unlogged {
 }
 
 /// Writes a line for each client: the moment, the method, the path, the status of the reply and the
-/// microseconds that it took, with spaces between them. A dash replaces a missing value and the
-/// status of a reply that wasn't written whole. The line of a command has the moment, `office`, its
-/// name, its exit status and the microseconds. If the writer fails, the server goes on.
+/// time taken in microseconds, separated by spaces. A dash replaces a missing value, and the status
+/// of a reply that wasn't completely written. The line of a command has the moment, `office`, its
+/// name, its exit status and the time taken in microseconds. If the writer fails, the server goes
+/// on.
 #[derive(Drop)]
 pub struct LogLines<'a, W, C> {
-    /// What the lines are written to.
+    /// The writer of the lines.
     pub writer: W,
     clock: &'a C,
-    // when the last that hasn't ended began, and the one around it
+    // the start times of the client or command that began last and hasn't ended, and of the one
+    // around it
     began: Option<Instant>,
     around: Option<Instant>,
 }
 
 impl<'a, W: Outlet, C: Clock> LogLines<'a, W, C> {
-    /// Writes to this writer, with the times of this clock.
+    /// Writes to this writer, with times from this clock.
     pub fn new(writer: W, clock: &'a C) -> LogLines<'a, W, C> {
         LogLines {
             writer,
@@ -168,7 +173,7 @@ fn line_of(fate: &Fate, microseconds: u64) -> Line
     }
 }
 
-// A line of these words, with a dash for each that is missing.
+// A line of these words, with a dash for each missing one.
 #[tactic(auto, unfolding(crate::specs::Log::words_text))]
 fn words(
     moment: &Option<Moment>,
@@ -202,7 +207,7 @@ fn words(
     line
 }
 
-// The HTTP status of a reply that was written whole.
+// The HTTP status of a reply that was written completely.
 fn written_status(outcome: &Result<Reply, AnswerFault>) -> Option<u16>
     ensures { result ≡ spec.written_status outcome.now }
 {

@@ -1,9 +1,9 @@
-//! Commands of the office, at the desk that a server serves.
+//! Commands of the office that a server's desk carries out.
 
 use crate::request_line::RequestLine;
 use club_http::Responder;
 
-/// What a log shows of a command that was carried out.
+/// The parts of a carried-out command that a log shows.
 #[derive(Drop)]
 pub struct Carried {
     /// The first bytes of a line whose second word is the command's name.
@@ -16,15 +16,16 @@ pub struct Carried {
 #[derive(Drop)]
 pub struct Answer {
     pub carried: Carried,
-    /// What the command prints: on standard output if the status is 0, else on standard error.
+    /// The text that the command prints, on standard output if the status is 0, else on standard
+    /// error.
     pub text: String,
 }
 
-/// A responder that carries out commands of the office, too.
+/// A responder that also carries out commands of the office.
 pub trait Office: Responder {
     ghost use Rattle.desk_server.specs.Served.{CommandRelation};
 
-    // what it may do with the bytes of a command
+    // the effects that it may have on the bytes of a command
     ghost commands: { CommandRelation Self };
 
     /// Carries out the command that the bytes spell. Bytes that spell none change nothing.

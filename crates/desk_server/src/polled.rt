@@ -1,4 +1,4 @@
-//! Descriptors that are polled.
+//! Polling of descriptors.
 
 use libc::net as c;
 use libc::types::pollfd;
@@ -16,7 +16,7 @@ pub(crate) enum Next {
     Failed,
 }
 
-/// Waits for a command at a door and for a client, at most `milliseconds`, or without end for -1.
+/// Waits at most `milliseconds` for a command at a door or a client, or endlessly if that is -1.
 /// Returns which of them goes first.
 pub(crate) fn next_of(door: RawFd, client: RawFd, milliseconds: i32, command_first: bool) -> Next {
     let mut asked = [waits_for(door, c::POLLIN), waits_for(client, c::POLLIN)];
@@ -35,17 +35,18 @@ pub(crate) fn next_of(door: RawFd, client: RawFd, milliseconds: i32, command_fir
     }
 }
 
-/// Whether a read of a descriptor wouldn't wait: its bytes, its end or its fault is there.
+/// Returns whether a read of a descriptor wouldn't block, because bytes, the end or a fault are
+/// there.
 pub(crate) fn is_readable(fd: RawFd) -> bool {
     c::poll(&mut [waits_for(fd, c::POLLIN)], 0) > 0
 }
 
-/// Whether a write to a descriptor wouldn't wait: there is room, or its fault is there.
+/// Returns whether a write to a descriptor wouldn't block, because there is room or a fault.
 pub(crate) fn is_writable(fd: RawFd) -> bool {
     c::poll(&mut [waits_for(fd, c::POLLOUT)], 0) > 0
 }
 
-// Asks `poll` to wait for the bytes of a descriptor, its next connection, or room.
+// Asks `poll` to wait until a descriptor has bytes, a new connection, or room.
 fn waits_for(fd: RawFd, events: i16) -> pollfd {
     pollfd {
         fd,

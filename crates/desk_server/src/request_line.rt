@@ -1,4 +1,4 @@
-//! The beginning of a request, for the log.
+//! The first bytes of a request, for the log.
 
 ghost use Rattle.std.specs.{Char.is_ascii_uppercase, List.list_all};
 ghost use Rattle.std.specs.Prelude.{◌≡◌, ◌<◌, ◌≤◌, IfSome, length, option_map};
@@ -16,8 +16,9 @@ const MAX_METHOD_LEN: usize = 7;
 
 /// The first bytes of a request. Contracts see it as these bytes.
 ///
-/// It returns the method and the path only if they consist of the characters of the desk's own. So
-/// no pass is logged: the text of every pass has a capital letter or a brace in it.
+/// It returns the method and the path only if they consist of characters that the desk's own
+/// methods and paths have. So no pass is logged, since the text of every pass has a capital letter
+/// or a brace.
 #[derive(Drop)]
 pub struct RequestLine {
     kept: Line,
@@ -37,7 +38,7 @@ impl RequestLine {
     ghost use Rattle.std.specs.Prelude.{◌≡◌, ◌≤◌, IfSome, length, take};
     ghost use Rattle.desk_server.specs.RequestLine.{word_bytes, method_of, path_of};
 
-    /// The first bytes of a request, as many as are kept.
+    /// Returns the first `MAX_KEPT` bytes of a request, or all if it has fewer.
     #[tactic(auto, using(std::proofs::lemmas::List::take_min))]
     pub fn of(request: &[u8]) -> RequestLine
         ensures { result ≡ take 96 request.now }
@@ -48,7 +49,7 @@ impl RequestLine {
         RequestLine { kept }
     }
 
-    /// The method, if it is 1 to 7 capital letters.
+    /// Returns the method, if it is 1 to 7 capital letters.
     #[tactic(auto, unfolding(crate::specs::RequestLine::method_of))]
     pub fn method(&self) -> Option<&[u8]>
         ensures word { word_bytes result ≡ method_of self.now }
@@ -62,7 +63,7 @@ impl RequestLine {
         }
     }
 
-    /// The path, if it consists of small letters, digits, dashes and slashes.
+    /// Returns the path, if it consists of small letters, digits, dashes and slashes.
     #[tactic(auto, unfolding(crate::specs::RequestLine::path_of))]
     pub fn path(&self) -> Option<&[u8]>
         ensures word { word_bytes result ≡ path_of self.now }
@@ -73,7 +74,7 @@ impl RequestLine {
     }
 }
 
-// The first two words, if a space follows each.
+// The first two words, if each is followed by a space.
 fn two_words(bytes: &[u8]) -> Option<(&[u8], &[u8])>
     ensures words { option_map (λ words. (words.0.now, words.1.now)) result
         ≡ spec.two_words bytes.now }

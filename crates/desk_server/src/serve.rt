@@ -28,15 +28,15 @@ impl fmt::Display for ClockOutOfRange {
 
 impl Error for ClockOutOfRange {}
 
-/// Serves this many clients of a listener, one after the other, and carries out each command of the
-/// office that comes before one of them, or while its request is awaited. A client gets the moment
-/// of the clock at its start. One that fails, on its way or in its exchange, counts like any other,
+/// Serves this many clients of a listener, one after the other. Carries out each command of the
+/// office that comes before a client or while a client's request is awaited. A client gets the
+/// clock's moment at its start. A client whose connection or exchange fails counts like any other,
 /// and so does one whose request was refused. Commands don't count.
 ///
 /// # Errors
 ///
-/// `ClockOutOfRange` if the clock shows no moment of the club's. The client's connection is closed
-/// unanswered, and the server accepts no other.
+/// Fails with `ClockOutOfRange` if the clock shows no moment within the club's years. Then the
+/// client's connection is closed unanswered, and the server accepts no other.
 pub fn serve_on<L: Arrivals, M: Moments, D: Office>(
     listener: &mut L,
     count: u32,
@@ -51,12 +51,12 @@ pub fn serve_on<L: Arrivals, M: Moments, D: Office>(
     serve_logged(listener, count, moments, face, desk, &mut Unlogged)
 }
 
-/// Serves as `serve_on`, and logs each client and each command, which changes nothing of what is
-/// served.
+/// Serves as `serve_on` does, and logs each client and each command, which doesn't affect the
+/// service.
 ///
 /// # Errors
 ///
-/// As `serve_on`.
+/// Fails as `serve_on` does.
 pub fn serve_logged<L: Arrivals, M: Moments, D: Office, G: Log>(
     arrivals: &mut L,
     count: u32,
@@ -88,7 +88,7 @@ pub fn serve_logged<L: Arrivals, M: Moments, D: Office, G: Log>(
                     log.note(&Fate::Unanswered);
                     return Err(ClockOutOfRange);
                 };
-                // Whatever the outcome, the server goes on.
+                // The server goes on after any outcome.
                 let outcome = client.exchange(face, moments, desk, log, moment);
                 drop(client);
                 let line = RequestLine::of(face.request());

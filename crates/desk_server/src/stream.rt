@@ -1,4 +1,4 @@
-//! The stream of a client, with the office's door beside it.
+//! The stream of a client, with the office's door next to it.
 
 use crate::between::Handover;
 use crate::door::Handed;
@@ -16,35 +16,35 @@ use std::time::Duration;
 pub enum Woken<O> {
     /// A command came.
     Command(O),
-    /// The client is to be read: its bytes or its end are there, the time is over, or waiting
+    /// The client can be read: its bytes or its end have arrived, the time is over, or waiting
     /// failed.
     Client,
-    /// A command came that was gone before it was accepted, or couldn't be accepted.
+    /// A command's connection was gone before it was accepted, or couldn't be accepted.
     Nobody,
 }
 
-/// A client's stream, with the office's door beside it. No contract states which commands come.
+/// A client's stream, with the office's door next to it. No contract states which commands come.
 pub trait ClientStream: TimedStream {
     ghost use Rattle.std.specs.Io.KnownBytes.{Keeps};
 
     type Command: Handover + Drop;
 
-    /// Waits at most this long for the client and for the office at once. If both are there, it
-    /// says whose turn it is.
+    /// Waits at most this long for the client and for the office at once. If both are ready,
+    /// `command_first` says whose turn it is.
     fn wait_within(&mut self, limit: Duration, command_first: bool) -> Woken<Self::Command>
         ensures reads_nothing { Keeps (Self.to_come self.old) (Self.to_come self.new) }
         ensures writes_nothing { Keeps (Self.taken self.old) (Self.taken self.new) };
 
-    /// Tells the client that no more bytes come, and returns whether that was done.
+    /// Tells the client that no more bytes will come, and returns whether that succeeded.
     fn end_writing(&mut self) -> bool
         ensures reads_nothing { Keeps (Self.to_come self.old) (Self.to_come self.new) }
         ensures writes_nothing { Keeps (Self.taken self.old) (Self.taken self.new) };
 }
 
-/// The milliseconds that the server sleeps after it couldn't accept a connection of the office.
+/// How long the server sleeps after it couldn't accept a connection of the office, in milliseconds.
 const REST_MILLISECONDS: u64 = 10;
 
-/// A client's socket, with the office's door beside it, if there is one.
+/// A client's socket, with the office's door next to it, if there is one.
 #[derive(Drop)]
 pub struct ClientSocket<'a, C> {
     stream: TcpStream,
@@ -55,7 +55,7 @@ pub struct ClientSocket<'a, C> {
 }
 
 impl<'a, C: MonotonicClock> ClientSocket<'a, C> {
-    // A socket that was accepted now.
+    // A socket that was just accepted.
     pub(crate) fn new(
         stream: TcpStream,
         door: Option<&'a UnixListener>,
@@ -144,7 +144,7 @@ impl<'a, C: MonotonicClock> ClientStream for ClientSocket<'a, C> {
     }
 }
 
-// The milliseconds of a time, rounded up, as `poll` takes them.
+// A duration in milliseconds, rounded up, as `poll` takes it.
 fn milliseconds_of(limit: Duration) -> i32 {
     i32::try_from(limit.as_millis())
         .unwrap_or(i32::MAX)

@@ -1,4 +1,4 @@
-//! A connection under limits of time.
+//! A connection with time limits.
 
 ghost use Rattle.std.specs.{Io.KnownBytes.Keeps, Prelude.{◌≡◌, length, MatchResult, None}};
 ghost use Rattle.club_http.specs.Ends.{Fills, Takes};
@@ -13,10 +13,10 @@ use std::os::fd::AsRawFd;
 use std::os::unix::net::UnixStream;
 use std::time::Duration;
 
-/// How a call ended that waits for a limited time.
+/// The result of a call that waits for a limited time.
 #[derive(Clone, Copy, Debug, PartialEq, Eq)]
 pub enum Waited {
-    /// It read or wrote so many bytes.
+    /// It read or wrote this many bytes.
     Moved(usize),
     /// A signal interrupted it, before any byte.
     Interrupted,
@@ -24,15 +24,15 @@ pub enum Waited {
     Failed,
 }
 
-/// A stream whose reads and writes take a time limit, such as a socket. With no time a read takes
-/// what is there, and a write is taken as far as there is room.
+/// A stream whose reads and writes take a time limit, such as a socket. With a limit of zero, a
+/// read returns the bytes that are there, and a write takes as many bytes as there is room for.
 pub trait TimedStream {
     ghost use Rattle.std.specs.{Duration.as_nanos, Io.KnownBytes.Keeps};
     ghost use Rattle.std.specs.Prelude.{◌≤◌, ℕ, List, length, Option, IfSome};
     ghost use Rattle.club_http.specs.Ends.{Fills, Takes};
     ghost use Rattle.desk_server.specs.Limits.{Calls, moved};
 
-    // the bytes to come, if they are known
+    // the bytes still to come, if they are known
     ghost to_come: { Self → Option (List ℕ) };
 
     // the bytes that it took, if they are known
@@ -44,8 +44,8 @@ pub trait TimedStream {
     // a write that waits at most this long, with the stream before and after
     ghost writes: { Calls Self };
 
-    /// Puts the next bytes at the front of the buffer, and returns how many; 0 with a buffer that
-    /// isn't empty is the end of the input.
+    /// Reads the next bytes into the front of the buffer, and returns how many. If the buffer isn't
+    /// empty, 0 means the end of the input.
     fn read_within(&mut self, limit: Duration, room: &mut [u8]) -> Waited
         ensures within { IfSome (moved result) (λ n. n ≤ length room.new) }
         ensures bytes { Fills (to_come self.old) (to_come self.new) (moved result) room.new }
@@ -60,8 +60,8 @@ pub trait TimedStream {
         ensures limited { writes self.old (as_nanos limit) result self.new };
 }
 
-/// The microseconds of the least timeout that a socket takes. A write of more than there is room
-/// for needs one, if it isn't to wait.
+/// The shortest timeout that a socket takes, in microseconds. A write of more bytes than there is
+/// room for needs a timeout so that it doesn't wait.
 pub(crate) const LEAST_MICROSECONDS: u64 = 1;
 
 /// No contract states which bytes a socket gives or takes.
@@ -100,7 +100,7 @@ impl TimedStream for &UnixStream {
     }
 }
 
-/// How a call of `std` ended.
+/// Returns how a call of `std` ended.
 pub(crate) fn outcome_of(returned: io::Result<usize>) -> Waited
     ensures { MatchResult returned (λ n. result ≡ Waited.Moved n) (λ _. moved result ≡ None) }
 {
@@ -111,8 +111,8 @@ pub(crate) fn outcome_of(returned: io::Result<usize>) -> Waited
     }
 }
 
-// Reads with the time that is left of a limit. Once it is over the read doesn't wait: what came
-// while the server was stopped isn't lost.
+// Reads within the time left of a limit. Once that is over, the read doesn't wait, but still
+// returns bytes that came while the server was stopped.
 fn read_under<R: TimedStream, C: MonotonicClock>(
     reader: &mut R,
     limit: &Limit<'_, C>,
@@ -132,7 +132,7 @@ fn read_under<R: TimedStream, C: MonotonicClock>(
     None
 }
 
-// Writes with the time that is left of a limit. Once it is over the write doesn't wait.
+// Writes within the time left of a limit. Once that is over, the write doesn't wait.
 fn write_under<W: TimedStream, C: MonotonicClock>(
     writer: &mut W,
     limit: &Limit<'_, C>,
@@ -158,14 +158,14 @@ pub const MAX_REST: usize = 65_536;
 /// How many milliseconds `take_rest` waits for the next bytes, or the end.
 const REST_MILLISECONDS: u64 = 200;
 
-/// The most bytes that it reads in a call.
+/// The most bytes that `take_rest` reads in one call.
 const MAX_REST_AT_ONCE: usize = 4_096;
 
-/// An accepted connection, both ends of it, under limits of time. All reads together have the
-/// patience, from the accepting on, and all writes together have it once more, from the first write
-/// on. A call waits at most for the time that is left of its limit. If none is left, or the clock
-/// can't be read, it is made all the same, and doesn't wait. A call that a signal interrupted goes
-/// on with what is left of its time.
+/// Both ends of an accepted connection, with time limits. All reads together must end within the
+/// patience, counted from when the connection was accepted. All writes together have the same time,
+/// counted from the first write. A call waits at most for the time left of its limit. If no time is
+/// left or the clock can't be read, the call is still made, but doesn't wait. A call that a signal
+/// interrupted is repeated with the time that is left.
 #[derive(Drop)]
 pub struct Accepted<'c, S, C> {
     pub(crate) stream: S,
@@ -173,7 +173,7 @@ pub struct Accepted<'c, S, C> {
     patience: Duration,
     // the limit of the reads
     pub(crate) reading: Limit<'c, C>,
-    // the limit of the writes, from the first one on
+    // the limit of the writes, which starts with the first one
     writing: Option<Limit<'c, C>>,
     read_failures: u64,
     write_failures: u64,
@@ -186,7 +186,7 @@ impl<'c, S: TimedStream, C: MonotonicClock> Accepted<'c, S, C> {
     ghost use Rattle.desk_server.specs.Accepted.{HasMoved};
     ghost use Rattle.desk_server.specs.Limits.{AtShown, TakesAtMost, due_after, nanos_of};
 
-    /// A connection that was accepted now.
+    /// Returns a connection that was just accepted.
     pub fn new(stream: S, clock: &'c C, patience: Duration) -> Accepted<'c, S, C>
         ensures new { result ≡ record {
           stream = stream;
@@ -214,15 +214,15 @@ impl<'c, S: TimedStream, C: MonotonicClock> Accepted<'c, S, C> {
         }
     }
 
-    /// Hands the stream back.
+    /// Returns the stream.
     pub fn into_stream(self) -> S
         ensures { result ≡ self.entry.stream }
     {
         self.stream
     }
 
-    /// Reads the bytes that still come within the patience, from now on: up to the end of the
-    /// input, at most `MAX_REST` bytes. It waits for each of them no longer than 200 milliseconds.
+    /// Reads the bytes that still come, up to the end of the input and at most `MAX_REST` bytes. It
+    /// stops once the patience, counted from now, is over, or no byte came for 200 milliseconds.
     pub fn take_rest(&mut self)
         ensures taken { TakesAtMost 65_536 (S.to_come self.old.stream) (S.to_come self.new.stream) }
         ensures writes_nothing { Keeps (S.taken self.old.stream) (S.taken self.new.stream) }

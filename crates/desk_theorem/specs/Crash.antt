@@ -1,4 +1,4 @@
--- What a reopened store holds after a crash (ours).
+-- The club in a store that is reopened after a crash (ours).
 use Rattle.std.specs.Prelude.{◌≡◌, ◌⊎◌, List, [], ◌∷◌, All, Contains, IsTrue}
 use Rattle.sqlite_disk.specs.declared.Disk as disk
 use Rattle.sqlite.specs.{Files.{file_state, over_files, IsOpened}, Held.Held, Recovery.Image, Start.FindsIn, State.State, Store.Ghosts, View.IsClean}
@@ -18,7 +18,7 @@ pub record RecoversOne (state : State) (clubs : List Club) (events : List machin
   pub represents : Represents state club []
   pub again : RepeatsServedReplies club events returned
 
--- A store that is opened on what a crash left of another one's files, if that could recover to these clubs, recovers exactly one of them.
+-- Suppose that a store could recover to these clubs. A store that is opened on the files that a crash left of it recovers exactly one of them.
 abbrev pub SurvivesCrash : {D E : Type 0} {d : disk.Ghosts D} {e : disk.Ghosts E} → FileStore D d → Held (FileStore E e) → List Club
     → List machine.Event → List DeskResponse → Type 0
 SurvivesCrash before after clubs events returned =
@@ -35,7 +35,7 @@ pub record IsAdoptedFrom {E : Type 0} {e : disk.Ghosts E} (start : Image) (now :
   pub found : FindsIn start (file_state was)
   pub again : (clubs : List Club) → IsOpenedOn (file_state was) clubs → RepresentsOne (file_state now) clubs
 
--- the same by `Store::open_file`, or by `Store::adopt`
+-- a store is opened on a file and a log of this image by `Store::open_file` or `Store::adopt`
 abbrev pub IsReopened : {E : Type 0} {e : disk.Ghosts E} → Image → Held (FileStore E e) → Type 0
 IsReopened start now = OpensFrom start now ⊎ IsAdoptedFrom start now
 
@@ -44,9 +44,8 @@ abbrev pub leaves_sound_in : {S : Type 0} → Ghosts S → S → Club → List C
 leaves_sound_in g store club others =
     All IsSound (club ∷ others) × IsTrue (g.view store).is_numbered × LeavesOneOf g store (club ∷ others)
 
--- After a run and a crash, a reopened store holds exactly one club, and no further crash leaves another: the club that the answered events
--- leave, or another possible crash state of the run. If it is that club or one event from it, a repeat of a served request gets the same
--- reply, and changes nothing.
+-- After a run and a crash, a reopened store holds exactly one club, and no further crash leaves another one. It is the club that the answered events leave, or
+-- another possible crash state of the run. If it is that club or one event away from it, a repeat of a served request gets the same reply and changes nothing.
 pub record RecoversAfterRun {E : Type 0} {e : disk.Ghosts E} (opened : Held (FileStore E e)) (club : Club) (others : List Club) (events : List machine.Event)
     (returned : List DeskResponse) : Type 0 where
   pub now : Club
@@ -54,7 +53,7 @@ pub record RecoversAfterRun {E : Type 0} {e : disk.Ghosts E} (opened : Held (Fil
   pub again : IsWithinOneEvent (club_left club events returned) now → RepeatsServedReplies now events returned
   pub represents : sound_in over_files opened now []
 
--- Every store that is opened on what a crash may leave of this one's file and log, after a run from this club.
+-- Every store that is opened on the file and log that a crash may leave of this store, after a run from this club.
 abbrev pub OpensAgain : {D E : Type 0} {d : disk.Ghosts D} → disk.Ghosts E → FileStore D d → Club → List Club → List machine.Event → List DeskResponse → Type 0
 OpensAgain {E = E} e store club others events returned =
     (left : Image) (opened : Held (FileStore E e)) → CrashMayLeave store left → IsReopened left opened

@@ -1,4 +1,4 @@
--- How a desk over a new database in memory handles a list of events, and a request after it (ours).
+-- A desk over a new database in memory handles a list of events and a request after them (ours).
 use Rattle.std.specs.Prelude.{◌≡◌, ◌⊎◌, ℕ, List, [], Option}
 use Rattle.sqlite.specs.{Held.{Held, state}, State.HasCleanDisk, Steps.over_memory, declared.MemStore.MemStore}
 use Rattle.club_core.specs.{Club.{Club, empty_club}, declared.{change.Change.Change, reply.Reply.Reply, request.Request.Request, store.StoreFault.StoreFault}}
@@ -12,11 +12,11 @@ use Rattle.club_gate.specs.declared.event.EventReply.{EventReply}
 abbrev pub InMemory : Type 0
 InMemory = Held MemStore
 
--- why a read (`None`) or a change failed there
+-- a read (`None`) or a change in memory failed with this fault
 abbrev pub fails_in_memory : Option Change → InMemory → StoreFault → InMemory → Type 0
 fails_in_memory = Fails over_memory
 
--- the events were handled one after the other: each was answered by a step, or the store itself failed in it
+-- the events were handled in order: each was answered by a step, or the store itself failed during it
 abbrev pub AreHandledInMemory : InMemory → List Event → List EventReply → InMemory → Type 0
 AreHandledInMemory = AreHandled (λ held. HasCleanDisk (state over_memory held)) (sound_in over_memory) fails_in_memory
 
@@ -27,8 +27,8 @@ pub record HandlesFromNothing (events : List Event) (replies : List EventReply) 
   pub empty : Represents (state over_memory start) empty_club []
   pub handled : AreHandledInMemory start events replies last
 
--- the same, and then a request: if its reply is `Unavailable`, the store itself failed, at a read or at the change of the request; or the text is
--- JSON, and the store is unchanged
+-- the tables handled the events and then a request: if the reply is `Unavailable`, either the store itself failed, at a read or at the request's change; or the
+-- text is JSON, and the store is unchanged
 pub record RepliesFromNothing (events : List Event) (replies : List EventReply) (text : List ℕ) (request : Request) (moment : ℕ) (reply : Reply)
     : Type 0 where
   pub run : HandlesFromNothing events replies

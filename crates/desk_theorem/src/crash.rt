@@ -1,4 +1,4 @@
-//! What a crash leaves of a desk over a file.
+//! The crash law: the state of a desk over a file after a crash.
 
 ghost use Rattle.std.specs.Prelude.{List, All, IfOk};
 ghost use Rattle.sqlite.specs.FileStore as file;
@@ -19,8 +19,8 @@ use sqlite::{Alter, FileFrom, FileStore, Start};
 use sqlite_disk::Disk;
 
 /// The crash law. Reopening the files after a crash recovers exactly one of the clubs that the old
-/// store could recover to. If each of these repeats the replies to served requests, so does the
-/// recovered one, and every later crash leaves it.
+/// store could recover to. If each of these clubs repeats the replies to served requests, so does
+/// the recovered one, and every later crash leaves it.
 pub fn served_survives_a_crash<D: Disk, Q: Start>(
     before: &FileStore<D>,
     after: &Store<FileStore<FileFrom<Q>>>,
@@ -32,8 +32,8 @@ pub fn served_survives_a_crash<D: Disk, Q: Start>(
     one_club_recovered(before, after);
 }
 
-// Runs a list of events at a desk over any store of the engine, and returns the responses and that
-// store. A function over a file that made each of these calls would be proved in twice the time.
+// Runs a list of events at a desk over any store of the engine, and returns the responses and the
+// store. Making these calls in a function over a file would double the time of its proof.
 fn run_to_end<S: Alter + Drop>(
     mut desk: Desk<Store<S>>,
     events: &[Event],
@@ -57,28 +57,28 @@ fn run_to_end<S: Alter + Drop>(
 }
 
 /// Runs a list of events at a desk over a file, and returns the responses and the store. The
-/// machine may stop in the run or after it: a crash in a call is a disk that fails from there on.
-/// A store that is opened on the files then, over a disk `E`, has the change of every answered
-/// event.
+/// machine may crash during the run or after it; a crash during a call is a disk that fails from
+/// that point on. A store that is then opened on the files, over a disk `E`, has the changes of all
+/// answered events.
 ///
 /// # Errors
 ///
-/// There was no memory for the replies. No event was answered.
+/// Fails if there was no memory for the replies. Then no event was answered.
 pub fn run_and_leave<D: Disk + Drop, E: Disk>(
     desk: Desk<Store<FileStore<D>>>,
     events: &[Event],
 ) -> Result<(Vec<EventReply>, FileStore<D>), StoreFault>
-    // The replies are the machine's, failed events left out.
+    // The replies are those of the machine to the events that didn't fail.
     ensures answered { IfOk result (λ left. IsClean (file.view left.1)
         → (club : Club) (others : List Club)
         → sound_in over_files desk club others
         → (seen : List machine.Event) → AreEventsOf events.now seen
         → IsAnsweredRun club seen (responses_of left.0.items)) }
-    // After any crash, a store that is opened by `open_file` or `adopt` holds the club of the
-    // answered events; or that club after one event that failed since the last change; or, if the
-    // run changed nothing, what a crash could leave before it. In the first, and in each of the
-    // others that is one event from it, a repeat of a served request gets the same reply and
-    // changes nothing.
+    // After any crash, a store opened by `open_file` or `adopt` holds the club of the answered
+    // events, or that club after one event that failed since the last change. If the run changed
+    // nothing, it may also hold a club that a crash could have left before the run. In the club of
+    // the answered events, and in each other club that is one event away from it, a repeat of a
+    // served request gets the same reply and changes nothing.
     ensures again { IfOk result (λ left. (club : Club) (others : List Club)
         → sound_in over_files desk club others
         → (seen : List machine.Event) → AreEventsOf events.now seen

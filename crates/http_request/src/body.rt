@@ -13,7 +13,7 @@ use club_values::MAX_GUESTS;
 use serde_json::{Map, Value};
 use std::alloc::Global;
 
-/// Whether the value is an object with no other name than `guests`.
+/// Returns whether the value is an object with no other name than `guests`.
 fn has_only_guests(value: &Value) -> bool
     ensures { result ≡ spec.has_only_name (codes "guests") (view value.now) }
 {
@@ -71,7 +71,7 @@ fn json_value_of(alloc: Global, bytes: &[u8]) -> Result<Value, Refusal>
     }
 }
 
-/// The number of guests in a body.
+/// Returns the number of guests in a body.
 pub(crate) fn guests_in(alloc: Global, body: &[u8]) -> Result<Guests, Refusal>
     ensures { MatchResult result (λ guests. spec.guests_in body.now ≡ Some guests)
         (Refuses (0 < length body.now) (spec.guests_in body.now)) }

@@ -21,7 +21,7 @@ fn is_named(head: &[u8], field: &HeaderSpan, name: &[u8]) -> bool
     field.name.of(head).eq_ignore_ascii_case(name)
 }
 
-/// The first value of the fields with a name, and the fields after it.
+/// Returns the first value of the fields with a name, and the fields after it.
 fn next_value<'a, 'b>(
     head: &'a [u8],
     fields: &'b [HeaderSpan],
@@ -42,7 +42,7 @@ fn next_value<'a, 'b>(
     None
 }
 
-/// The values of the fields with a name, in any case.
+/// Returns the values of the fields with a name, in any case.
 pub(crate) fn values_of<'a>(head: &'a [u8], fields: &[HeaderSpan], name: &[u8]) -> Values<'a>
     requires { All (IsHeaderWithin (length head.now)) fields.now }
     ensures { ClassifiesValues (values_in_head head.now name.now fields.now) result }

@@ -29,8 +29,8 @@ pub(crate) enum Front {
     Asking(Head),
 }
 
-/// What the bytes begin with, if no head ends within the first `searched` of them. Writes the
-/// places of the head's fields to `fields`.
+/// Returns what the bytes begin with, if no head ends within the first `searched` of them. Writes
+/// the places of the head's fields to `fields`.
 pub(crate) fn front_of(
     bytes: &[u8],
     searched: usize,

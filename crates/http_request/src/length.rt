@@ -25,7 +25,7 @@ fn length_in(value: &[u8]) -> Option<usize>
     if len <= MAX_BODY_LEN { Some(len) } else { None }
 }
 
-/// How many bytes the body of a head has; `None` if the head is refused.
+/// Returns how many bytes the body of a head has; `None` if the head is refused.
 pub(crate) fn asked_length(head: &[u8], fields: &[HeaderSpan], method: &[u8]) -> Option<usize>
     requires { All (IsHeaderWithin (length head.now)) fields.now }
     ensures { result ≡ spec.asked_length method.now (map (header_bytes head.now) fields.now) }

@@ -10,7 +10,7 @@ use httparse::spans::HeaderSpan;
 /// `Bearer` and one space.
 const SCHEME_LEN: usize = 7;
 
-/// The text of the pass in a field's value, after `Bearer` and one space.
+/// Returns the text of the pass in a field's value, after `Bearer` and one space.
 fn bearer_text(value: &[u8]) -> Option<&[u8]>
     ensures { option_map (λ text. text.now) result ≡ spec.bearer_text value.now }
 {
@@ -25,7 +25,7 @@ fn bearer_text(value: &[u8]) -> Option<&[u8]>
     }
 }
 
-/// The text of the pass, if exactly one field `Authorization` holds one.
+/// Returns the text of the pass, if exactly one field `Authorization` holds one.
 pub(crate) fn pass_text_of<'a>(head: &'a [u8], fields: &[HeaderSpan]) -> Option<&'a [u8]>
     requires { All (IsHeaderWithin (length head.now)) fields.now }
     ensures { option_map (λ text. text.now) result

@@ -17,7 +17,7 @@ pub(crate) enum Place {
     AccountPlace,
 }
 
-/// The first part of a path, and what follows the slash after it.
+/// Returns the first part of a path, and what follows the slash after it.
 fn next_part(path: &[u8]) -> (&[u8], Option<&[u8]>)
     ensures { BeginsWith path.now result.0.now result.1 }
 {
@@ -51,7 +51,7 @@ fn read_slot(facility: &[u8], day: &[u8], hour: &[u8]) -> Option<Slot>
     })
 }
 
-/// The place at a slot or at one of its bookings, by the rest of the path.
+/// Returns the place at a slot or at one of its bookings, by the rest of the path.
 fn at_slot(slot: Slot, rest: Option<&[u8]>) -> Option<Place>
     ensures { result ≡ spec.at_slot slot (following_parts rest.entry) }
 {
@@ -100,7 +100,7 @@ fn under_root(path: &[u8]) -> Option<Place>
     Some(Place::AccountPlace)
 }
 
-/// The place that a request's target names.
+/// Returns the place that a request's target names.
 pub(crate) fn place_of(target: &[u8]) -> Option<Place>
     ensures { result ≡ spec.place_of target.now }
 {

@@ -7,7 +7,7 @@ use crate::path::Place;
 use club_core::{Refusal, Request, Resource};
 use club_rows::Guests;
 
-/// What a method asks for at a place.
+/// Returns what a method asks for at a place.
 pub(crate) fn request_at(place: Place, method: &[u8], guests: Guests) -> Result<Request, Refusal>
     ensures { result ≡ spec.request_at place method.now guests }
 {

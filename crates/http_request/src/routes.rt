@@ -61,7 +61,7 @@ impl Routes {
         Ok(Routes { alloc, router })
     }
 
-    /// The place that a target names: it has a route, and its parts parse.
+    /// Returns the place that a target names: it has a route, and its parts parse.
     fn place_of(&self, target: &[u8]) -> Option<Place>
         requires { IsUtf8 target.now }
         ensures { result ≡ path.place_of target.now }
@@ -74,7 +74,7 @@ impl Routes {
     }
 }
 
-/// The guests that a request brings: the number in the body of a PUT, 0 for another method.
+/// Returns the guests that a request brings: the number in the body of a PUT, 0 for another method.
 fn guests_of_body(alloc: Global, method: &[u8], body: &[u8]) -> Result<Guests, Refusal>
     ensures { MatchResult result
         (λ guests. guests_by_method method.now body.now ≡ Some guests)

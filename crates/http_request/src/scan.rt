@@ -46,8 +46,8 @@ impl HeadScan {
         }
     }
 
-    /// Whether the bytes that the scan covers begin with a whole request. If they don't, there are
-    /// fewer than `MAX_REQUEST_LEN` of them.
+    /// Returns whether the bytes that the scan covers begin with a whole request. If they don't,
+    /// there are fewer than `MAX_REQUEST_LEN` of them.
     pub fn is_whole(&self, bytes: &[u8]) -> bool
         requires { Covers self.now bytes.now }
         ensures whole { IsTrue result ↔ IsWhole bytes.now }
@@ -59,7 +59,7 @@ impl HeadScan {
             Front::Asking(head) => bytes.len() - head.len >= head.body_len,
         }
     }
-    /// Whether the bytes that the scan covers are a head and its body, and nothing more.
+    /// Returns whether the bytes that the scan covers are a head and its body, and nothing more.
     pub fn is_over(&self, bytes: &[u8]) -> bool
         requires { Covers self.now bytes.now }
         ensures { IsTrue result ↔ IsOneRequest bytes.now }

@@ -165,7 +165,7 @@ fn fault_body(refusal: Refusal) -> Line
     line
 }
 
-/// The body of a reply.
+/// Returns the body of a reply.
 pub(crate) fn body_of(reply: &Reply) -> Line
     ensures { result ≡ spec.body_text reply.now }
 {

@@ -28,7 +28,7 @@ fn push_allow(line: &mut Line, reply: &Reply)
     }
 }
 
-/// The field `WWW-Authenticate` on 401.
+/// Returns the field `WWW-Authenticate` on 401.
 fn challenge(reply: &Reply) -> &'static [u8]
     ensures text { result.now ≡ spec.challenge_field reply.now }
     ensures len { length result.now ≤ 26 }
@@ -54,7 +54,7 @@ fn status_line(reply: &Reply) -> Line
     line
 }
 
-/// The head of a reply whose body has `body_len` bytes.
+/// Returns the head of a reply whose body has `body_len` bytes.
 #[tactic(auto, unfolding(crate::specs::Text::head_text))]
 pub(crate) fn head_of(reply: &Reply, body_len: usize) -> Line
     ensures { result ≡ spec.head_text reply.now body_len }

@@ -59,7 +59,7 @@ impl Line {
         self.push(digits.format(number).as_bytes());
     }
 
-    /// The bytes of the text.
+    /// Returns the bytes of the text.
     pub fn as_bytes(&self) -> &[u8]
         ensures value { result.now ≡ self.now }
         ensures fits { length result.now ≤ max_line_len }

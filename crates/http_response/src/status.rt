@@ -5,7 +5,7 @@ ghost use Rattle.http_response.specs.Status as spec;
 
 use club_core::{Refusal, Reply, Resource};
 
-/// The HTTP status of a refusal.
+/// Returns the HTTP status of a refusal.
 fn refusal_status(refusal: Refusal) -> u16
     ensures { result ≡ spec.refusal_status refusal }
 {
@@ -30,7 +30,7 @@ fn refusal_status(refusal: Refusal) -> u16
     }
 }
 
-/// The HTTP status of a reply: 200 if the request is served, else that of the refusal.
+/// Returns the HTTP status of a reply: 200 if the request is served, else that of the refusal.
 pub fn status_of(reply: &Reply) -> u16
     ensures { result ≡ spec.status_of reply.now }
 {
@@ -40,7 +40,7 @@ pub fn status_of(reply: &Reply) -> u16
     }
 }
 
-/// The methods of what a path names, with commas between them.
+/// Returns the methods of what a path names, with commas between them.
 pub(crate) fn methods_of(resource: Resource) -> &'static [u8]
     ensures text { result.now ≡ spec.methods_of resource }
     ensures len { length result.now ≤ 11 }

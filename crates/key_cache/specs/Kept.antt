@@ -1,8 +1,8 @@
--- What a cache of derived keys holds (ours).
+-- The contents of a cache of derived keys (ours).
 use Rattle.std.specs.Prelude.{◌≡◌, [], IfSome}
 use Rattle.lru.specs.LruCache.{lru_cache}
 use Rattle.key_cache.specs.declared.KeptKeys.{KeptKeys}
 
--- No key, with room for 64; without memory for the room it is no cache at all.
+-- An empty cache with room for 64 keys, or no cache at all if memory for it was refused.
 abbrev pub IsFresh : KeptKeys → Type 0
 IsFresh keys = IfSome keys.cache (λ cache. cache ≡ lru_cache [] 64)

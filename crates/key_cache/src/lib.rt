@@ -1,4 +1,4 @@
-//! A cache of derived keys: the 64 that were used last, each with the root it is derived from.
+//! A cache of the 64 derived keys that were used last, each with the root that it is derived from.
 #![tactic(auto)]
 
 use club_rows::Root;
@@ -46,7 +46,7 @@ impl DerivedKey {
         }
     }
 
-    /// The derived key, 32 bytes.
+    /// Returns the derived key, 32 bytes.
     pub fn bytes(&self) -> &[u8; 32]
         ensures { result.now ≡ derived_key self.now }
     {
@@ -54,7 +54,7 @@ impl DerivedKey {
     }
 }
 
-/// A cache of at most 64 derived keys, by the names of their keys; it keeps those that were used
+/// A cache of at most 64 derived keys, by the names of their keys. It keeps those that were used
 /// last. If allocating the cache fails, it stays empty.
 #[derive(Drop)]
 pub struct KeptKeys {
@@ -65,7 +65,7 @@ impl KeptKeys {
     ghost use Rattle.std.specs.Prelude.{◌≡◌, IfSome};
     ghost use Rattle.key_cache.specs.Kept.{IsFresh};
 
-    /// An empty cache for 64 keys.
+    /// Returns an empty cache for 64 keys.
     pub fn new(alloc: Global) -> KeptKeys
         ensures { IsFresh result }
     {
@@ -77,7 +77,7 @@ impl KeptKeys {
         }
     }
 
-    /// The cached key of this name, if it is derived from this root.
+    /// Returns the cached key of this name, if it is derived from this root.
     fn kept(&self, name: &Name, root: &Root) -> Option<DerivedKey>
         ensures { IfSome result (λ key. key ≡ root.now) }
     {
@@ -88,8 +88,8 @@ impl KeptKeys {
         Some(*kept)
     }
 
-    /// The derived key of a root of the key of this name: from the cache if that holds it, else
-    /// computed. The cache is unchanged.
+    /// Returns the derived key of a root of the key of this name. It comes from the cache or, if it
+    /// isn't there, is computed. The cache is unchanged.
     pub fn derived(&self, name: &Name, root: &Root) -> DerivedKey
         ensures { result ≡ root.now }
     {
@@ -97,8 +97,8 @@ impl KeptKeys {
             .unwrap_or_else(|| DerivedKey::of(root))
     }
 
-    /// Caches a derived key under this name, in place of any other, as the one used last. If an
-    /// allocation fails the cache is unchanged.
+    /// Caches a derived key under this name, in place of any other, as the most recently used one.
+    /// If an allocation fails, the cache is unchanged.
     pub fn keep(&mut self, name: &Name, key: DerivedKey) {
         if let Some(cache) = &mut self.cache {
             let _ = cache.put(*name, key);

@@ -4,7 +4,7 @@ use super::*;
 use std::fmt::Debug;
 use std::process::Abort;
 
-// Two roots and the keys that libmacaroons' derivation gives for them, by an independent program.
+// Two roots and their keys by libmacaroons' derivation, computed by an independent program.
 const ROOT: &[u8; 16] = b"\x00\x11\x22\x33\x44\x55\x66\x77\x88\x99\xaa\xbb\xcc\xdd\xee\xff";
 
 const DERIVED: &[u8; 32] =
@@ -35,7 +35,7 @@ fn expect_derived(rt: &impl Abort, keys: &KeptKeys, name: &Name, root: &Root, wa
     expect_eq(rt, keys.derived(name, root).bytes(), want);
 }
 
-// As the desk does for a root under which a pass is signed.
+// Looks up and caches a key, as the desk does for a root under which a pass is signed.
 fn derive_and_keep(
     rt: &impl Abort,
     keys: &mut KeptKeys,
@@ -48,7 +48,7 @@ fn derive_and_keep(
     keys.keep(name, key);
 }
 
-// The key isn't cached with this root; it is computed, and then kept.
+// The key isn't cached with this root, so it is computed and then cached.
 fn is_derived_anew(
     rt: &impl Abort,
     keys: &mut KeptKeys,
@@ -61,7 +61,7 @@ fn is_derived_anew(
     expect_kept(rt, keys, name, root, Some(*want));
 }
 
-// A root and its derived key, then another root's, then the first again.
+// A root and its derived key, then those of another root, then the first ones again.
 static IN_TURN: [(&[u8; 16], &[u8; 32]); 3] = [
     (ROOT, DERIVED),
     (OTHER_ROOT, OTHER_DERIVED),
@@ -115,8 +115,8 @@ fn keeps_a_key_that_is_used_again(rt: HostRuntime) {
     expect_kept(&rt, &keys, &name(&rt, b"01"), &root, None);
 }
 
-// A key that is only looked for isn't cached, and the one that was kept stays, as that of the root
-// before a rotation does until a pass is signed under the new one.
+// A lookup alone doesn't cache a key or evict the cached one. So after a rotation, the older root's
+// key stays until a pass is signed under the new root.
 #[test]
 fn keeps_a_key_until_another_is_kept(rt: HostRuntime) {
     let (root, older) = (root(&rt, ROOT), root(&rt, OTHER_ROOT));
@@ -131,7 +131,7 @@ fn keeps_a_key_until_another_is_kept(rt: HostRuntime) {
     expect_derived(&rt, &keys, &name, &older, OTHER_DERIVED);
 }
 
-// Without memory for the cache each key is computed.
+// Without memory for the cache, each key is computed.
 #[test]
 fn derives_without_a_cache(rt: HostRuntime) {
     let (name, root) = (name(&rt, b"amy-1"), root(&rt, ROOT));

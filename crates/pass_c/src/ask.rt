@@ -35,7 +35,7 @@ impl AskObject {
     ghost use Rattle.std.specs.Prelude.{◌≡◌};
     ghost use Rattle.pass_c.specs.Ask as spec;
 
-    /// The ask, if each of its values is within its range.
+    /// Returns the ask, if each of its values is within its range.
     pub fn to_ask(&self) -> Option<Ask>
         ensures { spec.IsAskOf self.now result }
     {

@@ -53,7 +53,7 @@ const V2: u32 = 2;
 
 const JSON: u32 = 3;
 
-/// The number of a form.
+/// Returns the number of a form.
 pub fn form_number(form: Form) -> u32
     ensures { result ≡ spec.number_of_form form }
 {
@@ -64,7 +64,7 @@ pub fn form_number(form: Form) -> u32
     }
 }
 
-/// The form with this number.
+/// Returns the form with this number.
 pub fn form_of(number: u32) -> Option<Form>
     ensures { Reads (λ form. number ≡ spec.number_of_form form) result }
 {
@@ -76,7 +76,7 @@ pub fn form_of(number: u32) -> Option<Form>
     }
 }
 
-/// The code of a fault, 1 to 5.
+/// Returns the code of a fault, 1 to 5.
 pub fn fault_code(fault: FormFault) -> u32
     ensures { result ≡ spec.fault_code fault }
 {
@@ -89,7 +89,7 @@ pub fn fault_code(fault: FormFault) -> u32
     }
 }
 
-/// The code of a call without a value.
+/// Returns the code of a call without a value.
 pub fn code_of(ended: Result<(), FormFault>) -> u32
     ensures code { result ≡ spec.code_of ended }
     ensures back { spec.result_of result ≡ ended }
@@ -100,7 +100,8 @@ pub fn code_of(ended: Result<(), FormFault>) -> u32
     }
 }
 
-/// The code of a list's first fault, and the number of its caveat, counted from 1; 0 without one.
+/// Returns the code of a list's first fault, and the number of its caveat, counted from 1; 0
+/// without one.
 pub fn verdict_of(fault: Option<CaveatFault>) -> (u32, usize)
     ensures code { result.0 ≡ verdict_code fault }
     ensures number { result.1 ≡ verdict_number fault }

@@ -39,7 +39,7 @@ pub extern "C" fn clubpass_read(alloc: Global, text: &[u8], pass: &mut PassObjec
     code_of(pass.read(alloc, text))
 }
 
-/// The number of the form that the pass was read from: 1 for V1, 2 for V2, 3 for JSON.
+/// Returns the number of the form that the pass was read from: 1 for V1, 2 for V2, 3 for JSON.
 #[unsafe(no_mangle)]
 pub extern "C" fn clubpass_form(pass: &PassObject) -> u32
     ensures { result ≡ pass.now.form }
@@ -47,7 +47,7 @@ pub extern "C" fn clubpass_form(pass: &PassObject) -> u32
     pass.form
 }
 
-/// The location.
+/// Returns the location.
 #[unsafe(no_mangle)]
 pub extern "C" fn clubpass_location(pass: &PassObject, out: &mut [u8], len: &mut usize) -> u32
     ensures { IsCopied (held pass.now).location out.old out.new len.new result }
@@ -55,7 +55,7 @@ pub extern "C" fn clubpass_location(pass: &PassObject, out: &mut [u8], len: &mut
     put(pass.location(), out, len)
 }
 
-/// The identifier.
+/// Returns the identifier.
 #[unsafe(no_mangle)]
 pub extern "C" fn clubpass_identifier(pass: &PassObject, out: &mut [u8], len: &mut usize) -> u32
     ensures { IsCopied (held pass.now).identifier out.old out.new len.new result }
@@ -63,7 +63,7 @@ pub extern "C" fn clubpass_identifier(pass: &PassObject, out: &mut [u8], len: &m
     put(pass.identifier(), out, len)
 }
 
-/// The number of caveats.
+/// Returns the number of caveats.
 #[unsafe(no_mangle)]
 pub extern "C" fn clubpass_caveat_count(pass: &PassObject) -> usize
     ensures { result ≡ length (held pass.now).caveats }
@@ -71,7 +71,7 @@ pub extern "C" fn clubpass_caveat_count(pass: &PassObject) -> usize
     pass.caveat_count()
 }
 
-/// The caveat of this index, counted from 0.
+/// Returns the caveat of this index, counted from 0.
 #[unsafe(no_mangle)]
 pub extern "C" fn clubpass_caveat(
     pass: &PassObject,
@@ -169,7 +169,7 @@ pub extern "C" fn clubpass_narrow(pass: &mut PassObject, caveat: &[u8]) -> u32
     code_of(pass.narrow(caveat))
 }
 
-/// Whether a pass is signed under a root.
+/// Returns whether a pass is signed under a root.
 #[unsafe(no_mangle)]
 pub extern "C" fn clubpass_is_signed(pass: &PassObject, root: &[u8]) -> bool
     ensures signed { IsTrue result ↔ IsSigned root.now (held pass.now) }
@@ -178,7 +178,7 @@ pub extern "C" fn clubpass_is_signed(pass: &PassObject, root: &[u8]) -> bool
     pass.is_signed(root)
 }
 
-/// The first caveat that isn't understood or denies an ask.
+/// Returns the first caveat that isn't understood or denies an ask.
 #[unsafe(no_mangle)]
 pub extern "C" fn clubpass_first_fault(
     pass: &PassObject,
@@ -196,7 +196,7 @@ pub extern "C" fn clubpass_first_fault(
     code
 }
 
-/// Whether a text is a caveat of the language.
+/// Returns whether a text is a caveat of the language.
 #[unsafe(no_mangle)]
 pub extern "C" fn clubpass_is_caveat(text: &[u8]) -> bool
     ensures { IsTrue result ↔ ((caveat : Caveat) × Understood text.now caveat) }

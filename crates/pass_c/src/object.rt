@@ -46,7 +46,7 @@ impl PassObject {
     ghost use Rattle.pass_c.specs.Object.{IsEmpty, filled, form_in, held, room, taken};
     ghost use Rattle.pass_c.specs.Object.{with_one_more};
 
-    /// A hint at where the pass is valid.
+    /// Returns a hint at where the pass is valid.
     pub fn location(&self) -> &[u8]
         ensures { result.now ≡ (held self.now).location }
     {
@@ -63,7 +63,7 @@ impl PassObject {
         cut(rest, self.identifier_len as usize)
     }
 
-    /// The identifier.
+    /// Returns the identifier.
     pub fn identifier(&self) -> &[u8]
         ensures { result.now ≡ (held self.now).identifier }
     {
@@ -78,7 +78,7 @@ impl PassObject {
         &self.caveat_lens[..(self.caveat_count as usize).min(MAX_CAVEATS)]
     }
 
-    /// The number of caveats, at most 64.
+    /// Returns the number of caveats, at most 64.
     #[tactic(auto, using(crate::proofs::PieceLemmas::length_pieces))]
     pub fn caveat_count(&self) -> usize
         ensures value { result ≡ length (held self.now).caveats }
@@ -88,7 +88,7 @@ impl PassObject {
         self.lens().len()
     }
 
-    /// The caveat of this index, counted from 0.
+    /// Returns the caveat of this index, counted from 0.
     pub fn caveat(&self, index: usize) -> Option<&[u8]>
         ensures { option_map (λ caveat. caveat.now) result
             ≡ slice_get (held self.now).caveats index }
@@ -232,7 +232,7 @@ impl PassObject {
         Ok(())
     }
 
-    /// Whether the signature is that of the identifier and the caveats under this root.
+    /// Returns whether the signature is that of the identifier and the caveats under this root.
     #[tactic(auto, unfolding(pass_forms::specs::computed::Pass::is_signed))]
     pub fn is_signed(&self, root: &[u8]) -> bool
         ensures signed { IsTrue result ↔ IsSigned root.now (held self.now) }
@@ -243,7 +243,7 @@ impl PassObject {
         same(&chain.signature(), &self.signature)
     }
 
-    /// The first caveat that isn't understood or denies the ask.
+    /// Returns the first caveat that isn't understood or denies the ask.
     pub fn first_fault(&self, ask: &Ask) -> Option<CaveatFault>
         ensures { IsFirstFault (held self.now).caveats ask.now result }
     {
@@ -265,7 +265,7 @@ impl PassObject {
         Ok(Pass::new(location, identifier, caveats, self.signature))
     }
 
-    /// The text of the pass in this form.
+    /// Returns the text of the pass in this form.
     pub fn write(&self, alloc: Global, form: Form) -> Result<String, FormFault>
         ensures ok { IfOk result
             (λ text. IsWritableText (IsTextIn form) (held self.now) (string_bytes text)) }

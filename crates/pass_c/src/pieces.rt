@@ -12,7 +12,7 @@ use pass_forms::MAX_CAVEATS;
 use pass_mac::Chain;
 use std::alloc::{AllocError, Global};
 
-/// The first `len` bytes and the others. All of them are the first if they are fewer.
+/// Returns the first `len` bytes and the others. All of them are the first if they are fewer.
 pub fn cut(bytes: &[u8], len: usize) -> (&[u8], &[u8])
     ensures first { result.0.now ≡ take len bytes.now }
     ensures others { result.1.now ≡ drop len bytes.now }
@@ -29,7 +29,7 @@ pub fn overwrite(bytes: &mut [u8; ROOM], place: usize, part: &[u8])
     bytes[place..place + part.len()].copy_from_slice(part);
 }
 
-/// The sum of at most 64 lengths.
+/// Returns the sum of at most 64 lengths.
 pub fn total(lens: &[u16]) -> usize
     requires { length lens.now ≤ 64 }
     ensures value { result ≡ sum lens.now }
@@ -41,7 +41,7 @@ pub fn total(lens: &[u16]) -> usize
     }
 }
 
-/// The piece of this index.
+/// Returns the piece of this index.
 pub fn piece<'a>(lens: &[u16], bytes: &'a [u8], index: usize) -> Option<&'a [u8]>
     ensures { option_map (λ piece. piece.now) result
         ≡ slice_get (pieces_of lens.now bytes.now) index }
@@ -54,7 +54,7 @@ pub fn piece<'a>(lens: &[u16], bytes: &'a [u8], index: usize) -> Option<&'a [u8]
     }
 }
 
-/// The chain with a caveat added for each piece.
+/// Returns the chain with a caveat added for each piece.
 pub fn extended(mut chain: Chain, lens: &[u16], bytes: &[u8]) -> Chain
     ensures { result ≡ extended_signature chain (pieces_of lens.now bytes.now) }
 {
@@ -86,7 +86,7 @@ pub fn copy_pieces(
     copy_pieces(alloc, list, others, rest)
 }
 
-/// The first fault of the pieces as caveats, numbered from this number on.
+/// Returns the first fault of the pieces as caveats, numbered from this number on.
 pub fn first_fault_in(lens: &[u16], bytes: &[u8], number: usize, ask: &Ask) -> Option<CaveatFault>
     requires { number + length lens.now ≤ 65 }
     ensures { result

@@ -18,8 +18,8 @@ pub struct Actions {
 impl Actions {
     ghost use Rattle.pass_caveats.specs.Actions.{has_action, SpellsActions};
 
-    /// The set of a list with commas: some of `view,book,cancel,account`, in this order; `None` for
-    /// any other text.
+    /// Returns the set of a list with commas: some of `view,book,cancel,account`, in this order;
+    /// `None` for any other text.
     pub fn read(text: &[u8]) -> Option<Actions>
         ensures { Reads (SpellsActions text.now) result }
     {
@@ -38,7 +38,7 @@ impl Actions {
         })
     }
 
-    /// Whether an action is in the set.
+    /// Returns whether an action is in the set.
     pub fn contains(self, action: Action) -> bool
         ensures { result ≡ has_action self action }
     {

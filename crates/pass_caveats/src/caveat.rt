@@ -44,7 +44,7 @@ pub enum Caveat<'a> {
 }
 
 impl Caveat<'_> {
-    /// Whether it is a caveat on the kind.
+    /// Returns whether it is a caveat on the kind.
     fn is_on_kind(&self) -> bool
         ensures { result ≡ is_on_kind (Some self.now) }
     {
@@ -92,8 +92,8 @@ fn short_line_of(text: &[u8]) -> Option<Caveat<'_>>
     line_of(text)
 }
 
-/// The caveat of a text; `None` if the text isn't a line of the language, or is longer than 256
-/// bytes.
+/// Returns the caveat of a text; `None` if the text isn't a line of the language, or is longer than
+/// 256 bytes.
 #[tactic(auto, using(crate::proofs::CaveatOfLemmas::reads_caveat_of))]
 pub fn read(bytes: &[u8]) -> Option<Caveat<'_>>
     ensures understood { Reads (Understood bytes.now) result }
@@ -132,7 +132,7 @@ fn is_within(ask: &Ask, points: u64) -> bool
     ask.owed == 0 || (ask.spent <= points && ask.owed <= points - ask.spent)
 }
 
-/// Whether a caveat allows a request.
+/// Returns whether a caveat allows a request.
 pub fn allows(caveat: &Caveat, ask: &Ask) -> bool
     ensures set { IsTrue result ↔ Permits caveat.now ask.now }
     ensures function { result ≡ permits caveat.now ask.now }
@@ -140,8 +140,8 @@ pub fn allows(caveat: &Caveat, ask: &Ask) -> bool
     is_in_set(caveat, ask)
 }
 
-/// Whether a text is a caveat on the kind of the slot's facility. It isn't if and only if its fault
-/// is the same for each kind.
+/// Returns whether a text is a caveat on the kind of the slot's facility. It isn't if and only if
+/// its fault is the same for each kind.
 #[tactic(auto, using(crate::proofs::KindLemmas::blind_to_kind))]
 pub fn looks_at_kind(text: &[u8]) -> bool
     ensures function { result ≡ is_on_kind (caveat_of text.now) }

@@ -47,9 +47,9 @@ fn fault_of_text(text: &[u8], number: usize, ask: &Ask) -> Option<CaveatFault>
     }
 }
 
-/// The fault of one caveat with this number in its list; `None` if it allows the request. A caller
-/// that tests caveats one by one numbers them from 1; the first fault that comes is that of the
-/// list.
+/// Returns the fault of one caveat with this number in its list; `None` if it allows the request. A
+/// caller that tests caveats one by one numbers them from 1; the first fault that comes is that of
+/// the list.
 #[tactic(auto, using(crate::proofs::CaveatOfLemmas::is_fault_at))]
 pub fn fault_at(text: &[u8], number: usize, ask: &Ask) -> Option<CaveatFault>
     ensures cases { IsFaultAt text.now number ask.now result }
@@ -69,7 +69,7 @@ fn fault_of(caveats: &[Vec<u8>], ask: &Ask) -> Option<CaveatFault>
     None
 }
 
-/// The first caveat that isn't understood or denies the request; `None` if all allow it.
+/// Returns the first caveat that isn't understood or denies the request; `None` if all allow it.
 #[tactic(auto, using(crate::proofs::CaveatOfLemmas::is_first_fault))]
 pub fn first_fault(caveats: &[Vec<u8>], ask: &Ask) -> Option<CaveatFault>
     ensures first { IsFirstFault (map vec_items caveats.now) ask.now result }

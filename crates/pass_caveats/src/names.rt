@@ -31,7 +31,7 @@ impl<'a> Model for Names<'a> {
 }
 
 impl<'a> Names<'a> {
-    /// The names of a list with commas; `None` if it isn't a list of one to eight names.
+    /// Returns the names of a list with commas; `None` if it isn't a list of one to eight names.
     pub fn read(text: &'a [u8]) -> Option<Names<'a>>
         ensures { Reads (λ names. AreNames names × (text.now ≡ comma_list names)) result }
     {
@@ -42,7 +42,7 @@ impl<'a> Names<'a> {
         }
     }
 
-    /// Whether a name is in the list.
+    /// Returns whether a name is in the list.
     pub fn contains(&self, name: &Name) -> bool
         ensures { IsTrue result ↔ Contains self.now name.now }
     {

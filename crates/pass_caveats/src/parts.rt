@@ -7,28 +7,28 @@ ghost use Rattle.pass_caveats.specs.Parts.{comma_parts, parts_left, Skips};
 
 use club_values::Name;
 
-/// How many parts a text has between its commas.
+/// Returns how many parts a text has between its commas.
 pub(crate) fn count_of_parts(text: &[u8]) -> usize
     ensures { result ≡ length (comma_parts text.now) }
 {
     text.split(|byte| *byte == b',').count()
 }
 
-/// Whether each part is a name.
+/// Returns whether each part is a name.
 pub(crate) fn are_all_names(text: &[u8]) -> bool
     ensures { IsTrue result ↔ All IsName (comma_parts text.now) }
 {
     text.split(|byte| *byte == b',').all(Name::is_name)
 }
 
-/// Whether one of the parts is this name.
+/// Returns whether one of the parts is this name.
 pub(crate) fn has_part(text: &[u8], name: &[u8]) -> bool
     ensures { IsTrue result ↔ Contains (comma_parts text.now) name.now }
 {
     text.split(|byte| *byte == b',').any(|part| part == name)
 }
 
-/// The part before the first comma, and what follows the comma, if there is one.
+/// Returns the part before the first comma, and what follows the comma, if there is one.
 fn first_part(text: &[u8]) -> (&[u8], Option<&[u8]>)
     ensures { comma_parts text.now ≡ result.0.now ∷ parts_left (option_copied result.1) }
 {
@@ -38,7 +38,7 @@ fn first_part(text: &[u8]) -> (&[u8], Option<&[u8]>)
     }
 }
 
-/// Whether the next part is the word, and what follows it; if it isn't, the whole rest.
+/// Returns whether the next part is the word, and what follows it; if it isn't, the whole rest.
 pub(crate) fn skip<'a>(rest: Option<&'a [u8]>, word: &[u8]) -> (bool, Option<&'a [u8]>)
     ensures { Skips word.now (parts_left (option_copied rest.entry)) result.0
         (parts_left (option_copied result.1)) }

@@ -17,8 +17,8 @@ pub struct Unspent {
     pub slack: Option<u64>,
 }
 
-/// The fault of one caveat with this number in its list, if the key has spent nothing before. For
-/// any amount up to the slack it is the same, and for no other.
+/// Returns the fault of one caveat with this number in its list, if the key has spent nothing
+/// before. For any amount up to the slack it is the same, and for no other.
 pub fn unspent_at(text: &[u8], number: usize, ask: &Ask) -> Unspent
     ensures { HoldsWithin text.now number ask.now result.fault result.slack }
 {
@@ -40,8 +40,8 @@ pub fn unspent_at(text: &[u8], number: usize, ask: &Ask) -> Unspent
     }
 }
 
-/// What a spend limit leaves for earlier spending, if the charge alone is within it; `None` if the
-/// caveat limits nothing.
+/// Returns what a spend limit leaves for earlier spending, if the charge alone is within it; `None`
+/// if the caveat limits nothing.
 fn slack_of(caveat: &Caveat, ask: &Ask) -> Option<u64>
     ensures { result ≡ slack_under caveat.now ask.now }
 {

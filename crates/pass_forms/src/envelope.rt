@@ -31,8 +31,8 @@ pub struct Unwrapped {
 }
 
 impl Unwrapped {
-    /// The bytes of the pass, from the text and the buffer that `unwrap_text` was given. If `len`
-    /// is above the buffer's length, they are the whole buffer.
+    /// Returns the bytes of the pass, from the text and the buffer that `unwrap_text` was given. If
+    /// `len` is above the buffer's length, they are the whole buffer.
     pub fn bytes<'a>(&self, text: &'a [u8], buffer: &'a [u8; MAX_BYTES]) -> &'a [u8]
         ensures { result.now ≡ unwrapped_bytes self.now text.now buffer.now }
     {

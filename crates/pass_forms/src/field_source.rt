@@ -27,8 +27,8 @@ pub trait FieldSource<'a> {
         ensures some { IfSome result (λ field. left self.old ≡ as_field field ∷ left self.new) }
         ensures none { IfNone result ((left self.old ≡ []) × (left self.new ≡ [])) };
 
-    /// Another source of the fields that are left, for a second pass over them. It allocates no
-    /// memory either.
+    /// Returns another source of the fields that are left, for a second pass over them. It
+    /// allocates no memory either.
     fn again(&self) -> Self
         ensures { left result ≡ left self.now };
 }

@@ -86,19 +86,19 @@ pub trait Layout: Copy {
     // the signature that bytes hold, all of them
     ghost footer_at: { List ℕ → Option (List ℕ) };
 
-    /// The header at the front.
+    /// Returns the header at the front.
     fn first_header(bytes: &[u8]) -> Option<Header<'_>>
         ensures { option_map (λ header.
             (header.location.now, header.identifier.now, header.rest.now)) result
             ≡ header_at bytes.now };
 
-    /// The caveat at the front.
+    /// Returns the caveat at the front.
     fn first_caveat(bytes: &[u8]) -> Option<Caveat<'_>>
         ensures { option_map (λ found.
             (found.identifier.now, found.third_party, found.rest.now)) result
             ≡ option_map summary (caveat_at bytes.now) };
 
-    /// The signature, if the bytes are a footer.
+    /// Returns the signature, if the bytes are a footer.
     fn footer(bytes: &[u8]) -> Option<[u8; 32]>
         ensures { result ≡ footer_at bytes.now };
 

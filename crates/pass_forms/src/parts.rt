@@ -3,21 +3,21 @@
 ghost use Rattle.std.specs.Prelude.{◌≡◌, option_map};
 ghost use Rattle.pass_forms.specs.computed.Parts as spec;
 
-/// The bytes after the prefix, if they begin with it.
+/// Returns the bytes after the prefix, if they begin with it.
 pub fn after_prefix<'a>(prefix: &[u8], bytes: &'a [u8]) -> Option<&'a [u8]>
     ensures { option_map (λ rest. rest.now) result ≡ spec.after_prefix prefix.now bytes.now }
 {
     bytes.strip_prefix(prefix)
 }
 
-/// The bytes before the suffix, if they end with it.
+/// Returns the bytes before the suffix, if they end with it.
 pub fn before_suffix<'a>(suffix: &[u8], bytes: &'a [u8]) -> Option<&'a [u8]>
     ensures { option_map (λ rest. rest.now) result ≡ spec.before_suffix suffix.now bytes.now }
 {
     bytes.strip_suffix(suffix)
 }
 
-/// The signature, if it is 32 bytes with nothing after them.
+/// Returns the signature, if it is 32 bytes with nothing after them.
 pub fn last_signature(signature: &[u8], rest: &[u8]) -> Option<[u8; 32]>
     ensures { result ≡ spec.last_signature (signature.now, rest.now) }
 {

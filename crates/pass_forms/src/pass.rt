@@ -57,7 +57,7 @@ impl Pass {
     ghost use Rattle.pass_forms.specs.FieldSource.{as_field, no_fields, pass_fields, with_field};
     ghost use Rattle.pass_forms.specs.{Pass.{IsSigned, minted_pass}, computed.Pass.is_signed};
 
-    /// A pass of these parts, without any check.
+    /// Returns a pass of these parts, without any check.
     pub fn new(
         location: Vec<u8>,
         identifier: Vec<u8>,
@@ -79,7 +79,7 @@ impl Pass {
         }
     }
 
-    /// A new pass of these two fields, with no caveats, signed under a root of any length.
+    /// Returns a new pass of these two fields, with no caveats, signed under a root of any length.
     ///
     /// # Errors
     ///
@@ -124,7 +124,7 @@ impl Pass {
         Ok(())
     }
 
-    /// The values of the pass, without a copy. No memory is allocated.
+    /// Returns the values of the pass, without a copy. No memory is allocated.
     pub fn into_parts(self) -> PassParts
         ensures location { result.location.items ≡ self.location }
         ensures identifier { result.identifier.items ≡ self.identifier }
@@ -145,28 +145,28 @@ impl Pass {
         }
     }
 
-    /// A hint at where the pass is valid. It isn't signed.
+    /// Returns a hint at where the pass is valid. It isn't signed.
     pub fn location(&self) -> &[u8]
         ensures { result.now ≡ self.now.location }
     {
         self.location.as_slice()
     }
 
-    /// The identifier, by which the desk finds the root that the pass was signed under.
+    /// Returns the identifier, by which the desk finds the root that the pass was signed under.
     pub fn identifier(&self) -> &[u8]
         ensures { result.now ≡ self.now.identifier }
     {
         self.identifier.as_slice()
     }
 
-    /// The caveats, in the order in which they were added.
+    /// Returns the caveats, in the order in which they were added.
     pub fn caveats(&self) -> &[Vec<u8>]
         ensures { map (λ caveat. caveat.items) result.now ≡ self.now.caveats }
     {
         self.caveats.as_slice()
     }
 
-    /// The last signature of the chain.
+    /// Returns the last signature of the chain.
     pub fn signature(&self) -> &[u8; 32]
         ensures value { result.now ≡ self.now.signature }
         ensures len { length self.now.signature ≡ 32 }
@@ -174,7 +174,7 @@ impl Pass {
         &self.signature
     }
 
-    /// All fields of the pass. No memory is allocated: each field is a slice of the pass.
+    /// Returns all fields of the pass. No memory is allocated: each field is a slice of the pass.
     pub fn fields(&self) -> PassFields<'_>
         ensures { result ≡ pass_fields self.now }
     {
@@ -186,8 +186,8 @@ impl Pass {
         }
     }
 
-    /// Whether the signature is that of the identifier and the caveats under this root, of any
-    /// length. No memory is allocated.
+    /// Returns whether the signature is that of the identifier and the caveats under this root, of
+    /// any length. No memory is allocated.
     #[tactic(auto, unfolding(crate::specs::computed::Pass::is_signed))]
     pub fn is_signed(&self, root: &[u8]) -> bool
         ensures signed { IsTrue result ↔ IsSigned root.now self.now }

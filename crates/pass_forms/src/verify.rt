@@ -7,9 +7,10 @@ ghost use Rattle.pass_forms.specs.FieldSource.{AreSignedBy, caveat_field, signat
 use crate::{Field, FieldSource};
 use pass_mac::{Chain, same};
 
-/// Whether a chain, extended by the caveats that a source has left, ends in the signature after
-/// them. A pass is signed if the chain is that of its identifier, and the source has yielded its
-/// location and its identifier. A source that has these still to yield is not signed by any chain.
+/// Returns whether a chain, extended by the caveats that a source has left, ends in the signature
+/// after them. A pass is signed if the chain is that of its identifier, and the source has yielded
+/// its location and its identifier. A source that has these still to yield is not signed by any
+/// chain.
 #[tactic(auto, using(crate::proofs::Verifying::signed_behind))]
 pub fn is_signed_by<'a, F: FieldSource<'a>>(mut chain: Chain, source: &mut F) -> bool
     ensures signed { IsTrue result ↔ AreSignedBy chain (F.left source.old) }

@@ -34,8 +34,8 @@ trait PutLayout {
         ensures signature { OnOk result (length pass.now.signature ≡ 32) };
 }
 
-/// The text of a pass in V1: libmacaroons' packets in URL-safe base64 without padding. An empty
-/// location is written.
+/// Returns the text of a pass in V1: libmacaroons' packets in URL-safe base64 without padding. An
+/// empty location is written.
 ///
 /// # Errors
 ///
@@ -53,8 +53,8 @@ pub fn write_v1(alloc: Global, pass: &Pass) -> Result<String, FormFault>
     write_in::<Packets>(alloc, pass)
 }
 
-/// The text of a pass in V2: libmacaroons' binary form in URL-safe base64 without padding. An empty
-/// location is left out.
+/// Returns the text of a pass in V2: libmacaroons' binary form in URL-safe base64 without padding.
+/// An empty location is left out.
 ///
 /// # Errors
 ///

@@ -65,7 +65,7 @@ fn in_form(alloc: Global, form: Form, bytes: &[u8]) -> Result<Pass, FormFault>
     }
 }
 
-/// The text of a pass in this form: V1 and V2 in base64, JSON plain.
+/// Returns the text of a pass in this form: V1 and V2 in base64, JSON plain.
 ///
 /// # Errors
 ///

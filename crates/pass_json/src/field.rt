@@ -8,7 +8,7 @@ use pass_forms::{FormFault, decode_base64};
 use serde_json::Value;
 use std::alloc::Global;
 
-/// The bytes under the plain name or the `64` name, if one of them is present.
+/// Returns the bytes under the plain name or the `64` name, if one of them is present.
 #[tactic(auto, unfolding(crate::specs::computed::JsonReading::field_from))]
 pub fn field(
     alloc: Global,

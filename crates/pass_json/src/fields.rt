@@ -23,7 +23,7 @@ impl<'a> JsonFields<'a> {
     ghost use Rattle.std.specs.Prelude.{◌≡◌};
     ghost use Rattle.pass_forms.specs.FieldSource.{pass_fields};
 
-    /// All fields of the pass. No memory is allocated.
+    /// Returns all fields of the pass. No memory is allocated.
     pub fn over(pass: &'a Pass) -> JsonFields<'a>
         ensures { result ≡ pass_fields pass.now }
     {

@@ -7,7 +7,7 @@ ghost use Rattle.pass_json.specs.computed.JsonReading as reading;
 
 use serde_json::{Map, Value};
 
-/// Whether the value is an object with no other names than these.
+/// Returns whether the value is an object with no other names than these.
 pub fn has_only_names(value: &Value, names: &[&str]) -> bool
     ensures { result ≡ reading.has_only_names (map (λ name. name.now) names.now) (view value.now) }
 {

@@ -38,7 +38,7 @@ struct Caveats {
     third_party: bool,
 }
 
-/// The pass that an object holds.
+/// Returns the pass that an object holds.
 #[tactic(auto, unfolding(crate::specs::computed::JsonReading::pass_from))]
 pub fn pass_from(alloc: Global, value: &Value) -> Result<Read, FormFault>
     ensures ok { IfOk result (λ read. option_map pass_summary (reading.pass_from (view value.now))

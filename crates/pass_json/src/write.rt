@@ -18,8 +18,9 @@ use pass_forms::{FormFault, MAX_CAVEATS, MAX_TEXT, Pass};
 use serde_json::{Map, Value, put};
 use std::alloc::{AllocError, Global};
 
-/// The text of a pass in JSON, with no white space and the names in the order of their bytes. A
-/// `64` name is written only if the bytes aren't UTF-8. The signature always has its `64` name.
+/// Returns the text of a pass in JSON, with no white space and the names in the order of their
+/// bytes. A `64` name is written only if the bytes aren't UTF-8. The signature always has its `64`
+/// name.
 ///
 /// # Errors
 ///

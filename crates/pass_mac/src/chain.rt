@@ -24,14 +24,14 @@ impl Chain {
     ghost use Rattle.pass_mac.specs.Hmac as spec;
     ghost use Rattle.pass_mac.specs.Chain.{derived_key, chain};
 
-    /// The chain of an identifier under a root, before any caveat. Derives the root's key.
+    /// Returns the chain of an identifier under a root, before any caveat. Derives the root's key.
     pub fn start(root: &[u8], identifier: &[u8]) -> Chain
         ensures { result ≡ chain (derived_key root.now) identifier.now [] }
     {
         Chain::from_key(&derive(root), identifier)
     }
 
-    /// The chain of an identifier under an already derived key.
+    /// Returns the chain of an identifier under an already derived key.
     pub fn from_key(derived: &[u8; 32], identifier: &[u8]) -> Chain
         ensures { result ≡ chain derived.now identifier.now [] }
     {
@@ -54,7 +54,7 @@ impl Chain {
         self.signature = hmac(&self.signature, caveat);
     }
 
-    /// The current signature.
+    /// Returns the current signature.
     pub fn signature(&self) -> [u8; 32]
         ensures { result ≡ self.now }
     {

@@ -37,7 +37,7 @@ fn masked_block(block: &[u8; BLOCK_LEN], pad: u8) -> [u8; BLOCK_LEN]
     bytes
 }
 
-/// The HMAC-SHA-256 of a text under a key of any length (RFC 2104): 32 bytes.
+/// Returns the HMAC-SHA-256 of a text under a key of any length (RFC 2104): 32 bytes.
 #[tactic(auto, unfolding(crate::specs::Hmac::hmac))]
 pub fn hmac(key: &[u8], text: &[u8]) -> [u8; 32]
     ensures { result ≡ spec.hmac key.now text.now }
@@ -52,7 +52,7 @@ pub fn hmac(key: &[u8], text: &[u8]) -> [u8; 32]
     outer.finalize()
 }
 
-/// The key that libmacaroons derives from a root of any length: 32 bytes.
+/// Returns the key that libmacaroons derives from a root of any length: 32 bytes.
 #[tactic(auto, unfolding(crate::specs::Chain::derived_key))]
 pub fn derive(root: &[u8]) -> [u8; 32]
     ensures { result ≡ derived_key root.now }
@@ -60,7 +60,7 @@ pub fn derive(root: &[u8]) -> [u8; 32]
     hmac(DERIVATION_KEY, root)
 }
 
-/// Whether two signatures are equal. The time it takes may depend on their bytes.
+/// Returns whether two signatures are equal. The time it takes may depend on their bytes.
 pub fn same(a: &[u8; 32], b: &[u8; 32]) -> bool
     ensures value { result ≡ bytes_eq a.now b.now }
     ensures equal { IsTrue result ↔ (a.now ≡ b.now) }

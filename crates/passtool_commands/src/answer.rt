@@ -20,7 +20,7 @@ pub enum Outcome {
 impl Outcome {
     ghost use Rattle.passtool_commands.specs.Fault.{outcome_status};
 
-    /// The exit status: 0 or 1.
+    /// Returns the exit status: 0 or 1.
     pub fn status(self) -> u8
         ensures { result ≡ outcome_status self }
     {
@@ -49,21 +49,21 @@ impl Model for Answer {
 }
 
 impl Answer {
-    /// An outcome with a text to write.
+    /// Returns an outcome with a text to write.
     pub fn new(outcome: Outcome, text: String) -> Answer
         ensures { result ≡ (outcome, string_bytes text) }
     {
         Answer { outcome, text }
     }
 
-    /// How the command ended.
+    /// Returns how the command ended.
     pub fn outcome(&self) -> Outcome
         ensures { result ≡ self.now.0 }
     {
         self.outcome
     }
 
-    /// The text that it writes.
+    /// Returns the text that it writes.
     pub fn text(&self) -> &str
         ensures { result.now ≡ self.now.1 }
     {
@@ -98,7 +98,7 @@ pub enum Fault {
 impl Fault {
     ghost use Rattle.passtool_commands.specs.Fault.{fault_status};
 
-    /// The exit status: 2 for the arguments, 3 for the pass, 4 to 7 for the rest.
+    /// Returns the exit status: 2 for the arguments, 3 for the pass, 4 to 7 for the rest.
     pub fn status(&self) -> u8
         ensures { result ≡ fault_status self.now }
     {

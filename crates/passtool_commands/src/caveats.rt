@@ -31,14 +31,14 @@ impl<'a> Caveats<'a> {
         Ok(Caveats { texts })
     }
 
-    /// The texts, in their order.
+    /// Returns the texts, in their order.
     pub fn as_slice(&self) -> &[&'a str]
         ensures { map (λ text. text.now) result.now ≡ self.now }
     {
         self.texts.as_slice()
     }
 
-    /// The index of the first text that isn't a caveat of the language, counted from 0.
+    /// Returns the index of the first text that isn't a caveat of the language, counted from 0.
     pub fn first_unknown(&self) -> Option<usize>
         ensures { result ≡ spec.first_unknown is_understood self.now }
     {

@@ -96,7 +96,7 @@ impl<'a> Command<'a> {
     ghost use Rattle.passtool_commands.specs.Answer as spec;
     ghost use Rattle.passtool_commands.specs.Run.{Performs, ReadsInput};
 
-    /// Whether the command reads input.
+    /// Returns whether the command reads input.
     pub fn reads_input(&self) -> bool
         ensures { result ≡ spec.reads_input self.now }
     {

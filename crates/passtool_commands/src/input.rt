@@ -12,7 +12,7 @@ use std::alloc::Global;
 /// More bytes than the longest text of a pass and its line feed.
 pub const MAX_READ: usize = 8194;
 
-/// The form and the pass of the input, without one line feed at its end.
+/// Returns the form and the pass of the input, without one line feed at its end.
 pub fn read_pass(alloc: Global, bytes: &[u8]) -> Result<(Form, Pass), FormFault>
     ensures read { UnlessMemory (ReadsPass bytes.now) result }
     ensures few { IfOk result (λ read. length read.1.caveats ≤ max_caveats) }

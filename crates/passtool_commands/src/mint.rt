@@ -38,7 +38,7 @@ impl<'a> Model for Mint<'a> {
 }
 
 impl<'a> Mint<'a> {
-    /// A pass of these parts, to be written in this form.
+    /// Returns a pass of these parts, to be written in this form.
     pub fn new(
         root: Root,
         identifier: &'a str,

@@ -11,14 +11,14 @@ use clap::ArgMatches;
 use command_line::{ArgumentsFault, Root, read_value};
 use std::alloc::{AllocError, Global};
 
-/// The root that `--root` spells.
+/// Returns the root that `--root` spells.
 pub fn root_of(options: &ArgMatches<'_>) -> Result<Root, ArgumentsFault<BadValue>>
     ensures { Answers (root_in (rows_of (found_of options.now))) result }
 {
     read_value(options, "root").ok_or(ArgumentsFault::BadValue(BadValue::Root))
 }
 
-/// The caveats among the arguments.
+/// Returns the caveats among the arguments.
 pub fn caveats_of<'a>(alloc: Global, options: &ArgMatches<'a>) -> Result<Caveats<'a>, AllocError>
     ensures { IfOk result (λ caveats. caveats ≡ caveats_in (rows_of (found_of options.now))) }
 {

@@ -8,7 +8,7 @@ use pass_forms::{Form, FormFault, Pass};
 use pass_json::write_any;
 use std::alloc::Global;
 
-/// A pass in a form, with a line feed at the end.
+/// Returns a pass in a form, with a line feed at the end.
 pub fn written(alloc: Global, form: Form, pass: &Pass) -> Result<Answer, FormFault>
     ensures { UnlessMemory (spec.WritesPass form pass.now) result }
 {

@@ -12,7 +12,7 @@ use command_line::form_name;
 use pass_forms::{Form, FormFault, Pass};
 use std::alloc::{AllocError, Global};
 
-/// The fields of the pass of the input.
+/// Returns the fields of the pass of the input.
 pub fn show(alloc: Global, bytes: &[u8]) -> Result<Answer, FormFault>
     ensures { UnlessMemory (ShowsPass bytes.now) result }
 {

@@ -22,7 +22,7 @@ impl<'a> Values<'a> {
         Values { left: text }
     }
 
-    /// The next word; empty after the last.
+    /// Returns the next word; empty after the last.
     fn word(&mut self) -> &'a str {
         let (word, left) = self.left.split_once(' ').unwrap_or((self.left, ""));
         self.left = left;
@@ -70,7 +70,7 @@ impl<'a> Values<'a> {
         }
     }
 
-    /// The form that is asked for: V2 if none is.
+    /// Returns the form that is asked for: V2 if none is.
     fn form(&mut self) -> Result<Form, Fault> {
         match self.word() {
             "" => Ok(Form::V2),
@@ -79,7 +79,7 @@ impl<'a> Values<'a> {
         }
     }
 
-    /// The command of this word, whose values come next.
+    /// Returns the command of this word, whose values come next.
     fn command(&mut self, known: &Known, word: &str) -> Result<Command, Fault> {
         Ok(match word {
             "add-member" => Command::AddMember {
@@ -143,7 +143,7 @@ impl<'a> Values<'a> {
     }
 }
 
-/// A command of the office, and the form of the pass that it prints, if it prints one.
+/// Returns a command of the office, and the form of the pass that it prints, if it prints one.
 pub(crate) fn command_of(known: &Known, text: &str) -> Result<(Command, Form), Fault> {
     let mut values = Values::of(text);
     let word = values.word();
@@ -179,7 +179,7 @@ fn push_member(commands: &mut Vec<Command>, text: &str) -> Result<(), Fault> {
     Ok(())
 }
 
-/// The command that makes a facility: `NAME KIND PLACES PRICE OPENS-SHUTS`.
+/// Returns the command that makes a facility: `NAME KIND PLACES PRICE OPENS-SHUTS`.
 fn facility_of(text: &str) -> Result<Command, Fault> {
     let mut values = Values::of(text);
     let name = values.name()?;
@@ -198,7 +198,7 @@ fn facility_of(text: &str) -> Result<Command, Fault> {
     })
 }
 
-/// The part of a key's name before the last `-`.
+/// Returns the part of a key's name before the last `-`.
 fn member_in(key: &str) -> &str {
     match key.rsplit_once('-') {
         Some((member, _)) => member,
@@ -206,7 +206,7 @@ fn member_in(key: &str) -> &str {
     }
 }
 
-/// The command that makes a key: `KEY`, `KEY of MEMBER`, each maybe with `under ROOT`.
+/// Returns the command that makes a key: `KEY`, `KEY of MEMBER`, each maybe with `under ROOT`.
 fn key_of(known: &Known, text: &str) -> Result<Command, Fault> {
     let (text, root) = text.split_once(" under ").unwrap_or((text, "first"));
     let (key, member) = text.split_once(" of ").unwrap_or((text, member_in(text)));
@@ -235,7 +235,7 @@ fn push_part(commands: &mut Vec<Command>, known: &Known, part: &str) -> Result<(
     Ok(())
 }
 
-/// The commands that make the last club.
+/// Returns the commands that make the last club.
 pub(crate) fn commands_of(alloc: Global, known: &Known) -> Result<Vec<Command>, Fault> {
     let mut commands = Vec::new(alloc);
     let club = known.club.as_str();

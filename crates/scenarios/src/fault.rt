@@ -48,7 +48,7 @@ impl From<FormFault> for Fault {
     }
 }
 
-/// The value that a line needs by this rule.
+/// Returns the value that a line needs by this rule.
 pub(crate) fn needed<T: Drop>(value: Option<T>, rule: &'static str) -> Result<T, Fault> {
     match value {
         Some(value) => Ok(value),

@@ -36,12 +36,12 @@ pub(crate) struct Known {
     pub(crate) crashes: bool,
 }
 
-/// A name, which a line needs.
+/// Returns a name, which a line needs.
 pub(crate) fn name(text: &str) -> Result<Name, Fault> {
     needed(Name::read(text.as_bytes()), "no name")
 }
 
-/// The bytes of a root in hexadecimal.
+/// Returns the bytes of a root in hexadecimal.
 fn root_in_hex(text: &str) -> Option<Root> {
     let mut bytes = [0; 64];
     let len = text.len() / 2;
@@ -51,7 +51,7 @@ fn root_in_hex(text: &str) -> Option<Root> {
     Root::new(&bytes[..len])
 }
 
-/// The last root of this name.
+/// Returns the last root of this name.
 fn last_named(named: &[Named], name: &Name) -> Option<Root> {
     let mut found = None;
     for it in named {
@@ -63,7 +63,7 @@ fn last_named(named: &[Named], name: &Name) -> Option<Root> {
 }
 
 impl Known {
-    /// The state before the first line.
+    /// Returns the state before the first line.
     pub(crate) fn new(alloc: Global) -> Result<Known, Fault> {
         let mut known = Known {
             roots: Vec::new(alloc),
@@ -81,7 +81,7 @@ impl Known {
         Ok(known)
     }
 
-    /// A root by its name or in hexadecimal.
+    /// Returns a root by its name or in hexadecimal.
     pub(crate) fn root(&self, text: &str) -> Result<Root, Fault> {
         let named = match Name::read(text.as_bytes()) {
             Some(name) => last_named(&self.roots, &name),
@@ -98,7 +98,7 @@ impl Known {
         Ok(self.roots.push(Named { name, root })?)
     }
 
-    /// The root that a key of the club began with; `None` if there is no such key.
+    /// Returns the root that a key of the club began with; `None` if there is no such key.
     pub(crate) fn root_of_key(&self, key: &Name) -> Option<Root> {
         last_named(&self.keys, key)
     }
@@ -116,7 +116,7 @@ impl Known {
         self.keys.clear();
     }
 
-    /// The text of a name.
+    /// Returns the text of a name.
     pub(crate) fn text(&self, name: &Name) -> Result<&[u8], Fault> {
         for it in &self.texts {
             if it.name == *name {
@@ -131,7 +131,7 @@ impl Known {
         Ok(self.texts.push(NamedText { name, text })?)
     }
 
-    /// The moment of a line.
+    /// Returns the moment of a line.
     pub(crate) fn moment(&self) -> Result<Moment, Fault> {
         needed(self.moment, "no moment before it")
     }

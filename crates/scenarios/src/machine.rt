@@ -42,14 +42,14 @@ impl Maker for Machines {
     }
 }
 
-/// The text of a reply.
+/// Returns the text of a reply.
 pub(crate) fn text_of(alloc: Global, reply: &Reply) -> Result<String, Fault> {
     let mut room = [0; MAX_REPLY_LEN];
     let len = reply_bytes(reply, &mut room);
     text_in(alloc, &room[..len])
 }
 
-/// The text that is in bytes.
+/// Returns the text that is in bytes.
 pub(crate) fn text_in(alloc: Global, bytes: &[u8]) -> Result<String, Fault> {
     match std::str::from_utf8(bytes) {
         Ok(text) => Ok(String::from_str(alloc, text)?),
@@ -57,7 +57,7 @@ pub(crate) fn text_in(alloc: Global, bytes: &[u8]) -> Result<String, Fault> {
     }
 }
 
-/// Why a text is no pass; `None` if memory was refused.
+/// Returns why a text is no pass; `None` if memory was refused.
 fn pass_fault(fault: FormFault) -> Option<PassFault> {
     match fault {
         FormFault::TooLong => Some(PassFault::TooLong),
@@ -68,7 +68,7 @@ fn pass_fault(fault: FormFault) -> Option<PassFault> {
     }
 }
 
-/// The key that an identifier names.
+/// Returns the key that an identifier names.
 fn key_in(identifier: &[u8]) -> Option<Name> {
     Name::read(identifier.strip_prefix(b"key:")?)
 }
@@ -94,7 +94,7 @@ fn copies(alloc: Global, texts: &[Vec<u8>]) -> Result<Vec<Vec<u8>>, AllocError> 
     Ok(copies)
 }
 
-/// Whether a row of a sheet comes before another one.
+/// Returns whether a row of a sheet comes before another one.
 fn order(one: &Booking, other: &Booking) -> Ordering {
     one.slot
         .facility
@@ -117,7 +117,7 @@ fn older_text(alloc: Global, key: &Key) -> Result<String, AllocError> {
 }
 
 impl Machine {
-    /// A pass as the machine sees it.
+    /// Returns a pass as the machine sees it.
     fn seen(&self, pass: &SentPass) -> Result<Pass, AllocError> {
         let mut roots = Vec::new(self.alloc);
         for key in self.club.keys() {
@@ -130,7 +130,7 @@ impl Machine {
         })
     }
 
-    /// The pass of a text, or why it is none.
+    /// Returns the pass of a text, or why it is none.
     fn read(&self, text: &[u8]) -> Result<Result<Pass, PassFault>, Fault> {
         match read_any(self.alloc, text) {
             Ok((_, pass)) => Ok(Ok(self.seen(&pass)?)),
@@ -141,7 +141,7 @@ impl Machine {
         }
     }
 
-    /// The reply to a request under the pass of a text.
+    /// Returns the reply to a request under the pass of a text.
     fn ask(
         &mut self,
         moment: Moment,
@@ -155,7 +155,7 @@ impl Machine {
         Ok(self.club.ask(&words, moment)?)
     }
 
-    /// The number of a member's bookings that are open at a moment.
+    /// Returns the number of a member's bookings that are open at a moment.
     fn open_count(&self, member: &Name, moment: Moment) -> usize {
         self.club
             .bookings()
@@ -168,7 +168,7 @@ impl Machine {
             .count()
     }
 
-    /// Whether a key is this member's.
+    /// Returns whether a key is this member's.
     fn is_of(&self, key: &Name, member: &Name) -> bool {
         self.club
             .keys()
@@ -176,7 +176,7 @@ impl Machine {
             .any(|it| it.name == *key && it.member == *member)
     }
 
-    /// The points that a key spent.
+    /// Returns the points that a key spent.
     fn spent(&self, key: &Name) -> u64 {
         let mut spent = 0u64;
         for booking in self.club.bookings() {
@@ -188,7 +188,7 @@ impl Machine {
         spent
     }
 
-    /// The lines of a key's account.
+    /// Returns the lines of a key's account.
     fn account_of(&self, key: &Key, moment: Moment) -> Result<Option<String>, Fault> {
         let mut members = self.club.members().iter();
         let Some(member) = members.find(|member| member.name == key.member) else {

@@ -39,7 +39,7 @@ struct Found {
     at: FaultAt,
 }
 
-/// The names of the files, in their order.
+/// Returns the names of the files, in their order.
 fn names(rt: &HostRuntime) -> Result<Vec<String>> {
     let mut names = Vec::new(rt.alloc());
     for entry in fs::read_dir(rt, ".")? {

@@ -72,7 +72,7 @@ static WHOLE: [(&str, usize); 10] = [
     ("club  empty\nnobody  GET account  200 {}", 2),
 ];
 
-/// Whether a text is refused at this line.
+/// Returns whether a text is refused at this line.
 fn is_refused(alloc: Global, text: &str, line: usize) -> Result<bool, AllocError> {
     let lines: Vec<&str> = text.lines().collect(alloc)?;
     let way = Way {
@@ -85,7 +85,7 @@ fn is_refused(alloc: Global, text: &str, line: usize) -> Result<bool, AllocError
     }
 }
 
-/// The first of these texts that isn't refused at its line, after a beginning.
+/// Returns the first of these texts that isn't refused at its line, after a beginning.
 fn first_played<'a>(
     alloc: Global,
     front: &str,
@@ -100,7 +100,7 @@ fn first_played<'a>(
     Ok(None)
 }
 
-/// The first odd text that isn't refused at its line; `None` if each is.
+/// Returns the first odd text that isn't refused at its line; `None` if each is.
 pub(crate) fn first_played_of_all(alloc: Global) -> Result<Option<&'static str>, AllocError> {
     if let Some(text) = first_played(alloc, CLUB, &AFTER_A_CLUB)? {
         return Ok(Some(text));

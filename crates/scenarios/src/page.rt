@@ -10,13 +10,13 @@ static WORDS: [&str; 11] = [
     "club", "root", "text", "at", "bytes", "office", "sheet", "account", "slot", "crash", "reopen",
 ];
 
-/// The lines that belong to the one above them, which are those that begin with spaces.
+/// Returns the lines that belong to the one above them, which are those that begin with spaces.
 pub(crate) fn below<'a>(lines: &'a [&'a str]) -> &'a [&'a str] {
     let next = lines.iter().position(|line| !line.starts_with(' '));
     &lines[..next.unwrap_or(lines.len())]
 }
 
-/// The word that a line begins with, if it is one of the language, and the rest.
+/// Returns the word that a line begins with, if it is one of the language, and the rest.
 fn first_word(line: &str) -> Option<(&str, &str)> {
     let (word, rest) = line.split_once(' ').unwrap_or((line, ""));
     if WORDS.contains(&word) {
@@ -36,7 +36,7 @@ fn push_columns<'a>(columns: &mut Vec<&'a str>, line: &'a str) -> Result<(), All
     Ok(())
 }
 
-/// The columns of a line.
+/// Returns the columns of a line.
 pub(crate) fn columns_of<'a>(alloc: Global, line: &'a str) -> Result<Vec<&'a str>, AllocError> {
     let mut columns = Vec::new(alloc);
     match first_word(line) {

@@ -23,7 +23,7 @@ struct Draft {
     caveats: Vec<Vec<u8>>,
 }
 
-/// A form by its name.
+/// Returns a form by its name.
 pub(crate) fn form_named(text: &str) -> Option<Form> {
     match text {
         "v1" => Some(Form::V1),
@@ -33,7 +33,7 @@ pub(crate) fn form_named(text: &str) -> Option<Form> {
     }
 }
 
-/// A text in place of another one.
+/// Returns a text in place of another one.
 fn replace(text: &mut Vec<u8>, part: &str) -> Result<(), Fault> {
     text.clear();
     push_unescaped(text, unquoted(part))
@@ -52,7 +52,7 @@ fn forged(pass: Pass) -> Pass {
 }
 
 impl Draft {
-    /// The pass of a key as the office makes it.
+    /// Returns the pass of a key as the office makes it.
     fn of_key(alloc: Global, key: &Name, root: &Root, form: Form) -> Result<Draft, Fault> {
         let mut identifier = Vec::from_slice(alloc, b"key:")?;
         identifier.extend_from_slice(key.as_bytes())?;
@@ -95,7 +95,7 @@ impl Draft {
         Ok(())
     }
 
-    /// The pass.
+    /// Returns the pass.
     fn pass(&self, alloc: Global) -> Result<Pass, Fault> {
         let root = self.root.as_bytes();
         let mut pass = Pass::mint(alloc, root, &self.location, &self.identifier)?;
@@ -106,7 +106,7 @@ impl Draft {
     }
 }
 
-/// The text of the key that a holder names, and the parts of its bracket.
+/// Returns the text of the key that a holder names, and the parts of its bracket.
 fn key_and_parts(holder: &str) -> Result<(&str, &str), Fault> {
     match holder.split_once(" [") {
         None => Ok((holder, "")),
@@ -117,7 +117,8 @@ fn key_and_parts(holder: &str) -> Result<(&str, &str), Fault> {
     }
 }
 
-/// The root of a key. A key that the club hasn't has the first root, and a part that says so.
+/// Returns the root of a key. A key that the club hasn't has the first root, and a part that says
+/// so.
 fn root_of(known: &Known, key: &Name, parts: &str) -> Result<Root, Fault> {
     let is_unknown = parts.split("; ").any(|part| part == UNKNOWN);
     match known.root_of_key(key) {
@@ -153,7 +154,7 @@ pub(crate) fn push_pass(
     Ok(bytes.extend_from_slice(text.as_bytes())?)
 }
 
-/// The text of a key's pass as the office makes it.
+/// Returns the text of a key's pass as the office makes it.
 pub(crate) fn office_pass(
     alloc: Global,
     key: &Name,

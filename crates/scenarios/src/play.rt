@@ -77,7 +77,7 @@ fn expect(alloc: Global, wanted: &str, found: &str) -> Result<(), Fault> {
     })
 }
 
-/// The lines of a text with commas between them.
+/// Returns the lines of a text with commas between them.
 fn on_one_line(alloc: Global, text: &str) -> Result<String, Fault> {
     let mut line = String::new(alloc);
     for value in text.lines() {
@@ -90,12 +90,12 @@ fn on_one_line(alloc: Global, text: &str) -> Result<String, Fault> {
 }
 
 impl<'a> Line<'a> {
-    /// A column; none is a fault.
+    /// Returns a column; none is a fault.
     fn column(&self, number: usize, rule: &'static str) -> Result<&'a str, Fault> {
         needed(self.columns.get(number).copied(), rule)
     }
 
-    /// The columns from this one on.
+    /// Returns the columns from this one on.
     fn rest(&self, number: usize) -> &'a [&'a str] {
         &self.columns[number.min(self.columns.len())..]
     }
@@ -117,7 +117,7 @@ impl<'a> Line<'a> {
         }
     }
 
-    /// The text of the first column and of the lines below.
+    /// Returns the text of the first column and of the lines below.
     fn whole(&self, alloc: Global) -> Result<String, Fault> {
         let mut text = String::new(alloc);
         for part in self.rest(1).iter().chain(self.below.iter()) {
@@ -130,7 +130,7 @@ impl<'a> Line<'a> {
     }
 }
 
-/// The outcome of a command, as a line states it: its output, or why it is refused.
+/// Returns the outcome of a command, as a line states it: its output, or why it is refused.
 fn outcome(
     alloc: Global,
     command: &Command,
@@ -149,7 +149,7 @@ fn outcome(
     }
 }
 
-/// The output that a line's outcome of a command stands for: `done` may be a key's pass.
+/// Returns the output that a line's outcome of a command stands for: `done` may be a key's pass.
 fn wanted_outcome(
     alloc: Global,
     command: &Command,
@@ -221,8 +221,8 @@ where
         }
     }
 
-    /// Whether the line is played first, and then the tables are opened again: it was stopped, and
-    /// its first try was kept.
+    /// Returns whether the line is played first, and then the tables are opened again: it was
+    /// stopped, and its first try was kept.
     fn was_kept(&mut self) -> Result<bool, Fault> {
         let crashes = self.known.crashes;
         self.known.crashes = false;

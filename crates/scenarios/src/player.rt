@@ -7,21 +7,21 @@ use std::alloc::Global;
 
 /// A club, and what answers for it.
 pub(crate) trait Player {
-    /// The bytes of the reply to the bytes of a request.
+    /// Returns the bytes of the reply to the bytes of a request.
     fn reply(&mut self, moment: Moment, request: &[u8]) -> Result<String, Fault>;
 
     fn command(&mut self, command: &Command) -> Result<OfficeReply, Fault>;
 
-    /// The sheet of a day.
+    /// Returns the sheet of a day.
     fn sheet(&mut self, day: Day) -> Result<String, Fault>;
 
-    /// The lines of a key's account; `None` if there is no such key.
+    /// Returns the lines of a key's account; `None` if there is no such key.
     fn account(&mut self, key: &Name, moment: Moment) -> Result<Option<String>, Fault>;
 
-    /// The lines of a slot; `None` if there is no such facility.
+    /// Returns the lines of a slot; `None` if there is no such facility.
     fn slot(&mut self, slot: &Slot) -> Result<Option<String>, Fault>;
 
-    /// The player after its tables were closed and opened again, maybe as those of an older
+    /// Returns the player after its tables were closed and opened again, maybe as those of an older
     /// program.
     fn reopened(self, as_version_1: bool) -> Result<Self, Fault>;
 }

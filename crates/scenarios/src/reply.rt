@@ -6,7 +6,7 @@ use std::alloc::{AllocError, Global};
 
 const METHODS: &str = "with status 405, and with no other, the methods of the path are told";
 
-/// The words of a status.
+/// Returns the words of a status.
 fn phrase(status: &str) -> Option<&'static str> {
     match status {
         "200" => Some("OK"),
@@ -22,7 +22,7 @@ fn phrase(status: &str) -> Option<&'static str> {
     }
 }
 
-/// The methods of the path that are told beside a reply with status 405.
+/// Returns the methods of the path that are told beside a reply with status 405.
 fn methods<'a>(status: &str, columns: &[&'a str]) -> Result<Option<&'a str>, Fault> {
     let mut found = None;
     for column in columns {
@@ -35,7 +35,7 @@ fn methods<'a>(status: &str, columns: &[&'a str]) -> Result<Option<&'a str>, Fau
     }
 }
 
-/// The field of a head that only this status has, with its line's end.
+/// Returns the field of a head that only this status has, with its line's end.
 fn own_field(alloc: Global, status: &str, methods: Option<&str>) -> Result<String, AllocError> {
     match methods {
         Some("GET") => String::from_str(alloc, "Allow: GET\r\n"),
@@ -72,7 +72,7 @@ fn expect_counts(columns: &[&str], body: usize, all: usize) -> Result<(), Fault>
     Ok(())
 }
 
-/// The reply that the last columns of a line state: `STATUS BODY`, the methods, and counts.
+/// Returns the reply that the last columns of a line state: `STATUS BODY`, the methods, and counts.
 pub(crate) fn reply_of(alloc: Global, columns: &[&str]) -> Result<String, Fault> {
     let Some((reply, others)) = columns.split_first() else {
         return Err(Fault::Rule("no expectation"));

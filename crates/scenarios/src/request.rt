@@ -14,7 +14,7 @@ fn push(bytes: &mut Vec<u8>, text: &str) -> Result<(), Fault> {
     Ok(bytes.extend_from_slice(text.as_bytes())?)
 }
 
-/// The text before a path, unless the line gives it whole.
+/// Returns the text before a path, unless the line gives it whole.
 fn front_of(path: &str) -> &'static str {
     if path.starts_with('/') {
         ""
@@ -25,7 +25,7 @@ fn front_of(path: &str) -> &'static str {
     }
 }
 
-/// The bytes of a request under a holder's pass: `METHOD PATH BODY`.
+/// Returns the bytes of a request under a holder's pass: `METHOD PATH BODY`.
 pub(crate) fn request_of(
     alloc: Global,
     known: &Known,
@@ -71,7 +71,7 @@ fn push_pieces(bytes: &mut Vec<u8>, known: &Known, form: Form, line: &str) -> Re
     Ok(())
 }
 
-/// The bytes of a request whose lines are these.
+/// Returns the bytes of a request whose lines are these.
 pub(crate) fn request_in(
     alloc: Global,
     known: &Known,

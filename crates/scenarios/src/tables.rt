@@ -49,7 +49,7 @@ fn fault_of(fault: StoreFault) -> Fault {
     }
 }
 
-/// The lines that a desk shows; `None` if there is nothing of the name.
+/// Returns the lines that a desk shows; `None` if there is nothing of the name.
 fn shown(shown: Result<String, DeskFault>) -> Result<Option<String>, Fault> {
     match shown {
         Ok(text) => Ok(Some(text)),
@@ -59,7 +59,7 @@ fn shown(shown: Result<String, DeskFault>) -> Result<Option<String>, Fault> {
     }
 }
 
-/// The desk over the tables of a connection.
+/// Returns the desk over the tables of a connection.
 fn desk_over<S: Alter + Drop>(
     alloc: Global,
     connection: Connection<S>,

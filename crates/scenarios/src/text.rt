@@ -25,7 +25,7 @@ fn digit(byte: u8) -> Result<u8, Fault> {
     }
 }
 
-/// The byte that a letter after a backslash stands for.
+/// Returns the byte that a letter after a backslash stands for.
 fn simple(letter: u8) -> Result<u8, Fault> {
     match letter {
         b'r' => Ok(b'\r'),
@@ -67,7 +67,7 @@ pub(crate) fn push_unescaped(bytes: &mut Vec<u8>, text: &str) -> Result<(), Faul
     }
 }
 
-/// A number of at most nine digits.
+/// Returns a number of at most nine digits.
 pub(crate) fn number(text: &str) -> Result<u32, Fault> {
     let is_number = text.len() < 10 && text.as_bytes().iter().all(|byte| byte.is_ascii_digit());
     match text.parse::<u32>() {
@@ -96,7 +96,7 @@ pub(crate) fn push_repeated(bytes: &mut Vec<u8>, text: &str) -> Result<(), Fault
     Ok(())
 }
 
-/// A text without the double quotes round it, if it has them.
+/// Returns a text without the double quotes round it, if it has them.
 pub(crate) fn unquoted(text: &str) -> &str {
     match text.strip_prefix('"') {
         Some(rest) => rest.strip_suffix('"').unwrap_or(text),
@@ -104,7 +104,7 @@ pub(crate) fn unquoted(text: &str) -> &str {
     }
 }
 
-/// The part of a text before a delimiter, and the part after it.
+/// Returns the part of a text before a delimiter, and the part after it.
 pub(crate) fn halves<'a>(
     text: &'a str,
     delimiter: char,

@@ -132,7 +132,7 @@ fn open_slot(slot: &PlainSlot) -> Option<Command> {
 }
 
 impl PlainCommand {
-    /// The command; `None` if a name, a root, a moment or a slot is out of its limits.
+    /// Returns the command; `None` if a name, a root, a moment or a slot is out of its limits.
     pub fn command(&self) -> Option<Command> {
         match self {
             PlainCommand::AddMember(member, quota) => add_member(member, *quota),

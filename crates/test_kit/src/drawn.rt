@@ -97,7 +97,7 @@ pub struct Asking {
     pub moment: u32,
 }
 
-/// The asking for a member's account by a key that nothing else is asked for by.
+/// Returns the asking for a member's account by a key that nothing else is asked for by.
 pub fn audit(key: &'static str) -> Asking {
     Asking {
         key,
@@ -123,12 +123,12 @@ pub struct Numbers {
 }
 
 impl Numbers {
-    /// The numbers of a seed.
+    /// Returns the numbers of a seed.
     pub fn new(first: u64) -> Numbers {
         Numbers { state: first }
     }
 
-    /// The next number, brought below a bound.
+    /// Returns the next number, brought below a bound.
     fn below(&mut self, bound: u32) -> u32
         requires { 0 < bound }
         ensures { result < bound }
@@ -212,7 +212,7 @@ impl Numbers {
         }
     }
 
-    /// The next event: a request, or once in six a command.
+    /// Returns the next event: a request, or once in six a command.
     pub fn event(&mut self) -> Event {
         match self.below(6) {
             0 => Event::Commanded(self.command()),

@@ -21,13 +21,13 @@ pub struct Output {
 }
 
 impl Output {
-    /// Whether a run ended with this status, and its text begins so.
+    /// Returns whether a run ended with this status, and its text begins so.
     pub fn begins(&self, status: u8, front: &str) -> bool {
         self.status == status && self.text.as_str().starts_with(front)
     }
 }
 
-/// Whether a text is this line.
+/// Returns whether a text is this line.
 fn is_line(text: &str, line: &str) -> bool {
     match text.strip_suffix('\n') {
         Some(text) => text == line,
@@ -36,7 +36,7 @@ fn is_line(text: &str, line: &str) -> bool {
 }
 
 impl End {
-    /// Whether a run with this output ended so.
+    /// Returns whether a run with this output ended so.
     pub fn fits(&self, output: &Output) -> bool {
         let text = output.text.as_str();
         match self {
@@ -47,7 +47,7 @@ impl End {
     }
 }
 
-/// The beginning of the line about a form that is none of the three.
+/// Returns the beginning of the line about a form that is none of the three.
 pub fn form_line(alloc: Global, form: &str) -> Result<String, AllocError> {
     format!(in alloc;
         "error: invalid value '{form}' for '--form <FORM>'\n  [possible values: v1, v2, json]\n"

@@ -12,7 +12,7 @@ fn append(text: &mut String, piece: &Piece) -> Result<(), AllocError> {
     Ok(())
 }
 
-/// The pieces, one after the other.
+/// Returns the pieces, one after the other.
 pub fn join(alloc: Global, pieces: &[Piece]) -> Result<String, AllocError> {
     let mut text = String::new(alloc);
     for piece in pieces {

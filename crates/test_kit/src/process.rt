@@ -15,7 +15,7 @@ pub struct Process<'a> {
 }
 
 impl<'a> Process<'a> {
-    /// A process that has printed nothing.
+    /// Returns a process that has printed nothing.
     pub fn new(alloc: Global, arguments: &'a [&'a [u8]]) -> Process<'a> {
         Process {
             alloc,
@@ -24,7 +24,7 @@ impl<'a> Process<'a> {
         }
     }
 
-    /// What was printed on standard error.
+    /// Returns what was printed on standard error.
     pub fn into_printed(self) -> String {
         let Process { printed, .. } = self;
         printed.into_inner()

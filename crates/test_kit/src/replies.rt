@@ -88,7 +88,7 @@ fn account_shown(balance: u32, open_count: u64, spent: u64) -> Option<Reply> {
 }
 
 impl PlainReply {
-    /// The reply; `None` if a name or a number is out of its limits.
+    /// Returns the reply; `None` if a name or a number is out of its limits.
     pub fn reply(&self) -> Option<Reply> {
         match self {
             PlainReply::SlotShown(taken, closed) => slot_shown(*taken, *closed),

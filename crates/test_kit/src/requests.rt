@@ -56,7 +56,7 @@ fn cancel(slot: &PlainSlot, number: u32) -> Option<Request> {
 }
 
 impl PlainRequest {
-    /// The request; `None` if a part is out of its limits.
+    /// Returns the request; `None` if a part is out of its limits.
     pub fn request(&self) -> Option<Request> {
         match self {
             PlainRequest::View(slot) => view(slot),

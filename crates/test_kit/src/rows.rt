@@ -71,7 +71,7 @@ pub fn amy(credited: u32, quota: u8) -> Option<Member> {
 }
 
 impl PlainFacility {
-    /// The row; `None` if it can't be named so.
+    /// Returns the row; `None` if it can't be named so.
     pub fn facility(&self) -> Option<Facility> {
         Some(Facility {
             name: Name::read(self.name.as_bytes())?,
@@ -85,7 +85,7 @@ impl PlainFacility {
 }
 
 impl PlainBooking {
-    /// The row; `None` if a part is out of its limits.
+    /// Returns the row; `None` if a part is out of its limits.
     pub fn booking(&self) -> Option<Booking> {
         Some(Booking {
             key: Name::read(self.key.as_bytes())?,

@@ -42,7 +42,7 @@ pub const ROOM_AT_9: PlainSlot = PlainSlot { hour: 9, ..ROOM };
 pub const ROOM_AT_10: PlainSlot = PlainSlot { hour: 10, ..ROOM };
 
 impl PlainSlot {
-    /// The slot; `None` if a part is out of its limits.
+    /// Returns the slot; `None` if a part is out of its limits.
     pub fn slot(&self) -> Option<Slot> {
         Some(Slot {
             facility: Name::read(self.facility.as_bytes())?,

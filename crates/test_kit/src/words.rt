@@ -19,8 +19,8 @@ fn only(alloc: Global, root: Root) -> Result<Vec<Root>, AllocError> {
     Ok(roots)
 }
 
-/// A pass with these caveats that is signed under one root. `None` if the root is none, or memory
-/// is refused.
+/// Returns a pass with these caveats that is signed under one root. `None` if the root is none, or
+/// memory is refused.
 pub fn signed_pass(
     alloc: Global,
     key: Option<Name>,

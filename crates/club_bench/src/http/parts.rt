@@ -27,7 +27,7 @@ pub(crate) fn words(
     Ok(start.elapsed(rt)?)
 }
 
-/// The heads of the requests by `httparse` alone.
+/// Returns the heads of the requests by `httparse` alone.
 pub(crate) fn heads(rt: &impl Clock, sent: &[Sent]) -> Result<Duration> {
     let mut fields = [EMPTY_HEADER_SPAN; MAX_FIELDS];
     let start = Instant::now(rt)?;
@@ -66,7 +66,7 @@ fn reply<S: ClubStore>(desk: &mut Desk<S>, sent: &Sent, request: Request) -> Rep
     desk.ask(sent.moment, &words)
 }
 
-/// The texts of the replies. The last one is at the front of the room.
+/// Returns the texts of the replies. The last one is at the front of the room.
 pub(crate) fn texts(
     rt: &impl Clock,
     replies: &[Reply],

@@ -8,7 +8,7 @@ use Rattle.club_core.specs.Run as machine
 use Rattle.club_gate.specs.{DecodedPass.fault_of, Identifier.key_name_in, declared.event.Event.Event}
 use Rattle.club_gate.specs.declared.event.Event.TheVariants as events
 
--- a pass as the rules see it: the key that it names, its caveats as they are understood, and the roots under which it is signed
+-- a pass as the rules see it: the key that it names, the meanings of its caveats, and the roots under which it is signed
 abbrev pub machine_pass : Plain → Pass
 machine_pass pass = record {
   key = key_name_in pass.identifier;
@@ -42,6 +42,6 @@ abbrev pub machine_event : Event → machine.Event
 machine_event (events.Asked words moment) = machine.Asked (decoded_words words.pass.now words.request) moment
 machine_event (events.Commanded command) = machine.Commanded command
 
--- the events of the machine that events at the desk are
+-- events at the desk, as the machine sees them
 abbrev pub machine_events : List Event → List machine.Event
 machine_events events = map machine_event events

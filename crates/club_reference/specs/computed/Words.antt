@@ -1,4 +1,4 @@
--- The model of the code's words, computed. `IsModelOf` defines what it is; a law states that both agree.
+-- Computes the model of the code's words. `IsModelOf` defines the model, and a law states that both agree.
 use Rattle.std.specs.{List.list_any, Prelude.{map, Result, Ok, Err}, Str.bytes_eq, Vec.vec_items}
 use Rattle.pass_caveats.specs.computed.CaveatOf.{caveat_of}
 use Rattle.club_core.specs.{Pass.{Pass, Words}, declared.pass_fault.PassFault.PassFault}

@@ -1,5 +1,4 @@
--- The values of texts as functions, for definitions that compute. `IsName`, `SpellsDay` and the like define what the values mean; the
--- contracts of the parsers state both.
+-- Functions that compute the values of texts. `IsName`, `SpellsDay` and similar definitions say what the values mean; the contracts of the parsers state both.
 use Rattle.std.specs.{Int.is_in_range, List.list_all}
 use Rattle.std.specs.Prelude.{ℕ, ◌+◌, ◌-◌, ◌*◌, ◌/◌, ◌==◌, ◌&&◌, not, Bool, true, List, length, slice_index, nat_lt, nat_le, if◌then◌else◌, Option, Some, None}
 use Rattle.std.specs.Str.{bytes_eq}
@@ -24,7 +23,7 @@ number_of_date year month day =
     let march_month = if nat_lt month 3 then month + 12 else month in
     9556 + 365 * years + years / 4 + (153 * march_month - 457) / 5 + (day - 1)
 
--- the day, and the moment, of the digits at the front
+-- the day, and the moment, that the first digits spell
 abbrev pub day_of : List ℕ → ℕ
 day_of text = number_of_date (100 * two_at text 0 + two_at text 2) (two_at text 5) (two_at text 8)
 
@@ -40,7 +39,7 @@ candidate_action text =
     else (if slice_index text 0 == 98 then Book
     else (if slice_index text 0 == 99 then Cancel else Account))
 
--- the value, if its text is this text
+-- the value, if its text equals this text
 abbrev pub where_spelled : {A : Type 0} → List ℕ → A → List ℕ → Bool → Option A
 where_spelled text value spelled fits = if fits && bytes_eq text spelled then Some value else None
 

@@ -25,7 +25,7 @@ impl Buffer {
     ghost use Rattle.std.specs.Prelude.{◌≡◌, ◌≤◌, [], length};
     ghost use Rattle.pass_forms.specs.Putting.{Puts, buffer_len};
 
-    /// An empty buffer.
+    /// Returns an empty buffer.
     pub fn new() -> Buffer
         ensures { result ≡ [] }
     {
@@ -48,7 +48,7 @@ impl Buffer {
         Ok(())
     }
 
-    /// All bytes written so far.
+    /// Returns all bytes written so far.
     pub fn as_slice(&self) -> &[u8]
         ensures bytes { result.now ≡ self.now }
         ensures fits { length self.now ≤ buffer_len }

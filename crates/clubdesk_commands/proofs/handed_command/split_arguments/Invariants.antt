@@ -1,4 +1,4 @@
--- The arguments so far, and what is left of the text.
+-- The arguments so far, and the rest of the text.
 use Rattle.std.proofs.Common.{◌≡◌, ◌++◌, map, length}
 use denote.Text.{Utf8}
 use denote.Shadow.{shadow}

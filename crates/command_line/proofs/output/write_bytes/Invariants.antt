@@ -1,4 +1,4 @@
--- What was written so far is the front of the bytes.
+-- The bytes written so far are a prefix of the bytes.
 use Rattle.std.proofs.Common.{◌≤◌, take, length}
 use Rattle.std.specs.Io.KnownBytes.{Appends}
 use Rattle.command_line.proofs.output.write_bytes.Given as goal

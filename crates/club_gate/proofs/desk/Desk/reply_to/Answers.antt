@@ -4,7 +4,7 @@ use Rattle.club_gate.proofs.desk.Desk.reply_to.Goals.{After-settle}
 use Rattle.club_gate.proofs.desk.Desk.reply_to.Given as given
 use Rattle.club_gate.proofs.desk.Desk.reply_to.Goals as goal
 
--- what was decided of the club, and that the store may settle it
+-- the decision for the club, which the store may settle
 decided : (g : given.Over) (c : After-settle g) → g.S.ClubStore.disk_is_clean c.settle.new.self → (club : Club) (others : List Club)
     → g.S.ClubStore.represents c.args.self.now club others
     → (c.in_ok-verdict.verdict ≡ verdict_in club (decoded_words c.args.words.now.pass.now c.args.words.now.request) c.args.moment)

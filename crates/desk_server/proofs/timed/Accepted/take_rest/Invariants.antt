@@ -1,4 +1,4 @@
--- The bytes that were taken so far.
+-- The bytes taken so far.
 use Rattle.std.proofs.Common.{◌≡◌, ◌-◌, ◌≤◌, ℕ, List, length}
 use Rattle.std.specs.Io.KnownBytes.{Consumes, Keeps}
 use Rattle.desk_server.specs.Accepted.{HasMoved}
