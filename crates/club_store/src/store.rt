@@ -183,8 +183,8 @@ impl<S: Alter> Store<S> {
         Ok(Some(Key::new(row, older)))
     }
 
-    /// Returns the member of this name; `None` if there is none. A row outside its limits is a fault
-    /// of storage.
+    /// Returns the member of this name; `None` if there is none. A row outside its limits is a
+    /// fault of storage.
     pub fn member(&mut self, name: &Name) -> Result<Option<Member>, StoreFault>
         ensures reads { ReadsClub S.Store self.old self.new result
             (λ club member. member ≡ member_named name.now club) }
@@ -197,7 +197,7 @@ impl<S: Alter> Store<S> {
     }
 
     /// Returns the member of this name with its balance, in points; `None` if there is none. A row
-    /// out of its limits is a fault of storage.
+    /// outside its limits is a fault of storage.
     pub fn account(&mut self, member: &Name) -> Result<Option<MemberAccount>, StoreFault>
         ensures reads { ReadsClub S.Store self.old self.new result
             (λ club account. account ≡ account_named member.now club) }
@@ -395,7 +395,7 @@ impl<S: Alter> Store<S> {
         }
     }
 
-    /// Returns the booking of a key under a number; `None` if there is none. A row out of its
+    /// Returns the booking of a key under a number; `None` if there is none. A row outside its
     /// limits is a fault of storage.
     pub fn booking(
         &mut self,

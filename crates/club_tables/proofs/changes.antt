@@ -1,4 +1,4 @@
--- What each change of the club makes of the tables.
+-- The effect of each change of the club on the tables.
 
 pub mod AddLemmas
 pub mod ChangeLemmas

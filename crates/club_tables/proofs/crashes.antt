@@ -1,4 +1,4 @@
--- Transactions, and the club that a connection represents whatever a crash leaves.
+-- Transactions, and the club that a connection represents after a crash.
 
 pub mod RepresentsLemmas
 pub mod SurviveLemmas

@@ -1,4 +1,4 @@
--- The tables as they are made, migrated and opened.
+-- The tables as they are created, migrated and opened.
 
 pub mod MakesLemmas
 pub mod MakingLemmas

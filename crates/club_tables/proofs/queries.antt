@@ -1,4 +1,4 @@
--- What the club's queries return.
+-- The results of the club's queries.
 
 pub mod KeyLemmas
 pub mod MemberLemmas

@@ -1,4 +1,4 @@
--- What one statement does, whatever the table: SELECT, INSERT, UPDATE.
+-- The effect of one statement on any table: SELECT, INSERT, UPDATE.
 
 pub mod MeansLemmas
 pub mod SelectLemmas

@@ -1,4 +1,4 @@
--- What the rows of a query are decoded to, whatever the tables hold, and why a read fails (ours).
+-- The values that the rows of a query decode to, for any contents of the tables, and the reasons why a read fails (ours).
 use Rattle.club_tables.specs.Columns.{whole_in, whole, HasValues, IsCostRow, cost_in, key_values, older_root_values, member_values, facility_values}
 use Rattle.club_tables.specs.{Columns.{booking_values, name_values, use_values}, Fault.FailsToAsk, Sheet.AreBookings, Stored.{IsMemberRow, no_slot_use}}
 use Rattle.club_tables.specs.{Transaction.{BoundStatement, Asked, IsUntouched}, declared.row.MemberRow.MemberRow}
@@ -11,7 +11,7 @@ use Rattle.club_rows.specs.{Key.key_of_row, Limits.places_limit, Rows.{IsFacilit
 use Rattle.club_rows.specs.declared.{facility.Facility.Facility, key.{KeyRow.KeyRow, OlderRoot.OlderRoot}}
 use Rattle.club_core.specs.declared.{slot_use.SlotUse.SlotUse, store.StoreFault.{StoreFault, TheVariants.{Memory, Storage}}}
 
--- the row decodes to a value: the value is within its limits, and the row has its columns
+-- the row decodes to this value, which is within its limits and whose columns the row has
 abbrev pub IsKeyIn : Row → KeyRow → Type 0
 IsKeyIn row key = IsKeyRow key × HasValues row (key_values (key_of_row key None))
 
@@ -34,33 +34,33 @@ IsBookingNamed key number row booking = IsBookingIn row booking × ((booking.key
 abbrev pub IsUseIn : Row → SlotUse → Type 0
 IsUseIn row found = (found.taken ≤ places_limit) × HasValues row (use_values found)
 
--- the value of the first row; None exactly if there is no row
+-- the value of the first row; None if and only if there is no row
 abbrev pub IsFirst : {A : Type 0} → (Row → A → Type 0) → List Row → Option A → Type 0
 IsFirst Yields [] found = found ≡ None
 IsFirst Yields (row ∷ rows) found = IsSomeAnd found (Yields row)
 
--- the use of a slot by its one row; no use if there is no row
+-- the use of a slot, from its only row; no use if there is no row
 abbrev pub IsUse : List Row → SlotUse → Type 0
 IsUse [] found = found ≡ no_slot_use
 IsUse (row ∷ []) found = IsUseIn row found
 IsUse (row ∷ other ∷ rows) found = ⊥
 
--- the total cost of rows of charge and refund
+-- the total cost of rows with charge and refund
 abbrev pub AreCosts : List Row → ℕ → Type 0
 AreCosts rows cost = All IsCostRow rows × (cost ≡ sum_by cost_in rows) × (cost < 2 ^ 64)
 
--- the persons of a row of `taken`: at most as many as a facility has places
+-- a row with the persons of a slot: at most as many as a facility may have places
 abbrev pub IsTakenRow : Row → Type 0
 IsTakenRow row = (taken : ℕ) × (taken ≤ places_limit) × (column row 0 ≡ whole taken)
 
--- the most persons of rows of `taken`; 0 without rows
+-- the highest `taken` of the rows; 0 if there are no rows
 abbrev pub most_in : List Row → ℕ
 most_in rows = fold (λ most row. max most (whole_in (column row 0))) 0 rows
 
 abbrev pub IsMostIn : List Row → ℕ → Type 0
 IsMostIn rows most = All IsTakenRow rows × (most ≡ most_in rows)
 
--- how many rows there are
+-- the number of rows
 abbrev pub IsCount : List Row → ℕ → Type 0
 IsCount rows count = count ≡ length rows
 
@@ -75,8 +75,8 @@ pub record IsUnread {S : Type 0} (g : Ghosts S) (statement : BoundStatement) (Ca
 abbrev pub FailsToRead : {S : Type 0} → Ghosts S → BoundStatement → (List Row → Type 0) → Held S → Held S → StoreFault → Type 0
 FailsToRead g statement CanRead old new fault = FailsToAsk g statement old new fault ⊎ IsUnread g statement CanRead old fault
 
--- A result is decoded from the rows that the query returned. The call fails only if the query was refused, with the fault of that error, or if the
--- rows can't be decoded, with Storage.
+-- A result is decoded from the rows that the query returned. The call fails only if the query was refused, with that error's fault, or if the rows can't be
+-- decoded, with Storage.
 pub record Answers {S A : Type 0} (g : Ghosts S) (statement : BoundStatement) (IsAnswer : List Row → A
     → Type 0) (old new : Held S) (result : Result A StoreFault) : Type 0
   where
@@ -109,7 +109,7 @@ reading_statement (OfTaken facility) = (TAKEN.now, Text facility ∷ [])
 reading_statement (OfDay day) = (DAY.now, whole day ∷ [])
 reading_statement (OfOpen member moment) = (OPEN.now, Text member ∷ whole moment ∷ whole (moment / minutes_a_day) ∷ [])
 
--- which rows it can decode
+-- the rows that it can decode
 abbrev pub CanRead : Reading → List Row → Type 0
 CanRead (OfKey name) rows = (found : Option KeyRow) × IsFirst IsKeyIn rows found
 CanRead (OfOlderRoot key) rows = (found : Option OlderRoot) × IsFirst IsOlderRootIn rows found
@@ -122,7 +122,7 @@ CanRead (OfTaken facility) rows = (most : ℕ) × IsMostIn rows most
 CanRead (OfDay day) rows = (bookings : List Booking) × AreBookings rows bookings
 CanRead (OfOpen member moment) rows = (count : ℕ) × IsCount rows count
 
--- the query for a day returned its rows, and there was no memory for their bookings
+-- the query for a day returned its rows, but there was no memory for their bookings
 abbrev pub LacksMemory : {S : Type 0} → Ghosts S → Reading → Held S → StoreFault → Type 0
 LacksMemory g (OfDay day) old fault = (fault ≡ Memory) × (rows : List Row) × Asked g DAY.now (whole day ∷ []) old rows
 LacksMemory g _ old fault = ⊥
@@ -130,13 +130,13 @@ LacksMemory g _ old fault = ⊥
 abbrev pub FailsAtReading : {S : Type 0} → Ghosts S → Reading → Held S → Held S → StoreFault → Type 0
 FailsAtReading g reading old new fault = FailsToRead g (reading_statement reading) (CanRead reading) old new fault ⊎ LacksMemory g reading old fault
 
--- a connection after reads: one that was idle is unchanged
+-- a connection after reads; an idle one is unchanged
 pub record IsAfterReadings {S : Type 0} (g : Ghosts S) (old new : Held S) : Type 0 where
   pub same : IsUntouched (state g old) (state g new)
   pub clean : HasCleanDisk (state g new)
   pub fault_count : (state g old).faults ≤ (state g new).faults
 
--- a fault of reads: one of them failed, after others
+-- a fault of reads: one of them failed, possibly after others
 pub record IsReadFault {S : Type 0} (g : Ghosts S) (old new : Held S) (fault : StoreFault) : Type 0 where
   pub from : Held S
   pub after : IsAfterReadings g old from

@@ -12,7 +12,7 @@ use Rattle.club_tables.specs.{Transaction.BoundStatement, declared.texts.TheCons
 use Rattle.club_tables.specs.declared.texts.TheConstants.{REVOKE_KEY, PUT_OLDER_ROOT, SET_ROOT, CLOSE_SLOT, OPEN_SLOT, SET_QUOTA, ADD_BOOKING, CANCEL_BOOKING}
 use Rattle.club_tables.specs.declared.texts.TheConstants.{CHARGE, ADD_USED, ADD_TAKEN}
 
--- a member, whose bookings have cost nothing
+-- a new member, whose bookings have cost nothing
 abbrev pub adding_member : Member → List BoundStatement
 adding_member member = (ADD_MEMBER.now, Text member.name ∷ whole member.credited ∷ whole member.quota ∷ []) ∷ []
 
@@ -28,7 +28,7 @@ giving_quota member quota = (SET_QUOTA.now, Text member ∷ whole quota ∷ []) 
 abbrev pub adding_facility : Facility → List BoundStatement
 adding_facility facility = (ADD_FACILITY.now, facility_values facility) ∷ []
 
--- a facility, and the numbers that it gets
+-- a facility's name and its new numbers
 abbrev pub numbers_values : List ℕ → ℕ → ℕ → ℕ → ℕ → Row
 numbers_values facility places price opens shuts = Text facility ∷ whole places ∷ whole price ∷ whole opens ∷ whole shuts ∷ []
 
@@ -44,22 +44,22 @@ revoking key = (REVOKE_KEY.now, Text key ∷ []) ∷ []
 abbrev pub closing : Slot → List BoundStatement
 closing slot = (CLOSE_SLOT.now, name_values slot) ∷ []
 
--- a slot that is open again, closed or not before
+-- a slot that is opened, whether or not it was closed
 abbrev pub reopening : Slot → List BoundStatement
 reopening slot = (OPEN_SLOT.now, name_values slot) ∷ []
 
--- the older root is stored, and the key's root set, which was the older one
+-- the older root is stored, and the key, whose root was this older one, gets a new root
 abbrev pub rotating : Row → Row → List BoundStatement
 rotating put set = (PUT_OLDER_ROOT.now, put) ∷ (SET_ROOT.now, set) ∷ []
 
 abbrev pub replacing_root : List ℕ → List ℕ → OlderRoot → List BoundStatement
 replacing_root key root older = rotating (Text key ∷ older_root_values older) (Text key ∷ Blob root ∷ Blob older.root ∷ [])
 
--- what is added to the total of a member whose key this is
+-- the amount added to the total of the member who has this key
 abbrev pub used_values : List ℕ → ℤ → List ℕ → Row
 used_values member points key = Text member ∷ Int points ∷ Text key ∷ []
 
--- what is added to it for a booking of a slot
+-- the amount added to that total for a booking of a slot
 abbrev pub charge_values : List ℕ → ℕ → List ℕ → Slot → Row
 charge_values member points key slot = Text member ∷ whole points ∷ Text key ∷ name_values slot
 
@@ -70,13 +70,13 @@ booking_with booking taken charge = (ADD_BOOKING.now, booking) ∷ (ADD_TAKEN.no
 abbrev pub cancelling_with : Row → Row → Row → List BoundStatement
 cancelling_with booking used taken = (CANCEL_BOOKING.now, booking) ∷ (ADD_USED.now, used) ∷ (ADD_TAKEN.now, taken) ∷ []
 
--- a booking under a key of the member: its persons are added to those of its slot, and the member is charged last, if the slot has the places
+-- a booking under a key of the member: its persons are added to its slot, and then the member is charged if the slot has the places
 abbrev pub adding_booking : Booking → List ℕ → List BoundStatement
 adding_booking booking member =
     booking_with (booking_values booking) (name_values booking.slot ++ Int (pos (persons_taken booking)) ∷ [])
     (charge_values member (cost_of booking) booking.key booking.slot)
 
--- a booking of the member that is on record as it is given is marked, and subtracted from the totals
+-- a booking of the member that is on record with these values is marked cancelled, and subtracted from the totals
 abbrev pub cancelling : Booking → List ℕ → ℕ → List BoundStatement
 cancelling booking member refund =
     cancelling_with (booking_values booking ++ whole refund ∷ []) (used_values member (neg_ℤ (pos refund)) booking.key)

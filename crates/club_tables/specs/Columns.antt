@@ -1,4 +1,4 @@
--- The values of a row's columns (ours). Whole numbers and truth values are integers, names and kinds texts, roots bytes.
+-- The values of a row's columns (ours). Whole numbers and truth values are integers, names and kinds are texts, and roots are bytes.
 use Rattle.std.specs.Prelude.{◌≡◌, ℕ, ◌+◌, ◌-◌, ◌≤◌, ℤ, pos, Bool, List, [], ◌∷◌, ◌++◌, Option, Some, None, ⊤}
 use Rattle.sqlite_value.specs.{Order.{Row, column}, declared.value.Value.{Value, TheVariants.{Int, Text, Blob}}}
 use Rattle.club_values.specs.{Kind.kind_text, declared.slot.Slot.Slot}
@@ -38,7 +38,7 @@ use_values held = flag held.closed ∷ whole held.taken ∷ []
 abbrev pub slot_values : SlotRow → Row
 slot_values row = name_values row.slot ++ use_values row.held
 
--- the columns of an older root that are read, and its whole row
+-- the columns of an older root that are read; the next definition is its whole row
 abbrev pub older_root_values : OlderRoot → Row
 older_root_values older = Blob older.root ∷ whole older.until ∷ []
 
@@ -75,15 +75,15 @@ abbrev pub whole_in : Value → ℕ
 whole_in (Int (pos n)) = n
 whole_in _ = 0
 
--- the columns that are read of a key's bookings
+-- the columns of a key's bookings that are read
 abbrev pub cost_values : Booking → Row
 cost_values booking = whole booking.charge ∷ whole booking.refund ∷ []
 
--- the cost of a row of charge and refund
+-- the cost of a row with charge and refund
 abbrev pub cost_in : Row → ℕ
 cost_in row = whole_in (column row 0) - whole_in (column row 1)
 
--- the cost of a row of charge and refund: the charge within its limit, and the refund at most the charge
+-- the cost of a row with charge and refund; the charge is within its limit, and the refund is at most the charge
 pub record IsCostIn (row : Row) (cost : ℕ) : Type 0 where
   pub charge : ℕ
   pub refund : ℕ

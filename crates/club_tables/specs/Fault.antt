@@ -1,4 +1,4 @@
--- How a call fails: with the fault to which the database's error maps (ours).
+-- A failed call returns the fault that the database's error maps to (ours).
 use Rattle.std.specs.Prelude.{◌≡◌, ◌⊎◌, ℕ, ◌<◌, ◌≤◌, List, [], ◌∷◌, Result, Ok, Err, IfErr, IsTrue, OnOk, OnErr}
 use Rattle.sqlite.specs.{Effect.Database, Held.{Held, state}, State.{HasCleanDisk, Survives, FailsToQuery, IsNotRun, Executes, ExecutesInside}}
 use Rattle.sqlite.specs.{Steps.FailsToCommit, Store.Ghosts, declared.error.Error.Error}
@@ -13,7 +13,7 @@ pub record FailsToAsk {S : Type 0} (g : Ghosts S) (statement : BoundStatement) (
   pub fault_count : (state g mid).faults ≤ (state g new).faults
   pub fault_is : fault ≡ fault_by error
 
--- the same for a text that was to be prepared
+-- the database refused to prepare a text, with an error that maps to the fault
 pub record FailsToPrepare {S : Type 0} (g : Ghosts S) (sql : List ℕ) (old new : Held S) (fault : StoreFault) : Type 0 where
   pub mid : Held S
   pub error : Error
@@ -21,14 +21,14 @@ pub record FailsToPrepare {S : Type 0} (g : Ghosts S) (sql : List ℕ) (old new 
   pub fault_count : (state g mid).faults ≤ (state g new).faults
   pub fault_is : fault ≡ fault_by error
 
--- a statement was refused, with an error that maps to the fault; or it inserted or updated fewer rows than it has to, which is Storage
+-- a statement was refused, with an error that maps to the fault; or it inserted or updated fewer rows than it must, which is the fault Storage
 abbrev pub StopsAt : {S : Type 0} → Ghosts S → ℕ → BoundStatement → Held S → Held S → StoreFault → Type 0
 StopsAt g fewest statement old new fault =
     ((error : Error) × ExecutesInside 0 statement.0 statement.1 (state g old) (state g new) (Err error) × (fault ≡ fault_by error))
     ⊎ ((count : ℕ) × Executes statement.0 statement.1 (state g old) (state g new) (Ok count) × (count < fewest) × (fault ≡ Storage)
     × IsTrue (state g old).is_open)
 
--- the statements ran in order, within a transaction, up to one that stopped them; or all ran, and the commit was refused
+-- the statements ran in order, within a transaction, until one stopped them; or all ran, but the commit was refused
 abbrev pub FailsInTurn : {S : Type 0} → Ghosts S → ℕ → List BoundStatement → Held S → Held S → StoreFault → Type 0
 FailsInTurn g fewest [] old new fault = (error : Error) × FailsToCommit (state g old) (state g new) error × (fault ≡ fault_by error)
 FailsInTurn {S} g fewest (statement ∷ more) old new fault =
@@ -36,14 +36,14 @@ FailsInTurn {S} g fewest (statement ∷ more) old new fault =
     ⊎ ((mid : Held S) × (count : ℕ) × Executes statement.0 statement.1 (state g old) (state g mid) (Ok count) × FailsInTurn g fewest more mid new fault
     × (fewest ≤ count) × IsTrue (state g old).is_open)
 
--- the same for statements in a transaction of their own
+-- the same for statements in their own transaction
 pub record FailsToRun {S : Type 0} (g : Ghosts S) (fewest : ℕ) (all : List BoundStatement) (old new : Held S) (fault : StoreFault) : Type 0 where
   pub mid : Held S
   pub failure : FailsInTurn g fewest all (transaction_start old) mid fault
   pub fault_count : (state g mid).faults ≤ (state g new).faults
 
--- Statements in a transaction of their own, each of which has to insert or update at least so many rows: all ran and were committed, or the committed
--- state is unchanged. After a crash their effects may be there.
+-- Statements in their own transaction, each of which must insert or update at least this many rows. Either all ran and were committed, or the committed state
+-- is unchanged, but after a crash their effects may be there.
 pub record Commits {S : Type 0} (g : Ghosts S) (fewest : ℕ) (all : List BoundStatement) (old new : Held S) (result : Result (Unit {0}) StoreFault)
     : Type 0
   where

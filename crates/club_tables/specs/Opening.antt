@@ -1,4 +1,4 @@
--- What an opening finds, what it accepts as the tables of a club, and what it makes (ours).
+-- The tables that an opening finds, accepts or creates (ours).
 use Rattle.std.specs.Prelude.{◌≡◌, ◌≢◌, ◌⊎◌, ℕ, List, [], ◌∷◌, ◌++◌, map, All, Ok, Result, OnOk, OnErr, IfErr, IsTrue, false, codes}
 use Rattle.sqlite.specs.{Change.is_used, Effect.{Database, Reads}, Held.{Held, state}, Listing.understood, Order.Row, Schema.Schema}
 use Rattle.sqlite.specs.{State.{State, HasCleanDisk, Survives}, Store.Ghosts}
@@ -21,11 +21,11 @@ first_texts = KEY.now ∷ MEMBER.now ∷ FACILITY.now ∷ SLOT.now ∷ BOOKING.n
 abbrev pub texts_by_key : List (List ℕ)
 texts_by_key = KEY.now ∷ MEMBER.now ∷ FACILITY.now ∷ SLOT.now ∷ BOOKING.now ∷ OLDER_ROOT.now ∷ []
 
--- a statement only if the bookings' index exists; it is prepared, and never run
+-- this text is a statement only if the bookings' index exists; it is prepared, and never run
 abbrev pub index_text : List ℕ
 index_text = DROP_BOOKINGS_BY_KEY.now
 
--- those, and the index
+-- the texts for version 2, and the index's text
 abbrev pub indexed_texts : List (List ℕ)
 indexed_texts = texts_by_key ++ index_text ∷ []
 
@@ -33,7 +33,8 @@ indexed_texts = texts_by_key ++ index_text ∷ []
 abbrev pub batch : List (List ℕ) → List BoundStatement
 batch texts = map (λ (text : List ℕ). (text, [])) texts
 
--- the batch that makes the tables, the one that makes version 2 of version 1, and the one that makes the index of the bookings
+-- the batch that creates the tables; the next definitions are the batch that migrates version 1 to version 2, and the one that creates the index of the
+-- bookings
 abbrev pub table_batch : List BoundStatement
 table_batch =
     batch (MAKE_DESK.now ∷ MAKE_MEMBERS.now ∷ MAKE_FACILITIES.now ∷ MAKE_KEYS.now ∷ MAKE_SLOTS.now ∷ MAKE_BOOKINGS.now
@@ -45,11 +46,11 @@ migration = batch (MAKE_OLD_ROOTS.now ∷ MAKE_BOOKINGS_BY_KEY.now ∷ SET_VERSI
 abbrev pub index_batch : List BoundStatement
 index_batch = batch (MAKE_BOOKINGS_BY_KEY.now ∷ [])
 
--- a batch that an opening may run: it makes the tables, migrates them, or makes the index
+-- a batch that an opening may run: it creates the tables, migrates them, or creates the index
 abbrev pub IsOpeningBatch : List BoundStatement → Type 0
 IsOpeningBatch statements = (statements ≡ table_batch) ⊎ ((statements ≡ migration) ⊎ (statements ≡ index_batch))
 
--- nothing is called `desk`, in upper or lower case, so no version can be read
+-- no table is called `desk`, in upper or lower case, so no version can be read
 pub record HasNoDesk (schema : Schema) : Type 0 where
   pub no_desk_name : is_used schema (codes "desk") ≡ false
   pub no_version_query : ¬ IsUnderstood schema VERSION.now
@@ -75,12 +76,12 @@ pub record IsReady (version : ℕ) (texts : List (List ℕ)) (db : Database) : T
   pub version_row : (row : Row) × YieldsRows VERSION.now db (row ∷ []) × HasValues row (version_values version)
   pub by_key : All (IsUnderstood db.schema) texts
 
--- tables of a version were there, and are unchanged
+-- tables of a version existed, and are unchanged
 pub record FoundReady (version : ℕ) (texts : List (List ℕ)) (old new : State) : Type 0 where
   pub ready : IsReady version texts new.committed
   pub same : new.committed ≡ old.committed
 
--- tables of a version were there, and this whole batch ran over them
+-- tables of a version existed, and this whole batch ran over them
 pub record Upgrade (version : ℕ) (texts : List (List ℕ)) (statements : List BoundStatement) {S : Type 0} (g : Ghosts S) (old new : Held S) : Type 0 where
   pub from : Held S
   pub found : FoundReady version texts (state g old) (state g from)
@@ -94,42 +95,42 @@ HasRunOver texts statements {S} g old new =
     × ((state g from).committed ≡ (state g old).committed)
     × ((state g from).now ≡ (state g old).committed) × Ran g 0 statements from (state g new).committed
 
--- tables of version 1 were there, and the whole migration ran over them
+-- tables of version 1 existed, and the whole migration ran over them
 abbrev pub Migrated : {S : Type 0} → Ghosts S → Held S → Held S → Type 0
 Migrated g old new = Upgrade 1 first_texts migration g old new
 
 abbrev pub HasMigrated : {S : Type 0} → Ghosts S → Held S → Held S → Type 0
 HasMigrated g old new = HasRunOver first_texts migration g old new
 
--- tables of version 2 were there, and the index of the bookings was made
+-- tables of version 2 existed, and the index of the bookings was created
 abbrev pub AddsIndex : {S : Type 0} → Ghosts S → Held S → Held S → Type 0
 AddsIndex g old new = Upgrade 2 texts_by_key index_batch g old new
 
--- the index was there, and nothing was changed; or it was made after a reading
+-- the index existed, and nothing was changed; or it was created after a read
 abbrev pub HasOrGetsIndex : {S : Type 0} → Ghosts S → Held S → Held S → Type 0
 HasOrGetsIndex {S} g old new =
     (IsUnderstood (state g old).now.schema index_text × IsKept (state g old) (state g new))
     ⊎ ((from : Held S) × HasCleanDisk (state g from) × IsKept (state g old) (state g from) × Ran g 0 index_batch from (state g new).committed)
 
--- each text, and that of the index, was a statement, and nothing was changed; or each text was one, and the index was made
+-- each text, including that of the index, was a statement, and nothing was changed; or each other text was a statement, and the index was created
 abbrev pub EnsuresIndex : {S : Type 0} → Ghosts S → Held S → Held S → Type 0
 EnsuresIndex g old new =
     (IsKept (state g old) (state g new) × Understands g indexed_texts new) ⊎ HasRunOver texts_by_key index_batch g old new
 
--- no version could be read, and the whole batch ran over what was there
+-- no version could be read, and the whole batch that creates the tables ran
 pub record MadeAll {S : Type 0} (g : Ghosts S) (old new : Held S) : Type 0 where
   pub from : Held S
   pub same : (state g from).now ≡ (state g old).committed
   pub no_desk_table : HasNoDesk (state g old).committed.schema
   pub ran : Ran g 0 table_batch from (state g new).committed
 
--- what an opening accepts: tables of version 2 with the index of the bookings; without it, once the index is made; tables of version 1, once they
--- are migrated; or no version, once the whole batch has made the tables
+-- an opening accepts tables of version 2, whose index of the bookings it creates if it is missing; tables of version 1, which it migrates; or a database
+-- without a version, in which it creates the tables
 abbrev pub AcceptsTables : {S : Type 0} → Ghosts S → Held S → Held S → Type 0
 AcceptsTables g old new =
     FoundReady 2 indexed_texts (state g old) (state g new) ⊎ (AddsIndex g old new ⊎ (Migrated g old new ⊎ MadeAll g old new))
 
--- the property holds of one of the texts
+-- the property holds for one of the texts
 abbrev pub OneOf : (List ℕ → Type 0) → List (List ℕ) → Type 0
 OneOf P [] = ⊥
 OneOf P (text ∷ texts) = P text ⊎ OneOf P texts
@@ -140,8 +141,8 @@ pub record FailsToPrepareOne {S : Type 0} (g : Ghosts S) (texts : List (List ℕ
   pub after : IsAfterReadings g old from
   pub failure : OneOf (λ text. FailsToPrepare g text from new fault) texts
 
--- why an opening fails: out of memory while it reads the version or looks for the index; the batch that makes the tables, migrates them or makes the
--- index is refused; a row can't be read by its key; the version is another one
+-- why an opening fails: out of memory while it reads the version or looks for the index; the batch that creates the tables, migrates them or creates the index
+-- is refused; a row can't be read by its key; or the version is another one
 abbrev pub FailsToTake : {S : Type 0} → Ghosts S → Held S → Held S → StoreFault → Type 0
 FailsToTake g old new fault =
     ((fault ≡ Memory) × (FailsToAsk g (version_text, []) old new fault ⊎ FailsToPrepare g index_text old new fault))
@@ -157,13 +158,13 @@ pub record IsOpeningFault {S : Type 0} (g : Ghosts S) (old new : Held S) (fault 
 
 -- ---- a step of an opening
 
--- it is so if the connection was idle, and is open
+-- the property holds if the connection was idle and is open
 abbrev pub WhenIdle : {S : Type 0} → Ghosts S → (Held S → Held S → Type 0) → Held S → Held S → Type 0
 WhenIdle g Done old new = IsTrue (state g new).is_open → IsIdle (state g old) → Done old new
 
--- A step over tables that represent a club, by `Before`. If it succeeds, they represent the same club, with the index of the bookings, and what it
--- did is `Done`. If it fails, they represent the club as before, and the fault is one of `Fails`. A crash may leave what it could leave before, or
--- what a batch of an opening leaves.
+-- A step over tables that represent a club by `Before`. If it succeeds, the tables represent the same club, with the index of the bookings, and `Done` relates
+-- them to the tables before. If it fails, they represent the club as before, and the fault is one of `Fails`. A crash may leave the same states as before, or
+-- one that a batch of an opening leaves.
 pub record Opens {S : Type 0} (g : Ghosts S) (Before : Held S → Club → List Club → Type 0) (Done : Held S → Held S → Type 0)
     (Fails : Held S → Held S → StoreFault → Type 0) (old new : Held S) (result : Result (Unit {0}) StoreFault) : Type 0
   where

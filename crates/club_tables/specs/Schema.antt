@@ -17,12 +17,12 @@ text = column_of Text
 abbrev pub number : List ℕ → Column
 number = column_of Integer
 
--- CHECK (.. BETWEEN low AND high), of the column at a place; the rowid has place 0
+-- CHECK (.. BETWEEN low AND high) for the column at this place; the rowid has place 0
 abbrev pub within : ℕ → ℕ → ℕ → Term
 within place low high =
     op2 And (op2 (Compare Ge Binary) (col 1 place) (lit (Int (pos low)))) (op2 (Compare Le Binary) (col 1 place) (lit (Int (pos high))))
 
--- the column at a place REFERENCES the column `name` of a table
+-- the column at this place REFERENCES the column `name` of a table
 abbrev pub refers_to : List ℕ → ℕ → Reference
 refers_to parent place = record {
   columns = place ∷ [];
@@ -122,7 +122,7 @@ six_tables =
 abbrev pub first_schema : Schema
 first_schema = indexed six_tables (record keys_table { tree = 5 }) keys_by_member
 
--- those of version 2 without the index of the bookings
+-- the tables of version 2 without the index of the bookings
 abbrev pub unindexed_schema : Schema
 unindexed_schema = created first_schema old_roots_table
 
@@ -137,6 +137,6 @@ bookings_by_key = record {
   is_unique = false;
 }
 
--- those of version 2
+-- the tables of version 2
 abbrev pub club_schema : Schema
 club_schema = indexed unindexed_schema (record bookings_table { tree = 9 }) bookings_by_key

@@ -1,4 +1,4 @@
--- Rows as they are stored, with their totals, and when they are the rows of a club (ours).
+-- Rows as they are stored, with their totals, and their relation to the rows of a club (ours).
 use Rattle.std.specs.{Prelude.{◌≡◌, ◌≢◌, ◌≤◌, ℕ, false, List, map, find, sum_by, Option, option_map, if◌then◌else◌, unwrap_or, AllPairs}, Str.bytes_eq}
 use Rattle.club_values.specs.declared.slot.Slot.{Slot}
 use Rattle.club_rows.specs.{Booking.{same_slot, persons_of}, Limits.credited_limit, Rows.IsMember, declared.booking.Booking.Booking}
@@ -25,7 +25,7 @@ pub record Rows : Type 0 where
   pub bookings : List Booking
   pub olders : List OlderRow
 
--- what the bookings of a member have cost
+-- the points that the bookings of a member have cost
 abbrev pub used_by : Club → List ℕ → ℕ
 used_by club name = sum_by cost_of (bookings_of name club)
 
@@ -42,11 +42,11 @@ no_slot_use = record { taken = 0; closed = false }
 abbrev pub row_of : Slot → List SlotRow → Option SlotRow
 row_of slot rows = find (λ (row : SlotRow). same_slot row.slot slot) rows
 
--- the use of a slot by these rows: none without a row
+-- the use of a slot, from these rows; if it has no row, nothing is used
 abbrev pub stored_slot_use : Slot → List SlotRow → SlotUse
 stored_slot_use slot rows = unwrap_or (option_map (λ (row : SlotRow). row.held) (row_of slot rows)) no_slot_use
 
--- the older root of a key by these rows: none of one without a row
+-- the older root of a key, from these rows; none if it has no row
 abbrev pub older_by : List ℕ → List OlderRow → Option OlderRoot
 older_by name rows = option_map (λ (row : OlderRow). row.older) (find (λ (row : OlderRow). bytes_eq row.key name) rows)
 

@@ -1,4 +1,4 @@
--- When a database holds a club, and which club a connection represents (ours).
+-- The conditions under which a database holds a club, and the club that a connection represents (ours).
 use Rattle.std.specs.{List.AllZip, Prelude.{◌≡◌, ◌⊎◌, ℕ, ℤ, ◌==◌, if◌then◌else◌, List, [], ◌∷◌, IsTrue}}
 use Rattle.sqlite_value.specs.{Order.Row, declared.value.Value.TheVariants.Int}
 use Rattle.sqlite_trees.specs.Tree.{Trees, IsTable}
@@ -48,7 +48,7 @@ pub record HoldsTrees (number : ℕ) (trees : Trees) (rows : Rows) : Type 0 wher
   pub bookings : Holds booking_values (trees bookings_tree) rows.bookings
   pub olders : Holds older_values (trees olders_tree) rows.olders
 
--- a database has this schema, and these trees of it hold these rows and no others
+-- a database has this schema, and its tables hold these rows and no others
 pub record HoldsRowsBy (tables : Schema) (number : ℕ) (trees : Trees) (db : Database) (rows : Rows) : Type 0 where
   pub schema : db.schema ≡ tables
   pub held : HoldsTrees number trees rows
@@ -63,11 +63,11 @@ HoldsRowsWith tables db = HoldsRowsBy tables 2 db.trees db
 abbrev pub HoldsRows : Database → Rows → Type 0
 HoldsRows = HoldsRowsWith club_schema
 
--- no rows for older roots
+-- the trees without rows for older roots
 abbrev pub without_olders : Trees → Trees
 without_olders trees tree = if tree == olders_tree then [] else trees tree
 
--- the tables of version 1 hold these rows and no others: they have none for older roots
+-- the tables of version 1 hold these rows and no others; they have no rows for older roots
 abbrev pub HoldsRowsVersion1 : Database → Rows → Type 0
 HoldsRowsVersion1 db = HoldsRowsBy first_schema 1 (without_olders db.trees) db
 
@@ -81,7 +81,7 @@ pub record HoldsClubBy (HoldThem : Database → Rows → Type 0) (db : Database)
 abbrev pub HoldsClub : Database → Club → Type 0
 HoldsClub = HoldsClubBy HoldsRows
 
--- the same of tables of version 2 without the index of the bookings, and of those of version 1
+-- tables of version 2 without the index of the bookings hold the club; the next definition is for tables of version 1
 abbrev pub HoldsClubUnindexed : Database → Club → Type 0
 HoldsClubUnindexed = HoldsClubBy (HoldsRowsWith unindexed_schema)
 
@@ -105,8 +105,8 @@ abbrev pub IsLeftOf : Trees → List Club → Type 0
 IsLeftOf trees [] = ⊥
 IsLeftOf trees (club ∷ others) = ((db : Database) × (db.trees ≡ trees) × HoldsClubAnyVersion db club) ⊎ IsLeftOf trees others
 
--- An idle connection represents a club: the committed state holds it, no write is pending, and a crash recovers to it or to one of the others.
--- Nothing is claimed of a closed connection, or after the disk has returned other bytes than were written.
+-- An idle connection represents a club: the committed state holds it, no write is pending, and a crash recovers to it or to one of the others. Nothing is
+-- claimed of a closed connection, or after the disk has returned bytes other than those written.
 pub record RepresentsBy (IsHeld : Database → Club → Type 0) (state : State) (club : Club) (others : List Club) : Type 0 where
   pub held : HasCleanDisk state → IsTrue state.is_open → IsHeld state.committed club
   pub idle : HasCleanDisk state → IsTrue state.is_open → state.now ≡ state.committed
@@ -116,14 +116,14 @@ pub record RepresentsBy (IsHeld : Database → Club → Type 0) (state : State) 
 abbrev pub Represents : State → Club → List Club → Type 0
 Represents = RepresentsBy HoldsClub
 
--- the tables of version 1 represent it
+-- the tables of version 1 represent the club
 abbrev pub RepresentsVersion1 : State → Club → List Club → Type 0
 RepresentsVersion1 = RepresentsBy HoldsClubVersion1
 
--- tables of version 2 represent it, with the index of the bookings or without
+-- tables of version 2, with or without the index of the bookings, represent the club
 abbrev pub RepresentsVersion2 : State → Club → List Club → Type 0
 RepresentsVersion2 = RepresentsBy HoldsClubVersion2
 
--- the tables represent it, or are still to be indexed, migrated or made
+-- the tables represent the club, or must still be indexed, migrated or created
 abbrev pub IsFound : State → Club → List Club → Type 0
 IsFound = RepresentsBy HoldsClubAnyVersion

@@ -1,11 +1,11 @@
--- What statements return or write in a transaction of their own (ours).
+-- The results and effects of statements in their own transaction (ours).
 use Rattle.std.specs.Prelude.{◌≡◌, ℕ, ◌<◌, ◌≤◌, true, List, [], ◌∷◌, length, Ok, IsTrue, is_ok}
 use Rattle.sqlite.specs.{Effect.Database, Held.{Held, state}, Listing.understood, Order.Row, Schema.Schema, State.{State, HasCleanDisk, Executes, Shown}}
 use Rattle.sqlite.specs.{Store.Ghosts, Tree.Trees, Values.bound, declared.error.{Error.{Error, TheVariants.SqliteFailure}, ErrorCode.TheVariants.OutOfMemory}}
 use Rattle.club_core.specs.declared.store.StoreFault.{StoreFault, TheVariants.{Memory, Storage}}
 use Rattle.club_tables.specs.declared.transaction.Statement.{Statement}
 
--- out of memory maps to Memory, each other error to Storage
+-- out of memory maps to Memory, and every other error to Storage
 abbrev pub fault_by : Error → StoreFault
 fault_by (SqliteFailure OutOfMemory) = Memory
 fault_by _ = Storage
@@ -42,22 +42,21 @@ BoundStatement = List ℕ × Row
 abbrev pub bound_statement : Statement → BoundStatement
 bound_statement statement = (statement.text.now, bound statement.params.now)
 
--- these statements ran in order, within a transaction, over an open connection, and each inserted or updated at least so many rows
+-- these statements ran in order, within a transaction, over an open connection, and each inserted or updated at least this many rows
 abbrev pub RanInTurn : {S : Type 0} → Ghosts S → ℕ → List BoundStatement → Held S → Held S → Type 0
 RanInTurn g fewest [] old new = new ≡ old
 RanInTurn {S} g fewest (statement ∷ more) old new =
     (mid : Held S) × (count : ℕ) × Executes statement.0 statement.1 (state g old) (state g mid) (Ok count) × RanInTurn g fewest more mid new
     × (fewest ≤ count) × IsTrue (state g old).is_open
 
--- these statements ran in order, in a transaction of their own, each on at least so many rows, and left this database
+-- these statements ran in order, in their own transaction, each on at least this many rows, and left this database
 pub record Ran {S : Type 0} (g : Ghosts S) (fewest : ℕ) (all : List BoundStatement) (old : Held S) (db : Database) : Type 0 where
   pub last : Held S
   pub was_open : 0 < length all → IsTrue (state g old).is_open
   pub turns : RanInTurn g fewest all (transaction_start old) last
   pub is : db ≡ (state g last).now
 
--- these trees may be there after a crash: statements of this kind, each on at least so many rows, left them, over a connection in the same state as
--- this one
+-- these trees may be there after a crash: statements of this kind, each on at least this many rows, left them over a connection in the same state as this one
 pub record MayCommit {S : Type 0} (g : Ghosts S) (fewest : ℕ) (AreStatements : List BoundStatement → Type 0) (old : Held S) (trees : Trees) : Type 0 where
   pub from : Held S
   pub same : IsUntouched (state g old) (state g from)

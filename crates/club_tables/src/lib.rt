@@ -1,5 +1,5 @@
-//! The tables of a club: their schema, the rows they hold, and each statement that reads or writes
-//! them, over a connection that is in no transaction between calls.
+//! The tables of a club over a connection: their schema, their rows, and each statement that reads
+//! or writes them. Between calls, the connection isn't in a transaction.
 #![tactic(auto)]
 
 mod limits;

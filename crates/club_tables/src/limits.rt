@@ -1,4 +1,4 @@
-//! Whether the values of a change are within their limits.
+//! Checks whether the values of a change are within their limits.
 
 ghost use Rattle.std.specs.Prelude.{◌≡◌, ◌≤◌, true, false};
 ghost use Rattle.club_rows.specs.Limits.{IsRoot};
@@ -13,7 +13,7 @@ use club_rows::{
 };
 use club_values::Slot;
 
-/// The most places that are left after a booking.
+/// The most places left after a booking, which has at least one person.
 const MAX_LEFT: u32 = MAX_PLACES - 1;
 
 pub(crate) fn is_member(member: &Member) -> bool
@@ -47,7 +47,7 @@ pub(crate) fn are_numbers(places: u8, price: u16, opens: u8, shuts: u8) -> bool
         && u32::from(shuts) <= LAST_HOUR
 }
 
-/// The values of a key, by their types.
+/// The types of a key's values keep them within their limits.
 pub(crate) fn key_within(key: &Key)
     ensures { IsKey key.now }
 {
@@ -60,7 +60,7 @@ pub(crate) fn key_within(key: &Key)
     }
 }
 
-/// The values of a slot, by their types.
+/// The types of a slot's values keep them within their limits.
 pub(crate) fn slot_within(slot: &Slot)
     ensures { IsSlot slot.now }
 {
@@ -69,7 +69,7 @@ pub(crate) fn slot_within(slot: &Slot)
     let _hour = slot.hour.number();
 }
 
-/// The new root of a rotation and its moment, by their types.
+/// The types of a rotation's new root and moment keep them within their limits.
 pub(crate) fn rotation_within(rotation: &Rotation)
     ensures root { IsRoot rotation.now.root }
     ensures until { IsMoment rotation.now.older.until }

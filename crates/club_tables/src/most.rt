@@ -1,4 +1,4 @@
-//! Finds the most persons in rows: nothing if a number is out of its limits.
+//! Finds the most persons in rows, or nothing if a number is outside its limits.
 
 use crate::row::{FromRows, number_within};
 use club_rows::MAX_PLACES;
@@ -9,7 +9,7 @@ impl FromRows for u32 {
 
     ghost holds = { IsMostIn };
 
-    /// Returns the most persons of rows of `taken`; 0 without rows.
+    /// Returns the highest `taken` of the rows, or 0 if there are no rows.
     fn from_rows(rows: &[Row]) -> Option<u32> {
         let mut most = 0u32;
         for row in rows {

@@ -1,5 +1,5 @@
-//! Opens the tables of a database: migrates version 1, adds a missing index of the bookings, and
-//! makes all tables if there are none.
+//! Opens the tables of a database. Migrates version 1, adds a missing index of the bookings, and
+//! creates all tables if there are none.
 
 ghost use Rattle.std.specs.Prelude.{◌≡◌, [], ◌∷◌, map, IsTrue, IfOk, IfErr, OnOk, OnErr};
 ghost use Rattle.sqlite.specs.{Held.state, State.{HasCleanDisk, Survives}};
@@ -21,10 +21,10 @@ use sqlite::{Alter, Row};
 /// The current version of the tables.
 const VERSION: u8 = 2;
 
-/// The version that has no older roots.
+/// The version without older roots.
 const FIRST_VERSION: u8 = 1;
 
-/// Statements without parameters, of these texts.
+/// Makes statements without parameters from these texts.
 macro_rules! statements {
     ($($text:expr),* $(,)?) => {
         [$(Statement { text: $text, params: &[] }),*]
@@ -58,7 +58,8 @@ fn is_version(rows: &[Row], version: u8) -> bool
 }
 
 impl<S: Alter> Tables<S> {
-    /// Reads the version of the tables. If it is read, tables of that version represent the club.
+    /// Reads the version of the tables. If that succeeds, tables of this version represent the
+    /// club.
     fn version(&mut self) -> Result<Vec<Row>, StoreFault>
         ensures ok { HasCleanDisk (state S.Store self.new) → IfOk result
             (λ rows. YieldsVersion S.Store self.old self.new rows.items) }
@@ -70,8 +71,8 @@ impl<S: Alter> Tables<S> {
         self.ask(texts::VERSION, &[])
     }
 
-    /// Makes the tables of an empty club, in one transaction. Fails if there are tables of these
-    /// names.
+    /// Creates the tables of an empty club, in one transaction. Fails if tables with these names
+    /// exist.
     fn make_tables(&mut self) -> Result<(), StoreFault>
         ensures opens { RunsBatch S.Store (found_in S.Store) table_batch self.old self.new result }
         ensures untouched { OnErr result
@@ -80,8 +81,8 @@ impl<S: Alter> Tables<S> {
         self.run(&TABLE_STATEMENTS)
     }
 
-    /// Prepares each text, so that it fails unless all are statements over the tables. Nothing is
-    /// changed.
+    /// Prepares each text, and fails unless all of them are statements over the tables. Changes
+    /// nothing.
     fn prepare_all(&mut self, texts: &[&str]) -> Result<(), StoreFault>
         ensures kept { IsUntouched (state S.Store self.old) (state S.Store self.new) }
         ensures understood { HasCleanDisk (state S.Store self.new) → OnOk result
@@ -100,8 +101,8 @@ impl<S: Alter> Tables<S> {
         Ok(())
     }
 
-    /// Turns tables of version 1 into version 2, in one transaction: adds the table of older roots,
-    /// which is empty, and the index of the bookings.
+    /// Turns tables of version 1 into version 2, in one transaction: adds an empty table of older
+    /// roots, and the index of the bookings.
     fn add_old_roots(&mut self) -> Result<(), StoreFault>
         ensures opens { RunsBatch S.Store (version_1_in S.Store) migration
             self.old self.new result }
@@ -116,7 +117,7 @@ impl<S: Alter> Tables<S> {
     }
 
     /// Migrates tables of version 1, after checking that each of their rows can be read by its key.
-    /// If it fails, they are unchanged; after a crash they are of version 1 or of version 2.
+    /// If it fails, the tables are unchanged. After a crash they have version 1 or version 2.
     fn migrate(&mut self) -> Result<(), StoreFault>
         ensures opens { Opens S.Store (version_1_in S.Store)
             (λ from to. IsIdle (state S.Store from) → HasMigrated S.Store from to)
@@ -130,8 +131,8 @@ impl<S: Alter> Tables<S> {
         }
     }
 
-    /// Makes the index of the bookings, in one transaction. Fails if there is an index of this
-    /// name.
+    /// Creates the index of the bookings, in one transaction. Fails if an index with this name
+    /// exists.
     fn add_index(&mut self) -> Result<(), StoreFault>
         ensures opens { RunsBatch S.Store (version_2_in S.Store) index_batch
             self.old self.new result }
@@ -141,7 +142,7 @@ impl<S: Alter> Tables<S> {
         self.run(&statements![texts::MAKE_BOOKINGS_BY_KEY])
     }
 
-    /// Finds the index of the bookings, or makes it if there is none.
+    /// Finds the index of the bookings, or creates it if it is missing.
     fn ensure_index(&mut self) -> Result<(), StoreFault>
         ensures opens { Opens S.Store (version_2_in S.Store) (HasOrGetsIndex S.Store)
             (IsOpeningFault S.Store) self.old self.new result }
@@ -156,8 +157,8 @@ impl<S: Alter> Tables<S> {
     }
 
     /// Accepts tables of version 2, after checking that each of their rows can be read by its key,
-    /// and adds the index of the bookings if it is missing. If it fails, they are unchanged; after
-    /// a crash they are unchanged or have the index.
+    /// and adds the index of the bookings if it is missing. If it fails, the tables are unchanged.
+    /// After a crash they are unchanged or have the index.
     fn complete(&mut self) -> Result<(), StoreFault>
         ensures opens { Opens S.Store (version_2_in S.Store)
             (WhenIdle S.Store (EnsuresIndex S.Store)) (IsOpeningFault S.Store)
@@ -171,8 +172,8 @@ impl<S: Alter> Tables<S> {
         }
     }
 
-    /// Finds the tables, migrates those of version 1, makes the index of the bookings if it is
-    /// missing, or makes all if the version cannot be read.
+    /// Finds the tables. Migrates those of version 1, creates the index of the bookings if it is
+    /// missing, and creates all tables if the version can't be read.
     pub fn open(&mut self) -> Result<(), StoreFault>
         ensures opens { Opens S.Store (found_in S.Store) (WhenIdle S.Store (AcceptsTables S.Store))
             (IsOpeningFault S.Store) self.old self.new result }

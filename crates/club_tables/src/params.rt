@@ -1,4 +1,4 @@
-//! The parameters of the statements that write.
+//! Builds the parameters of the statements that write.
 
 ghost use Rattle.std.specs.Prelude.{◌≡◌, ◌/◌, [], ◌∷◌, ◌++◌, pos, neg_ℤ};
 ghost use Rattle.sqlite.specs.Values.{bound};
@@ -49,7 +49,7 @@ pub(crate) fn of_facility(facility: &Facility) -> [ValueRef<'_>; 6]
     ]
 }
 
-/// Returns a facility, and the numbers that it gets.
+/// Returns a facility's name and its new numbers.
 pub(crate) fn of_numbers(
     facility: &Name,
     places: u8,
@@ -80,7 +80,7 @@ pub(crate) fn of_key(key: &Key) -> [ValueRef<'_>; 4]
     ]
 }
 
-/// A new root for a key, and its former root with the moment until which that one stays good.
+/// A new root for a key, and its former root with the moment until which that root stays good.
 #[derive(Clone, Copy)]
 pub struct Rotation {
     pub key: Name,
@@ -88,7 +88,7 @@ pub struct Rotation {
     pub older: OlderRoot,
 }
 
-/// Returns a key, and its older root.
+/// Returns a key's name, its older root, and until when that is good.
 pub(crate) fn of_older_root(rotation: &Rotation) -> [ValueRef<'_>; 3]
     ensures { bound result ≡ TextValue rotation.now.key ∷ older_root_values rotation.now.older }
 {
@@ -99,7 +99,7 @@ pub(crate) fn of_older_root(rotation: &Rotation) -> [ValueRef<'_>; 3]
     ]
 }
 
-/// Returns a key, its new root, and its former root.
+/// Returns a key's name, its new root, and its former root.
 pub(crate) fn of_root(rotation: &Rotation) -> [ValueRef<'_>; 3]
     ensures { bound result ≡ TextValue rotation.now.key ∷ BlobValue rotation.now.root ∷ BlobValue
         rotation.now.older.root ∷ [] }
@@ -129,7 +129,7 @@ pub(crate) fn of_booking(booking: &Booking) -> [ValueRef<'_>; 10]
     ]
 }
 
-/// Returns a member, and points that the member is credited, or that are taken back.
+/// Returns a member's name, and points to be added to its credit or taken off it.
 pub(crate) fn of_credit(member: &Name, points: u32) -> [ValueRef<'_>; 2]
     ensures { bound result ≡ TextValue member.now ∷ whole points ∷ [] }
 {
@@ -139,7 +139,7 @@ pub(crate) fn of_credit(member: &Name, points: u32) -> [ValueRef<'_>; 2]
     ]
 }
 
-/// Returns a member, and the member's quota.
+/// Returns a member's name and quota.
 pub(crate) fn of_quota(member: &Name, quota: u8) -> [ValueRef<'_>; 2]
     ensures { bound result ≡ TextValue member.now ∷ whole quota ∷ [] }
 {
@@ -149,7 +149,7 @@ pub(crate) fn of_quota(member: &Name, quota: u8) -> [ValueRef<'_>; 2]
     ]
 }
 
-/// Returns a slot.
+/// Returns the columns of a slot.
 pub(crate) fn of_slot(slot: &Slot) -> [ValueRef<'_>; 3]
     ensures { bound result ≡ name_values slot.now }
 {
@@ -160,7 +160,7 @@ pub(crate) fn of_slot(slot: &Slot) -> [ValueRef<'_>; 3]
     ]
 }
 
-/// Returns a member, a moment, and its day.
+/// Returns a member's name, a moment, and the moment's day.
 pub(crate) fn of_open(member: &Name, moment: Moment) -> [ValueRef<'_>; 3]
     ensures { bound result ≡ TextValue member.now ∷ whole moment ∷ whole
         (moment / minutes_a_day) ∷ [] }
@@ -172,7 +172,7 @@ pub(crate) fn of_open(member: &Name, moment: Moment) -> [ValueRef<'_>; 3]
     ]
 }
 
-/// Returns a member, what a booking costs, the booking's key, and its slot.
+/// Returns a member's name, the cost of a booking, and the booking's key and slot.
 pub(crate) fn of_charge<'a>(member: &'a Name, booking: &'a Booking) -> [ValueRef<'a>; 6]
     ensures { bound result ≡ charge_values member.now (cost_of booking.now) booking.now.key
         booking.now.slot }
@@ -188,8 +188,8 @@ pub(crate) fn of_charge<'a>(member: &'a Name, booking: &'a Booking) -> [ValueRef
     ]
 }
 
-/// Returns a member, a refund, which is subtracted from what the member's bookings have cost, and
-/// the booking's key.
+/// Returns a member's name, a refund, and the booking's key. The refund is subtracted from what the
+/// member's bookings have cost.
 pub(crate) fn of_return<'a>(
     member: &'a Name,
     booking: &'a Booking,
@@ -205,7 +205,7 @@ pub(crate) fn of_return<'a>(
     ]
 }
 
-/// Returns a slot, and persons to be added.
+/// Returns a slot, and the persons to add to it.
 fn of_persons(slot: &Slot, persons: i64) -> [ValueRef<'_>; 4]
     ensures { bound result ≡ name_values slot.now ++ IntValue persons ∷ [] }
 {
@@ -217,7 +217,7 @@ fn of_persons(slot: &Slot, persons: i64) -> [ValueRef<'_>; 4]
     ]
 }
 
-/// Returns a booking's slot, and the persons that it takes: 0 if it is cancelled.
+/// Returns a booking's slot, and its persons, who are 0 if it is cancelled.
 pub(crate) fn of_places(booking: &Booking) -> [ValueRef<'_>; 4]
     ensures { bound result ≡ name_values booking.now.slot ++ IntValue
         (pos (persons_taken booking.now)) ∷ [] }
@@ -230,7 +230,7 @@ pub(crate) fn of_places(booking: &Booking) -> [ValueRef<'_>; 4]
     of_persons(&booking.slot, i64::from(persons))
 }
 
-/// Returns a booking's slot, and its persons, which are subtracted.
+/// Returns a booking's slot, and its persons, to be subtracted.
 pub(crate) fn of_freed(booking: &Booking) -> [ValueRef<'_>; 4]
     ensures { bound result ≡ name_values booking.now.slot ++ IntValue
         (neg_ℤ (pos (persons_of booking.now))) ∷ [] }

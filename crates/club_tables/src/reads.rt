@@ -1,4 +1,4 @@
-//! Reads the rows of the club. These calls change nothing. A row out of its limits is a fault of
+//! Reads the rows of the club. These calls change nothing. A row outside its limits is a fault of
 //! storage.
 
 ghost use Rattle.std.specs.Prelude.{◌≡◌, ◌↔◌, List, All, IsTrue, IfOk, IfErr, IfSome, option_map};
@@ -83,8 +83,8 @@ impl<S: Alter> Tables<S> {
         self.answer(texts::OLDER_ROOT, &[ValueRef::Text(key.as_bytes())])
     }
 
-    /// Returns the row of the member of this name, with what the member's bookings have cost;
-    /// `None` if there is none.
+    /// Returns the row of the member of this name, with the points that the member's bookings have
+    /// cost; `None` if there is none.
     pub fn member(&mut self, name: &Name) -> Result<Option<MemberRow>, StoreFault>
         ensures reads { ReadsClub S.Store self.old self.new result
             (λ club row. row ≡ option_map (member_row club) (member_named name.now club)) }
@@ -116,8 +116,8 @@ impl<S: Alter> Tables<S> {
         self.answer(texts::SLOT, &of_slot(slot))
     }
 
-    /// Returns the most persons in a slot of the facility of this name, of whatever day: 0 if
-    /// nobody booked one.
+    /// Returns the most persons in any slot of the facility of this name, on any day; 0 if nobody
+    /// booked one.
     pub fn most_taken(&mut self, facility: &Name) -> Result<u32, StoreFault>
         ensures reads { ReadsClub S.Store self.old self.new result
             (λ club most. most ≡ most_taken_in facility.now club.bookings) }
@@ -127,8 +127,8 @@ impl<S: Alter> Tables<S> {
         self.answer(texts::TAKEN, &[ValueRef::Text(facility.as_bytes())])
     }
 
-    /// Returns the booking of a key with a number; `None` if there is none. A row of another
-    /// booking is a fault of storage, too.
+    /// Returns the booking of a key under a number; `None` if there is none. Returns `Storage` also
+    /// if SQLite returns another booking's row.
     pub fn booking(
         &mut self,
         key: &Name,

@@ -1,5 +1,5 @@
-//! Decodes rows of the tables into rows of the club: `None` if a value is of another kind, or out
-//! of its limits.
+//! Decodes rows of the tables into rows of the club. Returns `None` if a value has another type or
+//! is outside its limits.
 
 ghost use Rattle.std.specs.Prelude.{◌≡◌, ◌≤◌, [], ◌∷◌, List, Err, None, Some, IfOk, option_map};
 ghost use Rattle.sqlite_value.specs.Order.{column};
@@ -19,11 +19,11 @@ use sqlite::Row;
 use sqlite::types::ValueRef;
 use std::alloc::Global;
 
-/// A member, and what the member's bookings have cost.
+/// A member, with the points that the member's bookings have cost.
 #[derive(Clone, Copy)]
 pub struct MemberRow {
     pub member: Member,
-    /// Charges less refunds, no more than a member is ever credited: 0 to 999,999,999 points.
+    /// Charges less refunds, 0 to 999,999,999 points, which is at most what was credited.
     pub used: u32,
 }
 
@@ -54,7 +54,7 @@ pub(crate) fn integer_at(row: &Row, at: usize) -> Option<i64>
     }
 }
 
-/// Returns the whole number of a column, 0 to a limit.
+/// Returns the whole number in a column, from 0 to a limit.
 pub(crate) fn number_within(row: &Row, at: usize, high: u32) -> Option<u32>
     ensures { Reads (λ n. (n ≤ high) × (column row.now at ≡ whole n)) result }
 {
@@ -62,8 +62,8 @@ pub(crate) fn number_within(row: &Row, at: usize, high: u32) -> Option<u32>
     if number <= high { Some(number) } else { None }
 }
 
-/// Decodes the use of a slot from the columns `closed` and `taken`: at most as many persons as a
-/// facility has places.
+/// Decodes the use of a slot from the columns `closed` and `taken`. There are at most as many
+/// persons as a facility may have places.
 fn slot_use_in(row: &Row) -> Option<SlotUse>
     ensures { Reads (IsUseIn row.now) result }
 {
@@ -83,7 +83,7 @@ pub(crate) trait FromRow: Sized {
     // the row holds this value
     ghost yields: { Values → Self → Type 0 };
 
-    /// Decodes the row; `None` if a value is of another kind, or out of its limits.
+    /// Decodes the row; returns `None` if a value has another type or is outside its limits.
     fn from_row(row: &Row) -> Option<Self>
         ensures { Reads (yields row.now) result };
 }
@@ -97,7 +97,7 @@ pub(crate) trait FromRows: Sized {
     // the rows hold this value
     ghost holds: { List Values → Self → Type 0 };
 
-    /// Decodes the rows; `None` if they hold no such value.
+    /// Decodes the rows; returns `None` if they hold no such value.
     fn from_rows(rows: &[Row]) -> Option<Self>
         ensures { Reads (holds rows.now) result };
 }
@@ -124,7 +124,7 @@ impl FromRows for SlotUse {
 
     ghost holds = { IsUse };
 
-    /// Returns the use of a slot: none if there is no row.
+    /// Returns the use of a slot. If there is no row, nothing is used.
     fn from_rows(rows: &[Row]) -> Option<SlotUse> {
         match rows {
             [] => Some(SlotUse {
@@ -142,7 +142,7 @@ impl FromRow for MemberRow {
 
     ghost yields = { IsMemberIn };
 
-    /// Returns a member's row, of the columns `name`, `credited`, `quota` and `used`.
+    /// Returns a member's row from the columns `name`, `credited`, `quota` and `used`.
     fn from_row(row: &Row) -> Option<MemberRow> {
         let member = Member::from_columns(
             text_at(row, 0)?,
@@ -174,7 +174,7 @@ impl FromRow for OlderRoot {
 
     ghost yields = { IsOlderRootIn };
 
-    /// Returns the older root of a key, of the columns `root` and `until`.
+    /// Returns the older root of a key from the columns `root` and `until`.
     fn from_row(row: &Row) -> Option<OlderRoot> {
         let root = Root::new(bytes_at(row, 0)?)?;
         let until = Moment::from_number(number_within(row, 1, u32::MAX)?)?;
@@ -224,7 +224,7 @@ impl FromRow for Booking {
     }
 }
 
-/// Decodes the bookings of rows, in their order. A row out of its limits is a fault of storage.
+/// Decodes the bookings of rows, in order. A row outside its limits is a fault of storage.
 pub(crate) fn bookings_in(alloc: Global, rows: &[Row]) -> Result<Vec<Booking>, StoreFault>
     ensures are { IfOk result (λ bookings. AreBookings rows.now bookings.items) }
     ensures storage { result ≡ Err StoreFault.Storage → (bookings : List BookingRow) → ¬

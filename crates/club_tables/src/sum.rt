@@ -1,4 +1,4 @@
-//! Sums the costs of rows: no sum if a number is out of its limits.
+//! Sums the costs of rows. There is no sum if a number is outside its limits.
 
 ghost use Rattle.club_values.specs.Reading.{Reads};
 ghost use Rattle.club_tables.specs.Columns.{IsCostIn};
@@ -7,7 +7,8 @@ use crate::row::{FromRows, number_within};
 use club_rows::MAX_CHARGE;
 use sqlite::Row;
 
-/// Returns the charge of a row, within its limit, less its refund, at most the charge.
+/// Returns the charge of a row less its refund. The charge must be within its limit, and the refund
+/// at most the charge.
 fn cost_of(row: &Row) -> Option<u32>
     ensures { Reads (IsCostIn row.now) result }
 {
@@ -21,7 +22,7 @@ impl FromRows for u64 {
 
     ghost holds = { AreCosts };
 
-    /// Returns the cost of rows of charge and refund.
+    /// Returns the total cost of rows with charge and refund.
     fn from_rows(rows: &[Row]) -> Option<u64> {
         let mut sum = 0u64;
         for row in rows {

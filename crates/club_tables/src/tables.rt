@@ -1,5 +1,5 @@
-//! The tables over a connection: runs a query, prepares a statement, and runs statements that
-//! write, each in a transaction of its own.
+//! The tables over a connection. Runs a query, prepares a statement, and runs statements that write
+//! in one transaction.
 
 ghost use Rattle.std.specs.Prelude.{◌≡◌, false, map, IfOk, IfErr, OnOk};
 ghost use Rattle.sqlite.specs.{Held.state, State.{HasCleanDisk, Survives}, Values.bound};
@@ -12,8 +12,8 @@ use sqlite::types::ValueRef;
 use sqlite::{Alter, Connection, Row};
 use std::marker::Model;
 
-/// The tables of a club over a connection, which is in no transaction between calls. Contracts see
-/// them as the connection.
+/// The tables of a club over a connection. Between calls, the connection isn't in a transaction.
+/// Contracts see the tables as the connection.
 #[derive(Drop)]
 pub struct Tables<S: Alter> {
     connection: Connection<S>,
@@ -33,7 +33,7 @@ impl<S: Alter> Model for Tables<S> {
 }
 
 impl<S: Alter> Tables<S> {
-    /// Returns the tables over this connection, which is in no transaction.
+    /// Returns the tables over this connection, which must not be in a transaction.
     pub fn over(connection: Connection<S>) -> Tables<S>
         requires { connection.in_transaction ≡ false }
         ensures { result ≡ connection }
@@ -41,7 +41,7 @@ impl<S: Alter> Tables<S> {
         Tables { connection }
     }
 
-    /// Returns the connection, unchanged, in no transaction.
+    /// Returns the connection, which is unchanged and not in a transaction.
     pub fn into_connection(self) -> Connection<S>
         ensures same { result ≡ self }
         ensures idle { result.in_transaction ≡ false }
@@ -49,11 +49,11 @@ impl<S: Alter> Tables<S> {
         self.connection
     }
 
-    /// Runs a query and returns its rows. Nothing is changed.
+    /// Runs a query and returns its rows. Changes nothing.
     ///
     /// # Errors
     ///
-    /// The database refused the query; `fault_of` maps its error.
+    /// Fails if the database refused the query; `fault_of` maps its error.
     pub fn ask(&mut self, sql: &str, params: &[ValueRef<'_>]) -> Result<Vec<Row>, StoreFault>
         ensures asked { IfOk result (λ rows. HasCleanDisk (state S.Store self.new) →
             Asked S.Store sql.now (bound params.now) self.old rows.items) }
@@ -71,11 +71,11 @@ impl<S: Alter> Tables<S> {
         Ok(rows)
     }
 
-    /// Prepares a text as a statement over the current schema. Nothing is changed.
+    /// Prepares a text as a statement over the current schema. Changes nothing.
     ///
     /// # Errors
     ///
-    /// The text isn't a statement, or the database refused it; `fault_of` maps the error.
+    /// Fails if the text isn't a statement or the database refused it; `fault_of` maps the error.
     pub fn prepare(&mut self, sql: &str) -> Result<(), StoreFault>
         ensures understood { HasCleanDisk (state S.Store self.new) → OnOk result
             (IsUnderstood (state S.Store self.old).now.schema sql.now) }
@@ -97,8 +97,8 @@ impl<S: Alter> Tables<S> {
     ///
     /// # Errors
     ///
-    /// The database refused one of them, or the commit; `fault_of` maps the error. The committed
-    /// state is unchanged. After a crash the statements' effects may still be there, all of them.
+    /// Fails if the database refused one of them or the commit; `fault_of` maps the error. The
+    /// committed state is unchanged, but after a crash the effects of all statements may be there.
     pub fn run(&mut self, statements: &[Statement<'_>]) -> Result<(), StoreFault>
         ensures commits { Commits S.Store 0 (map bound_statement statements.now)
             self.old self.new result }
@@ -106,11 +106,11 @@ impl<S: Alter> Tables<S> {
         self.run_on_rows(statements, 0)
     }
 
-    /// Runs statements as `run` does, each of which has to insert or update a row.
+    /// Runs statements as `run` does. Each of them must insert or update a row.
     ///
     /// # Errors
     ///
-    /// `Storage` if a statement inserted or updated no row, and those of `run`.
+    /// Fails with `Storage` if a statement inserted or updated no row, and otherwise as `run` does.
     pub fn write(&mut self, statements: &[Statement<'_>]) -> Result<(), StoreFault>
         ensures commits { Commits S.Store 1 (map bound_statement statements.now)
             self.old self.new result }
@@ -118,7 +118,7 @@ impl<S: Alter> Tables<S> {
         self.run_on_rows(statements, 1)
     }
 
-    /// Runs statements as `run` does, each of which has to insert or update at least so many rows.
+    /// Runs statements as `run` does. Each of them must insert or update at least `fewest` rows.
     fn run_on_rows(&mut self, statements: &[Statement<'_>], fewest: usize) -> Result<(), StoreFault>
         ensures commits { Commits S.Store fewest (map bound_statement statements.now)
             self.old self.new result }

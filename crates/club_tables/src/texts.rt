@@ -71,12 +71,12 @@ pub(crate) const MAKE_BOOKINGS_BY_KEY: &str = "\
     CREATE INDEX bookings_by_key \
     ON bookings (pass_key, cancelled, day, hour, number, charge, refund)";
 
-/// A statement only if there is an index of this name. It is prepared, and never run.
+/// This text is a statement only if the index exists. It is prepared to test that, and never run.
 pub(crate) const DROP_BOOKINGS_BY_KEY: &str = "DROP INDEX bookings_by_key";
 
 pub(crate) const ADD_VERSION: &str = "INSERT INTO desk (version) VALUES (2)";
 
-/// Turns version 1 into version 2, once the table of older roots is there.
+/// Turns version 1 into version 2, after the table of older roots was created.
 pub(crate) const SET_VERSION: &str = "UPDATE desk SET version = 2";
 
 pub(crate) const VERSION: &str = "SELECT version FROM desk";
@@ -97,7 +97,7 @@ pub(crate) const SLOT: &str = "\
     FROM slots \
     WHERE facility = ?1 AND day = ?2 AND hour = ?3";
 
-/// The persons of each slot of a facility that was booked or closed.
+/// Lists the persons of each slot of a facility that was booked or closed.
 pub(crate) const TAKEN: &str = "SELECT taken FROM slots WHERE facility = ?1";
 
 pub(crate) const BOOKING: &str = "\
@@ -109,13 +109,13 @@ pub(crate) const ADD_MEMBER: &str = "\
     INSERT INTO members (name, credited, quota, used) \
     VALUES (?1, ?2, ?3, 0)";
 
-/// Adds points to what a member was credited, up to the most that it may be.
+/// Adds points to a member's credit, up to the maximum.
 pub(crate) const ADD_CREDIT: &str = "\
     UPDATE members \
     SET credited = credited + ?2 \
     WHERE name = ?1 AND credited + ?2 <= 999999999";
 
-/// Takes points back that a member was credited, if the member's bookings leave them.
+/// Takes points off a member's credit, if the member's bookings leave that many.
 pub(crate) const TAKE_CREDIT: &str = "\
     UPDATE members \
     SET credited = credited - ?2 \
@@ -124,9 +124,9 @@ pub(crate) const TAKE_CREDIT: &str = "\
 /// Sets the most bookings that a member may have open.
 pub(crate) const SET_QUOTA: &str = "UPDATE members SET quota = ?2 WHERE name = ?1";
 
-/// Adds to what the bookings of a member have cost, once a booking was written and its persons were
-/// added to its slot: if the key of the booking is the member's, the member has the points, and the
-/// slot has no more persons than its facility has places.
+/// Adds to what the bookings of a member have cost, after a booking was written and its persons
+/// were added to its slot. It does so only if the booking's key is the member's, the member has the
+/// points, and the slot has no more persons than its facility has places.
 pub(crate) const CHARGE: &str = "\
     UPDATE members \
     SET used = used + ?2 \
@@ -136,8 +136,8 @@ pub(crate) const CHARGE: &str = "\
     WHERE slots.facility = ?4 AND slots.day = ?5 AND slots.hour = ?6 \
     AND slots.taken <= facilities.places)";
 
-/// Adds to what the bookings of a member have cost, if the key of the booking is the member's; a
-/// negative number gives points back.
+/// Adds to what the bookings of a member have cost, if the booking's key is the member's. A
+/// negative number refunds points.
 pub(crate) const ADD_USED: &str = "\
     UPDATE members \
     SET used = used + ?2 \
@@ -147,7 +147,7 @@ pub(crate) const ADD_FACILITY: &str = "\
     INSERT INTO facilities (name, kind, places, price, opens, shuts) \
     VALUES (?1, ?2, ?3, ?4, ?5, ?6)";
 
-/// Gives a facility other numbers, if none of its slots has more persons than these places.
+/// Gives a facility new numbers, if none of its slots has more persons than the new places.
 pub(crate) const SET_NUMBERS: &str = "\
     UPDATE facilities \
     SET places = ?2, price = ?3, opens = ?4, shuts = ?5 \
@@ -167,7 +167,7 @@ pub(crate) const PUT_OLDER_ROOT: &str = "\
     ON CONFLICT (pass_key) \
     DO UPDATE SET root = ?2, until = ?3";
 
-/// Sets the root of a key, if its former root is the last parameter.
+/// Sets the root of a key, if its current root is the last parameter.
 pub(crate) const SET_ROOT: &str = "UPDATE keys SET root = ?2 WHERE name = ?1 AND root = ?3";
 
 /// Closes a slot that is open.
@@ -177,15 +177,15 @@ pub(crate) const CLOSE_SLOT: &str = "\
     ON CONFLICT (facility, day, hour) \
     DO UPDATE SET closed = 1 WHERE closed = 0";
 
-/// Opens a slot, which may be open already. The row refers to the slot's facility.
+/// Opens a slot, which may already be open. The row refers to the slot's facility.
 pub(crate) const OPEN_SLOT: &str = "\
     INSERT INTO slots (facility, day, hour, closed, taken) \
     VALUES (?1, ?2, ?3, 0, 0) \
     ON CONFLICT (facility, day, hour) \
     DO UPDATE SET closed = 0";
 
-/// Adds to the persons of a slot, which is open if it had no row; a negative number for a cancelled
-/// booking.
+/// Adds to the persons of a slot. A negative number is for a cancelled booking. If the slot had no
+/// row, it is open.
 pub(crate) const ADD_TAKEN: &str = "\
     INSERT INTO slots (facility, day, hour, closed, taken) \
     VALUES (?1, ?2, ?3, 0, ?4) \
@@ -197,7 +197,8 @@ pub(crate) const ADD_BOOKING: &str = "\
     cancelled, refund) \
     VALUES (?1, ?2, ?3, ?4, ?5, ?6, ?7, ?8, ?9, ?10)";
 
-/// Marks a booking cancelled, if its row is as the first ten parameters say, and isn't cancelled.
+/// Marks a booking cancelled, if its row has the values of the first ten parameters and isn't
+/// cancelled.
 pub(crate) const CANCEL_BOOKING: &str = "\
     UPDATE bookings \
     SET cancelled = 1, refund = ?11 \

@@ -1,4 +1,4 @@
-//! A statement that writes, and which fault an error of the database is.
+//! A statement that writes, and the mapping of a database's error to a fault.
 
 ghost use Rattle.std.specs.Prelude.{◌≡◌};
 ghost use Rattle.club_tables.specs.Transaction.{fault_by};
@@ -22,6 +22,6 @@ pub fn fault_of(error: Error) -> StoreFault
 pub struct Statement<'a> {
     /// Its SQL.
     pub text: &'a str,
-    /// The values of its parameters, in their order.
+    /// The values of its parameters, in order.
     pub params: &'a [ValueRef<'a>],
 }

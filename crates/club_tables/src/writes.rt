@@ -1,4 +1,4 @@
-//! Writes the changes of a club, each in a transaction of its own.
+//! Writes the changes of a club, each in its own transaction.
 
 ghost use Rattle.std.specs.Prelude.{◌≡◌, ◌≤◌, [], ◌∷◌, None, Err, true, false};
 ghost use Rattle.club_rows.specs.{Limits.quota_limit, Rows.{IsMember, IsFacility, IsBooking}};
@@ -33,7 +33,7 @@ use sqlite::Alter;
 use sqlite::types::ValueRef;
 
 impl<S: Alter> Tables<S> {
-    /// Runs one statement, which has to insert or update a row.
+    /// Runs one statement, which must insert or update a row.
     fn write_one(&mut self, text: &str, params: &[ValueRef<'_>]) -> Result<(), StoreFault>
         ensures commits { Commits S.Store 1 ((text.now, bound params.now) ∷ [])
             self.old self.new result }
@@ -41,8 +41,8 @@ impl<S: Alter> Tables<S> {
         self.write(&[Statement { text, params }])
     }
 
-    /// Inserts a member, whose bookings have cost nothing. Fails, and changes nothing, if a number
-    /// is out of its limits, or there is a member of this name.
+    /// Inserts a member, whose bookings have cost nothing. Fails without effect if a number is
+    /// outside its limits, or a member of this name exists.
     pub fn insert_member(&mut self, member: &Member) -> Result<(), StoreFault>
         ensures commits { IsMember member.now → Commits S.Store 1 (adding_member member.now)
             self.old self.new result }
@@ -57,8 +57,8 @@ impl<S: Alter> Tables<S> {
         self.write_one(texts::ADD_MEMBER, &params::of_member(member))
     }
 
-    /// Inserts a facility. Fails, and changes nothing, if a number is out of its limits, or there
-    /// is a facility of this name.
+    /// Inserts a facility. Fails without effect if a number is outside its limits, or a facility of
+    /// this name exists.
     pub fn insert_facility(&mut self, facility: &Facility) -> Result<(), StoreFault>
         ensures commits { IsFacility facility.now → Commits S.Store 1 (adding_facility facility.now)
             self.old self.new result }
@@ -73,8 +73,8 @@ impl<S: Alter> Tables<S> {
         self.write_one(texts::ADD_FACILITY, &params::of_facility(facility))
     }
 
-    /// Gives a facility other numbers. Fails, and changes nothing, if one is out of its limits, the
-    /// facility isn't there, or one of its slots has more persons than these places.
+    /// Gives a facility new numbers. Fails without effect if a number is outside its limits, the
+    /// facility doesn't exist, or one of its slots has more persons than the new places.
     pub fn replace_numbers(
         &mut self,
         facility: &Name,
@@ -99,8 +99,8 @@ impl<S: Alter> Tables<S> {
         self.write_one(texts::SET_NUMBERS, &numbers)
     }
 
-    /// Inserts a key. Fails, and changes nothing, if the key has an older root, there is a key of
-    /// this name, or its member isn't there.
+    /// Inserts a key. Fails without effect if the key has an older root, a key of this name exists,
+    /// or its member doesn't exist.
     pub fn insert_key(&mut self, key: &Key) -> Result<(), StoreFault>
         ensures commits { key.now.older ≡ None → Commits S.Store 1 (adding_key key.now)
             self.old self.new result }
@@ -114,8 +114,8 @@ impl<S: Alter> Tables<S> {
         self.write_one(texts::ADD_KEY, &params::of_key(key))
     }
 
-    /// Adds points to what a member was credited. Fails, and changes nothing, if the member isn't
-    /// there, or would be credited more than the most.
+    /// Adds points to a member's credit. Fails without effect if the member doesn't exist, or the
+    /// credit would be above the maximum.
     pub fn add_credit(&mut self, member: &Name, points: u32) -> Result<(), StoreFault>
         ensures commits { Commits S.Store 1 (adding_credit member.now points)
             self.old self.new result }
@@ -125,8 +125,8 @@ impl<S: Alter> Tables<S> {
         self.write_one(texts::ADD_CREDIT, &params::of_credit(member, points))
     }
 
-    /// Takes points back that a member was credited. Fails, and changes nothing, if the member
-    /// isn't there, or its bookings leave fewer points.
+    /// Takes points off a member's credit. Fails without effect if the member doesn't exist, or its
+    /// bookings leave fewer points.
     pub fn take_credit(&mut self, member: &Name, points: u32) -> Result<(), StoreFault>
         ensures commits { Commits S.Store 1 (taking_credit member.now points)
             self.old self.new result }
@@ -137,8 +137,8 @@ impl<S: Alter> Tables<S> {
         self.write_one(texts::TAKE_CREDIT, &params::of_credit(member, points))
     }
 
-    /// Gives a member another quota. Fails, and changes nothing, if the quota is out of its limits,
-    /// or the member isn't there.
+    /// Gives a member a new quota. Fails without effect if the quota is outside its limits, or the
+    /// member doesn't exist.
     pub fn replace_quota(&mut self, member: &Name, quota: u8) -> Result<(), StoreFault>
         ensures commits { quota ≤ quota_limit
             → Commits S.Store 1 (giving_quota member.now quota) self.old self.new result }
@@ -164,7 +164,7 @@ impl<S: Alter> Tables<S> {
     }
 
     /// Gives a key a new root. Its former root becomes its older root, and replaces an earlier one.
-    /// Fails, and changes nothing, if the key has another former root.
+    /// Fails without effect if the key's root isn't the given former root.
     pub fn replace_root(&mut self, rotation: &Rotation) -> Result<(), StoreFault>
         ensures commits { Commits S.Store 1
             (replacing_root rotation.now.key rotation.now.root rotation.now.older)
@@ -197,8 +197,8 @@ impl<S: Alter> Tables<S> {
         ])
     }
 
-    /// Marks a slot closed. Fails, and changes nothing, if it is closed, or its facility isn't
-    /// there.
+    /// Marks a slot closed. Fails without effect if it is already closed, or its facility doesn't
+    /// exist.
     pub fn close_slot(&mut self, slot: &Slot) -> Result<(), StoreFault>
         ensures commits { Commits S.Store 1 (closing slot.now) self.old self.new result }
         ensures makes { ChangesClub S.Store (MarkClosed slot.now) self.old self.new result }
@@ -208,8 +208,8 @@ impl<S: Alter> Tables<S> {
         self.write_one(texts::CLOSE_SLOT, &params::of_slot(slot))
     }
 
-    /// Marks a slot open, which may be open already. Fails, and changes nothing, if its facility
-    /// isn't there.
+    /// Marks a slot open, which may already be open. Fails without effect if its facility doesn't
+    /// exist.
     pub fn open_slot(&mut self, slot: &Slot) -> Result<(), StoreFault>
         ensures commits { Commits S.Store 1 (reopening slot.now) self.old self.new result }
         ensures makes { ChangesClub S.Store (MarkOpen slot.now) self.old self.new result }
@@ -219,7 +219,7 @@ impl<S: Alter> Tables<S> {
         self.write_one(texts::OPEN_SLOT, &params::of_slot(slot))
     }
 
-    /// Inserts a booking, adds its persons to those of its slot, and charges its member.
+    /// Inserts a booking, adds its persons to its slot, and charges its member.
     fn run_booking(
         &mut self,
         booking: &[ValueRef<'_>],
@@ -246,10 +246,10 @@ impl<S: Alter> Tables<S> {
         ])
     }
 
-    /// Inserts a booking under a key of the member, adds its persons to those of its slot, and what
-    /// it costs to what the member's have cost. Fails, and changes nothing, if a value is out of
-    /// its limits, the key has a booking of this number, the key is another member's, the member
-    /// hasn't the points, or the slot hasn't the places.
+    /// Inserts a booking under a key of the member, adds its persons to its slot, and adds its
+    /// charge to what the member's bookings have cost. Fails without effect if a value is outside
+    /// its limits, the key has a booking under this number, the key is another member's, the member
+    /// doesn't have the points, or the slot doesn't have the places.
     pub fn insert_booking(&mut self, booking: &Booking, member: &Name) -> Result<(), StoreFault>
         ensures commits { IsBooking booking.now
             → Commits S.Store 1 (adding_booking booking.now member.now) self.old self.new result }
@@ -269,7 +269,7 @@ impl<S: Alter> Tables<S> {
     }
 
     /// Marks a booking cancelled, subtracts its refund from what its member's bookings have cost,
-    /// and its persons from those of its slot.
+    /// and subtracts its persons from its slot.
     fn run_cancellation(
         &mut self,
         booking: &[ValueRef<'_>],
@@ -296,9 +296,9 @@ impl<S: Alter> Tables<S> {
         ])
     }
 
-    /// Marks a booking cancelled with its refund, gives the refund back to the member, and the
-    /// places to the slot. Fails, and changes nothing, if the refund is more than the charge, or
-    /// the booking isn't on record as it is given, is cancelled, or is under a key of another
+    /// Marks a booking cancelled with its refund, pays the refund to the member, and frees the
+    /// places of the slot. Fails without effect if the refund is more than the charge, or if the
+    /// booking isn't on record with these values, is cancelled, or is under a key of another
     /// member.
     pub fn cancel_booking(
         &mut self,

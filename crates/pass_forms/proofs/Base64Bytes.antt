@@ -1,4 +1,4 @@
--- What decodes is a list of bytes.
+-- The result of decoding is a list of bytes.
 use Rattle.pass_forms.proofs.Common.{◌≡◌, ℕ, zero, suc, ◌+◌, ◌*◌, ◌/◌, ◌<◌, Bool, true, ltb, List, [], ◌∷◌, ◌++◌, length, take, drop, slice_index, refl, arith}
 use Rattle.pass_forms.proofs.Common.{list_all, lt-ltb, get_or-drop, take-append-drop, DecodeError, GeneralPurpose, IsBytes, decode_of, elements, nat_tests}
 use Rattle.pass_forms.proofs.Common.{IfOk}
@@ -11,7 +11,7 @@ use Rattle.base64.proofs.{Decoding.{IsLeftover, IsLeftover_next}, EngineFacts.{d
 abbrev TypeOf : {A : Type 0} → A → Type 0
 TypeOf {A} x = A
 
--- what the scan of the last group keeps, a type that has no public name
+-- the state of the scan of the last group; its type has no public name
 abbrev Leftover : Type 0
 Leftover = TypeOf no_leftover
 
@@ -58,7 +58,7 @@ groups_are_bytes dec s (suc q) table bytes none =
     append_is_bytes (groups_bytes dec s q) (group_bytes dec s (4 * q)) (groups_are_bytes dec s q table bytes (grind arith))
     (symbols_are_bytes dec s (4 * q) table bytes (grind arith))
 
--- what the scan of the last group keeps is below 64
+-- the values that the scan of the last group keeps are below 64
 module _ (dec : List ℕ) (pad at : ℕ) (table : IsDecodeTable dec) where
   push_keeps : (st : Leftover) (i b : ℕ) → IsLeftover st i → b < 256 → (next : Result Leftover DecodeError) → push_leftover dec pad at st i b ≡ next →
       IfOk next (λ st. IsLeftover st (i + 1))
@@ -84,7 +84,7 @@ scan_is_bytes (Ok st) small =
     front_bytes (take n group) (drop n group) (rw take-append-drop (group_is_bytes _ _ _ _ (small 0) (small 1) (small 2) (small 3)))
 scan_is_bytes (Err e) small = nil_is_bytes
 
--- all of them
+-- all groups
 decoded_are_bytes : (dec s : List ℕ) (pad : ℕ) (allow : Bool) (mode : DecodePaddingMode) → IsDecodeTable dec → IsBytes s
     → decode_error dec pad allow mode s ≡ None → IsBytes (decoded_bytes dec pad s)
 decoded_are_bytes dec s pad allow mode table bytes none =
@@ -96,7 +96,7 @@ decoded_are_bytes dec s pad allow mode table bytes none =
 no_error : (error : Option DecodeError) (bytes b : List ℕ) → decode_outcome error bytes ≡ Ok b → error ≡ None
 no_error error bytes b ok = grind arith
 
--- What bytes decode to is bytes.
+-- The result of decoding bytes is bytes.
 pub decode_of_are_bytes : (e : GeneralPurpose) (s b : List ℕ) → IsBytes s → decode_of e s ≡ Ok b → IsBytes b
 decode_of_are_bytes e s b bytes ok =
     let table : IsDecodeTable e.decode_table = IsDecodeTable_from e.encode_table e.decode_table

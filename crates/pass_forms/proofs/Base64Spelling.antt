@@ -1,4 +1,4 @@
--- What is base64 of which bytes, and the engine that takes it off.
+-- The base64 texts of bytes, and the engine that decodes them.
 use Rattle.pass_forms.proofs.{Base64Bytes.decode_of_are_bytes, Base64Symbols.{encode_map, encode_passes, standard_symbol}, Common.{◌≡◌, ℕ, ◌==◌, not, Bool}}
 use Rattle.pass_forms.proofs.Common.{true, false, List, [], ◌∷◌, drop, map, refl, sym, ◌∙◌, inl, inr, Decides-eqb, list_all, result_ok, standard, url_safe}
 use Rattle.pass_forms.proofs.Common.{IsBytes, IsConsistent, IsStrict, decode_of, decoded_of, encode_of, engine_symbols, encode, DecodeError, GeneralPurpose}
@@ -18,7 +18,7 @@ url_safe_symbols = engine_symbols url_safe
 some_ok : (r : Result (List ℕ) DecodeError) (b : List ℕ) → result_ok r ≡ Some b → r ≡ Ok b
 some_ok r b some = grind arith
 
--- What decodes is the encoding of bytes.
+-- A text that decodes is the encoding of bytes.
 pub decoded_spells : (e : GeneralPurpose) (text b : List ℕ) → IsStrict e → IsBytes text → decoded_of e text ≡ Some b → (text ≡ encode_of e b) × IsBytes b
 unfolding decoded_of
 decoded_spells e text b strict bytes decoded =
@@ -34,7 +34,7 @@ decoded-encode e b consistent bytes = rw (decode_of-encode_of e b consistent byt
 standard_decodes : (b : List ℕ) (padding : Bool) → IsBytes b → decoded_bytes standard.decode_table 61 (encode standard_symbols 61 padding b) ≡ b
 standard_decodes b padding are = (decode-encode standard.encode_table standard.decode_table b 61 false Indifferent padding standard.tables are tt).1
 
--- what holds of each of the four encodings holds of base64
+-- a property of all four encodings holds for base64
 spelled_by : (text b : List ℕ) (P : List ℕ → Type 0) → ((text ≡ encode_of url_safe_no_pad b) ⊎ (text ≡ encode_of url_safe b)
     ⊎ (text ≡ encode_of standard_no_pad b) ⊎ (text ≡ encode_of standard b)) →
     ((padding : Bool) → P (encode url_safe_symbols 61 padding b) × P (encode standard_symbols 61 padding b)) → P text
@@ -48,7 +48,7 @@ spelled_decodes text b is = spelled_by text b (λ t. decoded_bytes standard.deco
     let decodes = standard_decodes b padding is.are_bytes in
     (rw (encode_map url_safe_symbols b padding) decodes, rw (encode_map standard_symbols b padding) decodes))
 
--- A text is base64 of one list of bytes at most.
+-- A text is base64 of at most one list of bytes.
 pub spells_one : (text a b : List ℕ) → IsBase64 text a → IsBase64 text b → a ≡ b
 spells_one text a b left right = sym (spelled_decodes text a left) ∙ spelled_decodes text b right
 

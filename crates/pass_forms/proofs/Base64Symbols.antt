@@ -1,15 +1,15 @@
--- The symbols of an encoding: which bytes they are, and what they are in the standard alphabet.
+-- The symbols of an encoding: their bytes, and their counterparts in the standard alphabet.
 use Rattle.pass_forms.proofs.Common.{◌≡◌, ℕ, zero, suc, ◌+◌, ◌*◌, ◌/◌, ◌%◌, ◌==◌, if◌then◌else◌, Bool, true, List, [], ◌∷◌, replicate, slice_index, map, refl}
 use Rattle.pass_forms.proofs.Common.{ap, list_all, and_parts, encode, encode_symbols, arith, common_steps}
 
--- a test that 0 and each symbol of a table pass, at any place of the table
+-- a test that 0 and each symbol of a table pass is passed at any place of the table
 passes_at : (p : ℕ → Bool) (t : List ℕ) (i : ℕ) → p 0 ≡ true → list_all p t ≡ true → p (slice_index t i) ≡ true
 passes_at p [] zero past all = past
 passes_at p [] (suc i) past all = past
 passes_at p (x ∷ xs) zero past all = (and_parts (p x) (list_all p xs) all).0
 passes_at p (x ∷ xs) (suc i) past all = passes_at p xs i past (and_parts (p x) (list_all p xs) all).1
 
--- the symbols of a message pass it then
+-- the symbols of a message pass such a test
 pub symbols_pass : (p : ℕ → Bool) (t m : List ℕ) → p 0 ≡ true → list_all p t ≡ true → list_all p (encode_symbols t m) ≡ true
 unfolding encode_symbols
 symbols_pass p t [] past all = refl

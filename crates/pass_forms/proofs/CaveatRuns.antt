@@ -9,14 +9,14 @@ Reader = List ℕ → Option (WideCaveat × List ℕ)
 abbrev pub Run : Type 0
 Run = List WideCaveat × List ℕ
 
--- Count and third_party are those of the caveats before the ones that are left; together they make the whole.
+-- Count and third_party describe the caveats before those that are left; together they are the whole list.
 pub record Keeps (count : ℕ) (third_party : Bool) (left whole : Run) : Type 0 where
   pub count_is : count + length left.0 ≡ length whole.0
   pub any : (third_party || list_any is_third_party left.0) ≡ list_any is_third_party whole.0
   pub after : left.1 ≡ whole.1
 
 module _ (at : Reader) where
-  -- the caveats that follow, if one does, and if none does
+  -- the following caveats, whether or not there is one
   pub one_more : (fuel less : ℕ) (rest : List ℕ) → fuel ≡ suc less → caveats_at at fuel rest ≡ and_others (caveats_at at less) rest (at rest)
   unfolding caveats_at
   one_more fuel less rest e = rw e refl
@@ -29,7 +29,7 @@ module _ (at : Reader) where
   unfolding caveats_at
   none_follow fuel rest content = grind arith
 
-  -- Going over as many caveats as there are finds the same ones.
+  -- A scan over exactly as many caveats as there are finds the same ones.
   pub as_many : (n : ℕ) (bytes : List ℕ) → caveats_at at (length (caveats_at at n bytes).0) bytes ≡ caveats_at at n bytes
   unfolding caveats_at
   as_many zero bytes = refl

@@ -3,7 +3,7 @@ use Rattle.pass_forms.proofs.{CaveatRuns.Reader, Common.{◌≡◌, ℕ, zero, s
 use Rattle.pass_forms.proofs.Common.{flat_map, AllByRecursion, length-append, and_others, caveats_at, WideCaveat, common_steps}
 use Rattle.std.proofs.lemmas.List.Concat.{flat_map-cons}
 
--- A layout reads the texts of the caveats that fit it, if what follows ends a caveat.
+-- A layout reads the texts of the caveats that fit it, if the following bytes end a caveat.
 pub record Exact (at : Reader) (text : WideCaveat → List ℕ) (Fits : WideCaveat → Type 0) (Ends : List ℕ → Type 0) : Type 0 where
   pub takes : (bytes : List ℕ) (found : WideCaveat × List ℕ) → at bytes ≡ Some found → (bytes ≡ text found.0 ++ found.1) × Fits found.0
   pub again : (caveat : WideCaveat) (rest : List ℕ) → Fits caveat → Ends rest → at (text caveat ++ rest) ≡ Some (caveat, rest)
@@ -30,7 +30,7 @@ module _ (at : Reader) (text : WideCaveat → List ℕ) (Fits : WideCaveat → T
             (first.0 ∙ ap (λ (x : List ℕ). text found.0 ++ x) more.0 ∙ sym (regrouped text found.0 left.0 left.1), (first.1, more.1))
       ] refl
 
-  -- A caveat, or what ends the caveats, ends the caveat before it.
+  -- A caveat, or the end of the caveats, ends the caveat before it.
   caveats_end : (caveats : List WideCaveat) (rest : List ℕ) → AllByRecursion Fits caveats → Ends rest → Ends (flat_map text caveats ++ rest)
   caveats_end [] rest fits ends = ends
   caveats_end (caveat ∷ caveats) rest fits ends =
@@ -47,7 +47,7 @@ module _ (at : Reader) (text : WideCaveat → List ℕ) (Fits : WideCaveat → T
       ap (caveats_at at (suc n)) (regrouped text caveat caveats rest)
       ∙ rw (exact.again caveat others fits.0 (caveats_end caveats rest fits.1 ends), caveats_again n caveats rest (omega arith) fits.1 ends none) refl
 
--- If no caveat is without bytes, there are no more caveats than bytes.
+-- If every caveat has bytes, there are no more caveats than bytes.
 pub caveats_fit : (text : WideCaveat → List ℕ) → ((caveat : WideCaveat) → 1 ≤ length (text caveat)) → (caveats : List WideCaveat) →
     length caveats ≤ length (flat_map text caveats)
 caveats_fit text long [] = omega arith

@@ -1,4 +1,4 @@
--- From one wide pass at most for each text to the one reading of it.
+-- If a text spells at most one wide pass, it has exactly one reading.
 use Rattle.pass_forms.proofs.Common.{◌≡◌, ◌↔◌, ℕ, ◌≤◌, Bool, false, cond, ltb, ◌||◌, List, [], ◌∷◌, length, map, Option, Some, None, Result, Ok, Err, refl, ap}
 use Rattle.pass_forms.proofs.Common.{subst, arith, is_some, list_any, length-map, or_parts, le-ltb, lt-ltb, FormFault, TooLong, Malformed, ThirdParty, TooMany}
 use Rattle.pass_forms.proofs.Common.{Memory, ComputesSpelled, OnePassEach, Plain, WideCaveat, WidePass, is_third_party, has_third_party, widened_caveat}
@@ -33,7 +33,7 @@ no_third_party (caveat ∷ caveats) = no_third_party caveats
 
 -- ---- the computing answer is the relation's
 
--- What is computed is exactly what is spelled.
+-- The computed wide pass is the only one that is spelled.
 abbrev pub Computes : (WidePass → Type 0) → Option WidePass → Type 0
 Computes Spelled computed = (wide : WidePass) → Spelled wide ↔ (computed ≡ Some wide)
 

@@ -1,4 +1,4 @@
--- The keys of V1's packets, by the names that lemmas give them.
+-- Names for the keys of V1's packets, for use in lemmas.
 use Rattle.pass_forms.proofs.Common.{ℕ, List, codes}
 
 abbrev pub location_key : List ℕ

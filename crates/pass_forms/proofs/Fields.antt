@@ -1,4 +1,4 @@
--- A field that is read is the field that was written, and what was written is read, whatever follows.
+-- The field that is read is the field that was written, and a written field is read, whatever bytes follow it.
 use Rattle.pass_forms.proofs.Common.{◌≡◌, ℕ, zero, suc, ◌+◌, ◌-◌, ◌*◌, ◌/◌, ◌%◌, ◌^◌, ◌<◌, ◌≤◌, List, [], ◌∷◌, ◌++◌, length, Option, Some, None, refl, sym, ap}
 use Rattle.pass_forms.proofs.Common.{◌∙◌, arith, inl, inr, cases_lt, lt-ltb, le-ltb, nat_tests, take-append-drop, groups, varint, field, optional_field}
 use Rattle.pass_forms.proofs.{Common.{varint_up_to, counted_at, field_at, common_steps}, Packets.{after_prefix_takes, after_prefix_again}}
@@ -7,7 +7,7 @@ use Rattle.pass_forms.specs.computed.V2Reading.{optional_at}
 
 -- ---- numbers
 
--- More groups than there are bits spell the same.
+-- Allowing more groups than there are bits gives the same spelling.
 groups_enough : (more n : ℕ) → n < 128 → groups more n ≡ n ∷ []
 unfolding groups
 groups_enough more n small = grind (arith, nat_tests)
@@ -37,7 +37,7 @@ pub varint_small : (n : ℕ) → n < 128 → varint n ≡ n ∷ []
 unfolding varint
 varint_small n small = groups_enough n n small
 
--- a number of more than seven bits, but no more than fourteen
+-- a number of more than seven bits, but at most fourteen
 pub varint_of_two : (n : ℕ) → 128 ≤ n → n < 2 ^ 14 → varint n ≡ (128 + n % 128) ∷ n / 128 ∷ []
 varint_of_two n large small = grind (arith, varint_large, varint_small)
 

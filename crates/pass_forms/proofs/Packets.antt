@@ -1,4 +1,4 @@
--- A packet that is read is the packet that was written, and what was written is read, whatever follows.
+-- The packet that is read is the packet that was written, and a written packet is read, whatever bytes follow it.
 use Rattle.pass_forms.proofs.Common.{◌≡◌, ℕ, ◌+◌, ◌-◌, ◌^◌, ◌<◌, ◌≤◌, ◌&&◌, leb, List, [], ◌∷◌, ◌++◌, length, take, drop, Some, None, refl, sym, ap, ◌∙◌}
 use Rattle.pass_forms.proofs.Common.{append_assoc, arith, and_parts, leb-true, cond_some, some_pair_parts, drop-take, take-take, take_at, drop_at}
 use Rattle.pass_forms.proofs.Common.{take-append-drop, length-append, length-take, length-drop, four_hex_digits, packet_len, packet, FitsPacket, after_prefix}
@@ -59,7 +59,7 @@ packet_takes key bytes text rest e =
 pub length-packet : (key text : List ℕ) → length (packet key text) ≡ packet_len key text
 length-packet key text = grind (arith, common_steps)
 
--- what follows the digits of a packet
+-- the bytes after the digits of a packet
 behind_digits : (key text rest : List ℕ) → drop 4 (packet key text ++ rest) ≡ key ++ ((text ++ 10 ∷ []) ++ rest)
 behind_digits key text rest = grind (arith, common_steps)
 
@@ -78,7 +78,7 @@ packet_again key text rest fits =
     packet_by key text rest bytes n refl (omega (arith, length-append (packet key text) rest, length-packet key text)) read (behind_digits key text rest)
     (drop_at (packet key text) rest n (length-packet key text))
 
--- A packet of one key is none of a key with which it doesn't begin.
+-- A packet with one key isn't a packet with another key that it doesn't begin with.
 pub packet_other : (key other text rest : List ℕ) → ((tail : List ℕ) → after_prefix key (other ++ tail) ≡ None) →
     packet_at key (packet other text ++ rest) ≡ None
 unfolding packet_at

@@ -1,4 +1,4 @@
--- Caveats that are put one after the other.
+-- Caveats that are appended one after another.
 use Rattle.pass_forms.proofs.Common.{Vec, Global, ℕ, List, map, drop, flat_map, WideCaveat, widened_caveat}
 
 -- the bytes of the caveats from the i-th on, if each has this text

@@ -17,7 +17,7 @@ module _ (wide_at : Reader) (text : List ℕ) where
   abbrev SpellsAny : WidePass → Type 0
   SpellsAny wide = (form : Form) × SpellsText (Spells wide_at) text form wide
 
-  -- What a text spells is what its bytes spell, in its form and in any.
+  -- A text spells the wide pass that its bytes spell, in its own form and in any form.
   same_bytes : (form other : Form) (bytes : List ℕ) (wide : WidePass) → Wraps text form bytes → SpellsIn other wide →
       (other ≡ form) × (wide_at form bytes ≡ Some wide)
   same_bytes form other bytes wide wraps h = grind (arith, wraps_one text other form h.0 bytes h.1 wraps)
@@ -41,7 +41,7 @@ module _ (wide_at : Reader) (text : List ℕ) where
   reading_in_is (Err Malformed) h = (h.0, λ wide spelling. h.1 spelling.0 spelling.1.0 spelling.1.1)
   reading_in_is wrapped h = absurd h
 
-  -- A text that wraps bytes in a form has one answer.
+  -- A text that wraps bytes in a form has only one result.
   wrapped_determined : (form : Form) (bytes : List ℕ) (answer : Result (Form × Plain) FormFault) → length text ≤ max_text_len → Wraps text form bytes →
       IsTextReading (Spells wide_at) text answer → in_form form (checked_if_any (wide_at form bytes)) ≡ answer
   wrapped_determined form bytes (Ok (other, pass)) within wraps h =

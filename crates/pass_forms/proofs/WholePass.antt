@@ -1,4 +1,4 @@
--- From the parts that were found one after another to the whole pass.
+-- The whole pass, from the parts that were found one after another.
 use Rattle.pass_forms.proofs.{CaveatRuns.Reader, Common.{◌≡◌, ℕ, List, [], length, Option, Some, caveats_at, whole_at, ◌>>=◌, last_signature, WideCaveat}}
 use Rattle.pass_forms.proofs.Common.{WidePass, arith, common_steps, nat_tests}
 

@@ -1,4 +1,4 @@
--- A pass that is read from packets is the pass that they spell, and a pass that is spelled is read.
+-- The pass that is read from packets is the pass that they spell, and every pass that packets spell is read.
 use Rattle.pass_forms.proofs.{CaveatPackets.{EndsCaveat, exact_caveats, caveat_has_bytes}, CaveatTexts.{caveats_take, caveats_again, caveats_fit}}
 use Rattle.pass_forms.proofs.{Checking.exactly, Common.{◌≡◌, ℕ, ◌≤◌, List, [], ◌++◌, length, Some, None, refl, ap, subst, ◌∙◌, arith, flat_map, append-nil}}
 use Rattle.pass_forms.proofs.Common.{length-append, same_Some, WidePass, packet, caveat_packets, packets_of, FitsPacket, FitsCaveat, FitsPackets, SpellsV1}

@@ -5,7 +5,7 @@ use Rattle.pass_forms.proofs.Common.{buffer_len, max_caveats, max_text_len, Fail
 use Rattle.pass_forms.proofs.{Common.writing_of, WrittenTexts.{bytes_fit, unwraps}}
 use Rattle.std.proofs.Common.{IfErr, IfOk}
 
--- A form: the bytes of a pass, and which bytes spell a pass.
+-- A form: the bytes of a pass, and the relation between bytes and the pass that they spell.
 pub record BytesForm : Type 1 where
   pub bytes_of : Plain → List ℕ
   pub Spells : List ℕ → WidePass → Type 0
@@ -22,7 +22,7 @@ module _ (f : BytesForm) (pass : Plain) where
 
   -- ---- the result, a text or a fault
 
-  -- the computed result, by its two tests, is one that the relation allows
+  -- the computed result, which depends on two tests, is one that the relation allows
   abbrev result_by : Bool → Bool → Result (List ℕ) FormFault
   result_by many long = cond many (Err TooMany) (cond long (Err TooLong) (Ok (in_base64 (f.bytes_of pass))))
 
@@ -36,7 +36,7 @@ module _ (f : BytesForm) (pass : Plain) where
     few = ltb-false _ _ m;
   }
 
-  -- the relation allows one result
+  -- the relation allows only one result
   one_result : (one other : Result (List ℕ) FormFault) → IsWriting (IsTextIn f) pass one → IsWriting (IsTextIn f) pass other → one ≡ other
   one_result one other h k = grind arith
 

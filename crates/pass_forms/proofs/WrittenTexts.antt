@@ -1,4 +1,4 @@
--- The text that is written of a pass: how long it is, and that it is read back, whatever the form.
+-- The written text of a pass in any form: its length, and the proof that it is read back.
 use Rattle.pass_forms.proofs.Common.{◌≡◌, ℕ, ◌<◌, ◌≤◌, List, length, Ok, Err, Some, arith, append-nil, url_safe_no_pad, IsBytes, engine_symbols, unpadded_len}
 use Rattle.pass_forms.proofs.Common.{TooLong, Form, IsUnwrapped, form_of, Plain, buffer_len, max_caveats, max_text_len, in_base64, writing_of, nat_tests}
 use Rattle.base64.proofs.RoundTrip.{length-encode_symbols}

@@ -1,13 +1,12 @@
--- The envelope of a pass text: base64, and which form the bytes in it are in.
+-- The envelope of a pass text: base64, and the form of the bytes in it.
 use Rattle.std.specs.{List.starts_with, Option.option_and_then, Prelude.{◌≡◌, ◌==◌, ◌≤◌, ◌<◌, ◌&&◌, ◌||◌, ◌⊎◌, ℕ, Bool, List, length, take, slice_get, nat_eq}}
 use Rattle.std.specs.Prelude.{nat_le, IsTrue, codes, if◌then◌else◌, Option, None, Some, Result, Ok, Err}
 use Rattle.base64.specs.{Engines.{url_safe_no_pad, url_safe, standard_no_pad, standard}, GeneralPurpose.{IsBytes, encode_of}}
 use Rattle.pass_forms.specs.{Reading.max_text_len, declared.{envelope.Unwrapped.Unwrapped, fault.FormFault.{FormFault, TheVariants.{TooLong, Malformed}}}}
 use Rattle.pass_forms.specs.declared.form.Form.{Form, TheVariants.{V1, V2, Json}}
 
--- The text is base64 of the bytes: in the URL-safe alphabet (RFC 4648, section 5) or in the standard
--- one (section 4), with no padding or with all of it (section 3.2), the bits past the last byte zero
--- (section 3.5). That either alphabet will do, and that padding may be left out, is ours.
+-- The text is base64 of the bytes, in the URL-safe alphabet (RFC 4648, section 5) or the standard one (section 4), with no padding or all of it (section 3.2).
+-- The bits after the last byte are zero (section 3.5). Accepting both alphabets and missing padding is ours.
 pub record IsBase64 (text bytes : List ℕ) : Type 0 where
   pub are_bytes : IsBytes bytes
   pub spelling : (text ≡ encode_of url_safe_no_pad bytes) ⊎ (text ≡ encode_of url_safe bytes)
@@ -20,8 +19,8 @@ starts_with_brace bytes = starts_with nat_eq bytes (codes "{")
 abbrev pub is_lower_hex_digit : ℕ → Bool
 is_lower_hex_digit byte = (nat_le 48 byte && nat_le byte 57) || (nat_le 97 byte && nat_le byte 102)
 
--- The form by the first byte: a V2 pass begins with the byte 2, a JSON pass with `{`, and a V1 pass
--- with the lower-case hexadecimal length of a packet (ours, after libmacaroons' formats). `{` is the byte 123.
+-- The form, from the first byte: a V2 pass begins with the byte 2, a JSON pass with `{`, and a V1 pass with the lower-case hexadecimal length of a packet
+-- (ours, after libmacaroons' formats). `{` is the byte 123.
 abbrev pub form_of_byte : ℕ → Option Form
 form_of_byte first =
     if first == 2 then Some V2
@@ -29,19 +28,19 @@ form_of_byte first =
     else if is_lower_hex_digit first then Some V1
     else None
 
--- the form that the bytes are in, by the first of them
+-- the form of the bytes, from the first of them
 abbrev pub form_of : List ℕ → Option Form
 form_of bytes = option_and_then form_of_byte (slice_get bytes 0)
 
--- The text wraps those bytes, in that form: a text that starts with `{` is itself JSON, and any other is
--- base64 of bytes whose first byte decides the form (ours).
+-- The text wraps these bytes, in this form: a text that starts with `{` is itself JSON, and any other text is base64 of bytes whose first byte decides the form
+-- (ours).
 abbrev pub Wraps : List ℕ → Form → List ℕ → Type 0
 Wraps text form bytes =
     (IsTrue (starts_with_brace text) × (form ≡ Json) × (bytes ≡ text))
     ⊎ (IsBase64 text bytes × (form_of bytes ≡ Some form))
 
--- The result of unwrapping a text (ours): too long above the limit, else malformed if it wraps nothing,
--- else the form and the bytes. There are no other faults.
+-- The result of unwrapping a text (ours): too long if it is above the limit, else malformed if it wraps nothing, else the form and the bytes. There are no
+-- other faults.
 abbrev pub IsUnwrapped : List ℕ → Result (Form × List ℕ) FormFault → Type 0
 IsUnwrapped text (Ok content) = (length text ≤ max_text_len) × Wraps text content.0 content.1
 IsUnwrapped text (Err TooLong) = max_text_len < length text
@@ -49,7 +48,7 @@ IsUnwrapped text (Err Malformed) =
     (length text ≤ max_text_len) × ((form : Form) (bytes : List ℕ) → ¬ Wraps text form bytes)
 IsUnwrapped text (Err other) = ⊥
 
--- What a result of `unwrap_text` means, with the text and the buffer after the call.
+-- The meaning of a result of `unwrap_text`, given the text and the buffer after the call.
 
 -- the bytes: the text if it is plain, else the front of the buffer
 abbrev pub unwrapped_bytes : Unwrapped → List ℕ → List ℕ → List ℕ

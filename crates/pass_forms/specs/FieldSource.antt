@@ -1,5 +1,4 @@
--- The fields of a pass one after the other: the location (which may be empty), the identifier, the caveats in their order,
--- the signature.
+-- The fields of a pass in order: the location (which may be empty), the identifier, the caveats, and the signature.
 use Rattle.std.specs.Prelude.{◌≡◌, ℕ, List, [], ◌∷◌, ◌++◌, map, fold, replicate, Option, None, Some, Result, Ok, Err}
 use Rattle.pass_mac.specs.Chain.{extended_signature}
 use Rattle.pass_forms.specs.{Pass.Plain, declared.{fault.FormFault.FormFault, field_source.Field.Field}}
@@ -11,24 +10,24 @@ pub data PassField : Type 0 where
   caveat_field : (bytes : List ℕ) → PassField
   signature_field : (bytes : List ℕ) → PassField
 
--- the fields of a pass, in their order
+-- the fields of a pass, in order
 abbrev pub pass_fields : Plain → List PassField
 pass_fields pass =
     location_field pass.location ∷ identifier_field pass.identifier
     ∷ (map caveat_field pass.caveats ++ signature_field pass.signature ∷ [])
 
--- a field, unless it was returned already
+-- a field, unless it was already returned
 abbrev pub if_left : {A : Type 0} → (A → PassField) → Option A → List PassField
 if_left field None = []
 if_left field (Some bytes) = field bytes ∷ []
 
--- the fields that are left in a source: a location and an identifier with these bytes, caveats, a signature
+-- the fields that are left in a source: a location and an identifier with these bytes, caveats, and a signature
 abbrev pub those_left : {A : Type 0} → (A → List ℕ) → Option A → Option A → List (List ℕ) → Option (List ℕ) → List PassField
 those_left bytes location identifier caveats signature =
     if_left (λ l. location_field (bytes l)) location ++ (if_left (λ i. identifier_field (bytes i)) identifier
     ++ (map caveat_field caveats ++ if_left signature_field signature))
 
--- the result of opening: the fields of what is read, or the fault
+-- the result of opening: the fields of the pass that is read, or the fault
 abbrev pub opening_by : {A : Type 0} → (A → List PassField) → Result A FormFault → Result (List PassField) FormFault
 opening_by fields (Ok read) = Ok (fields read)
 opening_by fields (Err fault) = Err fault
@@ -36,7 +35,7 @@ opening_by fields (Err fault) = Err fault
 abbrev pub opening_of : Result Plain FormFault → Result (List PassField) FormFault
 opening_of reading = opening_by pass_fields reading
 
--- Whether this is a result of opening: the fields of a pass that `Reads` allows, or a fault that it allows.
+-- A result of opening: the fields of a pass that `Reads` allows, or a fault that it allows.
 abbrev pub IsOpening : (Result Plain FormFault → Type 0) → Result (List PassField) FormFault → Type 0
 IsOpening Reads (Ok fields) = (pass : Plain) × Reads (Ok pass) × (fields ≡ pass_fields pass)
 IsOpening Reads (Err fault) = Reads (Err fault)
@@ -48,13 +47,13 @@ as_field (Identifier bytes) = identifier_field bytes.now
 as_field (Caveat bytes) = caveat_field bytes.now
 as_field (Signature bytes) = signature_field bytes
 
--- The fields begin with caveats and a signature, and the signature is that of the chain that those caveats extend (NDSS 2014).
+-- The fields begin with caveats and a signature, which is that of the chain extended by these caveats (NDSS 2014).
 pub record AreSignedBy (chain : List ℕ) (fields : List PassField) : Type 0 where
   pub caveats : List (List ℕ)
   pub rest : List PassField
   pub place : fields ≡ map caveat_field caveats ++ signature_field (extended_signature chain caveats) ∷ rest
 
--- A pass from fields in any order: each sets its value, and a caveat is appended to the list.
+-- A pass from fields in any order. Each field sets its value, and a caveat is appended to the list.
 abbrev pub with_field : Plain → PassField → Plain
 with_field pass (location_field bytes) = record pass { location = bytes }
 with_field pass (identifier_field bytes) = record pass { identifier = bytes }

@@ -6,7 +6,7 @@ use Rattle.pass_forms.specs.computed.{Envelope.{from_base64, unwrapping}, Pass.i
 use Rattle.pass_forms.specs.{computed.Writing.{writing_v1, writing_v2}, declared.{fault.FormFault.FormFault, form.Form.{Form, TheVariants.{V1, V2}}}}
 use Rattle.base64.specs.GeneralPurpose.{IsBytes}
 
--- If a text spells exactly the computed wide pass, the relation allows exactly one result: the computed one.
+-- If the computed wide pass is the only one that a text spells, the relation allows exactly one result: the computed one.
 abbrev pub AnswersExactly : Type 0
 AnswersExactly = (len : ℕ) (computed : Option WidePass) (answer : Result Plain FormFault) →
     IsReadAs len (λ wide. computed ≡ Some wide) answer ↔ (reading_of len computed ≡ answer)
@@ -34,12 +34,12 @@ WrapsOne = (text : List ℕ) (form other_form : Form) (bytes other_bytes : List 
     → Wraps text form bytes → Wraps text other_form other_bytes
     → (form ≡ other_form) × (bytes ≡ other_bytes)
 
--- What it wraps is bytes, if the text is.
+-- If a text is bytes, so are the contents that it wraps.
 abbrev pub WrapsBytes : Type 0
 WrapsBytes = (text : List ℕ) (form : Form) (bytes : List ℕ)
     → IsBytes text → Wraps text form bytes → IsBytes bytes
 
--- `from_base64` returns the bytes that the text is base64 of, and `None` if there are none.
+-- `from_base64` returns the bytes that a text encodes in base64, and `None` if there are none.
 abbrev pub FromBase64IsBase64 : Type 0
 FromBase64IsBase64 = (text bytes : List ℕ) → (from_base64 text ≡ Some bytes) ↔ IsBase64 text bytes
 
@@ -67,7 +67,7 @@ WritesExactly = (pass : Plain) (answer : Result (List ℕ) FormFault) → length
 
 -- ---- of signatures
 
--- A pass that is signed under a root stays signed under it.
+-- A pass that is signed under a root is still signed under it after a caveat is added.
 abbrev pub NarrowedStaysSigned : Type 0
 NarrowedStaysSigned = (root caveat : List ℕ) (pass : Plain) → IsSigned root pass → IsSigned root (with_caveat caveat pass)
 

@@ -20,14 +20,14 @@ pub record WidePass : Type 0 where
   pub caveats : List WideCaveat
   pub signature : List ℕ
 
--- A caveat with a verifier id or a location, even an empty one, is a third party's.
+-- A caveat with a verifier id or a location, even an empty one, is a third-party caveat.
 abbrev pub is_third_party : WideCaveat → Bool
 is_third_party caveat = is_some caveat.verifier_id || is_some caveat.location
 
 abbrev pub has_third_party : WidePass → Bool
 has_third_party wide = list_any is_third_party wide.caveats
 
--- a first-party caveat and a pass, as wide ones
+-- a first-party caveat as a wide one; the next definition is for a pass
 abbrev pub widened_caveat : List ℕ → WideCaveat
 widened_caveat identifier = record { identifier = identifier; verifier_id = None; location = None }
 
@@ -39,7 +39,7 @@ as_wide_pass pass = record {
   signature = pass.signature;
 }
 
--- the pass without the verifier ids and locations of its caveats
+-- a caveat without verifier id and location, and a pass of such caveats
 abbrev pub first_party_caveat : WideCaveat → List ℕ
 first_party_caveat caveat = caveat.identifier
 

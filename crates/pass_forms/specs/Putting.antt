@@ -6,7 +6,7 @@ use Rattle.pass_forms.specs.declared.fault.FormFault.{FormFault, TheVariants.Too
 abbrev pub buffer_len : ℕ
 buffer_len = 6144
 
--- The bytes were appended to the old ones, or both together don't fit the buffer.
+-- Either the bytes were appended to the old ones, or both together don't fit in the buffer.
 abbrev pub Puts : List ℕ → List ℕ → List ℕ → Result (Unit {0}) FormFault → Type 0
 Puts bytes old new (Ok _) = new ≡ old ++ bytes
 Puts bytes old new (Err fault) = (fault ≡ TooLong) × (buffer_len < length (old ++ bytes))

@@ -1,4 +1,4 @@
--- What a reader returns, in any form (ours: the limits, and the order of the faults).
+-- The results of a reader, in any form (the limits and the order of the faults are ours).
 use Rattle.std.specs.Prelude.{◌≡◌, ℕ, ◌<◌, ◌≤◌, true, false, length, Result, Ok, Err}
 use Rattle.pass_forms.specs.{Pass.{Plain, WidePass, has_third_party, as_wide_pass}, declared.fault.FormFault.FormFault}
 use Rattle.pass_forms.specs.declared.fault.FormFault.TheVariants.{TooLong, Malformed, ThirdParty, TooMany, Memory}
@@ -11,8 +11,8 @@ max_text_len = 8192
 abbrev pub max_caveats : ℕ
 max_caveats = 64
 
--- The result of reading a text of this length that spells the wide passes for which Spelled holds: the first that
--- applies of too long, malformed, third-party and too many, else the pass.
+-- The result of reading a text of this length that spells the wide passes for which Spelled holds. It is the first fault that applies (too long, malformed,
+-- third-party, too many caveats), else the pass.
 abbrev pub IsReadAs : ℕ → (WidePass → Type 0) → Result Plain FormFault → Type 0
 IsReadAs len Spelled (Err TooLong) = max_text_len < len
 IsReadAs len Spelled (Err Malformed) = (len ≤ max_text_len) × ((wide : WidePass) → ¬ Spelled wide)
@@ -34,7 +34,7 @@ UnlessMemory Holds (Err ThirdParty) = Holds (Err ThirdParty)
 UnlessMemory Holds (Err TooMany) = Holds (Err TooMany)
 UnlessMemory Holds (Ok read) = Holds (Ok read)
 
--- `Holds` is true of the result. Memory runs out only for a text that passed all checks.
+-- `Holds` is true of the result. Memory can run out only for a text that passed all checks.
 abbrev pub OrOutOfMemory : {A : Type 0} → (Result A FormFault → Type 0) → Result A FormFault → Type 0
 OrOutOfMemory {A} Holds (Err Memory) = (read : A) × Holds (Ok read)
 OrOutOfMemory Holds (Err TooLong) = Holds (Err TooLong)

@@ -1,5 +1,5 @@
--- V1, the packets of libmacaroons. A packet is its whole length in four lower-case hexadecimal digits, a key,
--- one space, the data and one line feed. The length decides where a packet ends, so data may hold any bytes.
+-- V1, the packets of libmacaroons. A packet is its total length in four lower-case hexadecimal digits, a key, one space, the data, and one line feed. The
+-- length decides where a packet ends, so data may have any bytes.
 use Rattle.std.specs.List.{flat_map, AllByRecursion}
 use Rattle.std.specs.Prelude.{◌≡◌, ℕ, ◌+◌, ◌/◌, ◌%◌, ◌^◌, ◌<◌, nat_lt, if◌then◌else◌, List, [], ◌∷◌, ◌++◌, length, Option, Some, None, IfSome, codes}
 use Rattle.pass_forms.specs.Pass.{WideCaveat, WidePass}
@@ -8,7 +8,7 @@ use Rattle.pass_forms.specs.Pass.{WideCaveat, WidePass}
 abbrev pub hex_digit : ℕ → ℕ
 hex_digit n = if nat_lt n 10 then 48 + n else 87 + n
 
--- the digits of a number below 2 ^ 16, the highest first
+-- the digits of a number below 2 ^ 16, with the highest first
 abbrev pub four_hex_digits : ℕ → List ℕ
 four_hex_digits n = hex_digit (n / 4096) ∷ hex_digit (n / 256 % 16) ∷ hex_digit (n / 16 % 16) ∷ hex_digit (n % 16) ∷ []
 
@@ -31,13 +31,13 @@ caveat_packets caveat =
     packet (codes "cid ") caveat.identifier ++ (optional_packet (codes "vid ") caveat.verifier_id
     ++ optional_packet (codes "cl ") caveat.location)
 
--- all packets of a pass, in their order
+-- all packets of a pass, in order
 abbrev pub packets_of : WidePass → List ℕ
 packets_of wide =
     packet (codes "location ") wide.location ++ (packet (codes "identifier ") wide.identifier
     ++ (flat_map caveat_packets wide.caveats ++ packet (codes "signature ") wide.signature))
 
--- Four digits hold a number below 2 ^ 16.
+-- The packet's length fits in four digits: it is below 2 ^ 16.
 abbrev pub FitsPacket : List ℕ → List ℕ → Type 0
 FitsPacket key bytes = packet_len key bytes < 2 ^ 16
 

@@ -1,4 +1,4 @@
--- What the writers return: the one text of a pass in each form, or a fault.
+-- The results of the writers: the only text of a pass in each form, or a fault.
 use Rattle.std.specs.{List.AllByRecursion, Prelude.{◌≡◌, ℕ, ◌<◌, ◌≤◌, List, [], ◌∷◌, ◌++◌, length, Option, None, Some, Result, Ok, Err, IsOk}}
 use Rattle.base64.specs.{Engines.url_safe_no_pad, GeneralPurpose.{IsBytes, encode_of}}
 use Rattle.pass_mac.specs.Hmac.{hmac}
@@ -34,14 +34,14 @@ IsV1Text pass text = IsTextBy v1_bytes SpellsV1 pass text
 abbrev pub IsV2Text : Plain → List ℕ → Type 0
 IsV2Text pass text = IsTextBy v2_bytes SpellsV2 pass text
 
--- A writer may return this: a text of the pass, within the limits of texts and of caveats (ours).
+-- A text that a writer may return: a text of the pass, within the limits of texts and of caveats (ours).
 pub record IsWritableText (IsText : Plain → List ℕ → Type 0) (pass : Plain) (text : List ℕ) : Type 0 where
   pub is_text : IsText pass text
   pub short : length text ≤ max_text_len
   pub few : length pass.caveats ≤ max_caveats
 
--- The faults of a writer (ours): too many caveats, else each text of the pass is too long. Memory runs out only for a text
--- within the limits. There are no other faults.
+-- The faults of a writer (ours): too many caveats, else too long if every text of the pass is. Memory can run out only for a text within the limits. There are
+-- no other faults.
 abbrev pub IsWriteFault : (Plain → List ℕ → Type 0) → Plain → FormFault → Type 0
 IsWriteFault IsText pass TooMany = max_caveats < length pass.caveats
 IsWriteFault IsText pass TooLong =
@@ -57,7 +57,7 @@ IsWriting IsText pass (Err TooLong) = IsWriteFault IsText pass TooLong
 IsWriting IsText pass (Err TooMany) = IsWriteFault IsText pass TooMany
 IsWriting IsText pass (Err other) = ⊥
 
--- The fault that a writer returns for this computed result: the same fault, or out of memory in place of a text.
+-- The fault that a writer returns for this computed result: the same fault, or out of memory instead of a text.
 abbrev pub FailsAs : Result (List ℕ) FormFault → FormFault → Type 0
 FailsAs writing Memory = IsOk writing
 FailsAs writing TooLong = writing ≡ Err TooLong
@@ -65,7 +65,7 @@ FailsAs writing Malformed = writing ≡ Err Malformed
 FailsAs writing ThirdParty = writing ≡ Err ThirdParty
 FailsAs writing TooMany = writing ≡ Err TooMany
 
--- The text is read back: it wraps these bytes in this form, and they are read as the pass.
+-- The text is read back: it wraps these bytes in this form, and the bytes are read as the pass.
 pub record IsReadBack (Spells : List ℕ → WidePass → Type 0) (form : Form) (bytes : List ℕ) (pass : Plain) (text : List ℕ) : Type 0 where
   pub content : IsUnwrapped text (Ok (form, bytes))
   pub read : IsReadAs (length bytes) (Spells bytes) (Ok pass)

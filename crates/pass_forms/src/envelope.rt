@@ -21,8 +21,8 @@ pub const MAX_TEXT: usize = 8192;
 /// The most bytes that base64 of `MAX_TEXT` characters can hold.
 pub const MAX_BYTES: usize = 6144;
 
-/// Where the bytes of a pass are, and in which form. If `plain` is true they are the whole text,
-/// else the first `len` bytes of the buffer. `len` is their number in both cases.
+/// The form of a pass's bytes, and the place of the bytes. If `plain` is true, they are the whole
+/// text, else the first `len` bytes of the buffer. In both cases, `len` is their number.
 #[derive(Clone, Copy, Debug, PartialEq, Eq)]
 pub struct Unwrapped {
     pub form: Form,
@@ -31,8 +31,8 @@ pub struct Unwrapped {
 }
 
 impl Unwrapped {
-    /// Returns the bytes of the pass, from the text and the buffer that `unwrap_text` was given. If
-    /// `len` is above the buffer's length, they are the whole buffer.
+    /// Returns the bytes of the pass, given the text and the buffer of the call of `unwrap_text`.
+    /// If `len` is more than the buffer's length, returns the whole buffer.
     pub fn bytes<'a>(&self, text: &'a [u8], buffer: &'a [u8; MAX_BYTES]) -> &'a [u8]
         ensures { result.now ≡ unwrapped_bytes self.now text.now buffer.now }
     {
@@ -44,20 +44,20 @@ impl Unwrapped {
     }
 }
 
-/// Finds the form of a pass text and decodes its base64. A text that starts with `{` is JSON and is
-/// not copied. Any other is base64 (RFC 4648), in the URL-safe or the standard alphabet, unpadded
-/// or padded. The first byte that it encodes decides the form: 2 is V2, `{` is JSON, `0` to `9` or
-/// `a` to `f` is V1. The bytes are written to the start of the buffer. The rest of the buffer is
-/// unspecified, and all of it after a fault. No memory is allocated.
+/// Finds the form of a pass text and decodes its base64. A text that starts with `{` is JSON and
+/// isn't copied. Any other text is base64 (RFC 4648), in the URL-safe or the standard alphabet,
+/// with or without padding. The first byte that it encodes decides the form: 2 is V2, `{` is JSON,
+/// `0` to `9` or `a` to `f` is V1. The bytes are written to the start of the buffer. The rest of
+/// the buffer is unspecified, and so is all of it after a fault. Allocates no memory.
 ///
 /// # Errors
 ///
-/// `TooLong` for a text of more than 8,192 bytes, else `Malformed` if it wraps nothing. There are
-/// no other faults.
+/// Fails with `TooLong` for a text of more than 8,192 bytes, and otherwise with `Malformed` if the
+/// text wraps no pass's bytes. There are no other faults.
 #[tactic(auto, unfolding(crate::specs::computed::Envelope::unwrapping))]
 pub fn unwrap_text(text: &[u8], buffer: &mut [u8; MAX_BYTES]) -> Result<Unwrapped, FormFault>
     ensures reading { IsUnwrapped text.now (unwrapped_result result text.now buffer.new) }
-    // The same, as a function of the text.
+    // The same result, computed from the text.
     ensures value { unwrapped_result result text.now buffer.new ≡ unwrapping text.now }
     ensures plain { IfOk result (λ unwrapping. unwrapping.plain ≡ starts_with_brace text.now) }
     ensures len { IfOk result (λ unwrapping.
@@ -100,16 +100,16 @@ fn form_of(bytes: &[u8]) -> Option<Form>
     }
 }
 
-/// Decodes base64 (RFC 4648), or returns `None` if the text isn't base64. Either alphabet may be
-/// used, URL-safe or standard, unpadded or padded. Trailing bits must be zero.
+/// Decodes base64 (RFC 4648), or returns `None` if the text isn't base64. The alphabet may be
+/// URL-safe or standard, with or without padding. Trailing bits must be zero.
 ///
 /// # Errors
 ///
-/// The allocation of the bytes failed.
+/// Fails if the allocation of the bytes fails.
 pub fn decode_base64(alloc: Global, text: &[u8]) -> Result<Option<Vec<u8>>, AllocError>
     ensures spelling { IfOk result (λ found. (bytes : List ℕ)
         → (option_map (λ b. b.items) found ≡ Some bytes) ↔ IsBase64 text.now bytes) }
-    // The same, computed.
+    // The same result, computed from the text.
     ensures computed { IfOk result
         (λ found. option_map (λ bytes. bytes.items) found ≡ from_base64 text.now) }
 {
@@ -121,8 +121,8 @@ pub fn decode_base64(alloc: Global, text: &[u8]) -> Result<Option<Vec<u8>>, Allo
     Ok(Some(buffer))
 }
 
-// Decodes a text into the start of the buffer, which is long enough for it, with the first of four
-// engines that accepts the text. Returns the number of bytes.
+// Decodes a text into the start of the buffer, which is long enough, with the first of four engines
+// that accepts the text. Returns the number of bytes.
 fn decode(text: &[u8], buffer: &mut [u8]) -> Option<usize>
     requires { decoded_estimate (length text.now) ≤ length buffer.old }
     ensures bytes { option_map (λ len. take len buffer.new) result ≡ from_base64 text.now }
@@ -134,7 +134,7 @@ fn decode(text: &[u8], buffer: &mut [u8]) -> Option<usize>
     decode_under(&STANDARD_NO_PAD, &STANDARD, text, buffer)
 }
 
-// The same, with the first of two engines that accepts the text.
+// Does the same with the first of two engines that accepts the text.
 fn decode_under(
     first: &GeneralPurpose,
     second: &GeneralPurpose,
@@ -152,7 +152,7 @@ fn decode_under(
     decode_by(second, text, buffer)
 }
 
-// The same, with one engine.
+// Does the same with one engine.
 fn decode_by(engine: &GeneralPurpose, text: &[u8], buffer: &mut [u8]) -> Option<usize>
     requires { decoded_estimate (length text.now) ≤ length buffer.old }
     ensures bytes { option_map (λ len. take len buffer.new) result

@@ -14,7 +14,7 @@ pub enum FormFault {
     TooLong,
     /// The text spells no pass.
     Malformed,
-    /// A caveat is a third party's.
+    /// A caveat is a third-party caveat.
     ThirdParty,
     /// There are more than 64 caveats.
     TooMany,

@@ -1,4 +1,4 @@
-//! The fields of a pass, read one after the other.
+//! The fields of a pass, read one after another.
 
 /// One field of a pass. Its bytes are a slice of the input.
 #[derive(Clone, Copy, Debug, Drop, PartialEq, Eq)]
@@ -13,8 +13,8 @@ pub enum Field<'a> {
     Signature([u8; 32]),
 }
 
-/// An iterator over the fields of a pass: the location, the identifier, the caveats in order, the
-/// signature. It allocates no memory.
+/// An iterator over the fields of a pass: the location, the identifier, the caveats in order, and
+/// the signature. It allocates no memory.
 pub trait FieldSource<'a> {
     ghost use Rattle.std.specs.Prelude.{◌≡◌, List, [], ◌∷◌, IfNone, IfSome};
     ghost use Rattle.pass_forms.specs.FieldSource.{PassField, as_field};
@@ -27,8 +27,8 @@ pub trait FieldSource<'a> {
         ensures some { IfSome result (λ field. left self.old ≡ as_field field ∷ left self.new) }
         ensures none { IfNone result ((left self.old ≡ []) × (left self.new ≡ [])) };
 
-    /// Returns another source of the fields that are left, for a second pass over them. It
-    /// allocates no memory either.
+    /// Returns another source of the fields that are left, for a second scan. It allocates no
+    /// memory either.
     fn again(&self) -> Self
         ensures { left result ≡ left self.now };
 }

@@ -8,12 +8,12 @@ ghost use Rattle.pass_forms.specs.{V1.SpellsV1, V2.SpellsV2};
 ghost use Rattle.pass_forms.specs.computed.V1Reading as v1;
 ghost use Rattle.pass_forms.specs.computed.V2Reading as v2;
 
-/// A text wraps at most one form and one list of bytes, in any alphabet and padding.
+/// A text wraps at most one form and one list of bytes, for every alphabet and padding.
 pub fn wraps_one()
     ensures { WrapsOne }
 {}
 
-/// What a text wraps is a list of bytes.
+/// The contents that a text wraps are a list of bytes.
 pub fn wraps_bytes()
     ensures { WrapsBytes }
 {}
@@ -61,7 +61,7 @@ pub fn reads_v2_exactly()
     ensures { ReadsExactly SpellsV2 v2.reading_v2 }
 {}
 
-/// The same for any form, if the pass that bytes spell in it is computed.
+/// The relation allows exactly one result for any form whose pass is computed from the bytes.
 #[tactic(auto, using(crate::proofs::Checking::exactly))]
 pub fn answers_exactly()
     ensures { AnswersExactly }
@@ -74,20 +74,20 @@ pub fn reads_texts_exactly()
     ensures { ReadsTextsExactly }
 {}
 
-/// The relation allows exactly one result of writing a pass in V1 and in V2: the computed one, a
-/// text or a fault.
+/// The relation allows exactly one result of writing a pass in V1 or V2: the computed text or
+/// fault.
 #[tactic(auto, using(crate::proofs::WrittenV1::exact_v1, crate::proofs::WrittenV2::exact_v2))]
 pub fn writes_exactly()
     ensures { WritesExactly }
 {}
 
-/// A text that is written in V1 or V2 is read back as the same form and the same pass.
+/// A text written in V1 or V2 is read back as the same form and the same pass.
 #[tactic(auto, using(crate::proofs::WrittenV1::law_v1, crate::proofs::WrittenV2::law_v2))]
 pub fn texts_read_back()
     ensures { TextsReadBack }
 {}
 
-/// A pass that is signed under a root stays signed under it with one more caveat.
+/// A pass that is signed under a root is still signed under it after a caveat is added.
 pub fn narrowed_stays_signed()
     ensures { NarrowedStaysSigned }
 {}

@@ -1,5 +1,5 @@
-//! The common part of both readers. A first scan over the whole pass finds each fault; its fields
-//! are read afterwards. Only the copy into a pass allocates memory.
+//! The common part of both readers. A first scan over the whole pass finds every fault, and its
+//! fields are read afterwards. Only the copy into a pass allocates memory.
 
 ghost use Rattle.std.specs.Prelude.{◌≡◌, [], ◌∷◌, IfNone, IfSome, length, option_map};
 ghost use Rattle.pass_forms.specs.{FieldSource.opening_of, Reading.{IsReadAs, OrOutOfMemory}};
@@ -26,14 +26,15 @@ pub struct Caveat<'a> {
     pub rest: &'a [u8],
 }
 
-/// `count` caveats at the front of some bytes.
+/// The caveats at the front of some bytes: their number, whether one is a third-party caveat, and
+/// the bytes after them.
 #[derive(Clone, Copy)]
 pub struct Caveats<'a> {
     count: usize,
     bytes: &'a [u8],
 }
 
-/// The fields that are left of a pass in this layout. Fields that were returned are `None`.
+/// The fields of a pass in this layout that are left. Fields that were already returned are `None`.
 /// Contracts see them as a list.
 #[derive(Drop)]
 pub struct Fields<'a, L: Layout> {
@@ -64,7 +65,7 @@ struct ScanResult<'a, L: Layout> {
     third_party: bool,
 }
 
-/// How a pass is laid out as bytes: a header, the caveats, and a footer that holds the signature.
+/// A layout of a pass as bytes: a header, the caveats, and a footer with the signature.
 pub trait Layout: Copy {
     ghost use Rattle.std.specs.Prelude.{◌≡◌, ℕ, List, Option, Result, length, option_map};
     ghost use Rattle.pass_forms.specs.{Laws.ReadsExactly, Pass.{Plain, WideCaveat, WidePass}};
@@ -83,16 +84,16 @@ pub trait Layout: Copy {
     // the caveat at the front of bytes, and the bytes after it
     ghost caveat_at: { List ℕ → Option (WideCaveat × List ℕ) };
 
-    // the signature that bytes hold, all of them
+    // the signature, if all of the bytes are a footer
     ghost footer_at: { List ℕ → Option (List ℕ) };
 
-    /// Returns the header at the front.
+    /// Returns the header at the front, if there is one.
     fn first_header(bytes: &[u8]) -> Option<Header<'_>>
         ensures { option_map (λ header.
             (header.location.now, header.identifier.now, header.rest.now)) result
             ≡ header_at bytes.now };
 
-    /// Returns the caveat at the front.
+    /// Returns the caveat at the front, if there is one.
     fn first_caveat(bytes: &[u8]) -> Option<Caveat<'_>>
         ensures { option_map (λ found.
             (found.identifier.now, found.third_party, found.rest.now)) result
@@ -109,7 +110,7 @@ pub trait Layout: Copy {
             ≡ reading_of (length bytes) (whole_at header_at caveat_at footer_at bytes) };
 }
 
-// The number of caveats, whether any is a third party's, and the bytes after them.
+// The number of caveats, whether any is a third-party caveat, and the bytes after them.
 #[derive(Drop)]
 struct Skipped<'a> {
     count: usize,
@@ -164,7 +165,7 @@ fn scan_pass<L: Layout>(bytes: &[u8]) -> Option<ScanResult<'_, L>>
     })
 }
 
-// The fields of the pass, or the first fault that applies.
+// The fields of the pass, or else the first fault that applies.
 fn checked_fields<L: Layout>(bytes: &[u8]) -> Result<Fields<'_, L>, FormFault>
     ensures { result ≡ opening_of (reading_of (length bytes.now)
         (whole_at L.header_at L.caveat_at L.footer_at bytes.now)) }
@@ -235,17 +236,18 @@ impl<'a, L: Layout> Fields<'a, L> {
     ghost use Rattle.pass_forms.specs.FieldSource.{IsOpening, no_fields, opening_of, with_fields};
     ghost use Rattle.pass_forms.specs.Reading.{IsReadAs};
 
-    /// Checks all of the bytes before the first field is returned. They are without base64. No
-    /// memory is allocated: each field is a slice of the bytes.
+    /// Checks all of the bytes before the first field is returned. The bytes aren't base64.
+    /// Allocates no memory: each field is a slice of the bytes.
     ///
     /// # Errors
     ///
-    /// The first that applies: `TooLong` for more than 8,192 bytes, `Malformed` if the bytes spell
-    /// no pass, `ThirdParty` if a caveat is a third party's, `TooMany` for more than 64 caveats.
+    /// Fails with the first fault that applies: `TooLong` for more than 8,192 bytes, `Malformed` if
+    /// the bytes aren't a pass, `ThirdParty` if there is a third-party caveat, `TooMany` for more
+    /// than 64 caveats.
     pub fn open(bytes: &'a [u8]) -> Result<Fields<'a, L>, FormFault>
         // The fields of the pass that the bytes spell.
         ensures spelling { IsOpening (IsReadAs (length bytes.now) (L.Spells bytes.now)) result }
-        // The same, computed.
+        // The same result, computed from the bytes.
         ensures computed { result ≡ opening_of (L.reading bytes.now) }
     {
         L::reads_exactly();
@@ -264,8 +266,8 @@ impl<'a, L: Layout> Fields<'a, L> {
     }
 }
 
-/// Reads the pass that the bytes spell in this layout. Memory runs out only for a pass that passed
-/// all checks.
+/// Reads the pass that the bytes spell in this layout. Memory can run out only for a pass that
+/// passed all checks.
 pub fn read<L: Layout>(alloc: Global, bytes: &[u8]) -> Result<Pass, FormFault>
     ensures spelling { OrOutOfMemory (IsReadAs (length bytes.now) (L.Spells bytes.now)) result }
     ensures computed { OrOutOfMemory (λ answer. L.reading bytes.now ≡ answer) result }

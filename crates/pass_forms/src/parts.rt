@@ -3,21 +3,21 @@
 ghost use Rattle.std.specs.Prelude.{◌≡◌, option_map};
 ghost use Rattle.pass_forms.specs.computed.Parts as spec;
 
-/// Returns the bytes after the prefix, if they begin with it.
+/// Returns the bytes after the prefix, if the bytes begin with it.
 pub fn after_prefix<'a>(prefix: &[u8], bytes: &'a [u8]) -> Option<&'a [u8]>
     ensures { option_map (λ rest. rest.now) result ≡ spec.after_prefix prefix.now bytes.now }
 {
     bytes.strip_prefix(prefix)
 }
 
-/// Returns the bytes before the suffix, if they end with it.
+/// Returns the bytes before the suffix, if the bytes end with it.
 pub fn before_suffix<'a>(suffix: &[u8], bytes: &'a [u8]) -> Option<&'a [u8]>
     ensures { option_map (λ rest. rest.now) result ≡ spec.before_suffix suffix.now bytes.now }
 {
     bytes.strip_suffix(suffix)
 }
 
-/// Returns the signature, if it is 32 bytes with nothing after them.
+/// Returns the signature, if it has 32 bytes and nothing follows it.
 pub fn last_signature(signature: &[u8], rest: &[u8]) -> Option<[u8; 32]>
     ensures { result ≡ spec.last_signature (signature.now, rest.now) }
 {

@@ -57,7 +57,7 @@ impl Pass {
     ghost use Rattle.pass_forms.specs.FieldSource.{as_field, no_fields, pass_fields, with_field};
     ghost use Rattle.pass_forms.specs.{Pass.{IsSigned, minted_pass}, computed.Pass.is_signed};
 
-    /// Returns a pass of these parts, without any check.
+    /// Makes a pass of these parts, without checking them.
     pub fn new(
         location: Vec<u8>,
         identifier: Vec<u8>,
@@ -79,11 +79,11 @@ impl Pass {
         }
     }
 
-    /// Returns a new pass of these two fields, with no caveats, signed under a root of any length.
+    /// Makes a new pass of these two fields, with no caveats, signed under a root of any length.
     ///
     /// # Errors
     ///
-    /// The allocation of a copy of a field failed.
+    /// Fails if the allocation of a copy of a field fails.
     pub fn mint(
         alloc: Global,
         root: &[u8],
@@ -111,7 +111,7 @@ impl Pass {
         })
     }
 
-    // Copies a field to its place. A caveat goes to the end of the list.
+    // Copies a field to its place in the pass. A caveat is appended to the list.
     pub(crate) fn set(&mut self, alloc: Global, field: Field) -> Result<(), AllocError>
         ensures { OnOk result (self.new ≡ with_field self.old (as_field field.entry)) }
     {
@@ -124,7 +124,7 @@ impl Pass {
         Ok(())
     }
 
-    /// Returns the values of the pass, without a copy. No memory is allocated.
+    /// Returns the values of the pass without copying them. Allocates no memory.
     pub fn into_parts(self) -> PassParts
         ensures location { result.location.items ≡ self.location }
         ensures identifier { result.identifier.items ≡ self.identifier }
@@ -174,7 +174,7 @@ impl Pass {
         &self.signature
     }
 
-    /// Returns all fields of the pass. No memory is allocated: each field is a slice of the pass.
+    /// Returns all fields of the pass. Allocates no memory: each field is a slice of the pass.
     pub fn fields(&self) -> PassFields<'_>
         ensures { result ≡ pass_fields self.now }
     {
@@ -186,8 +186,8 @@ impl Pass {
         }
     }
 
-    /// Returns whether the signature is that of the identifier and the caveats under this root, of
-    /// any length. No memory is allocated.
+    /// Returns whether the signature is that of the identifier and the caveats under this root,
+    /// which may have any length. Allocates no memory.
     #[tactic(auto, unfolding(crate::specs::computed::Pass::is_signed))]
     pub fn is_signed(&self, root: &[u8]) -> bool
         ensures signed { IsTrue result ↔ IsSigned root.now self.now }
@@ -205,8 +205,8 @@ impl Pass {
 ///
 /// # Errors
 ///
-/// `TooMany` for a pass of 64 caveats or more. `Memory` only if an allocation fails. The pass is
-/// unchanged then.
+/// Fails with `TooMany` for a pass of 64 caveats or more, and with `Memory` only if an allocation
+/// fails. In both cases the pass is unchanged.
 pub fn narrow(alloc: Global, pass: &mut Pass, caveat: &[u8]) -> Result<(), FormFault>
     ensures ok { OnOk result (pass.new ≡ with_caveat caveat.now pass.old) }
     ensures signed { OnOk result

@@ -1,10 +1,10 @@
-//! The fields of a pass in memory, one after the other.
+//! The fields of a pass in memory, one after another.
 
 use crate::{Field, FieldSource};
 use std::marker::Model;
 
-/// The fields of a pass, without a copy. Contracts see them as the list of the fields that are
-/// left.
+/// The fields of a pass, without copying them. Contracts see them as the list of the fields that
+/// are left.
 #[derive(Drop)]
 pub struct PassFields<'a> {
     pub(crate) location: Option<&'a [u8]>,

@@ -22,7 +22,7 @@ const CAVEAT_LOCATION: &[u8] = b"cl ";
 
 pub const SIGNATURE: &[u8] = b"signature ";
 
-// The digits of a packet's length, at its front.
+// The digits of a packet's length, at the packet's front.
 const LEN_DIGITS: usize = 4;
 
 fn digit_value(byte: u8) -> Option<u8>
@@ -49,7 +49,7 @@ fn packet_len(bytes: &[u8]) -> Option<usize>
     Some(a * 4096 + b * 256 + c * 16 + d)
 }
 
-// The data of the packet of this key at the front, and the bytes after it. Inlined, so that the
+// The data of the packet with this key at the front, and the bytes after it. Inlined, so that the
 // comparison uses the caller's constant key.
 #[inline(always)]
 #[tactic(auto, unfolding(crate::specs::computed::V1Reading::packet_at))]
@@ -61,7 +61,7 @@ fn first_packet<'a>(key: &[u8], bytes: &'a [u8]) -> Option<(&'a [u8], &'a [u8])>
         return None;
     }
     let (_, rest) = bytes.split_at(LEN_DIGITS);
-    // Most packets have another key. This test comes before the length is parsed.
+    // Most packets have another key, so this test comes before the length is parsed.
     let body = after_prefix(key, rest)?;
     let len = packet_len(bytes)?;
     let body_len = len.checked_sub(LEN_DIGITS)?.checked_sub(key.len())?;
@@ -74,7 +74,7 @@ fn first_packet<'a>(key: &[u8], bytes: &'a [u8]) -> Option<(&'a [u8], &'a [u8])>
     Some((text, rest))
 }
 
-// The same for an optional packet: without it, the bytes are returned unchanged.
+// The same for an optional packet. If it is missing, the bytes are returned unchanged.
 #[inline(always)]
 fn optional_packet<'a>(key: &[u8], bytes: &'a [u8]) -> (bool, &'a [u8])
     ensures { (is_some (reading.optional_at key.now bytes.now).0 ≡ result.0)
@@ -86,7 +86,7 @@ fn optional_packet<'a>(key: &[u8], bytes: &'a [u8]) -> (bool, &'a [u8])
     }
 }
 
-// The layout of V1: packets, one after the other.
+// The layout of V1: a sequence of packets.
 #[derive(Clone, Copy)]
 pub struct Packets;
 
@@ -142,17 +142,17 @@ impl Layout for Packets {
 /// The fields of the pass that the packets of V1 spell.
 pub type V1Fields<'a> = Fields<'a, Packets>;
 
-/// Reads a pass from V1: all of the bytes, libmacaroons' packets without base64.
+/// Reads a pass from V1: all of the bytes are libmacaroons' packets, without base64.
 ///
 /// # Errors
 ///
-/// The first that applies: `TooLong` for more than 8,192 bytes, `Malformed` if the bytes spell no
-/// pass, `ThirdParty` if a caveat is a third party's, `TooMany` for more than 64 caveats. `Memory`
-/// only for a pass that passed all checks.
+/// Fails with the first fault that applies: `TooLong` for more than 8,192 bytes, `Malformed` if the
+/// bytes aren't a pass, `ThirdParty` if there is a third-party caveat, `TooMany` for more than 64
+/// caveats. Fails with `Memory` only for a pass that passed all checks.
 pub fn read_v1(alloc: Global, bytes: &[u8]) -> Result<Pass, FormFault>
     // The pass that the bytes spell.
     ensures spelling { OrOutOfMemory (IsReadAs (length bytes.now) (SpellsV1 bytes.now)) result }
-    // The same, computed.
+    // The same result, computed from the bytes.
     ensures computed { OrOutOfMemory (λ answer. reading.reading_v1 bytes.now ≡ answer) result }
 {
     layout::read::<Packets>(alloc, bytes)

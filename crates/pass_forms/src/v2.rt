@@ -22,7 +22,8 @@ pub const SIGNATURE: u8 = 6;
 
 pub const END_OF_SECTION: &[u8] = &[0];
 
-// The varint at the front, if it is at most `most`. Each byte holds seven bits, the lowest first.
+// The varint at the front, if it is at most `most`. Each byte has seven bits, and the lowest come
+// first.
 #[tactic(auto, using(crate::proofs::Varints::no_bytes), unfolding(crate::specs::computed::V2Reading::varint_up_to))]
 fn varint_up_to(most: usize, bytes: &[u8]) -> Option<(usize, &[u8])>
     ensures value { option_map (λ found. (found.0, found.1.now)) result
@@ -48,7 +49,7 @@ fn varint_up_to(most: usize, bytes: &[u8]) -> Option<(usize, &[u8])>
     Some((number + (low - 128), rest))
 }
 
-// The data of the field of this type at the front, and the bytes after it.
+// The data of the field with this type at the front, and the bytes after it.
 #[tactic(auto, unfolding(crate::specs::computed::V2Reading::field_at))]
 fn first_field<'a>(kind: u8, bytes: &'a [u8]) -> Option<(&'a [u8], &'a [u8])>
     ensures { option_map (λ found. (found.0.now, found.1.now)) result
@@ -63,7 +64,7 @@ fn first_field<'a>(kind: u8, bytes: &'a [u8]) -> Option<(&'a [u8], &'a [u8])>
     Some((field, rest))
 }
 
-// The same for an optional field: without it, the bytes are returned unchanged.
+// The same for an optional field. If it is missing, the bytes are returned unchanged.
 fn optional_field<'a>(kind: u8, bytes: &'a [u8]) -> (Option<&'a [u8]>, &'a [u8])
     ensures { (option_map (λ field. field.now) result.0, result.1.now)
         ≡ reading.optional_at kind bytes.now }
@@ -135,18 +136,18 @@ impl Layout for Sections {
 /// (ours).
 pub type V2Fields<'a> = Fields<'a, Sections>;
 
-/// Reads a pass from V2: all of the bytes, libmacaroons' binary form without base64. Each number
-/// must have its shortest spelling (ours).
+/// Reads a pass from V2: all of the bytes are libmacaroons' binary form, without base64. Each
+/// number must have its shortest spelling (ours).
 ///
 /// # Errors
 ///
-/// The first that applies: `TooLong` for more than 8,192 bytes, `Malformed` if the bytes spell no
-/// pass, `ThirdParty` if a caveat is a third party's, `TooMany` for more than 64 caveats. `Memory`
-/// only for a pass that passed all checks.
+/// Fails with the first fault that applies: `TooLong` for more than 8,192 bytes, `Malformed` if the
+/// bytes aren't a pass, `ThirdParty` if there is a third-party caveat, `TooMany` for more than 64
+/// caveats. Fails with `Memory` only for a pass that passed all checks.
 pub fn read_v2(alloc: Global, bytes: &[u8]) -> Result<Pass, FormFault>
     // The pass that the bytes spell.
     ensures spelling { OrOutOfMemory (IsReadAs (length bytes.now) (SpellsV2 bytes.now)) result }
-    // The same, computed.
+    // The same result, computed from the bytes.
     ensures computed { OrOutOfMemory (λ answer. reading.reading_v2 bytes.now ≡ answer) result }
 {
     layout::read::<Sections>(alloc, bytes)

@@ -8,9 +8,9 @@ use crate::{Field, FieldSource};
 use pass_mac::{Chain, same};
 
 /// Returns whether a chain, extended by the caveats that a source has left, ends in the signature
-/// after them. A pass is signed if the chain is that of its identifier, and the source has yielded
-/// its location and its identifier. A source that has these still to yield is not signed by any
-/// chain.
+/// after them. This tells whether a pass is signed if the chain is that of its identifier, and the
+/// source has already yielded the location and the identifier. Before that, the answer is false for
+/// every chain.
 #[tactic(auto, using(crate::proofs::Verifying::signed_behind))]
 pub fn is_signed_by<'a, F: FieldSource<'a>>(mut chain: Chain, source: &mut F) -> bool
     ensures signed { IsTrue result ↔ AreSignedBy chain (F.left source.old) }

@@ -1,4 +1,4 @@
-//! The writers: a pass as its one text in V1 and in V2.
+//! The writers. A pass has exactly one written text in V1 and one in V2.
 
 ghost use Rattle.std.specs.Prelude.{◌≡◌, length, IfErr, IfOk, IsOk, MatchResult, Ok};
 ghost use Rattle.std.specs.String.{string_bytes};
@@ -20,7 +20,7 @@ mod buffer;
 mod packets;
 mod sections;
 
-/// How the bytes of a pass are written in one layout.
+/// Writes the bytes of a pass in one layout.
 trait PutLayout {
     ghost use Rattle.std.specs.Prelude.{◌≡◌, ℕ, List, OnOk, length};
     ghost use Rattle.pass_forms.specs.{Pass.Plain, Putting.Puts};
@@ -35,18 +35,18 @@ trait PutLayout {
 }
 
 /// Returns the text of a pass in V1: libmacaroons' packets in URL-safe base64 without padding. An
-/// empty location is written.
+/// empty location is written, too.
 ///
 /// # Errors
 ///
-/// `TooMany` for more than 64 caveats, else `TooLong` if the pass has no such text of at most 8,192
-/// bytes. `Memory` only if the allocation of the text fails.
+/// Fails with `TooMany` for more than 64 caveats, and otherwise with `TooLong` if the pass has no
+/// such text of at most 8,192 bytes. Fails with `Memory` only if the allocation of the text fails.
 pub fn write_v1(alloc: Global, pass: &Pass) -> Result<String, FormFault>
     ensures ok { IfOk result (λ text. IsWritableText IsV1Text pass.now (string_bytes text)) }
     ensures err { IfErr result (IsWriteFault IsV1Text pass.now) }
     ensures read_back { IfOk result
         (λ text. IsReadBack SpellsV1 V1 (v1_bytes pass.now) pass.now (string_bytes text)) }
-    // The same, computed from the pass.
+    // The same result, computed from the pass.
     ensures computed { MatchResult result (λ text. writing_v1 pass.now ≡ Ok (string_bytes text))
         (FailsAs (writing_v1 pass.now)) }
 {
@@ -58,21 +58,21 @@ pub fn write_v1(alloc: Global, pass: &Pass) -> Result<String, FormFault>
 ///
 /// # Errors
 ///
-/// `TooMany` for more than 64 caveats, else `TooLong` if the pass has no such text of at most 8,192
-/// bytes. `Memory` only if the allocation of the text fails.
+/// Fails with `TooMany` for more than 64 caveats, and otherwise with `TooLong` if the pass has no
+/// such text of at most 8,192 bytes. Fails with `Memory` only if the allocation of the text fails.
 pub fn write_v2(alloc: Global, pass: &Pass) -> Result<String, FormFault>
     ensures ok { IfOk result (λ text. IsWritableText IsV2Text pass.now (string_bytes text)) }
     ensures err { IfErr result (IsWriteFault IsV2Text pass.now) }
     ensures read_back { IfOk result
         (λ text. IsReadBack SpellsV2 V2 (v2_bytes pass.now) pass.now (string_bytes text)) }
-    // The same, computed from the pass.
+    // The same result, computed from the pass.
     ensures computed { MatchResult result (λ text. writing_v2 pass.now ≡ Ok (string_bytes text))
         (FailsAs (writing_v2 pass.now)) }
 {
     write_in::<Sections>(alloc, pass)
 }
 
-// The text of a pass in this layout, or the first fault that applies.
+// The text of a pass in this layout, or else the first fault that applies.
 #[tactic(auto, using(crate::proofs::WrittenTexts::too_long))]
 fn write_in<L: PutLayout>(alloc: Global, pass: &Pass) -> Result<String, FormFault>
     ensures written { MatchResult result

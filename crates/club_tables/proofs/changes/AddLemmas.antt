@@ -1,4 +1,4 @@
--- What the statements make of the tables that insert a row, or put the row of a slot or of an older root.
+-- The effects on the tables of statements that insert a row, or insert or update the row of a slot or of an older root.
 use Rattle.club_tables.proofs.Common.{pos, List, [], map, ◌∷◌, ◌++◌, refl, sym, subst, ◌≡◌, ◌≢◌, ◌≤◌, ℕ, ◌/◌, ℤ, true, false, if◌then◌else◌, Some, Option}
 use Rattle.club_tables.proofs.Common.{length, ap, ◌∙◌, Bool, filter, slice_get, None, find, cond, AllPairs, option_map, AllByRecursion, bytes_eq}
 use Rattle.club_tables.proofs.Common.{bytes_eq-Decides, and-true, or-false, everything, Null, Int, Text, Table, Term, lit, col, op2, eval_all, Values, Insert}
@@ -25,7 +25,7 @@ pub each_weaker : {X : Type 0} {P Q : X → Type 0} → ((x : X) → P x → Q x
 each_weaker weaker [] h = tt
 each_weaker weaker (x ∷ xs) h = (weaker x h.0, each_weaker weaker xs h.1)
 
--- of elements of which one passes at most, each that passes is the one that is found
+-- if at most one element passes, an element that passes is the one that is found
 pub only_found : {X : Type 0} (q : X → Bool) (xs : List X) → length (filter q xs) ≤ 1 → AllByRecursion (λ x. q x ≡ true → find q xs ≡ Some x) xs
 only_found q [] low = tt
 only_found {X} q (x ∷ xs) low = (λ passes. rw passes refl, go (q x) low (only_found q xs))
@@ -135,11 +135,11 @@ module _ {text : List ℕ} {terms more sets : List Term} {at : ℕ} (puts : Puts
   abbrev is_of_slot : SlotRow → Bool
   is_of_slot row = same_slot row.slot slot
 
-  -- what the clause sees, of a row that it meets and of one at this rowid
+  -- the values that the clause sees: of the row that it conflicts with, and of the new row at this rowid
   abbrev sees : Row → ℤ → Row
   sees there id = params ++ rowid there ∷ shown slot_table (Int id ∷ name_values slot ++ closed ∷ taken ∷ [])
 
-  -- the slot's row is put, if there was one and if there was none
+  -- the slot's row is inserted or updated, whether or not there was one
   slot_put : (row_of slot rows.slots ≡ None → closed ∷ taken ∷ [] ≡ use_values (change no_slot_use))
       → ((there : Row) (next : ℤ) → column (sees there next) at ≡ rowid there)
       → ((x : SlotRow) → row_of slot rows.slots ≡ Some x → (id next : ℤ) (there : Row)
@@ -162,7 +162,7 @@ module _ {text : List ℕ} {terms more sets : List Term} {at : ℕ} (puts : Puts
       (only_found is_of_slot rows.slots (one_passes _ is_of_slot rows.slots (λ x y a b apart. apart (a, b)) alone))) count executed in
       (on_slots holds_rows left.0 left.1, left.2)
 
-  -- and the row that is there passes the further tests, if one is written
+  -- if a row is written, the existing row passes the further tests
   slot_allowed : ((there : Row) (next : ℤ) → column (sees there next) at ≡ rowid there) → (allows : SlotRow → Bool)
       → ((id next : ℤ) (there : Row) (x : SlotRow) → list_all (holds (sees there next ∷ (Int id ∷ slot_values x) ∷ [])) more ≡ allows x)
       → (old new : State) (count : ℕ) → HoldsRows old.now rows → Executes text params old new (Ok count) → 1 ≤ count
@@ -208,7 +208,7 @@ slot_closed rows once slot is_open =
     slot_put close_puts rows once slot (name_values slot) (whole 1) (whole 0) refl (cast_int (pos 1)) (cast_int (pos 0)) close_use (λ _. refl)
     (λ there next. refl) (λ x is id next there. (open_is x.held ∙ ap not (ap (λ o. (use_by o).closed) (sym is) ∙ is_open), refl))
 
--- and the slot was open, if a row is written
+-- if a row is written, the slot was open
 pub slot_was_open : (rows : Rows) → AllPairs (λ (a : SlotRow) (b : SlotRow). a.slot ≢ b.slot) rows.slots → (slot : Slot) → (old new : State) (count : ℕ)
     → HoldsRows old.now rows → Executes CLOSE_SLOT.now (name_values slot) old new (Ok count) → 1 ≤ count
     → (stored_slot_use slot rows.slots).closed ≡ false
@@ -275,7 +275,7 @@ older_table = record old_roots_table { tree = olders_tree }
 abbrev older_target : Option (List ℕ)
 older_target = Some (1 ∷ [])
 
--- a row conflicts with a new one if both are of one key
+-- a row conflicts with a new one if both belong to the same key
 olders_conflict : (id id' : ℤ) (row : OlderRow) (key : List ℕ) (older : OlderRoot)
     → conflicts older_target club_schema.indexes older_table (Int id' ∷ Text key ∷ older_root_values older) (Int id ∷ older_values row) ≡ bytes_eq row.key key
 unfolding first_key
@@ -300,21 +300,21 @@ module _ (key : List ℕ) (older : OlderRoot) where
   abbrev pub renewed : OlderRow → OlderRow
   renewed row = record row { older = if bytes_eq row.key key then older else row.older }
 
-  -- the row of the key gets this older root, or is made
+  -- the row of the key gets this older root, or is inserted with it
   abbrev pub put_older : List OlderRow → List OlderRow
   put_older rows = put_among older_values is_of renewed (record { key = key; older = older }) rows
 
   same_older : (row : OlderRow) → is_of row ≡ false → renewed row ≡ row
   same_older row fails = rw fails refl
 
-  -- the older root of each key once the row is put
+  -- the older root of each key after the row is inserted or updated
   pub older_put : (name : List ℕ) (rows : List OlderRow) → older_by name (put_older rows) ≡ (if bytes_eq key name then Some older else older_by name rows)
   older_put name rows =
       by_put (λ (row : OlderRow). row.key) bytes_eq same_names itself key renewed (λ row. refl) (record { key = key; older = older }) refl
       (λ found. option_map (λ (row : OlderRow). row.older) found) (λ _. Some older)
       (λ row passes. ap (λ b. Some (if b then older else row.older)) passes) same_older refl name rows
 
-  -- and no key has two rows
+  -- no key has two rows
   pub put_once : (rows : List OlderRow) → AllPairs (λ (a : OlderRow) (b : OlderRow). a.key ≢ b.key) rows
       → AllPairs (λ (a : OlderRow) (b : OlderRow). a.key ≢ b.key) (put_older rows)
   put_once = once_put (λ (row : OlderRow). row.key) bytes_eq same_names itself key renewed (λ row. refl) (record { key = key; older = older }) refl

@@ -1,4 +1,4 @@
--- What the statements that change a row of a member or of a key make of the tables.
+-- The effects on the tables of the statements that change a row of a member or of a key.
 use Rattle.club_tables.proofs.Common.{rules, ◌≡◌, ◌+◌, ◌≤◌, ℕ, ℤ, pos, Ok, Some, Bool, true, ◌&&◌, if◌then◌else◌, List, [], ◌∷◌, length, map, ◌≢◌, refl, sym}
 use Rattle.club_tables.proofs.Common.{ap, ◌∙◌, false, subst, filter, find, AllPairs, list_all, bytes_eq, and_parts, bytes_eq-Decides, and-true, or-true}
 use Rattle.club_tables.proofs.Common.{or-false, everything, Int, Text, Blob, Binary, Arith, Compare, Add, Eq, binary, cast_row, Row, Table, Term, col, op2}
@@ -18,17 +18,17 @@ use Rattle.sqlite_sql.specs.declared.ops.CompareOp.TheVariants.{Le}
 
 -- ---- an UPDATE of the one element that a test finds
 
--- what a narrower test finds is what a wider one finds that one element passes at most
+-- if at most one element passes the wider test, a narrower test finds the same element
 pub wider_is : {X : Type 0} (p q : X → Bool) → Implies p q → (xs : List X) → length (filter q xs) ≤ 1 → (x : X) → find p xs ≡ Some x
     → (find q xs ≡ Some x) × (p x ≡ true)
 wider_is p q wide xs low x is = (sym (found_by_both p q xs (agree p q wide xs x low is)) ∙ is, (found p xs x is).1)
 
--- over tables that hold these rows a statement ran, and then it is so
+-- after a statement ran over tables that hold these rows, the relation holds
 abbrev pub WhenRan : BoundStatement → Rows → (State → State → ℕ → Type 0) → Type 1
 WhenRan statement rows P =
     (old new : State) (count : ℕ) → HoldsRows old.now rows → Executes statement.0 statement.1 old new (Ok count) → P old new count
 
--- the elements that pass a test are hit, and that is at most the one that a wider test finds
+-- the statement changes the elements that pass a test, which is at most the one that a wider test finds
 pub record FindsOne {X : Type 0} (values : X → Row) (p q : X → Bool) (xs : List X) (shown : Row → Row) (old new : State) (table : Table) (count : ℕ) : Type 0
   where
     pub finds : Finds values p xs shown old new table count
@@ -37,14 +37,14 @@ pub record FindsOne {X : Type 0} (values : X → Row) (p q : X → Bool) (xs : L
 
 module _ {X : Type 0} {values : X → Row} {p q : X → Bool} {xs : List X} {shown : Row → Row} {old new : State} {table : Table} {count : ℕ}
     (it : FindsOne values p q xs shown old new table count) where
-  -- if a row is written, the element is there, and passes
+  -- if a row is written, the element exists and passes
   pub one_found : 1 ≤ count → (x : X) × (find q xs ≡ Some x) × (p x ≡ true)
   one_found some =
       let one = passes_one it.finds some in
       let is = wider_is p q it.wide xs it.low one.0 one.1 in
       (one.0, is.0, is.1)
 
-  -- if it is there, and passes, its row is written, and no other is changed
+  -- if the element exists and passes, its row is written, and no other row is changed
   pub one_changed : {next : Rows} (x : X) → find q xs ≡ Some x → p x ≡ true → (change : X → X) → ((y : X) → q y ≡ false → change y ≡ y)
       → ((id : ℤ) → q x ≡ true → shown (Int id ∷ values x) ≡ Int id ∷ Int id ∷ values (change x))
       → ((id : ℤ) (y : X) → cast_row table (Int id ∷ values y) ≡ Int id ∷ values y)
@@ -80,14 +80,14 @@ AreNamedOnce = AllPairs (λ (a : MemberRow) (b : MemberRow). name_of a ≢ name_
 abbrev pub StoresMember : List ℕ → List MemberRow → MemberRow → Type 0
 StoresMember name members row = find (λ (row : MemberRow). bytes_eq (name_of row) name) members ≡ Some row
 
--- points are added to what a member of this name was credited, and `next` is applied to what the member's bookings have cost
+-- points are added to the credit of the member of this name, and `next` is applied to what its bookings have cost
 abbrev pub credited_row : List ℕ → ℕ → MemberRow → MemberRow
 credited_row name points row = record row { member = credited_member name points row.member }
 
 abbrev pub used_row : List ℕ → (ℕ → ℕ) → MemberRow → MemberRow
 used_row name next row = record row { used = if bytes_eq row.member.name name then next row.used else row.used }
 
--- a member of this name gets another quota
+-- the member of this name gets a new quota
 abbrev pub quota_row : List ℕ → ℕ → MemberRow → MemberRow
 quota_row name quota row = record row { member = member_with_quota name quota row.member }
 
@@ -144,7 +144,7 @@ module _ (rows : Rows) (once : AreNamedOnce rows.members) (name : List ℕ) wher
     abbrev credit_params : Row
     credit_params = Text name ∷ whole points ∷ []
 
-    -- the tests read no rowid
+    -- the tests don't read the rowid
     abbrev is_credited : MemberRow → Bool
     is_credited row = test credit_params credit_tests credit_terms (Int (pos 0) ∷ member_values row)
 
@@ -156,7 +156,7 @@ module _ (rows : Rows) (once : AreNamedOnce rows.members) (name : List ℕ) wher
         let wide : Implies is_credited is_named = λ row passes. sym (text_equal (name_of row) name) ∙ (and_parts _ _ passes).0 in
         search (rules, low_named)
 
-    -- the member is there, and is credited no more than the most, if a row is written
+    -- if a row is written, the member exists and its credit is at most the maximum
     pub credit_found : WhenRan (ADD_CREDIT.now, credit_params) rows (λ old new count. 1 ≤ count → (row : MemberRow) × StoresMember name rows.members row
         × (is_true (binary (Compare Le Binary) (binary (Arith Add) (whole row.member.credited) (whole points)) (whole 999_999_999)) ≡ true))
     credit_found old new count holds_rows ran some =
@@ -184,7 +184,7 @@ module _ (rows : Rows) (once : AreNamedOnce rows.members) (name : List ℕ) wher
         (λ id row. and-true _ ∙ text_equal (name_of row) name) in
         search (rules, low_named)
 
-    -- the member is there, if a row is written
+    -- if a row is written, the member exists
     pub quota_found : WhenRan (SET_QUOTA.now, quota_params) rows (λ old new count. 1 ≤ count → (row : MemberRow) × StoresMember name rows.members row)
     quota_found old new count holds_rows ran some =
         let one = one_found (quota_finds old new count holds_rows ran) some in
@@ -230,7 +230,7 @@ module _ (rows : Rows) (once : AreNamedOnce rows.members) (name : List ℕ) wher
         let wide : Implies is_owner is_named = λ row passes. (and_parts (is_named row) is_owned passes).0 in
         search (rules, low_named)
 
-    -- the key is the member's, if a row is written
+    -- if a row is written, the key is the member's
     pub owner_found : AreKeysOnce rows.keys
         → WhenRan (ADD_USED.now, used_params) rows (λ old new count. 1 ≤ count → (k : Key) × StoresKey key rows.keys k × (k.member ≡ name))
     owner_found unique old new count holds_rows ran some =
@@ -307,14 +307,14 @@ module _ (rows : Rows) (once : AreKeysOnce rows.keys) (name : List ℕ) where
         let wide : Implies has_root has_name = λ key passes. (and_parts (has_name key) _ passes).0 in
         search (rules, low_keys)
 
-    -- the key has the former root, if a row is written
+    -- if a row is written, the key has the former root
     pub root_found : WhenRan (SET_ROOT.now, root_params) rows (λ old new count.
         1 ≤ count → (key : Key) × StoresKey name rows.keys key × (key.root ≡ was))
     root_found old new count holds_rows ran some =
         let one = one_found (root_finds old new count holds_rows ran) some in
         (one.0, one.1, (bytes_eq-Decides one.0.root was).0 (and_parts (has_name one.0) _ one.2).1)
 
-    -- the columns don't hold the older root
+    -- the key's columns don't include the older root
     pub root_set : (key : Key) → StoresKey name rows.keys key → key.root ≡ was → (until : ℕ)
         → Steps (SET_ROOT.now, root_params) rows (record rows { keys = map (rotated_key name root until) rows.keys })
     root_set key is same until old new count holds_rows ran =

@@ -1,4 +1,4 @@
--- What the statement makes of the tables that charges a member for a booking.
+-- The effect on the tables of the statement that charges a member for a booking.
 use Rattle.club_tables.proofs.Common.{rules, ◌≡◌, ◌≤◌, ℕ, ℤ, Bool, true, ◌&&◌, if◌then◌else◌, List, [], ◌∷◌, length, map, refl, sym, ap, ◌∙◌, subst, filter}
 use Rattle.club_tables.proofs.Common.{list_all, bytes_eq, and_parts, bytes_eq-Decides, and-true, everything, Int, Text, Binary, Arith, Compare, Add, Eq, binary}
 use Rattle.club_tables.proofs.Common.{Row, Term, col, op2, holds, Query, inner, end, counted, Update, understood, Key, MemberRow, club_schema, whole}
@@ -30,7 +30,7 @@ charge_means : Means club_schema CHARGE.now (Update 1 (record { lets = []; body 
 unfolding understood everything
 charge_means = record { is = refl; plain = (refl, refl) }
 
--- what holds of each row by its element
+-- a property of each row that follows from its element
 each_zip : {X : Type 0} (values : X → Row) (P : Row → X → Type 0) → ((id : ℤ) (x : X) → P (Int id ∷ values x) x) → (rows : List Row) (xs : List X)
     → AllZip (λ row x. IsRowOf (values x) row) rows xs → AllZip P rows xs
 each_zip values P each [] [] same = tt
@@ -112,7 +112,7 @@ module _ (rows : Rows) (once : AreNamedOnce rows.members) (name : List ℕ) wher
         let wide : Implies is_charged is_named = λ row passes. (and_parts (is_named row) _ passes).0 in
         search (rules, low_named)
 
-    -- what is so if a row is written: the member is there and has the points, the key is the member's, and the slot has the places
+    -- if a row is written, the member exists and has the points, the key is the member's, and the slot has the places
     pub record Charged : Type 0 where
       pub row : MemberRow
       pub stores : StoresMember name rows.members row

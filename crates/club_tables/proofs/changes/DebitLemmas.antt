@@ -1,4 +1,4 @@
--- The statement that takes credit back: the tables after it, and how they store the rows of the club after the debit.
+-- The statement for a debit: the tables after it, which store the rows of the club after the debit.
 use Rattle.club_tables.proofs.Common.{rules, ◌≡◌, ◌+◌, ◌-◌, ◌≤◌, ◌<◌, ◌^◌, ℕ, pos, Bool, true, if◌then◌else◌, List, [], ◌∷◌, length, map, refl, sym, ap, ◌∙◌}
 use Rattle.club_tables.proofs.Common.{Some, subst, find, filter, Contains, All-contains, bytes_eq, and_parts, everything, Int, Text, Binary, Arith, Compare}
 use Rattle.club_tables.proofs.Common.{Add, Sub, binary, Row, Term, col, op2, inner, end, Update, understood, Club, IsSound, Member, member_named, MemberRow}
@@ -25,11 +25,11 @@ difference : (m r : ℕ) → r ≤ m → m < 2 ^ 63 → binary (Arith Sub) (whol
 unfolding binary
 difference m r low small = search rules
 
--- points are taken back from a member of this name
+-- points are taken off the credit of the member of this name
 abbrev pub debited_row : List ℕ → ℕ → MemberRow → MemberRow
 debited_row name points row = record row { member = debited_member name points row.member }
 
--- the bookings of the row's member leave the points
+-- the bookings of the row's member leave enough points
 abbrev pub leaves : ℕ → MemberRow → Bool
 leaves points row = is_true (binary (Compare Le Binary) (binary (Arith Add) (whole row.used) (whole points)) (whole row.member.credited))
 
@@ -40,7 +40,7 @@ module _ (rows : Rows) (once : AreNamedOnce rows.members) (name : List ℕ) (poi
   abbrev debit_params : Row
   debit_params = Text name ∷ whole points ∷ []
 
-  -- the tests read no rowid
+  -- the tests don't read the rowid
   abbrev is_debited : MemberRow → Bool
   is_debited row = test debit_params debit_tests debit_terms (Int (pos 0) ∷ member_values row)
 
@@ -53,7 +53,7 @@ module _ (rows : Rows) (once : AreNamedOnce rows.members) (name : List ℕ) (poi
       let low = one_named name_of name rows.members once in
       search rules
 
-  -- the member is there, and its bookings leave the points, if a row is written
+  -- if a row is written, the member exists and its bookings leave enough points
   pub debit_found : WhenRan (TAKE_CREDIT.now, debit_params) rows (λ old new count.
       1 ≤ count → (row : MemberRow) × StoresMember name rows.members row × (leaves points row ≡ true))
   debit_found old new count holds_rows ran some =
@@ -81,7 +81,7 @@ module _ (club : Club) (sound : IsSound club) (name : List ℕ) (points : ℕ) (
   spent_little : used_by club member.name ≤ member.credited
   spent_little = All-contains (λ (m : Member). used_by club m.name ≤ m.credited) club.members member sound.balances there.0
 
-  -- what the statement tests
+  -- the condition that the statement tests
   pub enough_left : points < 2 ^ 32 → leaves points (member_row club member) ≡ true → used_by club member.name + points ≤ member.credited
   enough_left few passes =
       let is = rw (
@@ -90,7 +90,7 @@ module _ (club : Club) (sound : IsSound club) (name : List ℕ) (points : ℕ) (
       ) at passes in
       grind (arith, nat_tests)
 
-  -- and what a change that fits says
+  -- the same condition, from a change that fits
   pub enough_if_fits : FitsClub (TakeCredit name points) club → points ≤ member.credited → used_by club member.name + points ≤ member.credited
   enough_if_fits fits low =
       let left = mapped_holds (λ (m : Member). used_by club m.name ≤ m.credited) (debited_member name points) club.members member fits.sound.balances there.0 in

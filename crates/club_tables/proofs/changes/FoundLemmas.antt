@@ -1,4 +1,4 @@
--- What is found among rows, and how few persons are in a slot.
+-- Lemmas on finding rows, and bounds on the persons in a slot.
 use Rattle.club_tables.proofs.Common.{rules, ◌≡◌, ℕ, ◌≤◌, pos, neg_ℤ, Bool, None, List, Option, Some, refl, sym, ◌∙◌, ◌≢◌, ◌+◌, ◌-◌, true, if◌then◌else◌, []}
 use Rattle.club_tables.proofs.Common.{◌∷◌, ◌++◌, map, Contains, ap, arith, zero, suc, All-contains, bytes_eq-Decides, find, option_map, bytes_eq, binary, Arith}
 use Rattle.club_tables.proofs.Common.{Add, ◌<◌, ◌^◌, cond, SlotUse, IsFacility, Int, Club, IsSound, taken_in, same_slot, IsBooking, Booking, Facility, Slot}
@@ -18,7 +18,7 @@ contains_mapped f (x ∷ xs) y (suc k, low, is) =
     let later = contains_mapped f xs y (k, omega (arith, low), is) in
     (later.0, (suc later.1.0, omega (arith, later.1.1), later.1.2), later.2)
 
--- what is less than was there can be taken away
+-- a smaller number can be subtracted
 pub minus : (m r : ℕ) → r ≤ m → m < 2 ^ 63 → binary (Arith Add) (whole m) (Int (neg_ℤ (pos r))) ≡ whole (m - r)
 unfolding binary
 minus m r low small = search rules
@@ -32,7 +32,7 @@ few_taken club sound slot has =
     slot (sym at.2) in
     omega (arith, low, (All-contains IsFacility club.facilities at.0 sound.rows.facilities at.1).few_places)
 
--- a slot whose row is put has a row
+-- a slot whose row was inserted or updated has a row
 pub put_there : (slot : Slot) (change : SlotUse → SlotUse) (rows : List SlotRow) → (x : SlotRow) × (row_of slot (put_slot slot change rows) ≡ Some x)
 put_there slot change rows = go (list_any is_of rows) refl
   where
@@ -51,7 +51,7 @@ put_there slot change rows = go (list_any is_of rows) refl
           ∙ ap (λ b. cond b (Some (new_row slot change)) None) (same_itself slot),
     )
 
--- the facility of a slot whose row was put is there
+-- the facility of a slot whose row was inserted or updated exists
 pub slot_placed : {db : Database} (facilities : List Facility) (rows : Rows) → rows.facilities ≡ facilities → (slot : Slot) (change : SlotUse → SlotUse)
     → HoldsRows db (record rows { slots = put_slot slot change rows.slots }) → Contains (map (λ (f : Facility). f.name) facilities) slot.facility
 slot_placed facilities rows same slot change holds =
@@ -61,7 +61,7 @@ slot_placed facilities rows same slot change holds =
     subst (λ (s : Slot). Contains (map (λ (f : Facility). f.name) facilities) s.facility) (same_slots at.0.slot slot at_is.1)
     (subst (λ (fs : List Facility). Contains (map (λ (f : Facility). f.name) fs) at.0.slot.facility) same known)
 
--- the row of a facility whose name is among those
+-- a facility whose name is in the list of names has a row
 pub facility_there : (club : Club) (name : List ℕ) → Contains (map (λ (f : Facility). f.name) club.facilities) name → HasFacility name club
 facility_there club name named =
     let is_of : Facility → Bool = λ f. bytes_eq f.name name in
@@ -79,7 +79,7 @@ still_open club slot fits =
     go [] apart = refl
     go (other ∷ slots) apart = rw (not_same other slot apart.0) (go slots apart.1)
 
--- the one element of a name among others of unique names
+-- the only element with a name, if names are unique
 pub the_named : {X : Type 0} (name : X → List ℕ) (xs : List X) (x : X) → AllPairs (λ a b. name a ≢ name b) xs → Has xs x
     → find (λ y. bytes_eq (name y) (name x)) xs ≡ Some x
 the_named {X} name xs x unique has =
@@ -87,6 +87,6 @@ the_named {X} name xs x unique has =
     find_first is_of xs ∙ ap (λ ys. slice_get ys 0) (only (filter is_of xs) x (one_named name (name x) xs unique)
     (has_kept is_of xs x has ((bytes_eq-Decides (name x) (name x)).1 refl)))
 
--- a booking's persons, and what it costs, are few
+-- a booking's persons and its cost are within bounds
 pub few_persons : (booking : Booking) → IsBooking booking → persons_taken booking ≤ 50
 few_persons booking row = let guests : booking.guests ≤ 49 = row.guests in grind arith

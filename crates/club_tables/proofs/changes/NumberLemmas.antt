@@ -1,4 +1,4 @@
--- The statement that gives a facility other numbers: the tables after it, and how they store the rows of the club after the change.
+-- The statement that gives a facility new numbers: the tables after it, which store the rows of the club after the change.
 use Rattle.club_tables.proofs.Common.{rules, ◌≡◌, ◌≢◌, ◌≤◌, ◌<◌, ℕ, pos, min, Bool, true, false, not, ◌&&◌, None, Option, Some, List, [], ◌∷◌, length, map}
 use Rattle.club_tables.proofs.Common.{refl, sym, ap, ◌∙◌, subst, find, filter, list_all, option_map, unwrap_or, bytes_eq, bytes_eq-Decides, and_parts}
 use Rattle.club_tables.proofs.Common.{everything, Int, Text, Binary, Compare, Eq, binary, Row, Term, col, op2, holds, Query, inner, end, counted, Update}
@@ -47,7 +47,7 @@ casts_facility id f = simp cast_int
 abbrev pub crowds : List ℕ → ℕ → SlotRow → Bool
 crowds name places row = bytes_eq row.slot.facility name && nat_lt places row.held.taken
 
--- some slot of it has
+-- some slot of the facility has more persons than these places
 abbrev pub is_crowded : List ℕ → ℕ → List SlotRow → Bool
 is_crowded name places slots = is_counted (length (filter (crowds name places) slots))
 
@@ -81,7 +81,7 @@ module _ (rows : Rows) (once : AllPairs (λ (a : Facility) (b : Facility). a.nam
       let low = one_named (λ (f : Facility). f.name) name rows.facilities once in
       search rules
 
-  -- the facility is there, and none of its slots has more persons, if a row is written
+  -- if a row is written, the facility exists and none of its slots has more persons than the new places
   pub numbers_found : WhenRan (SET_NUMBERS.now, params) rows (λ old new count. 1 ≤ count → (f : Facility)
       × (find is_named rows.facilities ≡ Some f) × (not (is_crowded name places rows.slots) ≡ true))
   numbers_found old new count holds_rows ran some =
@@ -98,7 +98,7 @@ module _ (rows : Rows) (once : AllPairs (λ (a : Facility) (b : Facility). a.nam
 -- ---- the persons of the facility's slots
 
 module _ (club : Club) (rows : Rows) (stored : IsStoredAs club rows) (name : List ℕ) (places : ℕ) where
-  -- no slot has more, if no row has
+  -- if no row has more persons, no slot has
   pub few_by_rows : not (is_crowded name places rows.slots) ≡ true → (slot : Slot) → slot.facility ≡ name → taken_in slot club.bookings ≤ places
   few_by_rows roomy slot of = elim (slot_taken_by club rows stored slot) [
     | inl none ↦ omega (arith, none)
@@ -113,7 +113,7 @@ module _ (club : Club) (rows : Rows) (stored : IsStoredAs club rows) (name : Lis
           absurd (true≢false (sym roomy ∙ ap not (counted_some (filter (crowds name places) rows.slots) some)))
       by row has named taken false few = grind (arith, nat_tests)
 
-  -- no row has more, if no slot has
+  -- if no slot has more persons, no row has
   pub few_in_rows : ((slot : Slot) → slot.facility ≡ name → taken_in slot club.bookings ≤ places) → not (is_crowded name places rows.slots) ≡ true
   few_in_rows few =
       let none : filter (crowds name places) rows.slots ≡ [] =
@@ -128,7 +128,7 @@ module _ (club : Club) (rows : Rows) (stored : IsStoredAs club rows) (name : Lis
           let low = few row.slot ((bytes_eq-Decides row.slot.facility name).0 named) in
           grind (arith, nat_tests)
 
--- what a change that fits says of the numbers, and of the persons
+-- the conditions on numbers and persons, from a change that fits
 module _ (club : Club) (name : List ℕ) (places price opens shuts : ℕ) (fits : FitsClub (ReplaceNumbers name places price opens shuts) club) where
   abbrev facility : Facility
   facility = fits.carries.0

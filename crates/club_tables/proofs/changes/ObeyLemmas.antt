@@ -1,4 +1,4 @@
--- What the rules of the tables say of the rows that they hold: names are unique, and each name that a row refers to is that of a row.
+-- The constraints of the tables, applied to their rows: names are unique, and each name that a row refers to is the name of a row.
 use Rattle.club_tables.proofs.Common.{◌≡◌, ℕ, ℤ, Bool, true, false, not, ◌&&◌, ◌==◌, List, [], ◌∷◌, ◌++◌, map, Contains, refl, sym, ap, subst, ◌∙◌, inl, inr}
 use Rattle.club_tables.proofs.Common.{bytes_eq, bytes_eq-Decides, and_parts, and-true, or_parts, cases_Bool, list_any, AllByRecursion, AllZip, Int, Row}
 use Rattle.club_tables.proofs.Common.{Database, Holds, HoldsRows, Rows, MemberRow, Facility, Key, Booking, SlotRow, Less, binary, value_cmp, rowid, Has}
@@ -9,7 +9,7 @@ use Rattle.club_tables.proofs.statements.UpdateLemmas.{Below}
 use Rattle.sqlite_schema.specs.{Names.same_name, Rules.{Obeys, agree, differ}, declared.schema.Constraint.TheVariants.{Unique, ForeignKey}}
 use Rattle.sqlite_value.specs.Keys.{plain, joined}
 
--- the rules of the tables, of those that hold rows
+-- tables that hold rows obey their constraints
 obeys : {db : Database} {rows : Rows} → HoldsRows db rows → Obeys club_schema db.trees
 obeys {db = db} holds_rows = subst (λ s. Obeys s db.trees) holds_rows.schema holds_rows.database.obeys
 
@@ -26,7 +26,7 @@ not_true : (b : Bool) → not b ≡ true → b ≡ false
 not_true true h = absurd cc
 not_true false h = refl
 
--- rowids that rise differ
+-- ascending rowids differ
 rising_differ : (a b : ℤ) → value_cmp (Int a) (Int b) ≡ Less → differ (Int b) (Int a) ≡ true
 unfolding binary
 rising_differ a b less = rw (value_cmp_total.antisymm (Int b) (Int a), less) refl
@@ -78,7 +78,7 @@ any_zip values hit p tested (r ∷ rows) [] same = absurd same
 any_zip values hit p tested (r ∷ rows) (x ∷ xs) same =
     rw (ap hit same.0.1 ∙ tested same.0.0 x, any_zip values hit p tested rows xs same.1) refl
 
--- what an element of the list is
+-- a property of an element of the list
 named_among : {X : Type 0} (name : X → List ℕ) (n : List ℕ) (xs : List X) → list_any (λ x. bytes_eq (name x) n) xs ≡ true → Contains (map name xs) n
 named_among name n xs any = contains_had (map name xs) n (go xs any)
   where

@@ -1,4 +1,4 @@
--- A change that was made is true of the club, and what the statements of one that fits do, one after the other.
+-- A change that was applied is true of the club; and the effects of the statements of a change that fits, one after another.
 use Rattle.club_tables.proofs.Common.{rules, ◌≡◌, ℕ, ◌≤◌, ℤ, pos, neg_ℤ, Bool, Ok, None, List, Option, Some, refl, sym, subst, ◌∙◌, ◌≢◌, ◌+◌, ◌-◌, true}
 use Rattle.club_tables.proofs.Common.{if◌then◌else◌, [], ◌∷◌, ◌++◌, map, Contains, ap, arith, IsTrue, inl, inr, recursion_from_All, All-contains}
 use Rattle.club_tables.proofs.Common.{bytes_eq-Decides, find, option_map, bytes_eq, Database, Held, state, Row, binary, Arith, Add, cond, SlotUse, IsMember}
@@ -69,7 +69,7 @@ module _ {S : Type 0} (g : Ghosts S) (old : Held S) (club : Club) (tables : Hold
       some in
       (one.0, subst (λ keys. StoresKey key keys one.0) same one.1, one.2)
 
-  -- the rows once a booking is written, and once its persons are added to its slot
+  -- the rows after a booking is written, and after its persons are added to its slot
   abbrev pub booked_rows : Booking → Rows
   booked_rows booking = record tables.rows { bookings = tables.rows.bookings ++ booking ∷ [] }
 
@@ -164,7 +164,7 @@ module _ {S : Type 0} (g : Ghosts S) (old : Held S) (club : Club) (tables : Hold
         owned_by t1.0 t2.0 _ first.0 tables.storage.keys members_once member booking.key (neg_ℤ (pos refund)) t2.1 t2.2 t2.4,
       )
 
-  -- the persons in a slot once a booking's are added
+  -- the persons in a slot after those of a booking are added
   pub filled_use : (booking : Booking) (row : SlotRow) → row_of booking.slot (filled_rows booking).slots ≡ Some row
       → row.held.taken ≡ taken_in booking.slot (club.bookings ++ booking ∷ [])
   filled_use booking row is =
@@ -178,7 +178,7 @@ module _ {S : Type 0} (g : Ghosts S) (old : Held S) (club : Club) (tables : Hold
 
   -- ---- the statements of a change that fits
 
-  -- they leave rows of this club
+  -- the statements leave the rows of this club
   abbrev LeaveRows : List BoundStatement → Club → Type 0
   LeaveRows all next = (last : Rows) × GoThrough g all tables.rows last × IsStoredAs next last
 
@@ -194,7 +194,7 @@ module _ {S : Type 0} (g : Ghosts S) (old : Held S) (club : Club) (tables : Hold
       subst (λ ms. StoresMember name ms (member_row club member)) (sym tables.storage.members)
       (find_mapped (λ (row : MemberRow). bytes_eq (name_of row) name) (member_row club) club.members ∙ ap (option_map (member_row club)) h)
 
-  -- the member of a key is there, and its bookings have cost no more than a member is ever credited
+  -- the member of a key exists, and its bookings have cost at most what a member can be credited
   owner_of : (member key : List ℕ) → IsOwnedBy member key club → (m : Member) × (member_named member club ≡ Some m) × (m.name ≡ member)
       × (used_by club m.name ≤ credited_limit)
   owner_of member key owns =
@@ -212,7 +212,7 @@ module _ {S : Type 0} (g : Ghosts S) (old : Held S) (club : Club) (tables : Hold
         omega (arith, low, (All-contains IsMember club.members one.0 tables.sound.rows.members here.0).credited),
       )
 
-  -- a statement on the bookings, and what is added to the totals of a member and of a slot
+  -- a statement on the bookings, and the amounts added to the totals of a member and of a slot
   totals : (values : Row) (change : List Booking → List Booking) (member key : List ℕ) (points : ℤ) (used : ℕ → ℕ) (slot : Slot) (persons : ℤ)
       (taken : ℕ → ℕ) → Steps (CANCEL_BOOKING.now, values) tables.rows (record tables.rows { bookings = change tables.rows.bookings })
       → IsOwnedBy member key club
@@ -370,7 +370,7 @@ module _ {S : Type 0} (g : Ghosts S) (old : Held S) (club : Club) (tables : Hold
   plan (InsertBooking booking member) fits = booking_through booking member fits
   plan (MarkCancelled booking member refund) fits = cancel_through booking member refund fits
 
-  -- what they leave holds the changed club
+  -- the statements leave tables that hold the changed club
   pub made : (db : Database) (change : Change) → FitsClub change club → Ran g 1 (statements_of change) old db → HoldsClub db (after change club)
   made db change fits ran =
       let it = plan change fits in

@@ -57,7 +57,7 @@ pub facility_stored : (club : Club) (rows : Rows) → IsStoredAs club rows → (
     → IsStoredAs (after (InsertFacility facility) club) (record rows { facilities = rows.facilities ++ facility ∷ [] })
 facility_stored club rows stored facility = let facilities = ap (λ fs. fs ++ facility ∷ []) stored.facilities in search rules
 
--- other keys, under which each booking has the owners that it had
+-- a change of the keys that keeps the owner of each booking
 keys_stored : (club : Club) (rows : Rows) → IsStoredAs club rows → (change : List Key → List Key) (olders : List OlderRow)
     → ((name : List ℕ) → AllByRecursion (λ (b : Booking).
     list_any (λ (key : Key). bytes_eq key.name b.key) (filter (λ (key : Key). bytes_eq key.member name) (change club.keys)) ≡ is_key_of name club b.key)
@@ -79,7 +79,7 @@ owned_more names owns keys key other =
     ∙ (elim (owns key) as (λ b. (list_any names (filter owns keys) || list_any names (cond b (key ∷ []) [])) ≡ list_any names (filter owns keys))
     [ true ↦ rw other (or-false _) | false ↦ or-false _ ])
 
--- a key without an older root changes none, and of rows that keep their names it is that of the changed row
+-- adding a key without an older root changes no older root; an edit that keeps names changes the older root in the edited row
 older_pushed : (name : List ℕ) (keys : List Key) (key : Key) → key.older ≡ None
     → option_and_then (λ (k : Key). k.older) (find (λ (k : Key). bytes_eq k.name name) (keys ++ key ∷ []))
     ≡ option_and_then (λ (k : Key). k.older) (find (λ (k : Key). bytes_eq k.name name) keys)
@@ -176,7 +176,7 @@ close_stored club rows stored slot =
     let once = slot_once slot close_use rows.slots stored.once in
     search rules
 
--- no slot is left that is the one to be opened, and each other one is
+-- the slot that is opened isn't left in the list, and every other slot is
 none_left : {X : Type 0} (p : X → Bool) (xs : List X) → list_any p (filter (λ x. not (p x)) xs) ≡ false
 none_left p [] = refl
 none_left p (x ∷ xs) = grind (arith, none_left p xs)
@@ -213,7 +213,7 @@ open_stored club rows stored slot =
 
 -- ---- bookings
 
--- the bookings are others, and with them what those of one member have cost, and the persons of one slot
+-- the rows with changed bookings, and the changed totals of one member and one slot
 abbrev pub totals_rows : Rows → (List Booking → List Booking) → List ℕ → (ℕ → ℕ) → Slot → (ℕ → ℕ) → Rows
 totals_rows rows change member used slot taken = record rows {
   members = map (used_row member used) rows.members;
@@ -221,7 +221,7 @@ totals_rows rows change member used slot taken = record rows {
   slots = put_slot slot (take_use taken) rows.slots;
 }
 
--- what is added where a test passes
+-- the amount added if a test passes
 added_if : (b : Bool) (all one more : ℕ) → more ≡ all + cond b one 0 → (if b then all + one else all) ≡ more
 added_if b all one more is = grind arith
 
@@ -241,7 +241,7 @@ taken_more club booking s =
     counted : (c b : Bool) (n : ℕ) → cond (not c && b) n 0 ≡ cond b (if c then 0 else n) 0
     counted c b n = grind arith
 
--- the use of a slot whose persons are recounted
+-- the use of a slot after its persons changed
 recounted_use : (club : Club) (s : Slot) (next : ℕ → ℕ) (b : Bool) (taken : ℕ)
     → taken ≡ (if b then next (taken_in s club.bookings) else taken_in s club.bookings)
     → (if b then take_use next (slot_use club s) else slot_use club s) ≡ record { taken = taken; closed = is_closed s club }

@@ -1,11 +1,11 @@
--- A call that changes nothing leaves the club that is represented.
+-- A call that changes nothing doesn't change the represented club.
 use Rattle.club_tables.proofs.Common.{rules, Trees, IsLeftOf, filter, IsPermutation, list_all, ◌≡◌, ℕ, ℤ, Bool, false, List, [], ◌∷◌, map, IsTrue, sym, subst}
 use Rattle.club_tables.proofs.Common.{Int, Row, Schema, Ghosts, Database, Reads, Select, Term, holds, eval_all, Query, inner, end, understood, reads_listing}
 use Rattle.club_tables.proofs.Common.{State, HasCleanDisk, Survives, Shown, Held, state, survives_then, IsPlain, command_of, reads_as, Club, club_schema}
 use Rattle.club_tables.proofs.Common.{key_values, booking_values, HoldsClub, Holds, RepresentsBy, Represents, keys_tree, bookings_tree, select, BoundStatement}
 use Rattle.club_tables.proofs.{Common.{Asked, IsKept, transaction_start}, statements.SelectLemmas.selected}
 
--- the state represents the same club, by whichever predicate a database holds it, if a crash leaves one of these
+-- if a crash leaves one of these states, the state still represents the same club, for any predicate by which a database holds it
 pub represents_by : (IsHeld : Database → Club → Type 0) (old new : State) → IsKept old new → (HasCleanDisk new → HasCleanDisk old) → (club : Club)
     (others next : List Club) → RepresentsBy IsHeld old club others
     → (HasCleanDisk new → (trees : Trees) → new.may_leave trees → IsLeftOf trees (club ∷ next)) → RepresentsBy IsHeld new club next
@@ -15,7 +15,7 @@ pub represents_on : (IsHeld : Database → Club → Type 0) (old new : State) �
     → RepresentsBy IsHeld old club others → RepresentsBy IsHeld new club others
 represents_on IsHeld old new kept quiet club others before = search rules
 
--- what was asked was asked of a connection that was open
+-- a query that returned ran on an open connection
 pub asked_open : {S : Type 0} (g : Ghosts S) (sql : List ℕ) (params : Row) (old : Held S) (rows : List Row) → Asked g sql params old rows
     → IsTrue (state g old).is_open
 unfolding Shown
@@ -34,14 +34,14 @@ pub record Asks (schema : Schema) (text : List ℕ) (query : Query) (names : Lis
   pub plain : IsPlain (understood schema text)
   pub unlisted : reads_listing schema text ≡ false
 
--- and what they answered
+-- the rows that a query over these tables returned
 pub asked_reads : {S : Type 0} {g : Ghosts S} {sql : List ℕ} {params : Row} {old : Held S} {rows : List Row} {schema : Schema} {query : Query}
     {names : List (List ℕ)} → Asked g sql params old rows → Asks schema sql query names → (state g old).now.schema ≡ schema
     → Reads (Select (record { lets = []; body = query }) names) (state g old).now params rows
 asked_reads {g = g} {sql = sql} {params = params} {old = old} {rows = rows} {schema = schema} asked asks over =
     reads_as sql params (state g (transaction_start old)) (state g asked.mid) schema over _ asks.is asks.plain asks.unlisted rows asked.shown
 
--- of one table they show what is shown of each element that passes, in some order
+-- the rows of a query over one table show each element that passes, in some order
 pub asked_shows : {S : Type 0} {g : Ghosts S} {sql : List ℕ} {params : Row} {old : Held S} {rows : List Row} {tree : ℕ} {tests project : List Term}
     {names : List (List ℕ)} {club : Club} → Asked g sql params old rows → Asks club_schema sql (select (inner tree end) tests project) names
     → HoldsClub (state g old).now club → {X : Type 0} (values : X → Row) (p : X → Bool) (show : X → Row)
@@ -52,7 +52,7 @@ asked_shows {g = g} {params = params} {old = old} {rows = rows} {tree = tree} {t
     show tested shown xs held =
     selected values params tests project p show tested shown tree names (state g old).now xs rows held (asked_reads asked asks tables.holds_rows.schema)
 
--- what a statement's rows show of the club that is represented
+-- the rows of a statement, as a function of the represented club
 abbrev pub Shows : {S : Type 0} → Ghosts S → Held S → BoundStatement → (Club → List Row → Type 0) → Type 0
 Shows g old statement IsShown =
     (rows : List Row) → HasCleanDisk (state g old) → Asked g statement.0 statement.1 old rows → (club : Club) (others : List Club)

@@ -1,4 +1,4 @@
--- What a crash may leave of statements in a transaction, and what a call in it leaves unchanged.
+-- The states that a crash may leave during a transaction, and the properties that a call in it preserves.
 use Rattle.club_tables.proofs.Common.{◌≡◌, ℕ, List, refl, arith, inl, Err, IsTrue, true, rules, Ghosts, Trees, Database, State, HasCleanDisk, Survives}
 use Rattle.club_tables.proofs.Common.{IsRolledBack, Shown, FailsToQuery, IsNotRun, IsTooLate, ExecutesInside, Held, state, survives_then, Row, Error}
 use Rattle.club_tables.proofs.Common.{StoreFault, BoundStatement, Ran, IsUntouched, MayCommit, IsAfterReadings, IsOpeningFault}
@@ -13,7 +13,7 @@ survives_as old new P Q s leaves = search rules
 pub kept_when_idle : (s : State) → IsUntouched s s
 kept_when_idle s rest clean is_open = (is_open, rest is_open, refl)
 
--- nothing happened
+-- a state survives itself if nothing happened
 pub survives_itself : (s : State) → Survives s s (λ _. ⊥)
 survives_itself s = record {
   clean = omega arith;
@@ -28,7 +28,7 @@ pub untouched_then : (a b c : State) → (HasCleanDisk c → HasCleanDisk b) →
 untouched_then a b c earlier first next rest clean is_open = search rules
 
 module _ {S : Type 0} (g : Ghosts S) (fewest : ℕ) where
-  -- these statements
+  -- these statements may be committed
   pub may_commit : (all : List BoundStatement) (AreStatements : List BoundStatement → Type 0) → AreStatements all → (old new : Held S)
       → Survives (state g old) (state g new) (λ trees. (db : Database) × Ran g fewest all old db × (trees ≡ db.trees))
       → Survives (state g old) (state g new) (MayCommit g fewest AreStatements old)
@@ -40,12 +40,12 @@ module _ {S : Type 0} (g : Ghosts S) (fewest : ℕ) where
       let earlier = was_clean (state g old) (state g new) _ survives clean in
       search rules)
 
-  -- none
+  -- no statements were committed
   pub commits_nothing : (AreStatements : List BoundStatement → Type 0) (old new : Held S) → Survives (state g old) (state g new) (λ _. ⊥)
       → Survives (state g old) (state g new) (MayCommit g fewest AreStatements old)
   commits_nothing AreStatements old new survives = search rules
 
-  -- some, after a reading
+  -- some statements were committed, after a read
   pub commits_after : (AreStatements : List BoundStatement → Type 0) (a b c : Held S) → IsUntouched (state g a) (state g b)
       → Survives (state g a) (state g b) (λ _. ⊥)
       → Survives (state g b) (state g c) (MayCommit g fewest AreStatements b)
@@ -60,22 +60,22 @@ module _ {S : Type 0} (g : Ghosts S) (fewest : ℕ) where
       p) first next
 
 module _ {S : Type 0} (g : Ghosts S) where
-  -- readings after readings
+  -- reads after reads
   pub after_then : (a b c : Held S) → IsAfterReadings g a b → IsAfterReadings g b c → IsAfterReadings g a c
   after_then a b c first next = search rules
 
-  -- a reading
+  -- one read
   pub after_one : (old new : Held S) → HasCleanDisk (state g new) → IsUntouched (state g old) (state g new) → Survives (state g old) (state g new) (λ _. ⊥)
       → IsAfterReadings g old new
   after_one old new clean same survives = record { same = same; clean = clean; fault_count = survives.counts }
 
-  -- an opening after a reading
+  -- an opening after a read
   pub opened_after : (a b c : Held S) (fault : StoreFault) → IsAfterReadings g a b → IsOpeningFault g b c fault → IsOpeningFault g a c fault
   opened_after a b c fault first it = record { from = it.from; after = after_then a b it.from first it.after; failure = it.failure }
 
 -- ---- calls in a transaction
 
--- if the connection is open, it was, and has the same commit
+-- if the connection is open, it was open before, and its committed state is the same
 abbrev pub Keeps : State → State → Type 0
 Keeps old new = IsTrue new.is_open → IsTrue old.is_open × (new.committed ≡ old.committed)
 
@@ -98,7 +98,7 @@ module _ (sql : List ℕ) (params : Row) (old new : State) where
   pub too_late_keeps : (e : Error) → IsTooLate sql params old new e → Keeps old new
   too_late_keeps e h = search rules
 
--- the drop or the rollback of the transaction
+-- the transaction is dropped or rolled back
 pub then_rolled : (old mid new : State) → Keeps old mid → IsRolledBack mid new → IsTrue new.is_open → IsTrue old.is_open × (new.now ≡ old.committed)
     × (new.committed ≡ old.committed)
 then_rolled old mid new kept back is_open = search rules

@@ -1,4 +1,4 @@
--- Rows, and what is read from them: a row is decoded to the value of which it was made.
+-- Rows and the values that are read from them: a row decodes to the value that it was made from.
 use Rattle.club_tables.proofs.Common.{ap, ◌≡◌, ℕ, zero, suc, ◌+◌, ◌<◌, Bool, true, false, List, [], ◌∷◌, ◌++◌, length, take, map, refl, sym, subst, ◌∙◌, arith}
 use Rattle.club_tables.proofs.Common.{inl, inr, get_or, Option, Some, None, if◌then◌else◌, ◌==◌, All, slice_index_or, option_map, AllByRecursion, take_more}
 use Rattle.club_tables.proofs.Common.{All-from_recursion, Value, Text, Blob, Row, column, truth, Booking, Club, IsBooking, Slot, SlotUse, slot_use}
@@ -23,7 +23,7 @@ bytes (Text text) = text
 bytes (Blob blob) = blob
 bytes _ = []
 
--- a row is of one booking
+-- a row belongs to only one booking
 pub one_booking : (a b : Booking) → HasValues (booking_values a) (booking_values b) → b ≡ a
 one_booking a b h =
     let r : booking_values b ≡ booking_values a = cc in
@@ -64,7 +64,7 @@ within_limits rows bookings are = All-from_recursion IsBooking bookings (each ro
 abbrev IsOfRow : Row → Booking → Type 0
 IsOfRow row booking = IsBooking booking × HasValues row (booking_values booking)
 
--- one row more is read
+-- one more row is read
 pub bookings_more : (rows : List Row) (k : ℕ) (row : Row) (bookings : List Booking) (b : Booking) → k < length rows → row ≡ slice_index_or rows k row
     → AreBookings (take k rows) bookings → IsOfRow row b
     → AreBookings (take (k + 1) rows) (bookings ++ b ∷ [])
@@ -79,21 +79,21 @@ booking_at (r ∷ rows) [] k d are low = absurd are
 booking_at (r ∷ rows) (b ∷ bookings) zero d are low = (b, are.0)
 booking_at (r ∷ rows) (b ∷ bookings) (suc k) d are low = booking_at rows bookings k d are.1 (omega arith)
 
--- a row of no booking
+-- a row that isn't a booking's
 pub no_bookings : (rows : List Row) (k : ℕ) (row : Row) → k < length rows → row ≡ slice_index_or rows k row → ((b : Booking) → ¬ (IsOfRow row b))
     → (bookings : List Booking) → ¬ (AreBookings rows bookings)
 no_bookings rows k row low is none bookings are =
     let there = booking_at rows bookings k row are low in
     none there.0 (subst (λ r. IsOfRow r there.0) (sym is) there.1)
 
--- a row holds one use
+-- a row holds only one use
 one_use : (a b : SlotUse) → HasValues (use_values a) (use_values b) → b ≡ a
 one_use a b h =
     let r : use_values b ≡ use_values a = cc in
     let closed = truths b.closed a.closed (ap (λ row. whole_in (column row 0)) r) in
     λ i. record { taken = whole_in (column (r i) 1); closed = closed i }
 
--- by rows that show what is taken of a slot
+-- the use of a slot, from rows that show it
 pub use_is : (club : Club) (slot : Slot) (rows : List Row) (found : SlotUse) → ShowsUse club slot rows → IsUse rows found → found ≡ slot_use club slot
 use_is club slot rows found (inl there) is =
     let read : IsUse (use_values (slot_use club slot) ∷ []) found = subst (λ rs. IsUse rs found) there is in
@@ -102,7 +102,7 @@ use_is club slot rows found (inr absent) is =
     let none : IsUse [] found = subst (λ rs. IsUse rs found) absent.0 is in
     none ∙ sym absent.1
 
--- of the rows that are made of an option, the first yields its value
+-- the first of the rows made from an option yields its value
 pub first_of : {X A : Type 0} (values : X → Row) (into : X → A) (Yields : Row → A → Type 0) → ((x : X) (a : A) → Yields (values x) a → a ≡ into x)
     → (held : Option X) (rows : List Row) (found : Option A) → rows ≡ map values (option_to_list held) → IsFirst Yields rows found
     → found ≡ option_map into held
@@ -113,7 +113,7 @@ first_of {X} {A} values into Yields one held rows found is first = go held found
     go (Some x) None h = absurd h
     go (Some x) (Some a) h = ap Some (one x a h)
 
--- the same of rows that hold the whole value
+-- the same for rows that hold the whole value
 pub first_held : {X : Type 0} (values : X → Row) (Fits : X → Type 0) → ((a b : X) → HasValues (values a) (values b) → b ≡ a)
     → (held : Option X) (rows : List Row) (found : Option X) → rows ≡ map values (option_to_list held)
     → IsFirst (λ row x. Fits x × HasValues row (values x)) rows found → found ≡ held
@@ -163,7 +163,7 @@ one_facility a b h =
     }
 
 module _ (key : List ℕ) (number : ℕ) where
-  -- a booking that was asked for is one
+  -- a booking that was asked for by its key and number is found
   pub unnamed : (rows : List Row) (found : Option Booking) → IsFirst (IsBookingNamed key number) rows found → IsFirst IsBookingIn rows found
   unnamed [] found h = h
   unnamed (row ∷ rows) None h = absurd h

@@ -1,4 +1,4 @@
--- Lists, sums over parts of them, and whose a booking is.
+-- Lists, sums over parts of them, and the owner of a booking.
 use Rattle.club_tables.proofs.Common.{◌≡◌, ◌≢◌, ℕ, ◌+◌, Bool, true, false, cond, List, [], ◌∷◌, ◌++◌, map, Some, Contains, refl, sym, ap, ◌∙◌, arith, filter}
 use Rattle.club_tables.proofs.Common.{find, sum_by, AllByRecursion, list_any, bytes_eq, false_from_ne_true, sum_by-cons, sum_by_push, bytes_eq-Decides}
 use Rattle.club_tables.proofs.Common.{nat_list_eq_equiv, and_comm, or-false, option_to_list, Key, Club, IsSound, is_key_of, IsOwnedBy, all_weaker, all-map}
@@ -46,7 +46,7 @@ module _ {X : Type 0} (p : X → Bool) (f : X → X) (kept : (x : X) → p x ≡
   none_changed [] h = refl
   none_changed (x ∷ xs) h = let e = kept x h.0 in let more = none_changed xs h.1 in cc
 
-  -- the sum once the one element that passes has changed
+  -- the sum after the only element that passes has changed
   sum_changed : (c : X → ℕ) (xs : List X) (x : X) → Apart IsAlone xs → find p xs ≡ Some x → sum_by c (map f xs) + c x ≡ sum_by c xs + c (f x)
   sum_changed c [] x alone is = absurd cc
   sum_changed c (y ∷ xs) x alone is = go (sum_changed c xs x alone.1) (p y) refl is
@@ -68,7 +68,7 @@ module _ {X : Type 0} (p : X → Bool) (f : X → X) (kept : (x : X) → p x ≡
 
 -- ---- whose a booking is
 
--- a key is the member's whose name its row holds
+-- the owner of a key is the member whose name is in its row
 pub owner_is : (club : Club) → IsSound club → (key member name : List ℕ) → IsOwnedBy member key club → is_key_of name club key ≡ bytes_eq name member
 owner_is club sound key member name owned =
     let names : Key → Bool = λ row. bytes_eq row.name key in

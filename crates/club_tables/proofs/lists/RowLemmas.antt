@@ -1,4 +1,4 @@
--- A row that is put after those of a list.
+-- A row that is appended to those of a list.
 use Rattle.club_tables.proofs.Common.{◌≡◌, ℤ, pos, ◌+ℤ◌, List, [], ◌∷◌, ◌++◌, Less, refl, sym, ap, ◌∙◌, arith, int_cmp_is, AllByRecursion, AllZip, fold, Int}
 use Rattle.club_tables.proofs.Common.{value_cmp_total, value_cmp-Int, id_in, IsRowOf, Holds}
 use Rattle.std.proofs.lemmas.Int.{ints}
@@ -42,7 +42,7 @@ zip_more R [] (y ∷ xs) row x h one = absurd h
 zip_more R (r ∷ rows) [] row x h one = absurd h
 zip_more R (r ∷ rows) (y ∷ xs) row x h one = (h.0, zip_more R rows xs row x h.1 one)
 
--- an inserted row, at the next rowid, comes last
+-- a row that is inserted at the next rowid comes last
 pub holds_more : {X : Type 0} (values : X → Row) (rows : List Row) (xs : List X) (x : X) → Holds values rows xs
     → Holds values (put_row (Int (next_rowid rows) ∷ values x) rows) (xs ++ x ∷ [])
 holds_more values rows xs x held =

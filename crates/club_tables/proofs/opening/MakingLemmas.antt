@@ -1,4 +1,4 @@
--- The batches that make the tables, migrate those of version 1, and make the index of the bookings.
+-- The batches that create the tables, migrate those of version 1, and create the index of the bookings.
 use Rattle.club_tables.proofs.Common.{◌≡◌, pos, List, [], ◌∷◌, refl, sym, ap, subst, ◌∙◌, arith, ℕ, true, inl, inr, is_ok, rules, everything, Null, Int, Ghosts}
 use Rattle.club_tables.proofs.Common.{Term, lit, col, Values, Insert, Update, Database, understood, ExecutesIn, HasCleanDisk, Survives, Held, state, inner, end}
 use Rattle.club_tables.proofs.Common.{Table, IsSound, empty_club, Club, ADD_VERSION, SET_VERSION, DROP_BOOKINGS_BY_KEY, no_schema, desk_table, club_schema}
@@ -27,7 +27,7 @@ empty_is_stored : IsStoredAs empty_club no_rows
 empty_is_stored = search rules
 
 module _ {S : Type 0} (g : Ghosts S) (old : Held S) (db : Database) (ran : Ran g 0 table_batch old db) where
-  -- over no tables it makes those of the empty club
+  -- over a database without tables, the batch creates those of the empty club
   pub made_tables : (state g old).now.schema ≡ no_schema → HoldsClub db empty_club
   made_tables has =
       let t1 = ran.turns in
@@ -77,7 +77,7 @@ module _ {S : Type 0} (g : Ghosts S) (old : Held S) (db : Database) (ran : Ran g
       subst (λ (d : Database). HoldsClub d empty_club) (sym (ran.is ∙ ap (λ h. (state g h).now) t10.3))
       (record { rows = no_rows; holds_rows = holds_rows; storage = empty_is_stored; sound = empty_is_sound })
 
-  -- it runs only if there is no version
+  -- the batch runs only if there is no version
   pub makes_free : HasNoDesk (state g old).now.schema
   unfolding ExecutesIn
   makes_free = desk_made _ (ap is_ok ran.turns.2.1.is)
@@ -160,7 +160,7 @@ holds_second g old db ran clean club others second =
           search rules
     ]
 
--- the index is there if it can be named
+-- the index exists if a statement can name it
 pub named_represents : {S : Type 0} (g : Ghosts S) (old new : Held S) → IsKept (state g old) (state g new) → Survives (state g old) (state g new) (λ _. ⊥)
     → IsUnderstood (state g old).now.schema DROP_BOOKINGS_BY_KEY.now
     → (club : Club) (others : List Club) → RepresentsVersion2 (state g old) club others → Represents (state g new) club others

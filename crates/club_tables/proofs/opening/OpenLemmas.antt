@@ -1,4 +1,4 @@
--- What an opening finds, and what it makes.
+-- The tables that an opening finds, and those that it creates.
 use Rattle.club_tables.proofs.Common.{rules, ◌≡◌, ◌⊎◌, ℕ, List, [], ◌∷◌, Result, IsTrue, true, false, true≢false, codes, inl, inr, refl, sym, subst, ap, ◌∙◌}
 use Rattle.club_tables.proofs.Common.{arith, is_ok, on_ok_weaker, on_err_weaker, everything, Row, Schema, col, inner, end, understood, listing_schema, VERSION}
 use Rattle.club_tables.proofs.Common.{HasValues, version_values, select, Ghosts, Trees, Database, State, HasCleanDisk, Shown, Held, state, Club, StoreFault}
@@ -8,16 +8,16 @@ use Rattle.club_tables.proofs.{Common.{Asked, Ran, IsKept, Commits}, crashes.Rep
 use Rattle.club_tables.proofs.{crashes.SurviveLemmas.{may_commit, was_clean}, opening.{MakesLemmas.{never_ran, makes_again}, MakingLemmas.made_tables}}
 use Rattle.club_tables.proofs.statements.SelectLemmas.{selected, short_permutation}
 
--- every crash leaves what was committed last
+-- every crash leaves the last committed trees
 abbrev pub IsSettled : State → Type 0
 IsSettled state = IsTrue state.is_open → (trees : Trees) → state.may_leave trees → trees ≡ state.committed.trees
 
--- a store that holds the club, and of which each crash leaves what was committed
+-- a store that holds the club, and whose committed trees every crash leaves
 pub settles : (now : State) (club : Club) (others : List Club) → (HasCleanDisk now → IsTrue now.is_open → HoldsClub now.committed club)
     → (HasCleanDisk now → IsTrue now.is_open) → now.now ≡ now.committed → IsSettled now → Represents now club others
 settles now club others held opens same settled = search rules
 
--- a batch that leaves the club that was there
+-- a batch that keeps the club
 module _ {S : Type 0} (g : Ghosts S) (IsHeld : Database → Club → Type 0) (statements : List BoundStatement) (old new : Held S)
     (holds : (db : Database) → Ran g 0 statements old db → HasCleanDisk (state g old) → (club : Club) (others : List Club)
     → RepresentsBy IsHeld (state g old) club others → HoldsClub db club) (result : Result (Unit {0}) StoreFault)
@@ -25,7 +25,7 @@ module _ {S : Type 0} (g : Ghosts S) (IsHeld : Database → Club → Type 0) (st
   earlier : HasCleanDisk (state g new) → HasCleanDisk (state g old)
   earlier = was_clean (state g old) (state g new) _ commits.survives
 
-  -- if it is refused, the tables are as they were, and a crash leaves those or what the batch leaves
+  -- if the batch is refused, the tables are unchanged, and a crash leaves these or the ones that the batch leaves
   refused : IsKept (state g old) (state g new) → (club : Club) (others : List Club) → RepresentsBy IsHeld (state g old) club others
       → RepresentsBy IsHeld (state g new) club others
   refused kept club others before =
@@ -45,7 +45,7 @@ module _ {S : Type 0} (g : Ghosts S) (IsHeld : Database → Club → Type 0) (st
     survives = may_commit g 0 statements IsOpeningBatch are old new commits.survives;
   }
 
--- what the whole batch leaves holds the club that was found
+-- the tables that the whole batch leaves hold the club that was found
 pub holds_found : {S : Type 0} (g : Ghosts S) (old : Held S) (db : Database) → Ran g 0 table_batch old db → HasCleanDisk (state g old)
     → (club : Club) (others : List Club) → IsFound (state g old) club others → HoldsClub db club
 holds_found g old db ran clean club others found =
@@ -63,7 +63,7 @@ no_version : is_ok (understood no_schema VERSION.now) ≡ false
 unfolding understood listing_schema everything
 no_version = refl
 
--- over these tables the version is a query of the one row
+-- over these tables, the version's text is a query of the only row
 abbrev AsksVersion : Schema → Type 0
 AsksVersion schema = Asks schema VERSION.now (select (inner desk_tree end) [] (col 1 1 ∷ [])) (codes "version" ∷ [])
 
@@ -71,7 +71,7 @@ asks_version : AsksVersion club_schema × AsksVersion unindexed_schema × AsksVe
 unfolding understood everything
 asks_version = search rules
 
--- and that row is the version
+-- the row of this query is the version
 version_row : {S : Type 0} (g : Ghosts S) (old : Held S) (rows : List Row) → Asked g VERSION.now [] old rows → (schema : Schema) → AsksVersion schema
     → (db : Database) → (state g old).now ≡ db → db.schema ≡ schema → (version : ℕ) → Holds version_values (db.trees desk_tree) (version ∷ [])
     → rows ≡ version_values version ∷ []
@@ -113,7 +113,7 @@ version_returned g old rows clean asked club others found =
           absurd (true≢false (sym (ap is_ok asked.shown.1.is) ∙ none))
     ]
 
--- rows hold one version
+-- rows hold only one version
 pub one_version : (rows : List Row) (m n : ℕ) → rows ≡ version_values m ∷ [] → (row : Row) × (rows ≡ row ∷ []) × HasValues row (version_values n) → m ≡ n
 one_version rows m n is one = search rules
 

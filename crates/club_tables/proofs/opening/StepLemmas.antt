@@ -1,4 +1,4 @@
--- Steps of an opening that follow a read, tables that are ready for one, and statements that are prepared in turn.
+-- Steps of an opening that follow a read, tables that are ready, and statements that are prepared one after another.
 use Rattle.club_tables.proofs.Common.{rules, List, Result, Err, inl, inr, ◌≡◌, ℕ, [], ◌∷◌, IsTrue, All, sym, subst, ◌+◌, ◌<◌, ◌≤◌, ◌++◌, length, map, take}
 use Rattle.club_tables.proofs.Common.{get_or, zero, suc, Bor, add-one, arith, IfErr-weaker, on_ok_weaker, on_err_weaker, map-append, All-push, Ghosts, Database}
 use Rattle.club_tables.proofs.Common.{HasCleanDisk, Survives, State, Held, state, Row, Club, StoreFault, IsAfterReadings, FailsToRun, IsOpeningBatch}
@@ -13,7 +13,7 @@ batch_failed g statements are old mid new fault first failed = record { from = m
 
 module _ {S : Type 0} (g : Ghosts S) (old mid : Held S) (untouched : IsUntouched (state g old) (state g mid))
     (quiet : Survives (state g old) (state g mid) (λ _. ⊥)) where
-  -- the read leaves the club that was there
+  -- the read keeps the club
   pub keeps_after : (IsHeld : Database → Club → Type 0) → HasCleanDisk (state g mid) → (club : Club) (others : List Club)
       → RepresentsBy IsHeld (state g old) club others → RepresentsBy IsHeld (state g mid) club others
   keeps_after IsHeld clean club others before = search rules
@@ -60,21 +60,21 @@ text_at text = text.now
 pub kept_then : (a b c : State) → (HasCleanDisk c → HasCleanDisk b) → IsKept a b → IsKept b c → IsKept a c
 kept_then a b c earlier first next clean is_open = search rules
 
--- of texts, that at a place
+-- the property holds for one of the texts, at this place
 pub one_at : (P : List ℕ → Type 0) (texts : List (Bor (List ℕ))) (at : ℕ) (d : Bor (List ℕ)) → at < length texts → P (get_or texts at d).now
     → OneOf P (map text_at texts)
 one_at P [] at d within here = absurd (omega arith)
 one_at P (text ∷ texts) zero d within here = inl here
 one_at P (text ∷ texts) (suc at) d within here = inr (one_at P texts at d (omega arith) here)
 
--- of more texts
+-- the property holds for one of more texts
 pub one_more : (P : List ℕ → Type 0) (texts others : List (List ℕ)) → OneOf P texts → OneOf P (texts ++ others)
 one_more P [] others one = absurd one
 one_more P (text ∷ texts) others (inl here) = inl here
 one_more P (text ∷ texts) others (inr there) = inr (one_more P texts others there)
 
 module _ (db : Database) (texts : List (Bor (List ℕ))) where
-  -- one text more
+  -- one more text
   pub one_understood : (at : ℕ) (d : Bor (List ℕ)) (was : Database) → was ≡ db → at < length texts → All (IsUnderstood db.schema) (map text_at (take at texts))
       → IsUnderstood was.schema (get_or texts at d).now
       → All (IsUnderstood db.schema) (map text_at (take (at + 1) texts))

@@ -1,4 +1,4 @@
--- The bookings of a day, as they are asked for.
+-- The query for the bookings of a day.
 use Rattle.club_tables.proofs.Common.{◌≢◌, ◌≡◌, ℕ, ◌<◌, ◌⊎◌, inl, inr, pos, false, List, [], ◌∷◌, map, refl, sym, subst, ◌∙◌, arith, Ordering, Less, Equal}
 use Rattle.club_tables.proofs.Common.{Greater, nat_cmp, ◌==◌, not, filter, IsSorted, slice_index_or, on, then_cmp, is_gt, ordering_then, IsTotalOrder}
 use Rattle.club_tables.proofs.Common.{nat_tests, ranked, nat_cmp_total, nat_list_cmp_total, on_total, then_total, and-true, and_comm, everything, Text, Binary}
@@ -28,7 +28,7 @@ sheet_total =
 number_less : (m n : ℕ) → nat_cmp m n ≡ Less → m < n
 number_less m n h = ranked m n Less (sym h)
 
--- by the first part, and if those are equal, by the others
+-- compare by the first part and, if those are equal, by the others
 by_parts : {A B C : Type 0} (o p : Ordering) → (o ≡ Less → A) → (o ≡ Equal → B) → (B → is_gt p ≡ false → C) → is_gt (ordering_then o p) ≡ false
     → A ⊎ (B × C)
 by_parts Less p f g h fails = inl (f refl)
@@ -38,7 +38,7 @@ by_parts Greater p f g h fails = absurd cc
 abbrev Differ : Booking → Booking → Type 0
 Differ a b = ¬ ((a.key ≡ b.key) × (a.number ≡ b.number))
 
--- of two bookings of different names, the first precedes if it isn't greater
+-- if two bookings have different names, the first precedes the second if it isn't greater
 precedes : (a b : Booking) → is_gt (sheet_cmp a b) ≡ false → Differ a b → Precedes a b
 precedes a b fails differ =
     by_parts _ _ (λ h. h) (exact_bytes a.slot.facility b.slot.facility) (λ _.
@@ -48,7 +48,7 @@ precedes a b fails differ =
 
 -- ---- the statement
 
--- what the sheet is sorted by
+-- the sort key of the sheet
 abbrev sheet_key : Booking → Row
 sheet_key b = Text b.slot.facility ∷ whole b.slot.hour ∷ Text b.key ∷ whole b.number ∷ []
 

@@ -1,4 +1,4 @@
--- What is asked of the bookings of all keys of a member.
+-- The queries over the bookings of all keys of a member.
 use Rattle.club_tables.proofs.Common.{◌≡◌, ◌≢◌, ℕ, ◌+◌, ◌*◌, ◌/◌, ◌<◌, ◌≤◌, ◌^◌, pos, Bool, true, false, not, cond, ◌&&◌, ◌||◌, List, [], ◌∷◌, map, codes}
 use Rattle.club_tables.proofs.Common.{length, refl, sym, ap, ◌∙◌, arith, filter, flat_map, slice_index_or, nat_lt, nat_le, AllPairs, IsPermutation, list_any}
 use Rattle.club_tables.proofs.Common.{bytes_eq, is_gt, is_ge, int_cmp, and_parts, lt-ltb, false_from_ne_true, nat_tests, length-map, All-filter, filter_agree}
@@ -11,7 +11,7 @@ use Rattle.club_tables.proofs.{queries.KeyLemmas.no_truth, statements.JoinLemmas
 use Rattle.club_tables.proofs.statements.SelectLemmas.{apart_from_pairs, from_truth_is, text_equal, whole_equal, filter_same}
 use Rattle.club_values.specs.Slot.{start_of}
 
--- the booking's key is the key
+-- the condition that the booking's key is this key
 abbrev under_it : Term
 under_it = op2 (Compare Eq Binary) (col 1 1) (col 2 1)
 
@@ -42,14 +42,14 @@ unfolding binary
 whole_from m n =
     let same : is_ge (int_cmp (pos m) (pos n)) ≡ nat_le n m = grind (arith, nat_tests) in from_truth_is _ ∙ ap is_ge (value_cmp-Int (pos m) (pos n)) ∙ same
 
--- what begins after a moment is on its day or a later one
+-- a slot that begins after a moment is on the moment's day or a later one
 day_after : (moment day hour : ℕ) → hour < 24 → nat_lt moment (day * 1440 + hour * 60) ≡ true → nat_le (moment / 1440) day ≡ true
 day_after moment day hour low later =
     let after : moment < day * 1440 + hour * 60 = grind (arith, nat_tests) in
     let reached : moment / 1440 ≤ day = omega arith in
     grind (arith, nat_tests)
 
--- a product and a sum that 64 bits hold
+-- a product and a sum that fit in 64 bits
 product : (m n : ℕ) → m * n < 2 ^ 63 → binary (Arith Mul) (Int (pos m)) (Int (pos n)) ≡ Int (pos (m * n))
 unfolding binary
 product m n low = rw (lt-ltb (m * n) (2 ^ 63) low) refl
@@ -91,7 +91,7 @@ other_key member test a b apart booking h =
     let mine = (bytes_eq-Decides a.name booking.key).0 (and_parts _ _ h).0 in
     false_from_ne_true _ (λ k. apart (mine ∙ sym ((bytes_eq-Decides b.name booking.key).0 (and_parts _ _ k).0)))
 
--- the pairs of a key of the member and a booking under it are as many as the member's bookings
+-- there are as many pairs of a member's key and a booking under it as the member has bookings
 owned_count : (member : List ℕ) (test : Booking → Bool) (show : Booking → Row) (club : Club) (rows : List Row)
     → AllPairs (λ (a : Key) (b : Key). a.name ≢ b.name) club.keys
     → IsPermutation (flat_map (λ key. map show (filter (is_owned member test key) club.bookings)) club.keys) rows
@@ -109,7 +109,7 @@ owned_count member test show club rows unique h =
 
 -- ---- the statements
 
--- whether a booking is still to come, as the statement asks it
+-- whether a booking is still to come, as the statement tests it
 abbrev comes : ℕ → Booking → Bool
 comes moment b =
     not b.cancelled
@@ -120,7 +120,7 @@ both_if_first : (a b : Bool) → (a ≡ true → b ≡ true) → (a && b) ≡ a
 both_if_first true b follows = follows refl
 both_if_first false b follows = refl
 
--- the bound by the day leaves out nothing
+-- the bound on the day leaves nothing out
 comes_is : (moment : ℕ) (b : Booking) → IsBooking b → comes moment b ≡ is_to_come moment b
 comes_is moment b row =
     let later = ap (λ v. is_true (binary (Compare Gt Binary) v (whole moment))) (start_value_is b row) ∙ whole_above (start_of b.slot) moment in

@@ -1,4 +1,4 @@
--- The most persons in a facility's slots, by rows and by bookings.
+-- The most persons in a facility's slots, from rows and from bookings.
 use Rattle.club_tables.proofs.Common.{◌≡◌, ◌≤◌, ◌+◌, ◌<◌, ℕ, Bool, true, false, ◌&&◌, not, None, Option, Some, List, [], ◌∷◌, ◌++◌, length, get_or, take, map}
 use Rattle.club_tables.proofs.Common.{refl, sym, ap, ◌∙◌, subst, filter, fold, max, sum_by, option_map, unwrap_or, bytes_eq, bytes_eq-Decides, and_parts, inl}
 use Rattle.club_tables.proofs.Common.{inr, arith, everything, Text, Row, column, select, is_given, inner, end, col, codes, IsPermutation, All-get_or, Has}
@@ -55,7 +55,7 @@ module _ (club : Club) (rows : Rows) (stored : IsStoredAs club rows) (facility :
   abbrev most : ℕ
   most = most_taken_in facility club.bookings
 
-  -- if somebody is in a slot of the facility, a booking is of it
+  -- if somebody is in a slot of the facility, there is a booking of the slot
   few_in : (slot : Slot) → bytes_eq slot.facility facility ≡ true → taken_in slot club.bookings ≤ most
   few_in slot of = by (filter (is_in slot) club.bookings) refl
     where
@@ -84,7 +84,7 @@ module _ (club : Club) (rows : Rows) (stored : IsStoredAs club rows) (facility :
       few_by b.slot (has_filtered (is_at facility) club.bookings b has).1) in
       omega (arith, one, two)
 
-  -- what the statement shows
+  -- the result of the statement
   pub most_by_answer : (answer : List Row) → IsPermutation (map shown (filter is_of rows.slots)) answer → most_in answer ≡ most
   most_by_answer answer same =
       let value = λ (row : Row). whole_in (column row 0) in

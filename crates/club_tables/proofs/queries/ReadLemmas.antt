@@ -1,22 +1,22 @@
--- What makes a reading, and which fault it has.
+-- Lemmas on a read and its faults.
 use Rattle.club_tables.proofs.Common.{List, Result, IfOk, IfErr, inl, inr, arith, IfErr-weaker, IfOk-weaker, Row, Ghosts, HasCleanDisk, Survives, Held, state}
 use Rattle.club_tables.proofs.Common.{StoreFault, Club, FailsAtReading, FailsToRead, IsAfterReadings, IsReadFault, Reading, CanRead, reading_statement}
 use Rattle.club_tables.proofs.{Common.{ReadsClub, Asked, IsKept, BoundStatement, HoldsClub}, crashes.RepresentsLemmas.{Shows, represents_on}}
 use Rattle.club_tables.proofs.crashes.SurviveLemmas.{kept_when_idle}
 use Rattle.club_tables.specs.Answers.{Answers}
 
--- no reading before
+-- a read without earlier reads
 pub at_once : {S : Type 0} (g : Ghosts S) (held : Held S) → HasCleanDisk (state g held) → IsAfterReadings g held held
 at_once g held clean = record { same = kept_when_idle (state g held); clean = clean; fault_count = omega arith }
 
--- fewer rows can be decoded
+-- a read that can decode fewer rows
 pub fewer_read : {S : Type 0} (g : Ghosts S) (statement : BoundStatement) (P Q : List Row → Type 0) (old new : Held S) (fault : StoreFault)
     → ((rows : List Row) → Q rows → P rows) → FailsToRead g statement P old new fault → FailsToRead g statement Q old new fault
 fewer_read g statement P Q old new fault through (inl failed) = inl failed
 fewer_read g statement P Q old new fault through (inr it) =
     inr (record { rows = it.rows; query = it.query; unread = λ q. it.unread (through it.rows q); fault_is = it.fault_is })
 
--- a result that is true of the current club, by what the rows of its statement show
+-- a result that is true of the current club, from the rows of its statement
 pub read_by : {S A : Type 0} (g : Ghosts S) (reading : Reading) (IsAnswer : List Row → A → Type 0) (old new : Held S) (result : Result A StoreFault)
     {IsShown : Club → List Row → Type 0} {IsReturned : Club → A → Type 0} → IsKept (state g old) (state g new)
     → Survives (state g old) (state g new) (λ _. ⊥)
@@ -38,7 +38,7 @@ read_by {A = A} g reading IsAnswer old new result {IsReturned = IsReturned} kept
           record { from = old; after = at_once g old (earlier clean); reading = reading; failure = failed }) (fails clean);
     }
 
--- the same of an answer by its rows
+-- the same for an answer and its rows
 pub read_answer : {S A : Type 0} {g : Ghosts S} (reading : Reading) {IsAnswer : List Row → A → Type 0} {old new : Held S} {result : Result A StoreFault}
     {IsShown : Club → List Row → Type 0} {IsReturned : Club → A → Type 0} → Answers g (reading_statement reading) IsAnswer old new result
     → IsKept (state g old) (state g new) → Survives (state g old) (state g new) (λ _. ⊥)

@@ -12,7 +12,7 @@ use Rattle.sqlite_schema.specs.declared.schema.Index.{Index}
 use Rattle.sqlite_catalog.specs.Change.{indexed}
 use Rattle.sqlite_rules.specs.Action.{Writes as ActionWrites}
 
--- a part that gave a value did not stop on the way
+-- a part that returned a value didn't stop early
 pub went : {B E R : Type 0} {b : B} {Stops : E → Type 0} → ((stop : E) × Stops stop × (Ok b ≡ Err stop)) ⊎ R → R
 went (inl stopped) = absurd (let e = stopped.2 in cc)
 went (inr on) = on
@@ -32,11 +32,11 @@ pub cast_int : (n : _) → cast Integer (Int n) ≡ Int n
 unfolding unary
 cast_int n = either _ (Int n)
 
--- a table without AUTOINCREMENT counts nothing
+-- a table without AUTOINCREMENT keeps no counter
 uncounts : (b x : Bool) (Y G : Type 0) → b ≡ false → MatchBool (cond b x false) Y G → G
 uncounts b x Y G none h = subst (λ b. MatchBool (cond b x false) Y G) none h
 
--- CREATE TABLE makes a table that is empty, and keeps the others
+-- CREATE TABLE makes an empty table, and keeps the others
 pub creates : {schema : Schema} {text : List ℕ} {table : Table} → Makes schema text table → (old new : State) → old.now.schema ≡ schema
     → (count : ℕ) → Executes text [] old new (Ok count)
     → (is_used schema table.name ≡ false) × (new.now.schema ≡ created schema table) × (new.now.trees (next_tree schema) ≡ [])
@@ -78,7 +78,7 @@ indexes {schema = schema} {text = text} {at = at} {table = table} {index = index
 
 -- ---- a statement that writes rows of one table
 
--- what it leaves
+-- the effect of the statement
 pub record Leaves (schema : Schema) (new : State) (count : ℕ) (one : Written) : Type 0 where
   pub schema_is : new.now.schema ≡ schema
   pub trees_are : new.now.trees ≡ one.trees
@@ -115,7 +115,7 @@ wrote_rows {schema = schema} {text = text} {command = command} means at listed o
       done.1,
     )
 
--- an edit on which no reference acts is the whole change
+-- an edit that triggers no reference is the whole change
 pub edited_alone : {schema : Schema} (old : State) {new : State} {count : ℕ} {one : Written} → Leaves schema new count one → (edit : Edit) (next : Trees)
     → works schema Enforced 0 edit.table.tree (taken_by old.now.trees edit) edit.news ≡ [] → ActionWrites schema Enforced old.now.trees edit (Ok next)
     → one.trees ≡ next → Wrote schema old.now new.now edit.table.tree × (new.now.trees edit.table.tree ≡ edited old.now.trees edit)

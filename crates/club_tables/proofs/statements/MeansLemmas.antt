@@ -1,4 +1,4 @@
--- What a text is, as sqlite understands it, and the tables after a statement that wrote to one of them.
+-- The meaning of a text for sqlite, and the tables after a statement that wrote to one of them.
 use Rattle.club_tables.proofs.Common.{◌≡◌, ◌≢◌, ℕ, List, Ok, Some, slice_get, false, Bool, true, ◌==◌, if◌then◌else◌, [], ◌∷◌, refl, sym, subst, ◌∙◌}
 use Rattle.club_tables.proofs.Common.{true≢false, ◌≤◌, AllByRecursion, unsigned_Decides, Table, Database, IsDatabase, Schema, Command, CreateTable, CreateIndex}
 use Rattle.club_tables.proofs.Common.{created, understood, IsPlain, command_of, statement_of, Trees, State, Executes, Facility, Key, Booking, club_schema}
@@ -14,7 +14,7 @@ pub record Means (schema : Schema) (text : List ℕ) (command : Command) : Type 
   pub is : command_of (understood schema text) ≡ command
   pub plain : IsPlain (understood schema text)
 
--- the text makes the table
+-- the text creates the table
 pub record Makes (schema : Schema) (text : List ℕ) (table : Table) : Type 0 where
   pub plain : IsPlain (understood schema text)
   pub is : command_of (understood schema text) ≡ CreateTable
@@ -22,7 +22,7 @@ pub record Makes (schema : Schema) (text : List ℕ) (table : Table) : Type 0 wh
   pub defined : table_defined_by text ≡ Ok table
   pub uncounted : lacks_sequence (created schema table) ≡ false
 
--- the text makes the index
+-- the text creates the index
 pub record MakesIndex (schema : Schema) (text : List ℕ) (at : ℕ) (table : Table) (index : Index) : Type 0 where
   pub plain : IsPlain (understood schema text)
   pub listed : slice_get schema.tables at ≡ Some table
@@ -36,12 +36,12 @@ pub record Wrote (tables : Schema) (old new : Database) (tree : ℕ) : Type 0 wh
   pub others : AllByRecursion (λ (t : Table). t.tree ≢ tree → new.trees t.tree ≡ old.trees t.tree) tables.tables
   pub sound : IsDatabase new
 
--- over tables that hold these rows a statement writes a row, and then they hold the next ones
+-- over tables that hold these rows, a statement writes a row, and then they hold the next rows
 abbrev pub Steps : BoundStatement → Rows → Rows → Type 1
 Steps statement rows next =
     (old new : State) (count : ℕ) → HoldsRows old.now rows → Executes statement.0 statement.1 old new (Ok count) → HoldsRows new.now next × (1 ≤ count)
 
--- rows stay where their trees do
+-- tables whose trees are unchanged have the same rows
 pub trees_kept : {number : ℕ} {old new : Trees} {rows : Rows} → AllByRecursion (λ (t : Table). new t.tree ≡ old t.tree) club_schema.tables
     → HoldsTrees number old rows → HoldsTrees number new rows
 trees_kept {number = number} {rows = rows} kept held = record {
@@ -54,7 +54,7 @@ trees_kept {number = number} {rows = rows} kept held = record {
   olders = subst (λ rs. Holds older_values rs rows.olders) (sym kept.1.1.1.1.1.1.0) held.olders;
 }
 
--- the trees, with that of one table as it was
+-- the trees, with the tree of one table unchanged
 abbrev pub but : ℕ → Trees → Trees → Trees
 but tree old new at = if at == tree then old at else new at
 
@@ -81,7 +81,7 @@ module _ {old new : Database} {rows : Rows} (holds_rows : HoldsRows old rows) wh
     database = wrote.sound;
   }
 
-  -- the rows of one table are others
+  -- the rows of one table changed
   pub on_members : Wrote club_schema old new members_tree → {members : List MemberRow} → Holds member_values (new.trees members_tree) members
       → HoldsRows new (record rows { members = members })
   on_members wrote held =

@@ -1,4 +1,4 @@
--- What a statement leaves that puts a row by its key: an INSERT with ON CONFLICT DO UPDATE.
+-- The effect of a statement that inserts or updates a row by its key: an INSERT with ON CONFLICT DO UPDATE.
 use Rattle.club_tables.proofs.Common.{◌≡◌, ◌≤◌, inl, inr, ℕ, ◌/◌, ℤ, Bool, true, false, None, Some, Option, Ok, List, [], ◌∷◌, ◌++◌, length, map, slice_get}
 use Rattle.club_tables.proofs.Common.{refl, sym, ap, subst, ◌∙◌, append-nil, arith, not, ◌==◌, filter, IsPermutation, is_eq, ordering_reverse, tied_itself}
 use Rattle.club_tables.proofs.Common.{filter_agree, value_cmp_total, has_rowid, IsTable, Trees, put_row, rowid, filter-map, all_from_map, all_has, has_kept}
@@ -16,7 +16,7 @@ use Rattle.sqlite_schema.specs.declared.{command.{Conflict.TheVariants.Abort, Up
 use Rattle.sqlite_schema.specs.declared.schema.Reference.{Reference}
 use Rattle.sqlite_rules.specs.Action.{Writes as ActionWrites}
 
--- one more test
+-- one more element in a test of all
 list_all_more : {X : Type 0} (p : X → Bool) (xs : List X) (y : X) → list_all p (xs ++ y ∷ []) ≡ (list_all p xs && p y)
 list_all_more p [] y = and-true (p y)
 list_all_more p (x ∷ xs) y = ap (λ b. p x && b) (list_all_more p xs y) ∙ sym (and_assoc (p x) (list_all p xs) (p y))
@@ -26,7 +26,7 @@ pub id_equal : (a b : ℤ) → is_true (binary (Compare Eq Binary) (Int a) (Int 
 unfolding binary
 id_equal a b = from_truth_is _
 
--- a rowid is that of no other row
+-- no other row has the same rowid
 pub one_at : (id : ℤ) (rows : List Row) (row : Row) → IsTable rows → Has rows row → has_rowid id row ≡ true → filter (has_rowid id) rows ≡ row ∷ []
 one_at id rows row rising has is =
     only (filter (has_rowid id) rows) row (one_passes Below (has_rowid id) rows (λ r s p q less.
@@ -48,11 +48,11 @@ module _ (name : List ℕ) (columns : List Column) (keys : List (List ℕ)) (che
     abbrev table : Table
     table = record (table_of name columns keys checks references) { tree = tree }
 
-    -- the row that is met gets new values, if it passes more tests
+    -- the conflicting row gets new values if it passes further tests
     abbrev pub sets_by : List Term → ℕ → List Term → Option Program
     sets_by more at sets = Some (record { lets = []; body = select (inner tree end) (more ++ is_there at ∷ []) sets })
 
-    -- the text puts a row of these terms, and its clause sets the row that it meets
+    -- the text inserts a row of these terms, and its clause updates a conflicting row
     pub record PutsRow (at : ℕ) (text : List ℕ) (terms more sets : List Term) (width there_at : ℕ) (clause : Upsert) : Type 0 where
       pub is : command_of (understood club_schema text) ≡ InsertOr at Abort (Values terms width) (clause ∷ [])
       pub plain : IsPlain (understood club_schema text)
@@ -82,7 +82,7 @@ module _ (name : List ℕ) (columns : List Column) (keys : List (List ℕ)) (che
       abbrev Meeting : List Row → Written → Type 0
       Meeting found one = Meets task (Upserts task Abort new_row db []) new_row db clause found (Ok one)
 
-      -- what the statement met, and what it left
+      -- the row that the statement conflicted with, and its effect
       record Ran (count : ℕ) : Type 0 where
         one : Written
         leaves : Leaves club_schema new count one
@@ -124,7 +124,7 @@ module _ (name : List ℕ) (columns : List Column) (keys : List (List ℕ)) (che
             meets = it.2;
           }
 
-      -- a row that meets none is put beside the others
+      -- a row without a conflict is added to the others
       put_new : filter hit (db tree) ≡ [] → (count : ℕ) → Ran count
           → Wrote club_schema old.now new.now tree × (new.now.trees tree ≡ put_row new_row (db tree)) × (1 ≤ count)
       put_new none count it = go it.found it.conflict it.meets
@@ -146,7 +146,7 @@ module _ (name : List ℕ) (columns : List Column) (keys : List (List ℕ)) (che
               let there = are.sound x (inl refl) in
               absurd (rw none at (has_kept hit (db tree) there.0 there.1 there.2))
 
-      -- the row that it meets gets the values of the clause
+      -- the conflicting row gets the values of the clause
       put_old : (row : Row) → filter hit (db tree) ≡ row ∷ [] → (count : ℕ) → Ran count
           → (there : Row) × (rowid there ≡ rowid row) × Updates old new table (select (inner tree end) (more ++ is_there there_at ∷ []) sets) (env there) count
       put_old row lone count it = go it.found it.conflict it.meets
@@ -171,13 +171,13 @@ module _ (name : List ℕ) (columns : List Column) (keys : List (List ℕ)) (che
         abbrev pub Allows : Row → ℤ → X → Type 0
         Allows there id x = list_all (holds (env there ∷ (Int id ∷ values x) ∷ [])) more ≡ true
 
-        -- what the clause yields for each element that passes
+        -- the values that the clause yields for each element that passes
         abbrev pub Yields : X → Type 0
         Yields x =
             (id : ℤ) (there : Row) → p x ≡ true
             → Allows there id x × (eval_all sets (env there ∷ (Int id ∷ values x) ∷ []) ≡ Int id ∷ Int id ∷ values (change x))
 
-        -- the rows that the clause finds: that of the element, if it passes the further tests
+        -- the rows that the clause finds: the row of the element, if it passes the further tests
         hit_by : (there : Row) → (ps : List (ℤ × X)) → db tree ≡ map (row_of values) ps → (one : ℤ × X) → column (env there) there_at ≡ Int one.0
             → Has (db tree) (row_of values one)
             → filter (test (env there) (more ++ is_there there_at ∷ []) sets) (db tree)
@@ -223,7 +223,7 @@ module _ (name : List ℕ) (columns : List Column) (keys : List (List ℕ)) (che
               omega (arith, up.2.counted, ap length row),
             )
 
-        -- the row is put, if there was one and if there was none
+        -- the row is inserted or updated, whether or not there was one
         pub row_put : (list_any p xs ≡ false → source ≡ values first) → ((there : Row) → column (env there) there_at ≡ rowid there) → AllByRecursion Yields xs
             → (count : ℕ) → Executes text params old new (Ok count)
             → Wrote club_schema old.now new.now tree × Holds values (new.now.trees tree) (put_among values p change first xs) × (1 ≤ count)
@@ -249,7 +249,7 @@ module _ (name : List ℕ) (columns : List Column) (keys : List (List ℕ)) (che
                 (all_from_map Yields (λ (q : ℤ × X). q.1) with_ids.pairs (subst (AllByRecursion Yields) with_ids.xs_are yields)) one alone hits))
             go it with_ids (one ∷ other ∷ ones) alone hits low any = absurd (omega arith)
 
-        -- the element that passes, if there is one, passes the further tests, if a row is written
+        -- if a row is written, an existing element that passes also passes the further tests
         pub row_allowed : ((there : Row) → column (env there) there_at ≡ rowid there) → (allows : X → Bool)
             → ((id : ℤ) (there : Row) (x : X) → list_all (holds (env there ∷ (Int id ∷ values x) ∷ [])) more ≡ allows x)
             → (count : ℕ) → Executes text params old new (Ok count) → 1 ≤ count → (x : X) → find p xs ≡ Some x → allows x ≡ true

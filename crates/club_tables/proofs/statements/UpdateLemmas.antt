@@ -1,4 +1,4 @@
--- An UPDATE that changes one row at most: the list whose table had one row replaced.
+-- An UPDATE that changes at most one row, and the list after one row of its table was replaced.
 use Rattle.club_tables.proofs.Common.{◌≡◌, ◌≤◌, ℕ, ℤ, ◌==◌, Bool, true, false, Some, Ok, List, [], ◌∷◌, length, map, slice_get, refl, sym, ap, subst, ◌∙◌}
 use Rattle.club_tables.proofs.Common.{arith, not, cond, subst₂, inl, Less, Greater, flat_map, filter, find, drop, IsPermutation, length-map, length_permutation}
 use Rattle.club_tables.proofs.Common.{cast_row, AllByRecursion, AllZip, filter_map, Int, Term, Row, value_cmp, Query, inner, end, Table, Update, Given, edit_of}
@@ -42,7 +42,7 @@ module _ {X : Type 0} (values : X → Row) (p : X → Bool) (change : X → X) (
       go true is some more = absurd cc
       go false is none more = ap₂ ◌∷◌ (ap (λ x. Int q.0 ∷ values x) (sym (kept q.1 is))) (more none)
 
-  -- the row of the one element that changes is put again
+  -- the row of the only element that changes is written again
   put_again : (ps : List (ℤ × X)) (one : ℤ × X) → IsTable (map (row_of values) ps) → filter passes ps ≡ one ∷ []
       → put_row (next one) (without_rowid one.0 (map (row_of values) ps)) ≡ map next ps
   put_again [] one table is = absurd cc
@@ -83,7 +83,7 @@ module _ {X : Type 0} (values : X → Row) (p : X → Bool) (change : X → X) (
     pub replaced : (one : ℤ × X) → filter passes ps ≡ one ∷ [] → rows ≡ (Int one.0 ∷ next one) ∷ [] → cast_row table (next one) ≡ next one → Left
     replaced one lone row casts = rw (row, casts, is, put_again ps one rising lone) (holds_next ps rising)
 
-    -- the same of the rows that are shown of those that pass, one at most
+    -- the same for the rows shown for the elements that pass, at most one
     replaced_if_any : (shown : Row → Row) (Q : X → Type 0) → AllByRecursion (λ q. Q q.1) ps
         → ((id : ℤ) (x : X) → Q x → p x ≡ true → shown (Int id ∷ values x) ≡ Int id ∷ Int id ∷ values (change x))
         → ((id : ℤ) (x : X) → cast_row table (Int id ∷ values x) ≡ Int id ∷ values x)
@@ -101,7 +101,7 @@ module _ {X : Type 0} (values : X → Row) (p : X → Bool) (change : X → X) (
   hits_of hit wide [] h = tt
   hits_of hit wide (q ∷ ps) h = (h.0, hits_of hit wide ps h.1)
 
--- no reference of the club acts on other rows
+-- no reference of the club changes other rows
 pub no_works : (tree : ℕ) (olds news : List Row) → works club_schema Enforced 0 tree olds news ≡ []
 no_works tree olds news =
     elim (length news == 0) as (λ b. flat_map (λ child. filter_map (λ ref.
@@ -142,7 +142,7 @@ pub updates : {text : List ℕ} {at : ℕ} {query : Query} → Means club_schema
 updates {at = at} means table listed {old = old} {new = new} {params = params} {count = count} has h =
     let it = wrote_rows means at listed old new params count (λ w. w) (λ out does. does) has h in update_leaves old params table it.1 it.2
 
--- an UPDATE of a table that holds a list, in which the elements that pass a test are hit
+-- an UPDATE of a table that holds a list, which changes the elements that pass a test
 pub record Finds {X : Type 0} (values : X → Row) (p : X → Bool) (xs : List X) (shown : Row → Row) (old new : State) (table : Table) (count : ℕ) : Type 0
   where
     pub rows : List Row
@@ -180,11 +180,11 @@ module _ {X : Type 0} {values : X → Row} {p : X → Bool} {xs : List X} {shown
   pub passes_one : 1 ≤ count → (x : X) × (find p xs ≡ Some x)
   passes_one some = find_some p xs (omega (arith, some, it.counted, written))
 
-  -- and if an element passes, a row is written
+  -- if an element passes, a row is written
   pub writes_one : 1 ≤ length (filter p xs) → 1 ≤ count
   writes_one passing = omega (arith, passing, it.counted, written)
 
-  -- the table holds the changed list, if the same elements pass another test, and one of them at most
+  -- if the same elements pass another test, and at most one does, the table holds the changed list
   pub changes_one : (q : X → Bool) → AllByRecursion (λ x. p x ≡ q x) xs → (change : X → X) → ((x : X) → q x ≡ false → change x ≡ x) → (Q : X → Type 0)
       → AllByRecursion Q xs → ((id : ℤ) (x : X) → Q x → q x ≡ true → shown (Int id ∷ values x) ≡ Int id ∷ Int id ∷ values (change x))
       → ((id : ℤ) (x : X) → cast_row table (Int id ∷ values x) ≡ Int id ∷ values x) → length (filter q xs) ≤ 1

@@ -4,7 +4,7 @@ use Rattle.std.specs.{List.list_any, Prelude.{◌≡◌, ℕ, Bool, zero, suc, L
 use Rattle.pass_forms.specs.FieldSource.{PassField, pass_fields}
 use Rattle.pass_forms.specs.{Pass.{WideCaveat, WidePass, has_third_party, is_third_party, first_party, first_party_caveat}, computed.Parts.{◌>>=◌}}
 
--- A caveat, if there is one, and then the others.
+-- A caveat, if there is one, followed by the others.
 abbrev pub and_others : (List ℕ → List WideCaveat × List ℕ) → List ℕ → Option (WideCaveat × List ℕ) → List WideCaveat × List ℕ
 and_others others bytes None = ([], bytes)
 and_others others bytes (Some found) = (found.0 ∷ (others found.1).0, (others found.1).1)
@@ -14,18 +14,18 @@ unfoldable pub caveats_at : (List ℕ → Option (WideCaveat × List ℕ)) → �
 caveats_at caveat_at zero bytes = ([], bytes)
 caveats_at caveat_at (suc n) bytes = and_others (caveats_at caveat_at n) bytes (caveat_at bytes)
 
--- what a reader keeps of a caveat: its identifier, whether it is a third party's, and the bytes after it
+-- the parts of a caveat that a reader keeps: its identifier, whether it is a third-party caveat, and the bytes after it
 abbrev pub summary : WideCaveat × List ℕ → List ℕ × Bool × List ℕ
 summary found = (found.0.identifier, is_third_party found.0, found.1)
 
--- what a reader returns for the caveats that it scanned
+-- the result of a reader for the caveats that it scanned
 pub record Counts (count : ℕ) (third_party : Bool) (rest : List ℕ) (caveats : List WideCaveat × List ℕ) : Type 0 where
   pub count_is : count ≡ length caveats.0
   pub any : third_party ≡ list_any is_third_party caveats.0
   pub after : rest ≡ caveats.1
 
--- A pass is a header (its location and its identifier), its caveats, and a footer that holds its signature. Each caveat
--- has at least one byte, so there are at most as many caveats as bytes.
+-- A pass is a header (its location and its identifier), its caveats, and a footer with its signature. Each caveat has at least one byte, so there are at most
+-- as many caveats as bytes.
 unfoldable pub whole_at : (List ℕ → Option (List ℕ × List ℕ × List ℕ)) → (List ℕ → Option (WideCaveat × List ℕ)) → (List ℕ → Option (List ℕ)) → List ℕ →
     Option WidePass
 whole_at header_at caveat_at footer_at bytes = do
@@ -40,8 +40,8 @@ whole_at header_at caveat_at footer_at bytes = do
 
 -- ---- the fields of a scanned pass
 
--- the result of scanning a wide pass: its fields without the verifier ids and locations of its caveats, the number of
--- caveats, whether any is a third party's
+-- the result of scanning a wide pass: its fields without the verifier ids and locations of its caveats, the number of caveats, and whether any is a third-party
+-- caveat
 abbrev pub scan_summary : WidePass → List PassField × ℕ × Bool
 scan_summary wide = (pass_fields (first_party wide), length wide.caveats, has_third_party wide)
 

@@ -1,11 +1,11 @@
--- What a text wraps, computed.
+-- Computes the contents that a text wraps.
 use Rattle.std.specs.{List.list_all, Option.{option_and_then, option_map, option_or, ok_or}}
 use Rattle.std.specs.Prelude.{ℕ, List, length, nat_lt, if◌then◌else◌, Option, None, Result, Ok, Err}
 use Rattle.base64.specs.{Engines.{url_safe_no_pad, url_safe, standard_no_pad, standard}, GeneralPurpose.decoded_of}
 use Rattle.pass_forms.specs.{Envelope.{starts_with_brace, form_of}, Reading.max_text_len, declared.fault.FormFault.FormFault}
 use Rattle.pass_forms.specs.declared.{fault.FormFault.TheVariants.{TooLong, Malformed}, form.Form.{Form, TheVariants.Json}}
 
--- the bytes, by the first of the four decoders that accepts the text
+-- the bytes, from the first of the four decoders that accepts the text
 unfoldable pub by_decoders : List ℕ → Option (List ℕ)
 by_decoders text =
     option_or (option_or (decoded_of url_safe_no_pad text) (decoded_of url_safe text))
@@ -15,7 +15,7 @@ by_decoders text =
 unfoldable pub from_base64 : List ℕ → Option (List ℕ)
 from_base64 text = if list_all (λ byte. nat_lt byte 256) text then by_decoders text else None
 
--- the bytes, with the form that they are in
+-- the bytes, with their form
 abbrev pub with_its_form : List ℕ → Option (Form × List ℕ)
 with_its_form bytes = option_map (λ form. (form, bytes)) (form_of bytes)
 

@@ -19,6 +19,6 @@ abbrev pub found_or_none : List ℕ → Option (List ℕ × List ℕ) → Option
 found_or_none bytes None = (None, bytes)
 found_or_none bytes (Some found) = (Some found.0, found.1)
 
--- the signature, if the last part is 32 bytes with nothing after them
+-- the signature, if the last part has 32 bytes and nothing follows it
 abbrev pub last_signature : List ℕ × List ℕ → Option (List ℕ)
 last_signature part = if length part.0 == 32 && length part.1 == 0 then Some part.0 else None

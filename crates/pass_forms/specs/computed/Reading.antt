@@ -17,6 +17,6 @@ checked_if_any (Some wide) = checked_pass wide
 abbrev pub reading_of : ℕ → Option WidePass → Result Plain FormFault
 reading_of len spelling = if nat_lt max_text_len len then Err TooLong else checked_if_any spelling
 
--- what a reader keeps of a wide pass: the pass, the number of its caveats, whether any is a third party's
+-- the parts of a wide pass that a reader keeps: the pass, the number of its caveats, and whether any is a third-party caveat
 abbrev pub pass_summary : WidePass → Plain × ℕ × Bool
 pass_summary wide = (first_party wide, length wide.caveats, has_third_party wide)

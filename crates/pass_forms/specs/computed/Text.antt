@@ -8,7 +8,7 @@ abbrev pub in_form : Form → Result Plain FormFault → Result (Form × Plain) 
 in_form form (Ok pass) = Ok (form, pass)
 in_form form (Err fault) = Err fault
 
--- the result for what a text wraps
+-- the result for the contents that a text wraps
 abbrev pub reading_in : (Form → List ℕ → Option WidePass) → Result (Form × List ℕ) FormFault → Result (Form × Plain) FormFault
 reading_in wide_at (Ok wrapped) = in_form wrapped.0 (checked_if_any (wide_at wrapped.0 wrapped.1))
 reading_in wide_at (Err fault) = Err fault

@@ -19,7 +19,7 @@ len_at (a ∷ b ∷ c ∷ d ∷ rest) = do
   Some (x * 4096 + y * 256 + z * 16 + w)
 len_at _ = None
 
--- the data of the packet of this key, and the bytes after it
+-- the data of the packet with this key, and the bytes after it
 unfoldable pub packet_at : List ℕ → List ℕ → Option (List ℕ × List ℕ)
 packet_at key bytes = do
   rest ← if nat_le 4 (length bytes) then Some (drop 4 bytes) else None

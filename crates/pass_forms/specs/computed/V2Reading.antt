@@ -4,7 +4,7 @@ use Rattle.std.specs.Prelude.{unwrap_or}
 use Rattle.pass_forms.specs.{Pass.{Plain, WideCaveat, WidePass}, V2.{end_of_section, types}, computed.Caveats.whole_at}
 use Rattle.pass_forms.specs.{computed.{Parts.{◌>>=◌, after_prefix, found_or_none, last_signature}, Reading.reading_of}, declared.fault.FormFault.FormFault}
 
--- seven low bits below the bits of the bytes that follow, which must not all be zero; the number is at most `most`
+-- seven low bits, below the bits of the following bytes, which must not all be zero; the number is at most `most`
 abbrev pub above : ℕ → ℕ → Option (ℕ × List ℕ) → Option (ℕ × List ℕ)
 above most low None = None
 above most low (Some high) =

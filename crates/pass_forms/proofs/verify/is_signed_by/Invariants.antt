@@ -1,4 +1,4 @@
--- What is found from here on is what is found of all fields.
+-- The result for the remaining fields is the result for all fields.
 use Rattle.pass_forms.proofs.{Common.{◌≡◌, length}, Verifying.signed_in}
 use Rattle.pass_forms.proofs.verify.is_signed_by.Given as goal
 

@@ -8,7 +8,7 @@ use Rattle.club_tables.proofs.tables.Tables.open.Goals as goal
 
 module _ {S : Type 0} (g : Ghosts S) (old mid new : Held S) (rows : List Row) (earlier : HasCleanDisk (state g mid)) (rest : IsIdle (state g old))
     (kept : IsKept (state g old) (state g mid)) (answered : YieldsRows VERSION.now (state g old).now rows) where
-  -- if a batch was run over what was there, tables of the version that was read were there
+  -- if a batch ran, tables of the version that was read existed
   upgraded : (version : ℕ) (texts : List (List ℕ)) (statements : List BoundStatement) → (row : Row) × (rows ≡ row ∷ []) × HasValues row (version_values version)
       → HasRunOver texts statements g mid new → Upgrade version texts statements g old new
   upgraded version texts statements one it =
@@ -26,7 +26,7 @@ module _ {S : Type 0} (g : Ghosts S) (old mid new : Held S) (rows : List Row) (e
         ran = it.5;
       }
 
-  -- tables of version 2 with the index were there, or got it
+  -- tables of version 2 existed, and had the index or got it
   ensured : HasCleanDisk (state g new) → IsTrue (state g new).is_open → (row : Row) × (rows ≡ row ∷ []) × HasValues row (version_values 2)
       → EnsuresIndex g mid new → AcceptsTables g old new
   ensured clean is_open one (inl it) =

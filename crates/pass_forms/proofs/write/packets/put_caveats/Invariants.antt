@@ -1,4 +1,4 @@
--- What was put, with the packets of the caveats that are left, is the whole.
+-- The bytes so far, with the packets of the remaining caveats, are all bytes.
 use Rattle.pass_forms.proofs.{Common.{◌≡◌, ◌++◌, caveat_packets}, PutCaveats.left_from}
 use Rattle.pass_forms.proofs.write.packets.put_caveats.Given as goal
 
