@@ -147,6 +147,7 @@ PLANTS = {
     "spares_hold": ("deploy/club_office/spares.py", "range(1, count + 1)", "range(1, count)", "keys of an import"),
     "tables_by_sqlite3": ("clubdesk", "quota BETWEEN 0 AND 99)", "quota BETWEEN 0 AND 98)", "test_limit[members quota 0 99]"),
     "vectors": ("docs/vectors.json", '\\"left\\":1}', '\\"left\\":2}', "test_replies_of_a_run"),
+    "vectors:office": ("docs/vectors.json", '"refused: slot in use"', '"done"', "test_commands_between_requests"),
     "year-quick": ("clubdesk", "quota reached", "quota reachex", "quota reachex"),
 }
 

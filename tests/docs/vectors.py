@@ -1,8 +1,9 @@
 #!/usr/bin/env -S /usr/bin/python3 -B -m pytest -q -p no:cacheprovider
 """`passtool` and the server agree with docs/vectors.json: passes, texts that are none, verdicts on caveats, replies to requests.
 
-Each pass in each form, texts that are read as the same pass, the verdict of each caveat on each request, each reply byte for byte. The
-signatures are computed once more by Python's standard library, and V1 and V2 by pymacaroons, if it writes the pass as it is.
+Each pass in each form, texts that are read as the same pass, the verdict of each caveat on each request, each reply byte for byte.
+Commands of the office between requests print their lines. The signatures are computed once more by Python's standard library, and V1 and V2
+by pymacaroons, if it writes the pass as it is.
 """
 
 import itertools
@@ -13,7 +14,7 @@ from pymacaroons import Macaroon
 
 import desk
 from conftest import Club
-from kinds import Row
+from kinds import Command, Row
 from reference import passes
 
 pytestmark = [pytest.mark.pages, pytest.mark.quick, pytest.mark.needs("clubdesk passtool"), pytest.mark.wants("python3-pymacaroons")]
@@ -143,6 +144,22 @@ def test_caveat_that_is_not_understood(passtool, club, made, vector, name):
     assert passtool("narrow", "--", vector, given=made.amy) == (5, "caveat 1 not understood\n")
 
 
+def row_of(exchange):
+    return Row(raw=exchange["request"].encode(), moment=exchange["at"], wanted=exchange["reply"].encode())
+
+
 @each(VECTORS["runs"])
 def test_replies_of_a_run(club, vector):
-    club.play([Row(raw=it["request"].encode(), moment=it["at"], wanted=it["reply"].encode()) for it in vector["exchanges"]])
+    club.play(map(row_of, vector["exchanges"]))
+
+
+def command_of(step):
+    """A line `clubdesk COMMAND CLUB VALUE ..`, with what it prints."""
+    _, name, _, *values = step["command"].split()
+    is_refused = step["prints"].startswith("refused: ")
+    return Command((name, *values), "" if is_refused else step["prints"] + "\n", step["prints"] if is_refused else "")
+
+
+@each(VECTORS["office"])
+def test_commands_between_requests(club, vector):
+    club.play(command_of(it) if "command" in it else row_of(it) for it in vector["steps"])

@@ -161,15 +161,19 @@ READERS = {"word": lambda word: int(word) if word.isdigit() else word, "root": b
            "hour": caveats.hour_of}
 
 
+def command_of(line):
+    """The name and the values of a line `clubdesk COMMAND CLUB VALUE ..`."""
+    name, _, *words = line.split()[1:]
+    return [name, *(READERS[kind](word) for kind, word in zip(KINDS_OF_VALUES.get(name, ["word"] * len(words)), words, strict=True))]
+
+
 def made_club(commands):
     """The club of the vectors, and the pass of its first key."""
     made, first = rules.Club(), None
-    for command in commands:
-        name, _, *words = command.split()[1:]
-        values = [READERS[kind](word) for kind, word in zip(KINDS_OF_VALUES.get(name, ["word"] * len(words)), words, strict=True)]
-        made.command([name, *values])
-        if name == "add-key" and first is None:
-            first = passes.minted(values[2], b"key:" + values[0].encode())
+    for command in map(command_of, commands):
+        made.command(command)
+        if command[0] == "add-key" and first is None:
+            first = passes.minted(command[3], b"key:" + command[1].encode())
     return made, first
 
 
@@ -187,17 +191,38 @@ def check_caveats(vectors):
             expect(f"{caveat!r} of {name}", {11: "not understood", 12: "denies"}.get(fault, "allows"), verdict)
 
 
+def reply_in(made, exchange):
+    return wire.exchange(made, exchange["request"].encode(), caveats.moment_of(exchange["at"])).decode()
+
+
 def check_runs(vectors):
     for run in vectors["runs"]:
         made, _ = made_club(vectors["club"]["commands"])
         for exchange in run["exchanges"]:
-            found = wire.exchange(made, exchange["request"].encode(), caveats.moment_of(exchange["at"])).decode()
-            expect(run["what"], found, exchange["reply"])
+            expect(run["what"], reply_in(made, exchange), exchange["reply"])
+
+
+def printed_by(made, line):
+    try:
+        made.command(command_of(line))
+    except rules.CommandRefused as refusal:
+        return f"refused: {refusal}"
+    return "done"
+
+
+def check_office(vectors):
+    for run in vectors["office"]:
+        made, _ = made_club(vectors["club"]["commands"])
+        for step in run["steps"]:
+            if "command" in step:
+                expect(f"{run['what']}: {step['command']}", printed_by(made, step["command"]), step["prints"])
+            else:
+                expect(run["what"], reply_in(made, step), step["reply"])
 
 
 def check_all():
     vectors = json.loads(VECTORS.read_text(encoding="utf-8"))
-    for check in (check_passes, check_faults, check_caveats, check_runs):
+    for check in (check_passes, check_faults, check_caveats, check_runs, check_office):
         check(vectors)
 
 

@@ -18,8 +18,9 @@ test("requests are as the desk wants them", () => {
 // Every reply of the vectors that this page could have asked for.
 test("the replies of the vectors", () => {
   let count = 0;
-  for (const { exchanges } of VECTORS.runs) {
-    for (const { request, reply } of exchanges) {
+  const steps = [...VECTORS.runs.map(({ exchanges }) => exchanges), ...VECTORS.office.map((run) => run.steps)];
+  for (const exchanges of steps) {
+    for (const { request, reply } of exchanges.filter((step) => "request" in step)) {
       const asked = /^(GET|PUT|DELETE) (?:\/account|\/slots\/([a-z0-9-]+)\/([0-9-]{10})\/([0-9]{2})(?:\/bookings\/([1-9][0-9]{0,8}))?) HTTP/.exec(request);
       const [head, body] = (reply ?? "").split("\r\n\r\n");
       const status = Number(head.split(" ")[1]);
