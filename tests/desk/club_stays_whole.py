@@ -23,6 +23,8 @@ from pathlib import Path
 import pytest
 
 import desk
+import kinds
+from reference import club as rules
 
 pytestmark = [pytest.mark.faults, pytest.mark.needs("clubdesk"), pytest.mark.wants("gcc libc6-dev")]
 
@@ -43,7 +45,11 @@ COMMANDS = {
     "close-slot court-1 2026-05-01 09": "INSERT INTO slots VALUES ('court-1', 20574, 9, 1, 0)",
     "open-slot court-1 2026-05-01 09": "UPDATE slots SET closed = 0",
     "revoke-key amy-2": "UPDATE keys SET revoked = 1 WHERE name = 'amy-2'",
+    "cancel-booking amy-1 7":
+        "UPDATE bookings SET cancelled = 1, refund = charge; UPDATE slots SET taken = 0; UPDATE members SET used = 0",
 }
+# The request that a member makes before a command.
+BOOKED_BEFORE = {"cancel-booking amy-1 7": kinds.book(7, kinds.TWO, passed=kinds.text(kinds.key_pass("amy-1", OTHER)))}
 TABLES = ("desk", "members", "facilities", "keys", "old_roots", "slots", "bookings")
 
 
@@ -108,11 +114,17 @@ class Command:
             self.keeps_a_club(club, self.after, *([self.rows] if command.returncode else []))
 
 
+def test_each_command_is_given():
+    assert {words.split()[0] for words in COMMANDS} == {it[8:].replace("_", "-") for it in dir(rules.Club) if it.startswith("command_")}
+
+
 @pytest.mark.parametrize("words", COMMANDS)
 def test_command(new_club, tmp_path, words):
     before = new_club()
     before.file.touch()
     before.does(*list(COMMANDS)[:list(COMMANDS).index(words)])
+    if words in BOOKED_BEFORE:
+        assert before.ask(BOOKED_BEFORE[words].data).status == 200
     command = Command(before, words)
     assert any([command.fails(it, "out of memory\n", 4, 2) for it in desk.refused_in_turn(command.given, tmp_path, STEP)])
     assert any([command.fails(command.given(lambda: desk.limit_files(512 * blocks)), "storage failed\n", 5) for blocks in range(0, 2001, 50)])
