@@ -6,6 +6,7 @@ Commands of the office between requests print their lines. The signatures are co
 by pymacaroons, if it writes the pass as it is.
 """
 
+import contextlib
 import itertools
 import json
 
@@ -160,6 +161,10 @@ def command_of(step):
     return Command((name, *values), "" if is_refused else step["prints"] + "\n", step["prints"] if is_refused else "")
 
 
+@pytest.mark.parametrize("is_served", [False, True], ids=["file", "door"])
 @each(VECTORS["office"])
-def test_commands_between_requests(club, vector):
-    club.play(command_of(it) if "command" in it else row_of(it) for it in vector["steps"])
+def test_commands_between_requests(club, vector, is_served):
+    """Over the file, and at the door of a server."""
+    for step in vector["steps"]:
+        with club.served() if is_served and "command" in step else contextlib.nullcontext():
+            club.play([command_of(step) if "command" in step else row_of(step)])
