@@ -89,7 +89,7 @@ WRITTEN = {
     "club.Club.command_debit": "club_core.Office: debit_verdict; club_core.After: debited_member",
     "club.Club.command_set_facility club.Club.most_taken":
         "club_core.Sums: is_at most_taken_in; club_core.After: facility_with_numbers",
-    "club.Club.command_cancel_booking": "club_core.Office: office_cancel_verdict",
+    "club.Club.command_cancel_booking": "club_core.Office: office_cancel_verdict; club_laws.Repeats: refund_by_office",
     "club.Club.command_set_quota": "club_core.After: member_with_quota",
     "club.Club.command_add_member club.Club.command_add_facility club.Club.command_add_key club.are_limits":
         "club_core.Office: are_limits command_verdict office_verdict; club_rows.Limits: quota_limit places_limit price_limit shutting_limit",

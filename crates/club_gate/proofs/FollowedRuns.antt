@@ -5,7 +5,8 @@ use Rattle.club_gate.proofs.Common.{IsAnsweredRun, IsFollowed, IsLawfulRun, IsOn
 use Rattle.club_gate.proofs.Common.{desk_presentation}
 use Rattle.club_laws.specs.{Conservation.{IsConserved, SoundClubsHavePlaces}, RunsWithFailures.{ConservesWithFailures, SoloLawWithFailures}}
 use Rattle.club_laws.specs.RunsWithFailures.{SoloLawOfTwoWithFailures, SoundWithFailures, RepeatsServedReplies, RepeatsAfterOneMore, RepeatsWithFailures}
-use Rattle.club_gate.specs.declared.event.{Event.Event as DeskEvent, OfficeReply.OfficeReply}
+use Rattle.club_laws.specs.RunsWithFailures.CancellationsWithFailures
+use Rattle.club_gate.specs.{Runs.ReturnsTheRecord, declared.event.{Event.Event as DeskEvent, OfficeReply.OfficeReply}}
 
 -- A law of the computed events of a handled list and of the responses to it also holds for any events as which the machine sees that list, and for the
 -- responses that the desk returns.
@@ -47,6 +48,11 @@ module _ {S : Type 0} (Represents : S → Club → List Club
   once_by law = λ history rest before since words moment reply again place among beside was accepted.
       rw left_by at (law desk_presentation club f.last history rest before since words moment again reply beside (rw (place, among) at f.ran) was accepted)
 
+  record_by : CancellationsWithFailures OfficeReply → ReturnsTheRecord club events responses
+  record_by law = λ history rest before since words moment key number booking again place among beside was named asks accepted.
+      rw left_by at (law desk_presentation club f.last history rest before since words moment again key number booking beside
+      (rw (place, among) at f.ran) was named asks accepted)
+
   conserved_by : ConservesWithFailures OfficeReply → All IsEvent events → Conserves club events responses
   conserved_by law within = λ name member empty named.
       let From : Club → Type 0 =
@@ -59,9 +65,9 @@ module _ {S : Type 0} (Represents : S → Club → List Club
       subst From (sym empty) from_empty answered_by named
 
   pub lawful : SoloLawWithFailures OfficeReply → SoloLawOfTwoWithFailures OfficeReply → RepeatsWithFailures OfficeReply
-      → ConservesWithFailures OfficeReply → SoundWithFailures OfficeReply → SoundClubsHavePlaces → All IsEvent events → IsSound club
-      → IsLawfulRun club events responses
-  lawful solo two repeats conserves keeps places within sound =
+      → CancellationsWithFailures OfficeReply → ConservesWithFailures OfficeReply → SoundWithFailures OfficeReply → SoundClubsHavePlaces
+      → All IsEvent events → IsSound club → IsLawfulRun club events responses
+  lawful solo two repeats cancellations conserves keeps places within sound =
       let last = club_left club events responses in
       let sound_left = keeps desk_presentation club last events responses sound within answered_by in
       record {
@@ -70,6 +76,7 @@ module _ {S : Type 0} (Represents : S → Club → List Club
         solo_of_two = λ name other end elsewhere replies sound_other run parts own.
             two desk_presentation name club other f.last end events elsewhere responses replies sound sound_other f.ran run parts own;
         once = once_by repeats;
+        returns_the_record = record_by cancellations;
         conserves = conserved_by conserves within;
         never_negative = sound_left.balances;
         never_overbooked = λ slot. places last slot sound_left;

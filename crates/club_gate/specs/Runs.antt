@@ -2,13 +2,14 @@
 -- memory or storage was refused.
 use Rattle.std.specs.Prelude.{◌≡◌, ◌⊎◌, ℕ, ◌≤◌, IsTrue, IsFalse, List, [], ◌∷◌, ◌++◌, length, map, sum_by, All, Contains, Option, Some, None}
 use Rattle.club_values.specs.declared.slot.Slot.{Slot}
-use Rattle.club_rows.specs.declared.member.Member.{Member}
-use Rattle.club_core.specs.{Acceptance.IsAcceptedIn, Club.{Club, empty_club, bookings_of, member_named, IsSound}, Pass.Words}
+use Rattle.club_rows.specs.declared.{booking.Booking.Booking, member.Member.Member}
+use Rattle.club_core.specs.{Acceptance.IsAcceptedIn, Basis.key_of, Club.{Club, empty_club, bookings_of, member_named, IsSound}, Pass.Words}
 use Rattle.club_core.specs.{Run.{Asked, step, replies_of, club_after, Response, ToMember}, Solo.{own_events, part_of, solo_replies}, Sums.cost_of}
-use Rattle.club_core.specs.declared.{change.Change.Change, reply.Reply.Reply, store.StoreFault.StoreFault}
+use Rattle.club_core.specs.declared.{change.Change.Change, reply.Reply.{Reply, TheVariants.Cancelled}, store.StoreFault.StoreFault}
+use Rattle.club_core.specs.declared.request.Request.TheVariants as asked
 use Rattle.club_core.specs.Run as machine
 use Rattle.club_laws.specs.{Conservation.{IsConserved, HasPlaces}, Failed.{has_failed, IsRun, answered_events, answers}}
-use Rattle.club_laws.specs.{RunsWithFailures.{RepeatsServedReplies, WasReturned}, SoloLaw.replies_to}
+use Rattle.club_laws.specs.{Repeats.{WasCancelled, refund_by_office}, RunsWithFailures.{RepeatsServedReplies, WasReturned}, SoloLaw.replies_to}
 use Rattle.club_gate.specs.{Desk.{FailsForCause, NamesItsFault, OfItsClub, Steps, change_of}, Events.IsEventOf, Response.{desk_presentation, response_of}}
 use Rattle.club_gate.specs.declared.event.{Event.Event, EventReply.{EventReply, TheVariants.{Replied, Answered}}, OfficeReply.OfficeReply}
 use Rattle.club_gate.specs.declared.event.Event.TheVariants as events
@@ -109,6 +110,22 @@ IsOnce club events responses =
     → (IsFalse (has_failed desk_presentation (Asked words moment) again) → again ≡ ToMember reply)
     × IsRun desk_presentation club (history ++ rest) (before ++ since) (club_left club events responses)
 
+-- If the office cancelled a booking, an accepted cancellation of it anywhere later gets the recorded refund, unless it fails. Without that request
+-- all other responses are the same, and so is the club at the end.
+abbrev pub ReturnsTheRecord : Club → List machine.Event → List DeskResponse → Type 0
+ReturnsTheRecord club events responses =
+    (history rest : List machine.Event) (before since : List DeskResponse) (words : Words) (moment : ℕ) (key : List ℕ) (number : ℕ) (booking : Booking)
+    (again : DeskResponse)
+    → events ≡ history ++ Asked words moment ∷ rest
+    → responses ≡ before ++ again ∷ since
+    → length before ≡ length history
+    → WasCancelled club (events_answered history before) key number booking
+    → key_of words.pass ≡ Some key
+    → words.request ≡ asked.Cancel booking.slot number
+    → IsAcceptedIn (club_left club history before) words moment
+    → (IsFalse (has_failed desk_presentation (Asked words moment) again) → again ≡ ToMember (Cancelled key number (refund_by_office booking)))
+    × IsRun desk_presentation club (history ++ rest) (before ++ since) (club_left club events responses)
+
 -- in a run from the empty club, points are conserved: a member's balance and its charges add up to its credits and refunds
 abbrev pub Conserves : Club → List machine.Event → List DeskResponse → Type 0
 Conserves club events responses =
@@ -134,6 +151,8 @@ pub record IsLawfulRun (club : Club) (events : List machine.Event) (responses : 
   pub solo_of_two : IsAsInAnother club events responses
   -- a repeat of a served request gets the same reply, and changes nothing
   pub once : IsOnce club events responses
+  -- so does a cancellation of a booking that the office cancelled: it gets the recorded refund
+  pub returns_the_record : ReturnsTheRecord club events responses
   -- points are neither created nor lost, and no slot is overbooked
   pub conserves : Conserves club events responses
   pub never_negative : IsNeverNegative (club_left club events responses)

@@ -14,8 +14,8 @@ use club_core::ClubStore;
 use club_laws::conservation::sound_clubs_have_places;
 use club_laws::failed::leaves_out_failed;
 use club_laws::runs_with_failures::{
-    conserves_points, keeps_sound, repeats_after_one_more, repeats_return_the_same, solo_law,
-    solo_law_of_two,
+    cancellations_return_the_record, conserves_points, keeps_sound, repeats_after_one_more,
+    repeats_return_the_same, solo_law, solo_law_of_two,
 };
 use std::alloc::AllocError;
 
@@ -67,6 +67,7 @@ impl<S: ClubStore> Desk<S> {
         solo_law::<OfficeReply>();
         solo_law_of_two::<OfficeReply>();
         repeats_return_the_same::<OfficeReply>();
+        cancellations_return_the_record::<OfficeReply>();
         repeats_after_one_more::<OfficeReply>();
         conserves_points::<OfficeReply>();
         sound_clubs_have_places();

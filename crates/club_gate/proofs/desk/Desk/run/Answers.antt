@@ -12,7 +12,8 @@ returns-clause-lawful g c = λ h club others s.
     (c.follow.ensures.followed h club others s)
     (λ responses within f.
     lawful Represents new club others events responses c.leaves_out_failed.ensures f c.solo_law.ensures c.solo_law_of_two.ensures
-    c.repeats_return_the_same.ensures c.conserves_points.ensures c.keeps_sound.ensures c.sound_clubs_have_places.ensures within sound)
+    c.repeats_return_the_same.ensures c.cancellations_return_the_record.ensures c.conserves_points.ensures c.keeps_sound.ensures
+    c.sound_clubs_have_places.ensures within sound)
 
 pub returns-clause-represents : goal.returns-clause-represents
 returns-clause-represents g c = λ h club others s.
