@@ -28,7 +28,7 @@ import scenario_lines as lines
 from both import finds_each_plant
 from reference import wire
 from scenario_lines import AGAIN, Crash, Fault, Listing, Office, Request, inner
-from scenario_players import Difference, Programs, Rules
+from scenario_players import Difference, Programs, Rules, run_as_test, status_of
 
 
 COLUMN = 64  # where a filled-in reply begins in its line
@@ -196,12 +196,8 @@ def main():
         with tempfile.TemporaryDirectory(dir=programs.IN_MEMORY) as folder:
             count, faults = played(paths, lambda: Programs(desk, folder), len(os.sched_getaffinity(0)))
         print(f"{Programs.name}: {count} lines in {len(paths)} files, {len(faults)} faults")
-    print(*faults, sep="\n", end="\n" if faults else "")
-    return 1 if faults else 0
+    return status_of(faults)
 
 
 if __name__ == "__main__":
-    try:
-        sys.exit(main())
-    except Fault as it:
-        sys.exit(str(it))
+    run_as_test(main)

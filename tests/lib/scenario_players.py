@@ -4,6 +4,7 @@ import copy
 import random
 import socket
 import subprocess
+import sys
 import tempfile
 import time
 from collections import Counter
@@ -136,12 +137,16 @@ class Programs:
         with tempfile.TemporaryDirectory(dir=self.folder) as folder:
             self.file, self.form = Path(folder, "club"), form
             programs.copy(self.made(scenario), self.file)
-            for run in runs(scenario.events):
+            for run in runs(self.played(scenario)):
                 if isinstance(run[0], Request):
                     self.serve(run)
                 else:
                     self.happens(run[0])
             compare(scenario, [], programs.unsound(self.file))
+
+    def played(self, scenario):
+        """Returns the events that this player plays."""
+        return scenario.events
 
     def made(self, scenario):
         """Returns a file with the club. Each club is made once."""
@@ -238,3 +243,17 @@ def runs(events):
         else:
             found.append([event])
     return found
+
+
+def status_of(faults):
+    """Prints the faults that players found, one a line. Returns the exit status of their test."""
+    print(*faults, sep="\n", end="\n" if faults else "")
+    return 1 if faults else 0
+
+
+def run_as_test(main):
+    """Exits with the status of a test's `main`. If a file can't be played, exits with its Fault."""
+    try:
+        sys.exit(main())
+    except Fault as it:
+        sys.exit(str(it))

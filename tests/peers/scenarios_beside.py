@@ -26,8 +26,8 @@ sys.path[:0] = [str(Path(__file__).resolve().parents[1] / it) for it in ("lib", 
 import desk as programs
 import scenario_lines as lines
 from reference import caveats, passes, wire
-from scenario_lines import Crash, Fault, Reopen, Request
-from scenario_players import Difference, Programs, compare, runs
+from scenario_lines import Crash, Reopen, Request
+from scenario_players import Difference, Programs, compare, run_as_test, status_of
 from scenarios import whole
 
 KNOWN_CAVEATS = (b"guests <= ", b"until < ", b"spend <= ", b"actions = ")
@@ -75,15 +75,8 @@ class Beside(Programs):
         super().__init__(desk, folder)
         self.words, self.statements, self.has_order = words, statements, has_order
 
-    def play(self, scenario, form):
-        with tempfile.TemporaryDirectory(dir=self.folder) as folder:
-            self.file, self.form = Path(folder, "club"), form
-            programs.copy(self.made(scenario), self.file)
-            for run in runs(known(scenario)):
-                if isinstance(run[0], Request):
-                    self.serve(run)
-                else:
-                    self.happens(run[0])
+    def played(self, scenario):
+        return known(scenario)
 
     def serve(self, requests):
         with Server(self.words, self.file, requests[0].moment, self.statements) as server:
@@ -133,12 +126,8 @@ def main():
                 except Difference as fault:
                     faults.append(f"{name}: {fault}")
             print(f"the desk in {name}: {count} requests that it knows")
-    print(*faults, sep="\n", end="\n" if faults else "")
-    return 1 if faults else 0
+    return status_of(faults)
 
 
 if __name__ == "__main__":
-    try:
-        sys.exit(main())
-    except Fault as it:
-        sys.exit(str(it))
+    run_as_test(main)
