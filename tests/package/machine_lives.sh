@@ -12,37 +12,13 @@
 #     mark.wants("debootstrap systemd-container dpkg-dev xz-utils util-linux python3-pexpect openssl")]
 # shellcheck disable=SC2016 # a shell of the fresh Debian reads what is quoted
 set -eu
-. "$(dirname -- "$0")/../lib/serving.sh"
-[ "$(id -u)" = 0 ] || { echo "$0 wants root, for a fresh Debian" >&2; exit 2; }
-top=$(CDPATH='' cd -P -- "$here/../.." && pwd)
-PATH=/usr/sbin:/sbin:$PATH
-export CLUBDESK="$desk" PASSTOOL="$tool"
-. "$here/../lib/checks.sh"
+. "$(dirname -- "$0")/../lib/machine.sh"
 holder=
-machine=
 ssh_server=
 client=
 
-# ---- Machines. They share a network that has loopback alone: what listens on one is heard by each. `inside` gives a command in that which
-# is booted; `offline` in one unbooted, with this machine's network.
-boot() {
-    root=$work/$1
-    systemd-nspawn -q -D "$root" -M "$1-$$" --register=no --keep-unit --network-namespace-path="/proc/$holder/ns/net" --link-journal=no --boot >console 2>&1 </dev/null &
-    machine=$!
-    leader=
-    soon 90 "it doesn't boot" is_up
-}
-is_up() {
-    leader=$(pgrep -P "$machine" | head -n 1)
-    [ -n "$leader" ] || return 1
-    inside systemctl is-system-running >state 2>&1 || grep -q degraded state || { cat state; tail console; return 1; }
-}
-inside() { nsenter -t "$leader" -a -- env -i PATH=/usr/sbin:/usr/bin:/sbin:/bin HOME=/root LC_ALL=C.UTF-8 DEBIAN_FRONTEND=noninteractive "$@"; }
-offline() {
-    folder=$1
-    shift
-    systemd-nspawn -q -D "$folder" --register=no --keep-unit --pipe -E DEBIAN_FRONTEND=noninteractive "$@"
-}
+# ---- Machines. They share a network that has loopback alone: what listens on one is heard by each.
+boot() { start "$1" --network-namespace-path="/proc/$holder/ns/net"; }
 end_of() {
     [ -n "$1" ] || return 0
     kill "$1" 2>/dev/null || :
@@ -62,10 +38,7 @@ unshare --net sh -c 'ip link set lo up && exec sleep 7200' &
 holder=$!
 "$top/bin/package" packages >told
 deb=$(basename packages/*.deb)
-if [ -n "${DEBIAN-}" ]; then cp -a "$DEBIAN" first; else
-    debootstrap --variant=minbase --include=systemd,systemd-sysv bookworm first >debootstrap.log 2>&1 || fail "debootstrap: $(tail debootstrap.log)"
-fi
-printf 'APT::Get::Assume-Yes "true";\n' >first/etc/apt/apt.conf.d/99yes
+debian first
 printf '127.0.0.1 localhost desk.example.org elsewhere.example first second\n' >first/etc/hosts
 cp "packages/$deb" first/root/
 # Packages are fetched before the machines are cut off.
@@ -91,23 +64,10 @@ serve_ssh() {
 }
 serve_ssh
 
-# The lines for root of RUNNING, as the package has it, each after the heading of its section and a tab, with this test's place.
+# The lines for root of RUNNING, as the package has it, with this test's place.
 dpkg-deb -x "packages/$deb" unpacked
-awk '
-    /^```/ { if (inside) inside = 0; else if ($0 == "```sh" && !other) inside = 1; else other = !other; next }
-    inside { print title "\t" $0; next }
-    !other && /^#+ / { title = $0; sub(/^#+ /, "", title) }' unpacked/usr/share/doc/clubdesk/docs/RUNNING.md |
-    sed 's/backup@elsewhere.example/backup-of-clubs@elsewhere.example/' >running
-blocks() {
-    awk -F '\t' -v heading="$1" '$1 == heading { print substr($0, length($1) + 2); found = 1 } END { exit !found }' running ||
-        fail "RUNNING has no lines for root in '$1'"
-}
-# gives WHAT: root gives the lines on standard input in the machine, and each has to do its work.
-gives() {
-    checks=$((checks + 1))
-    { echo 'set -e; cd /root'; cat; } >"$root/root/lines"
-    inside sh /root/lines >told 2>&1 </dev/null || fail "RUNNING, $1: $(tail -n 30 told)"
-}
+lines_for_root unpacked/usr/share/doc/clubdesk/docs/RUNNING.md
+sed -i 's/backup@elsewhere.example/backup-of-clubs@elsewhere.example/' running
 
 # ---- Three commands. The site's name leads to this machine alone. So caddy's certificate is its own authority's.
 # by_name METHOD PATH [BODY]: a request by the public name, under the pass in the file `pass` of the machine's root.

@@ -12,32 +12,15 @@
 #     mark.wants("debootstrap systemd-container lintian dpkg-dev xz-utils util-linux")]
 # shellcheck disable=SC2016 # a shell of the fresh Debian reads what is quoted
 set -eu
-. "$(dirname -- "$0")/../lib/serving.sh"
-[ "$(id -u)" = 0 ] || { echo "$0 wants root, for a fresh Debian" >&2; exit 2; }
-top=$(CDPATH='' cd -P -- "$here/../.." && pwd)
-PATH=/usr/sbin:/sbin:$PATH
-export CLUBDESK="$desk" PASSTOOL="$tool"
+. "$(dirname -- "$0")/../lib/machine.sh"
 version=$("$top/bin/version")
-. "$here/../lib/checks.sh"
-machine=
 client=
 
-# ---- The fresh Debian. `inside` gives a command in it, once it is booted; `offline` in it unbooted, with this machine's network.
-root=$work/debian
+# ---- The fresh Debian.
 boot() {
-    systemd-nspawn -q -D "$root" -M "clubdesk-$$" --register=no --keep-unit --private-network --link-journal=no --boot >console 2>&1 </dev/null &
-    machine=$!
-    leader=
-    soon 60 "it doesn't boot" is_up
+    start debian --private-network
     same 'units that failed at boot' '' "$(inside systemctl --failed --plain --no-legend)"
 }
-is_up() {
-    leader=$(pgrep -P "$machine" | head -n 1)
-    [ -n "$leader" ] || return 1
-    inside systemctl is-system-running >state 2>&1 || grep -q degraded state || { cat state; tail console; return 1; }
-}
-inside() { nsenter -t "$leader" -a -- env -i PATH=/usr/sbin:/usr/bin:/sbin:/bin HOME=/root LC_ALL=C.UTF-8 DEBIAN_FRONTEND=noninteractive "$@"; }
-offline() { systemd-nspawn -q -D "$root" --register=no --keep-unit --pipe -E DEBIAN_FRONTEND=noninteractive "$@"; }
 # What was entered from outside has to end first: it would keep the machine from its end.
 halt() {
     [ -n "$machine" ] || return 0
@@ -84,34 +67,17 @@ if "$top/bin/package" a b >told 2>&1; then fail 'bin/package takes two folders';
 if CLUBDESK=/bin/true "$top/bin/package" third >told 2>&1; then fail 'bin/package takes another program'; fi
 [ -z "$(ls third)" ] || fail 'a refused package left something'
 
-if [ -n "${DEBIAN-}" ]; then cp -a "$DEBIAN" "$root"; else
-    debootstrap --variant=minbase --include=systemd,systemd-sysv bookworm "$root" >debootstrap.log 2>&1 || fail "debootstrap: $(tail debootstrap.log)"
-fi
+root=$work/debian
+debian "$root"
 echo desk >"$root/etc/hostname"
 echo '127.0.0.1 localhost desk' >"$root/etc/hosts"
-echo 'APT::Get::Assume-Yes "true";' >"$root/etc/apt/apt.conf.d/99yes"
 cp "first/$deb" ./*.deb first/*.tar.xz "$root/root/"
 # The packages that it needs are fetched before the machine is cut off.
-offline sh -c "apt-get update && apt-get install --download-only /root/$deb qrencode xz-utils" >apt.log 2>&1 </dev/null || fail "apt-get: $(tail apt.log)"
+offline "$root" sh -c "apt-get update && apt-get install --download-only /root/$deb qrencode xz-utils" >apt.log 2>&1 </dev/null || fail "apt-get: $(tail apt.log)"
 boot
 
-# The lines for root of RUNNING, as the package has it, each after the heading of its section and a tab.
-awk '
-    /^```/ { if (inside) inside = 0; else if ($0 == "```sh" && !other) inside = 1; else other = !other; next }
-    inside { print title "\t" $0; next }
-    !other && /^#+ / { title = $0; sub(/^#+ /, "", title) }' unpacked/usr/share/doc/clubdesk/docs/RUNNING.md >running
-# blocks HEADING: those of a section.
-blocks() {
-    echo "$1" >>given
-    awk -F '\t' -v heading="$1" '$1 == heading { print substr($0, length($1) + 2); found = 1 } END { exit !found }' running ||
-        fail "RUNNING has no lines for root in '$1'"
-}
-# gives WHAT: the lines on standard input are given by root in the fresh Debian, each of which has to do its work.
-gives() {
-    checks=$((checks + 1))
-    { echo 'set -e; cd /root'; cat; } >"$root/root/lines"
-    inside sh /root/lines >told 2>&1 </dev/null || fail "RUNNING, $1: $(tail -n 30 told)"
-}
+# The lines for root of RUNNING, as the package has it.
+lines_for_root unpacked/usr/share/doc/clubdesk/docs/RUNNING.md
 
 # answers PORT: the desk listens there, within ten seconds, and refuses a request without a pass.
 answers() {

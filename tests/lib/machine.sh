@@ -1,0 +1,61 @@
+# Read by the tests that boot a fresh Debian by systemd-nspawn, beside serving.sh and checks.sh, which it reads: the Debian, commands in it, and
+# the lines for root of docs/RUNNING.md. Needs root.
+. "$(dirname -- "$0")/../lib/serving.sh"
+[ "$(id -u)" = 0 ] || { echo "$0 wants root, for a fresh Debian" >&2; exit 2; }
+top=$(CDPATH='' cd -P -- "$here/../.." && pwd)
+PATH=/usr/sbin:/sbin:$PATH
+export CLUBDESK="$desk" PASSTOOL="$tool"
+. "$here/../lib/checks.sh"
+machine=
+
+# debian FOLDER: makes a fresh Debian, or copies the folder that the variable DEBIAN names. Its apt-get asks no question.
+debian() {
+    if [ -n "${DEBIAN-}" ]; then cp -a "$DEBIAN" "$1"; else
+        debootstrap --variant=minbase --include=systemd,systemd-sysv bookworm "$1" >debootstrap.log 2>&1 || fail "debootstrap: $(tail debootstrap.log)"
+    fi
+    echo 'APT::Get::Assume-Yes "true";' >"$1/etc/apt/apt.conf.d/99yes"
+}
+
+# start FOLDER WORD..: boots it, with further options of systemd-nspawn. From then on `root` is its folder, and `machine` its process here.
+start() {
+    root=$work/$1
+    shift
+    systemd-nspawn -q -D "$root" -M "${root##*/}-$$" --register=no --keep-unit --link-journal=no "$@" --boot >console 2>&1 </dev/null &
+    machine=$!
+    leader=
+    soon 90 "it doesn't boot" is_up
+}
+is_up() {
+    leader=$(pgrep -P "$machine" | head -n 1)
+    [ -n "$leader" ] || return 1
+    inside systemctl is-system-running >state 2>&1 || grep -q degraded state || { cat state; tail console; return 1; }
+}
+
+# inside COMMAND..: runs a command in the machine that is up. offline FOLDER COMMAND..: runs one in a folder that isn't booted, with this
+# machine's network.
+inside() { nsenter -t "$leader" -a -- env -i PATH=/usr/sbin:/usr/bin:/sbin:/bin HOME=/root LC_ALL=C.UTF-8 DEBIAN_FRONTEND=noninteractive "$@"; }
+offline() {
+    folder=$1
+    shift
+    systemd-nspawn -q -D "$folder" --register=no --keep-unit --pipe -E DEBIAN_FRONTEND=noninteractive "$@"
+}
+
+# lines_for_root PAGE: writes a page's lines for root into `running`, each after the heading of its section and a tab.
+lines_for_root() {
+    awk '
+        /^```/ { if (inside) inside = 0; else if ($0 == "```sh" && !other) inside = 1; else other = !other; next }
+        inside { print title "\t" $0; next }
+        !other && /^#+ / { title = $0; sub(/^#+ /, "", title) }' "$1" >running
+}
+# blocks HEADING: prints the lines of a section, and notes the heading in `given`.
+blocks() {
+    echo "$1" >>given
+    awk -F '\t' -v heading="$1" '$1 == heading { print substr($0, length($1) + 2); found = 1 } END { exit !found }' running ||
+        fail "RUNNING has no lines for root in '$1'"
+}
+# gives WHAT: root gives the lines on standard input in the machine, and each must succeed.
+gives() {
+    checks=$((checks + 1))
+    { echo 'set -e; cd /root'; cat; } >"$root/root/lines"
+    inside sh /root/lines >told 2>&1 </dev/null || fail "RUNNING, $1: $(tail -n 30 told)"
+}
