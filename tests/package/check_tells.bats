@@ -27,6 +27,14 @@ stub() {
     chmod +x "$1"
 }
 both_ran() { printf 'gate ci, in clone\nscripts --built quick, in clone\n' | cmp - calls; }
+# fails COUNTS PARTS: .ci/run calls both parts, prints the counts last, names the parts that failed, and exits with status 1.
+fails() {
+    rm -f calls
+    run -1 --separate-stderr clone/.ci/run
+    [ "${lines[-1]}" = "$1" ]
+    [ "${stderr_lines[-1]}" = "check: failed: $2" ]
+    both_ran
+}
 
 @test 'both pass' {
     run -0 --separate-stderr clone/bin/check
@@ -43,44 +51,32 @@ both_ran() { printf 'gate ci, in clone\nscripts --built quick, in clone\n' | cmp
 
 @test 'a proof fails' {
     stub path/rt gate 1 '120 passed, 3 failed'
-    run -1 --separate-stderr clone/.ci/run
-    [ "${lines[-1]}" = '132 passed, 3 failed' ]
-    [ "${stderr_lines[-1]}" = 'check: failed: rt ci' ]
-    both_ran
+    fails '132 passed, 3 failed' 'rt ci'
 }
 
 @test 'a test fails' {
     stub clone/tests/run scripts 1 '10 passed, 2 failed, 3 skipped'
-    run -1 --separate-stderr clone/.ci/run
-    [ "${lines[-1]}" = '133 passed, 2 failed' ]
-    [ "${stderr_lines[-1]}" = 'check: failed: tests/run quick' ]
-    both_ran
+    fails '133 passed, 2 failed' 'tests/run quick'
 }
 
 @test 'both fail' {
     stub path/rt gate 2 '0 passed, 1 failed'
     stub clone/tests/run scripts 1 '10 passed, 2 failed, 0 skipped'
-    run -1 --separate-stderr clone/.ci/run
-    [ "${lines[-1]}" = '10 passed, 3 failed' ]
-    [ "${stderr_lines[-1]}" = 'check: failed: rt ci, tests/run quick' ]
-    both_ran
+    fails '10 passed, 3 failed' 'rt ci, tests/run quick'
 }
 
 @test 'a part that prints no counts, or no line' {
     stub path/rt gate 137 'Killed'
     stub clone/tests/run scripts 124 ''
-    run -1 --separate-stderr clone/.ci/run
-    [ "${lines[-1]}" = '0 passed, 2 failed' ]
+    fails '0 passed, 2 failed' 'rt ci, tests/run quick'
     stub path/rt gate 0 ''
-    run -1 --separate-stderr clone/.ci/run
-    [ "${lines[-1]}" = '0 passed, 2 failed' ]
+    fails '0 passed, 2 failed' 'rt ci, tests/run quick'
 }
 
 @test 'a status that says otherwise than the counts' {
     stub path/rt gate 1 '123 passed, 0 failed'
     stub clone/tests/run scripts 0 '10 passed, 2 failed, 0 skipped'
-    run -1 --separate-stderr clone/.ci/run
-    [ "${lines[-1]}" = '133 passed, 3 failed' ]
+    fails '133 passed, 3 failed' 'rt ci, tests/run quick'
 }
 
 @test 'tests that never end, and what they leave' {
