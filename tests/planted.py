@@ -189,10 +189,10 @@ def plant(name, folder):
         copy.parent.mkdir(parents=True)
         shutil.copy(desk.program(program), copy)
         variables[program.upper()] = str(copy)
-    archive = Path("crates/pass_c/out/libpass_c.a")  # of which bin/library makes the library
-    if (desk.ROOT / archive).exists():
-        (folder / archive).parent.mkdir(parents=True)
-        shutil.copy(desk.ROOT / archive, folder / archive)
+    for archive in desk.ROOT.glob("crates/pass_c/out/libpass_c-*.a"):  # from which bin/library makes the library
+        copy = folder / archive.relative_to(desk.ROOT)
+        copy.parent.mkdir(exist_ok=True)
+        shutil.copy(archive, copy)
     for built in desk.ROOT.glob("crates/pass_[fm]*/out/rlib") if name == "field_outlives_bytes" else ():  # what checks have kept
         shutil.copytree(built, folder / built.relative_to(desk.ROOT))
     spoil(Path(variables[file.upper()]) if file in PROGRAMS else folder / file, old, new)
