@@ -1,5 +1,5 @@
-# Read by the tests that boot a fresh Debian by systemd-nspawn, beside serving.sh and checks.sh, which it reads: the Debian, commands in it, and
-# the lines for root of docs/RUNNING.md. Needs root.
+# Read by the tests that boot a fresh Debian with systemd-nspawn. It has the Debian, commands inside it, and the lines for root of
+# docs/RUNNING.md, and reads serving.sh and checks.sh. Needs root.
 . "$(dirname -- "$0")/../lib/serving.sh"
 [ "$(id -u)" = 0 ] || { echo "$0 wants root, for a fresh Debian" >&2; exit 2; }
 top=$(CDPATH='' cd -P -- "$here/../.." && pwd)
@@ -8,7 +8,7 @@ export CLUBDESK="$desk" PASSTOOL="$tool"
 . "$here/../lib/checks.sh"
 machine=
 
-# debian FOLDER: makes a fresh Debian, or copies the folder that the variable DEBIAN names. Its apt-get asks no question.
+# debian FOLDER: makes a fresh Debian, or copies the folder that the variable DEBIAN names. Its apt-get asks no questions.
 debian() {
     if [ -n "${DEBIAN-}" ]; then cp -a "$DEBIAN" "$1"; else
         debootstrap --variant=minbase --include=systemd,systemd-sysv bookworm "$1" >debootstrap.log 2>&1 || fail "debootstrap: $(tail debootstrap.log)"
@@ -16,7 +16,7 @@ debian() {
     echo 'APT::Get::Assume-Yes "true";' >"$1/etc/apt/apt.conf.d/99yes"
 }
 
-# start FOLDER WORD..: boots it, with further options of systemd-nspawn. From then on `root` is its folder, and `machine` its process here.
+# start FOLDER WORD..: boots the Debian in a folder, with further options of systemd-nspawn. `root` is its path, `machine` its process.
 start() {
     root=$work/$1
     shift
