@@ -1,4 +1,4 @@
--- The pass of an object after its bytes were written.
+-- The pass of an object after bytes were written to it.
 use Rattle.std.proofs.Common.{◌≡◌, ℕ, ◌+◌, ◌≤◌, ◌<◌, suc, List, [], ◌∷◌, ◌++◌, length, take, drop, set, map, get_or, Vec, ap, sym, ◌∙◌, arith}
 use Rattle.std.proofs.{Math.Seq.take-suc-set, lemmas.{Grind.{common_steps, take_at_read}, List.{length-drop, length-append, length-map, length-take}}}
 use Rattle.std.specs.{List.sum, Vec.vec_items}

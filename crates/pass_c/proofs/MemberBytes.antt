@@ -1,4 +1,4 @@
--- Values under different names of an object have together at most as many bytes as it.
+-- The values under different names of an object together have at most as many bytes as the object.
 use Rattle.std.proofs.Common.{◌≡◌, ℕ, ◌+◌, ◌≤◌, ◌⊎◌, inl, inr, List, [], ◌∷◌, length, Option, Some, None, refl, ap, arith}
 use Rattle.std.specs.{Cmp.Lexicographic.slice_cmp, Ordering.{nat_cmp, match_ordering}, declared.cmp.Ordering.{Ordering, TheVariants.{Less, Equal, Greater}}}
 use Rattle.serde_json.specs.Data.{Data, null, boolean, number, string, array, object, Items, no_items, item, Members, no_members, member}
@@ -9,7 +9,7 @@ abbrev pub found_bytes : Option Data → ℕ
 found_bytes None = 0
 found_bytes (Some d) = data_bytes d
 
--- the bytes of the value under a name, none without one
+-- the number of bytes of the value under a name; 0 without a value
 abbrev pub bytes_at : List ℕ → Data → ℕ
 bytes_at k value = found_bytes (get k value)
 

@@ -1,4 +1,4 @@
--- Pieces of bytes: their number, and one more piece that is written after them.
+-- Pieces of bytes: their number, and one more piece written after them.
 use Rattle.std.proofs.Common.{◌≡◌, ℕ, ◌+◌, ◌≤◌, List, [], ◌∷◌, ◌++◌, length, take, drop, refl, ap, sym, suc, ◌∙◌, arith}
 use Rattle.std.proofs.lemmas.List.{take_at, drop_at, length-take-le, take-append-le, drop-append-le, take-take, drop-take, drop-drop, length-drop}
 use Rattle.std.proofs.lemmas.List.Sums.{sum_by-cons}
@@ -9,7 +9,7 @@ pub length_pieces : (lens bytes : List ℕ) → length (pieces_of lens bytes) �
 length_pieces [] bytes = refl
 length_pieces (len ∷ lens) bytes = ap suc (length_pieces lens (drop len bytes))
 
--- bytes with a part written over them from a place on
+-- bytes that a part overwrote from a place on
 abbrev pub written : ℕ → List ℕ → List ℕ → List ℕ
 written place part bytes = take place bytes ++ (part ++ drop (place + length part) bytes)
 

@@ -6,19 +6,19 @@ use Rattle.club_values.specs.declared.slot.Slot.{Slot}
 use Rattle.pass_caveats.specs.{Fault.IsFirstFault, declared.{ask.Ask.Ask, fault.CaveatFault.{CaveatFault, TheVariants.{NotUnderstood, Denied}}}}
 use Rattle.pass_c.specs.{Code.{ok_code, bad_ask_code, not_understood_code, denied_code}, declared.ask.AskObject.AskObject}
 
--- the action of a number
+-- the action with this number
 abbrev pub action_of : ℕ → Option Action
 action_of n = if n == 1 then Some View else if n == 2 then Some Book else if n == 3 then Some Cancel else if n == 4 then Some Account else None
 
--- the kind of a number; 0 for no kind that is known
+-- the kind with this number; 0 stands for an unknown kind
 abbrev pub kind_of : ℕ → Option (Option Kind)
 kind_of n = if n == 0 then Some None else if n == 1 then Some (Some Court) else if n == 2 then Some (Some Boat) else if n == 3 then Some (Some Room) else None
 
--- a number within these two
+-- the number, if it is within these bounds
 abbrev pub number_within : ℕ → ℕ → ℕ → Option ℕ
 number_within low high n = if is_in_range low high n then Some n else None
 
--- The facility that a slot is of: the name that its bytes spell, none where they are no name.
+-- The facility of a slot: the name that its bytes spell, or none if they aren't a name.
 abbrev pub IsFacilityNamed : AskObject → Option (List ℕ) → Type 0
 IsFacilityNamed object facility =
     Reads (λ name. (object.facility_len ≤ max_name_len) × IsName name × (name ≡ take object.facility_len object.facility)) facility
@@ -32,7 +32,7 @@ slot_in_parts object facility =
     (number_within first_day last_day object.day))
     facility
 
--- the slot of a facility; none where the object has no name
+-- the slot of a facility; none if the object has no facility name
 abbrev pub slot_within : AskObject → Option (List ℕ) → Option (Option Slot)
 slot_within object facility = if object.facility_len == 0 then Some None else slot_in_parts object facility
 
@@ -56,7 +56,7 @@ ask_at object facility =
     (slot_within object facility))
     (action_of object.action)
 
--- the ask that an object holds, none where a value is out of its range
+-- the ask that an object holds; none if a value is outside its range
 pub record IsAskOf (object : AskObject) (ask : Option Ask) : Type 0 where
   pub facility : Option (List ℕ)
   pub named : IsFacilityNamed object facility
@@ -80,7 +80,7 @@ pub record IsFaultReported (caveats : List (List ℕ)) (ask : Ask) (code number 
   pub fault_code : code ≡ verdict_code fault
   pub fault_number : number ≡ verdict_number fault
 
--- The answer to an object: the first fault of the caveats for its ask, or that it holds no ask.
+-- The answer for an object: the first fault of the caveats for its ask, or the code for an object without a valid ask.
 pub record Answers (caveats : List (List ℕ)) (object : AskObject) (code number : ℕ) : Type 0 where
   pub ask : Option Ask
   pub is_ask : IsAskOf object ask

@@ -3,7 +3,7 @@ use Rattle.std.specs.Prelude.{ℕ, if◌then◌else◌, ◌==◌, Result, Ok, Er
 use Rattle.pass_forms.specs.declared.{fault.FormFault.{FormFault, TheVariants.{TooLong, Malformed, ThirdParty, TooMany, Memory}}, form.Form.Form}
 use Rattle.pass_forms.specs.declared.form.Form.TheVariants.{V1, V2, Json}
 
--- the number of an object's form where it holds no pass
+-- the form number of an object without a pass
 abbrev pub no_form_number : ℕ
 no_form_number = 0
 
@@ -18,7 +18,7 @@ form_with_number n = if n == 1 then V1 else if n == 3 then Json else V2
 
 -- ---- what a call returns
 
--- it did what it was asked for
+-- the call succeeded
 abbrev pub ok_code : ℕ
 ok_code = 0
 
@@ -42,15 +42,15 @@ memory_code = 5
 abbrev pub short_buffer_code : ℕ
 short_buffer_code = 6
 
--- there is no caveat of this index
+-- there is no caveat with this index
 abbrev pub no_caveat_code : ℕ
 no_caveat_code = 7
 
--- there is no form of this number
+-- there is no form with this number
 abbrev pub no_form_code : ℕ
 no_form_code = 8
 
--- a value of an ask is out of its range
+-- a value of an ask is outside its range
 abbrev pub bad_ask_code : ℕ
 bad_ask_code = 9
 
@@ -72,7 +72,7 @@ abbrev pub code_of : {A : Type 0} → Result A FormFault → ℕ
 code_of (Ok done) = ok_code
 code_of (Err fault) = fault_code fault
 
--- what a code says; `Memory` for a number that is no other fault's
+-- the fault with this code; `Memory` for a number that isn't another fault's
 abbrev pub fault_with_code : ℕ → FormFault
 fault_with_code n =
     if n == too_long_code then TooLong

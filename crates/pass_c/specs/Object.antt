@@ -1,9 +1,9 @@
--- A pass as an object of plain data holds it (ours).
+-- The pass that an object of plain data holds (ours).
 use Rattle.std.specs.Prelude.{◌≡◌, ℕ, ◌+◌, nat_le, if◌then◌else◌, List, [], ◌∷◌, ◌++◌, take, drop, sum, Result, Ok, Err}
 use Rattle.pass_forms.specs.{FieldSource.no_fields, Pass.Plain, declared.{fault.FormFault.FormFault, form.Form.Form}}
 use Rattle.pass_c.specs.{Code.{form_with_number, memory_code, no_form_number, ok_code}, declared.object.PassObject.PassObject}
 
--- the pieces of bytes with these lengths, one after the other
+-- the pieces of bytes with these lengths, one after another
 abbrev pub pieces_of : List ℕ → List ℕ → List (List ℕ)
 pieces_of [] bytes = []
 pieces_of (len ∷ lens) bytes = take len bytes ∷ pieces_of lens (drop len bytes)
@@ -21,7 +21,7 @@ held object = record {
 abbrev pub form_in : PassObject → Form
 form_in object = form_with_number object.form
 
--- what a call that fills an object answers: the form and the pass that the object then holds, or its fault
+-- the result of a call that fills an object: the form and the pass that the object then holds, or the fault
 abbrev pub filled : Result (Unit {0}) FormFault → PassObject → Result (Form × Plain) FormFault
 filled (Ok done) object = Ok (form_in object, held object)
 filled (Err fault) object = Err fault
@@ -30,7 +30,7 @@ filled (Err fault) object = Err fault
 abbrev pub room : ℕ
 room = 8192
 
--- the bytes of its room that an object has taken, by its lengths
+-- the number of bytes of its room that an object has used, from its lengths
 abbrev pub taken : PassObject → ℕ
 taken object = object.location_len + object.identifier_len + sum (take object.caveat_count object.caveat_lens)
 

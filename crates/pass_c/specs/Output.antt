@@ -4,33 +4,33 @@ use Rattle.pass_forms.specs.{Pass.Plain, Writing.IsWritableText, declared.{fault
 use Rattle.pass_json.specs.AnyForm.{IsAnyReading, IsRefusedIn, IsTextIn}
 use Rattle.pass_c.specs.Code.{fault_code, no_form_code, number_of_form, ok_code, short_buffer_code}
 
--- A part that fits is written to the front of the buffer, and the rest of the buffer stays. A part that doesn't fit changes
--- nothing. The length is the part's in both cases.
+-- A part that fits is written to the front of the buffer, and the rest of the buffer is unchanged. A part that doesn't fit changes nothing. In both cases the
+-- returned length is the part's.
 pub record IsCopied (part old new : List ℕ) (len code : ℕ) : Type 0 where
   pub fits : length part ≤ length old → (code ≡ ok_code) × (new ≡ part ++ drop (length part) old)
   pub too_short : length old < length part → (code ≡ short_buffer_code) × (new ≡ old)
   pub part_len : len ≡ length part
 
--- the buffer stays, the length is 0, and the code says why
+-- the buffer is unchanged, the length is 0, and the code says why
 pub record IsLeft (why : ℕ) (old new : List ℕ) (len code : ℕ) : Type 0 where
   pub unchanged : new ≡ old
   pub no_len : len ≡ 0
   pub reason : code ≡ why
 
--- The text of a pass in a form, or the fault of the library's writer. Memory may run out for any pass, also for one that has no
--- text in the form: the pass is copied before it is written.
+-- The text of a pass in a form, or the fault of the library's writer. Memory may run out for any pass, even one without a text in the form, since the pass is
+-- copied before it is written.
 abbrev pub IsWrittenAs : Form → Plain → Result (List ℕ) FormFault → Type 0
 IsWrittenAs form pass (Ok text) =
     IsWritableText (IsTextIn form) pass text × IsAnyReading text (Ok (form, pass))
 IsWrittenAs form pass (Err fault) = fault ≢ Memory → IsRefusedIn form pass fault
 
--- the writing of a pass, put into a buffer
+-- the text of a pass, copied to a buffer
 pub record IsTextCopied (form : Form) (pass : Plain) (old new : List ℕ) (len code : ℕ) : Type 0 where
   pub writing : Result (List ℕ) FormFault
   pub written : IsWrittenAs form pass writing
   pub copied : MatchResult writing (λ text. IsCopied text old new len code) (λ fault. IsLeft (fault_code fault) old new len code)
 
--- the same by the form's number; no other number is a form's
+-- the same for the form with this number; any other number is refused
 pub record WritesForm (number : ℕ) (pass : Plain) (old new : List ℕ) (len code : ℕ) : Type 0 where
   pub known : (form : Form) → number ≡ number_of_form form → IsTextCopied form pass old new len code
   pub unknown : ((form : Form) → number ≢ number_of_form form) → IsLeft no_form_code old new len code

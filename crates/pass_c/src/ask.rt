@@ -16,17 +16,18 @@ pub struct AskObject {
     pub spent: u64,
     /// The number of the action: 1 to view, 2 to book, 3 to cancel, 4 for the account.
     pub action: u32,
-    /// The number of the kind: 1 for a court, 2 for a boat, 3 for a room, 0 if it isn't known.
+    /// The number of the facility's kind: 1 for a court, 2 for a boat, 3 for a room, 0 if it isn't
+    /// known.
     pub kind: u32,
-    /// The civil minutes since 1970-01-01T00:00.
+    /// The moment of the request, as civil minutes since 1970-01-01T00:00.
     pub moment: u32,
-    /// The days since 1970-01-01 to the slot's.
+    /// The slot's day, as days since 1970-01-01.
     pub day: u16,
     /// The slot's hour, 0 to 23.
     pub hour: u8,
     /// The guests of a booking, else 0.
     pub guests: u8,
-    /// The bytes of the facility's name; 0 without a slot.
+    /// The length of the facility's name in bytes; 0 without a slot.
     pub facility_len: u8,
     pub facility: [u8; MAX_NAME_LEN],
 }
@@ -35,7 +36,7 @@ impl AskObject {
     ghost use Rattle.std.specs.Prelude.{◌≡◌};
     ghost use Rattle.pass_c.specs.Ask as spec;
 
-    /// Returns the ask, if each of its values is within its range.
+    /// Returns the ask, if each value is within its range.
     pub fn to_ask(&self) -> Option<Ask>
         ensures { spec.IsAskOf self.now result }
     {
@@ -60,7 +61,7 @@ impl AskObject {
         })
     }
 
-    // The slot; `Some(None)` without one.
+    // The slot, or `Some(None)` if there is none.
     fn slot(&self, facility: Option<Name>) -> Option<Option<Slot>>
         ensures { result ≡ spec.slot_within self.now facility }
     {

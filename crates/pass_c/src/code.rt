@@ -8,16 +8,16 @@ ghost use Rattle.pass_c.specs.Code as spec;
 use pass_caveats::CaveatFault;
 use pass_forms::{Form, FormFault};
 
-/// A call did what it was asked for.
+/// The call succeeded.
 pub const OK: u32 = 0;
 
 /// A text would have more than 8,192 bytes.
 pub const TOO_LONG: u32 = 1;
 
-/// The text is no pass.
+/// The text isn't a pass.
 pub const MALFORMED: u32 = 2;
 
-/// A caveat is a third party's.
+/// A caveat is a third-party caveat.
 pub const THIRD_PARTY: u32 = 3;
 
 /// There are more than 64 caveats.
@@ -26,16 +26,16 @@ pub const TOO_MANY: u32 = 4;
 /// Memory ran out, or the object has no room for the pass.
 pub const MEMORY: u32 = 5;
 
-/// The caller's buffer is shorter than what was to be written into it.
+/// The caller's buffer is too short for the output.
 pub const SHORT_BUFFER: u32 = 6;
 
-/// The pass has no caveat of this index.
+/// The pass has no caveat with this index.
 pub const NO_CAVEAT: u32 = 7;
 
 /// No form has this number.
 pub const NO_FORM: u32 = 8;
 
-/// A value of an ask is out of its range.
+/// A value of an ask is outside its range.
 pub const BAD_ASK: u32 = 9;
 
 /// A caveat isn't understood.
@@ -100,8 +100,8 @@ pub fn code_of(ended: Result<(), FormFault>) -> u32
     }
 }
 
-/// Returns the code of a list's first fault, and the number of its caveat, counted from 1; 0
-/// without one.
+/// Returns the code of a list's first fault, and the number of its caveat, counted from 1, or 0
+/// without a fault.
 pub fn verdict_of(fault: Option<CaveatFault>) -> (u32, usize)
     ensures code { result.0 ≡ verdict_code fault }
     ensures number { result.1 ≡ verdict_number fault }

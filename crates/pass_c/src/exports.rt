@@ -1,4 +1,4 @@
-//! The exports. A slice crosses as a pointer and a length, and `Global` takes no argument in C.
+//! The exports. A slice is passed as a pointer and a length, and `Global` isn't an argument in C.
 
 ghost use Rattle.std.specs.Prelude.{◌≡◌, ◌≢◌, ◌↔◌, ◌+◌, ◌<◌, ◌≤◌, ◌⊎◌, ℕ, List, Err, IfOk, IsTrue};
 ghost use Rattle.std.specs.Prelude.{MatchOption, length, slice_get};
@@ -47,7 +47,7 @@ pub extern "C" fn clubpass_form(pass: &PassObject) -> u32
     pass.form
 }
 
-/// Returns the location.
+/// Writes the location to the buffer.
 #[unsafe(no_mangle)]
 pub extern "C" fn clubpass_location(pass: &PassObject, out: &mut [u8], len: &mut usize) -> u32
     ensures { IsCopied (held pass.now).location out.old out.new len.new result }
@@ -55,7 +55,7 @@ pub extern "C" fn clubpass_location(pass: &PassObject, out: &mut [u8], len: &mut
     put(pass.location(), out, len)
 }
 
-/// Returns the identifier.
+/// Writes the identifier to the buffer.
 #[unsafe(no_mangle)]
 pub extern "C" fn clubpass_identifier(pass: &PassObject, out: &mut [u8], len: &mut usize) -> u32
     ensures { IsCopied (held pass.now).identifier out.old out.new len.new result }
@@ -71,7 +71,7 @@ pub extern "C" fn clubpass_caveat_count(pass: &PassObject) -> usize
     pass.caveat_count()
 }
 
-/// Returns the caveat of this index, counted from 0.
+/// Writes the caveat with this index, counted from 0, to the buffer.
 #[unsafe(no_mangle)]
 pub extern "C" fn clubpass_caveat(
     pass: &PassObject,
@@ -92,7 +92,7 @@ pub extern "C" fn clubpass_caveat(
     }
 }
 
-/// The signature.
+/// Writes the signature to the buffer.
 #[unsafe(no_mangle)]
 pub extern "C" fn clubpass_signature(pass: &PassObject, out: &mut [u8; 32])
     ensures { out.new ≡ (held pass.now).signature }
@@ -120,7 +120,7 @@ pub extern "C" fn clubpass_write(
     }
 }
 
-// The same in a form that is known.
+// Does the same for a known form.
 fn write_in(alloc: Global, pass: &PassObject, form: Form, out: &mut [u8], len: &mut usize) -> u32
     ensures { IsTextCopied form (held pass.now) out.old out.new len.new result }
 {
@@ -178,7 +178,7 @@ pub extern "C" fn clubpass_is_signed(pass: &PassObject, root: &[u8]) -> bool
     pass.is_signed(root)
 }
 
-/// Returns the first caveat that isn't understood or denies an ask.
+/// Finds the first caveat that isn't understood or denies an ask.
 #[unsafe(no_mangle)]
 pub extern "C" fn clubpass_first_fault(
     pass: &PassObject,

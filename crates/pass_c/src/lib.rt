@@ -1,5 +1,5 @@
-//! Passes for C, and for each language that calls C: exports over the caller's buffers and over one
-//! object of plain data. Each export calls a library and states its clauses again.
+//! Passes for C, and for every language that can call C. The exports work on the caller's buffers
+//! and on one object of plain data. Each export calls a library and restates its clauses.
 #![tactic(auto)]
 
 mod ask;

@@ -12,19 +12,19 @@ use std::alloc::{AllocError, Global};
 /// The most bytes of a pass's location, identifier and caveats together.
 pub const ROOM: usize = 8192;
 
-/// A pass as an object of plain data, which C can hold, copy and forget. Contracts see its pass as
-/// `held`: whatever its bytes are, they hold a pass.
+/// A pass as an object of plain data, which C can hold, copy and drop without a call. Contracts see
+/// its pass as `held`. Any bytes in the object represent some pass.
 #[repr(C)]
 #[derive(Drop)]
 pub struct PassObject {
-    /// The number of the form of its text; 0 without one.
+    /// The number of the form of its text, or 0 if it has no text.
     pub form: u32,
     pub location_len: u32,
     pub identifier_len: u32,
     pub caveat_count: u32,
     pub caveat_lens: [u16; MAX_CAVEATS],
     pub signature: [u8; 32],
-    /// The location, the identifier and the caveats, one after the other.
+    /// The location, the identifier and the caveats, one after another.
     pub bytes: [u8; ROOM],
 }
 
@@ -88,7 +88,7 @@ impl PassObject {
         self.lens().len()
     }
 
-    /// Returns the caveat of this index, counted from 0.
+    /// Returns the caveat with this index, counted from 0.
     pub fn caveat(&self, index: usize) -> Option<&[u8]>
         ensures { option_map (λ caveat. caveat.now) result
             ≡ slice_get (held self.now).caveats index }
@@ -96,7 +96,7 @@ impl PassObject {
         piece(self.lens(), self.after_location().1, index)
     }
 
-    /// Makes the object hold no pass: it has no form, no fields, and a signature of zeros.
+    /// Empties the object: it then has no form, no fields, and a signature of zeros.
     pub fn clear(&mut self)
         ensures empty { IsEmpty self.new }
         ensures count { self.new.caveat_count ≡ 0 }
@@ -247,7 +247,7 @@ impl PassObject {
     pub fn first_fault(&self, ask: &Ask) -> Option<CaveatFault>
         ensures { IsFirstFault (held self.now).caveats ask.now result }
     {
-        // By these laws the code finds the fault that the clause means.
+        // By these laws, the code finds the fault that the clause defines.
         finds_the_first_fault();
         reads_what_is_understood();
         first_fault_in(self.lens(), self.after_location().1, 1, ask)

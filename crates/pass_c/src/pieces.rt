@@ -1,4 +1,4 @@
-//! Bytes cut into pieces, and written.
+//! Splits bytes into pieces, and writes pieces.
 
 ghost use Rattle.std.specs.Prelude.{◌≡◌, ◌+◌, ◌*◌, ◌≤◌, ◌++◌, OnOk, drop, length, map, option_map};
 ghost use Rattle.std.specs.Prelude.{slice_get, sum, take};
@@ -12,7 +12,8 @@ use pass_forms::MAX_CAVEATS;
 use pass_mac::Chain;
 use std::alloc::{AllocError, Global};
 
-/// Returns the first `len` bytes and the others. All of them are the first if they are fewer.
+/// Returns the first `len` bytes and the rest. If there are fewer bytes, returns all of them and an
+/// empty rest.
 pub fn cut(bytes: &[u8], len: usize) -> (&[u8], &[u8])
     ensures first { result.0.now ≡ take len bytes.now }
     ensures others { result.1.now ≡ drop len bytes.now }
@@ -20,7 +21,7 @@ pub fn cut(bytes: &[u8], len: usize) -> (&[u8], &[u8])
     bytes.split_at(len.min(bytes.len()))
 }
 
-/// Writes a part over the bytes from this place on.
+/// Overwrites the bytes from this place on with a part.
 pub fn overwrite(bytes: &mut [u8; ROOM], place: usize, part: &[u8])
     requires { place + length part.now ≤ room }
     ensures { bytes.new
@@ -41,7 +42,7 @@ pub fn total(lens: &[u16]) -> usize
     }
 }
 
-/// Returns the piece of this index.
+/// Returns the piece with this index.
 pub fn piece<'a>(lens: &[u16], bytes: &'a [u8], index: usize) -> Option<&'a [u8]>
     ensures { option_map (λ piece. piece.now) result
         ≡ slice_get (pieces_of lens.now bytes.now) index }

@@ -1,4 +1,4 @@
--- The functions agree with the definitions.
+-- The computing functions agree with the definitions.
 use Rattle.pass_caveats.proofs.{CandidateLemmas.candidate-caveat_text, Common.{◌≡◌, ◌↔◌, ℕ, ◌+◌, Bool, true, false, List, [], ◌∷◌, ◌++◌, length, map, ◌⊎◌}}
 use Rattle.pass_caveats.proofs.Common.{Option, Some, None, inl, inr, refl, sym, subst, ◌∙◌, arith, add-zero, option_or, All-head, All-tail, All-push, All-nil}
 use Rattle.pass_caveats.proofs.Common.{All-cons, append-nil, Caveat, Ask, CaveatFault, Understood, permits, candidate, spells, caveat_of, first_fault_from}
@@ -27,7 +27,7 @@ pub reads_caveat_of : (text : List ℕ) (r : Option Caveat) → Reads (Understoo
 reads_caveat_of text (Some caveat) h = sym (caveat_of-understood text caveat h)
 reads_caveat_of text None h = sym (caveat_of-unknown text h)
 
--- caveats that allow the request are passed over
+-- caveats that allow the request are skipped
 passed : (n : ℕ) (front rest : List (List ℕ)) (ask : Ask) → Allowed front ask →
     first_fault_from n (map caveat_of (front ++ rest)) ask ≡ first_fault_from (n + length front) (map caveat_of rest) ask
 passed n [] rest ask h = rw add-zero refl
@@ -55,7 +55,7 @@ is_first_fault texts ask (Some (Denied n)) h =
     let denied = false_from_ne_true (permits h.fault.0 ask) (λ e. h.fault.2 ((Decides-permits h.fault.0 ask).0 e)) in
     sym (rw h.place (passed 1 h.front (h.text ∷ h.rest) ask h.before ∙ rw (caveat_of-understood h.text h.fault.0 h.fault.1, denied, number) refl))
 
--- the caveats as which texts are understood are those that the function returns
+-- the caveats that texts are understood as are those that the function returns
 pub all_caveats_of : (texts : List (List ℕ)) (caveats : List (Option Caveat)) → AreUnderstoodAs texts caveats → caveats ≡ map caveat_of texts
 all_caveats_of [] [] h = refl
 all_caveats_of (text ∷ texts) (caveat ∷ caveats) h = grind (arith, reads_caveat_of, all_caveats_of texts caveats h.1)
@@ -91,7 +91,7 @@ some_fault front (text ∷ texts) ask h =
           (Some (Denied (length front + 1)), record { front = front; text = text; rest = texts; place = refl; number = refl; before = h; fault = denies })
     ]
 
--- and the function returns it
+-- the function returns this first fault
 pub first_fault_of-is_first : (texts : List (List ℕ)) (ask : Ask) → IsFirstFault texts ask (first_fault_of (map caveat_of texts) ask)
 first_fault_of-is_first texts ask =
     let found = some_fault [] texts ask (All-nil (λ t. Allows t ask)) in
@@ -120,7 +120,7 @@ fault_there text n ask =
       | inr (inr denies) ↦ (Some (Denied n), (refl, denies))
     ]
 
--- and the function returns it
+-- the function returns this fault
 pub finds_fault_at : (text : List ℕ) (n : ℕ) (ask : Ask) (fault : Option CaveatFault)
     → IsFaultAt text n ask fault ↔ (fault ≡ first_fault_from n (caveat_of text ∷ []) ask)
 finds_fault_at text n ask fault =

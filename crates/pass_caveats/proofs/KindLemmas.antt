@@ -16,7 +16,7 @@ fault_alike number caveat ask kind h = grind (arith, permits_alike)
 pub blind_to_kind : (text : List ℕ) → is_on_kind (caveat_of text) ≡ false → IsBlindToKind text
 blind_to_kind text h number ask kind fault = grind (arith, finds_fault_at, fault_alike)
 
--- a request for a slot at a facility that is unknown
+-- a request for a slot at an unknown facility
 abbrev no_facility : Ask
 no_facility = record {
   action = View;

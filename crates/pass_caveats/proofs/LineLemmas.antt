@@ -1,4 +1,4 @@
--- The lines with dates, and numbers that are too large.
+-- Lines with dates, and numbers that are too large.
 use Rattle.pass_caveats.proofs.Common.{◌≡◌, ℕ, ◌<◌, ◌≤◌, List, [], ◌++◌, length, take, drop, Option, refl, sym, ap, subst, ◌∙◌, arith, codes, take-append-drop}
 use Rattle.pass_caveats.proofs.Common.{Facility, Kind, Hours, Days, Weekdays, Until, Guests, Spend, Actions, Caveat, SpellsCaveat, common_steps}
 use Rattle.std.proofs.lemmas.Fmt.{decimal_injective}
@@ -23,7 +23,7 @@ pub too_many_guests : (text rest : List ℕ) (n : ℕ) → text ≡ codes "guest
     → ⊥
 too_many_guests text rest n e s large x h = grind (arith, common_steps, decimal_injective)
 
--- the dates of a line: ten bytes, two dots, and what follows
+-- the dates of a line: ten bytes, two dots, and the rest
 pub record AreDates (rest : List ℕ) (a b : ℕ) : Type 0 where
   pub first : take 10 rest ≡ day_text a
   pub second : drop 10 rest ≡ codes ".." ++ day_text b
@@ -44,7 +44,7 @@ pub no_dots : (text rest back : List ℕ) → text ≡ codes "days = " ++ rest �
 no_dots text rest back e back_is never x h =
     never (day_text x.1) (back_is ∙ (dates_of text rest x.0 x.1 e h).second)
 
--- what follows the dots is the second date
+-- the rest after the dots is the second date
 second_is : (text rest back last : List ℕ) (a b : ℕ) → text ≡ codes "days = " ++ rest → back ≡ drop 10 rest → back ≡ codes ".." ++ last →
     SpellsCaveat text (Days a b) → last ≡ day_text b
 second_is text rest back last a b e back_is dots h =
@@ -77,7 +77,7 @@ days_fall text rest front back last a b e front_is back_is dots s t lt x h =
     let same_second = day_text_injective b x.1 [] [] t.within h.real.1 (ap (λ (d : List ℕ). d ++ []) second) in
     absurd (omega (arith, h.real.2))
 
--- a text that is no line of any kind
+-- a text that isn't a line of any kind
 pub no_line : (text : List ℕ) → ((x : List (List ℕ)) → SpellsCaveat text (Facility x) → ⊥) → ((x : AKind) → SpellsCaveat text (Kind x) → ⊥) →
     ((x : ℕ × ℕ) → SpellsCaveat text (Hours x.0 x.1) → ⊥) → ((x : ℕ × ℕ) → SpellsCaveat text (Days x.0 x.1) → ⊥)
     → ((x : SomeWeekdays) → SpellsCaveat text (Weekdays x) → ⊥) →

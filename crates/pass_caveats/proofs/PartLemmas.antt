@@ -1,17 +1,17 @@
--- The parts of a list with commas.
+-- The parts of a comma-separated list.
 use Rattle.pass_caveats.proofs.Common.{◌≡◌, ◌≢◌, ℕ, ◌+◌, ◌<◌, ◌≤◌, ◌↔◌, ◌-◌, Bool, true, false, cond, List, [], ◌∷◌, ◌++◌, length, get_or, take, drop, refl, ap}
 use Rattle.pass_caveats.proofs.Common.{◌∙◌, arith, IsTrue, take-append-drop, All, Contains, ◌==◌, HoldsAt, AllWithin, nat_tests, All-head, All-tail}
 use Rattle.pass_caveats.proofs.Common.{is_name_byte, IsName, AreNames, comma_parts, comma_list, Skips, is_next, after_next, bytes_eq-Decides, common_steps}
 use Rattle.std.specs.Bool.{MatchBool}
 use Rattle.std.proofs.lemmas.List.Splits.{slice_split_none, slice_split_at, length-slice_split, join_with_byte-slice_split}
 
--- what `any` returns for the items that are x
+-- the result of `any` for the items that equal x
 pub contains_from_any : (r : Bool) (xs : List (List ℕ)) (x : List ℕ) →
     MatchBool r ((k : ℕ) × (k < length xs) × HoldsAt (λ y. y ≡ x) xs k) (AllWithin (λ y. y ≢ x) xs 0 (length xs)) → IsTrue r ↔ Contains xs x
 contains_from_any true xs x h = ((λ e. (h.0, h.1, h.2 x)), (λ c. refl))
 contains_from_any false xs x h = ((λ e. cc), (λ c. absurd (h c.0 x (omega arith) c.1 c.2)))
 
--- what `all` returns for the items with P
+-- the result of `all` for the items with property P
 pub all_from_all : (r : Bool) (xs : List (List ℕ)) (P : List ℕ → Type 0) →
     MatchBool r (AllWithin P xs 0 (length xs)) ((k : ℕ) × (k < length xs) × HoldsAt (λ y. P y → ⊥) xs k) → IsTrue r ↔ All P xs
 all_from_all true xs P h = ((λ e k d within. h k d (omega arith) within), (λ c. refl))
@@ -50,7 +50,7 @@ some_part text = omega (arith, length-slice_split (λ byte. byte == 44) text)
 pub names_are_parts : (text : List ℕ) (names : List (List ℕ)) → AreNames names × (text ≡ comma_list names) → AreNames (comma_parts text)
 names_are_parts text names h = grind (arith, names_again)
 
--- cut at the first comma
+-- a text split at the first comma
 at_comma : (text : List ℕ) (i : ℕ) → i < length text → get_or text i 0 ≡ 44 → text ≡ take i text ++ 44 ∷ drop (i + 1) text
 at_comma text i h e = grind (arith, common_steps, take-append-drop)
 
@@ -69,7 +69,7 @@ parts_of-no_comma text none = grind (arith, nat_tests, common_steps, slice_split
 pub tail_is : (text : List ℕ) (i : ℕ) → take (length text - (i + 1)) (drop (i + 1) text) ≡ drop (i + 1) text
 tail_is text i = grind (arith, common_steps)
 
--- what a step takes from the front
+-- the part that a step takes from the front
 pub skip_takes : (word : List ℕ) (parts left : List (List ℕ)) (b : Bool) → Skips word parts b left → parts ≡ cond b (word ∷ left) left
 skip_takes word parts left b s = grind arith
 

@@ -1,4 +1,4 @@
--- What was spent before changes the first fault of a list only under a spend limit, and only if something is owed.
+-- Earlier spending changes the first fault of a list only under a spend limit, and only if something is owed.
 use Rattle.pass_caveats.proofs.{CandidateLemmas.one_caveat, Common.{◌≡◌, ℕ, ◌+◌, ◌-◌, ◌≤◌, ◌==◌, ◌||◌, true, false, cond, nat_le, List, [], ◌∷◌, Option, Some}}
 use Rattle.pass_caveats.proofs.Common.{None, refl, subst, arith, All, IfSome, All-head, All-tail, nat_tests, Ask, Caveat, Spend, IsCaveat, Permits, Understood}
 use Rattle.pass_caveats.proofs.{Common.{permits, first_fault_from, common_steps}, DecisionLemmas.Decides-permits}
@@ -12,7 +12,7 @@ unfolding permits
 permits_less (Spend n) ask less more short h = grind (arith, nat_tests)
 permits_less caveat ask less more short h = h
 
--- if nothing is owed, what was spent makes no difference
+-- if nothing is owed, the amount spent makes no difference
 free_within : (owed one other n : ℕ) → owed ≡ 0 → (owed == 0 || nat_le (one + owed) n) ≡ (owed == 0 || nat_le (other + owed) n)
 free_within owed one other n free = rw free refl
 
@@ -65,7 +65,7 @@ limited : (owed spent n : ℕ) → (owed == 0 || nat_le (0 + owed) n) ≡ true
     × (IsWithin (cond (owed == 0) None (Some (n - owed))) spent → (owed == 0 || nat_le (spent + owed) n) ≡ true)
 limited owed spent n h = grind (arith, nat_tests)
 
--- a caveat that allows a request of a key that spent nothing allows it just within its slack
+-- a caveat that allows a request of a key that spent nothing allows it for amounts within its slack, and for no others
 pub permits_within : (caveat : Caveat) (ask : Ask) (spent : ℕ) → permits caveat (after_spending 0 ask) ≡ true
     → (permits caveat (after_spending spent ask) ≡ true → IsWithin (slack_under caveat ask) spent)
     × (IsWithin (slack_under caveat ask) spent → permits caveat (after_spending spent ask) ≡ true)
@@ -76,11 +76,11 @@ never : (caveat : Caveat) (ask : Ask) (spent : ℕ) → permits caveat (after_sp
 never caveat ask spent h permitted = grind (arith, permits_less, Decides-permits)
 
 module _ (text : List ℕ) (n : ℕ) (ask : Ask) (caveat : Caveat) (understood : Understood text caveat) where
-  -- a caveat that denies a key that spent nothing denies it whatever it spent
+  -- a caveat that denies a key that spent nothing denies it for any amount spent
   pub holds_denied : permits caveat (after_spending 0 ask) ≡ false → HoldsWithin text n ask (Some (Denied n)) None
   holds_denied denies = grind (arith, never)
 
-  -- one that allows it has no fault just within its slack
+  -- a caveat that allows it has no fault for amounts within its slack, and for no others
   pub holds_allowed : permits caveat (after_spending 0 ask) ≡ true → HoldsWithin text n ask None (slack_under caveat ask)
   holds_allowed allows = record {
     within = λ spent h.

@@ -3,7 +3,7 @@ use Rattle.std.specs.Prelude.{◌≡◌, ◌≢◌, ℕ, Bool, List, [], ◌∷�
 use Rattle.club_values.specs.{Action.action_text, declared.action.Action.{Action, TheVariants.{View, Book, Cancel, Account}}}
 use Rattle.pass_caveats.specs.{Parts.comma_list, declared.actions.Actions.Actions}
 
--- in the order of a list (ours)
+-- all actions, in the order of a list (ours)
 abbrev pub all_actions : List Action
 all_actions = View ∷ Book ∷ Cancel ∷ Account ∷ []
 
@@ -17,6 +17,6 @@ has_action actions Account = actions.account
 abbrev pub action_texts : Actions → List (List ℕ)
 action_texts actions = map action_text (filter (has_action actions) all_actions)
 
--- the list of a set that isn't empty, with commas
+-- the text is the comma-separated list of the set, which isn't empty
 abbrev pub SpellsActions : List ℕ → Actions → Type 0
 SpellsActions text actions = (action_texts actions ≢ []) × (text ≡ comma_list (action_texts actions))

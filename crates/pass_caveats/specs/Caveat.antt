@@ -1,11 +1,11 @@
--- The lines that a caveat may be, and the requests that each allows (ours).
+-- The possible lines of a caveat, and the requests that each line allows (ours).
 use Rattle.std.specs.{Fmt.decimal, Prelude.{◌≡◌, ◌≢◌, ◌⊎◌, ℕ, ◌+◌, ◌<◌, ◌≤◌, IsTrue, List, [], ◌∷◌, ◌++◌, length, Contains, Some, IsSomeAnd, codes, ⊤}}
 use Rattle.pass_caveats.specs.{Actions.{has_action, action_texts}, Names.AreNames, Parts.comma_list, Weekdays.{has_weekday, weekday_texts}}
 use Rattle.pass_caveats.specs.declared.{ask.Ask.Ask, caveat.Caveat.{Caveat, TheVariants.{Facility, Kind, Hours, Days, Weekdays, Until, Guests, Spend, Actions}}}
 use Rattle.club_values.specs.{Day.{IsDay, day_text}, Digits.two_digits, Hour.hours_a_day, Kind.kind_text, Moment.{IsMoment, moment_text}, Number.number_limit}
 use Rattle.club_values.specs.{Slot.guests_limit, Weekday.weekday_of}
 
--- a caveat's line, what its values have to be, and the requests that it allows
+-- a caveat's line, the conditions on its values, and the requests that it allows
 pub record CaveatRow : Type 1 where
   pub text : List ℕ
   pub IsReal : Type 0
@@ -36,11 +36,11 @@ caveat_row (Actions actions) =
     row (codes "actions = " ++ comma_list (action_texts actions)) (action_texts actions ≢ [])
     (λ ask. IsTrue (has_action actions ask.action))
 
--- the values that a line may have
+-- the conditions on a line's values
 abbrev pub IsCaveat : Caveat → Type 0
 IsCaveat caveat = (caveat_row caveat).IsReal
 
--- the line of these values
+-- the line with these values
 abbrev pub caveat_text : Caveat → List ℕ
 caveat_text caveat = (caveat_row caveat).text
 
@@ -48,7 +48,7 @@ caveat_text caveat = (caveat_row caveat).text
 abbrev pub Permits : Caveat → Ask → Type 0
 Permits caveat ask = (caveat_row caveat).IsAllowed ask
 
--- the text is a line
+-- the text is the caveat's line
 pub record SpellsCaveat (text : List ℕ) (caveat : Caveat) : Type 0 where
   pub real : IsCaveat caveat
   pub spelling : text ≡ caveat_text caveat
@@ -57,7 +57,7 @@ pub record SpellsCaveat (text : List ℕ) (caveat : Caveat) : Type 0 where
 abbrev pub max_caveat_len : ℕ
 max_caveat_len = 256
 
--- the text is such a line, not longer than that
+-- the text is such a line, and not longer than the limit
 pub record Understood (text : List ℕ) (caveat : Caveat) : Type 0 where
   pub line : SpellsCaveat text caveat
   pub short : length text ≤ max_caveat_len

@@ -1,10 +1,10 @@
--- Lists of caveats, as the texts that a pass carries.
+-- Lists of caveats, as the texts in a pass.
 use Rattle.std.specs.{Fmt.decimal, List.AllZip, Prelude.{◌≡◌, ℕ, ◌+◌, List, [], ◌∷◌, ◌++◌, length, All, Option, Some, None, if◌then◌else◌, codes}}
 use Rattle.pass_caveats.specs.{Caveat.{Understood, Permits}, Tests.permits, declared.{ask.Ask.Ask, caveat.Caveat.Caveat, fault.CaveatFault.CaveatFault}}
 use Rattle.pass_caveats.specs.declared.fault.CaveatFault.TheVariants.{NotUnderstood, Denied}
 use Rattle.club_values.specs.Reading.{Reads}
 
--- the text is a caveat that allows the request; a text that isn't understood allows none (ours)
+-- the text is a caveat that allows the request; a text that isn't understood allows no request (ours)
 abbrev pub Allows : List ℕ → Ask → Type 0
 Allows text ask = (caveat : Caveat) × Understood text caveat × Permits caveat ask
 
@@ -30,23 +30,24 @@ pub record IsFirstAt (texts : List (List ℕ)) (ask : Ask) (n : ℕ) (Fault : Li
   pub before : Allowed front ask
   pub fault : Fault text
 
--- the fault of one text with number n: none if it allows the request
+-- the fault of one text with number n; none if the text allows the request
 abbrev pub IsFaultAt : List ℕ → ℕ → Ask → Option CaveatFault → Type 0
 IsFaultAt text n ask None = Allows text ask
 IsFaultAt text n ask (Some (NotUnderstood m)) = (m ≡ n) × IsUnknown text
 IsFaultAt text n ask (Some (Denied m)) = (m ≡ n) × Denies text ask
 
--- none if the request is allowed, else the first fault
+-- the first fault, or none if the request is allowed
 abbrev pub IsFirstFault : List (List ℕ) → Ask → Option CaveatFault → Type 0
 IsFirstFault texts ask None = Allowed texts ask
 IsFirstFault texts ask (Some (NotUnderstood n)) = IsFirstAt texts ask n IsUnknown
 IsFirstFault texts ask (Some (Denied n)) = IsFirstAt texts ask n (λ text. Denies text ask)
 
--- the caveats of a list of texts: each as its text is understood, none if it isn't
+-- the caveats of a list of texts; a text that isn't understood gives none
 abbrev pub AreUnderstoodAs : List (List ℕ) → List (Option Caveat) → Type 0
 AreUnderstoodAs texts caveats = AllZip (λ (text : List ℕ) (caveat : Option Caveat). Reads (Understood text) caveat) texts caveats
 
--- The first fault of a list of caveats, each as it is understood, if it is; the first of them has this number. None if each permits the request.
+-- The first fault of a list of caveats, where a text that isn't understood is none; the caveats are numbered from this number. The result is none if each
+-- caveat permits the request.
 abbrev pub first_fault_from : ℕ → List (Option Caveat) → Ask → Option CaveatFault
 first_fault_from n [] ask = None
 first_fault_from n (None ∷ caveats) ask = Some (NotUnderstood n)

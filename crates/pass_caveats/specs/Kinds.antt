@@ -1,9 +1,9 @@
--- Which caveats look at the kind of a slot's facility (ours).
+-- The caveats that look at the kind of a slot's facility (ours).
 use Rattle.std.specs.Prelude.{◌↔◌, ℕ, Bool, true, false, List, Option, Some}
 use Rattle.club_values.specs.declared.kind.Kind.{Kind as AKind}
 use Rattle.pass_caveats.specs.{Fault.IsFaultAt, declared.{ask.Ask.Ask, caveat.Caveat.{Caveat, TheVariants.Kind}, fault.CaveatFault.CaveatFault}}
 
--- whether it is a caveat on the kind
+-- whether this is a caveat on the kind
 abbrev pub is_on_kind : Option Caveat → Bool
 is_on_kind (Some (Kind kind)) = true
 is_on_kind caveat = false

@@ -4,38 +4,38 @@ use Rattle.pass_caveats.specs.{Caveat.{Understood, Permits}, Fault.{Allowed, Are
 use Rattle.pass_caveats.specs.{Tests.permits, computed.CaveatOf.caveat_of, declared.{ask.Ask.Ask, caveat.Caveat.Caveat, fault.CaveatFault.CaveatFault}}
 use Rattle.club_values.specs.Reading.{Reads}
 
--- more caveats never open more
+-- more caveats never allow more
 abbrev pub Narrows : Type 0
 Narrows = (texts more : List (List ℕ)) (ask : Ask) → Allowed (texts ++ more) ask → Allowed texts ask
 
--- the first fault is none exactly if the request is allowed
+-- the first fault is none if and only if the request is allowed
 abbrev pub FaultsOnlyWhereNotAllowed : Type 0
 FaultsOnlyWhereNotAllowed =
     (texts : List (List ℕ)) (ask : Ask) (fault : Option CaveatFault) → IsFirstFault texts ask fault → (fault ≡ None) ↔ Allowed texts ask
 
--- `first_fault_of` returns the first fault of a list of texts, by the caveats as which they are understood
+-- `first_fault_of` returns the first fault of a list of texts, from the caveats that they are understood as
 abbrev pub FindsTheFirstFault : Type 0
 FindsTheFirstFault =
     (texts : List (List ℕ)) (caveats : List (Option Caveat)) (ask : Ask) (fault : Option CaveatFault) → AreUnderstoodAs texts caveats →
     IsFirstFault texts ask fault ↔ (fault ≡ first_fault_of caveats ask)
 
--- `first_fault_from` returns the fault of one text with this number, by the caveat as which it is understood
+-- `first_fault_from` returns the fault of one text with this number, from the caveat that it is understood as
 abbrev pub FindsTheFaultAt : Type 0
 FindsTheFaultAt =
     (text : List ℕ) (caveat : Option Caveat) (n : ℕ) (ask : Ask) (fault : Option CaveatFault) → Reads (Understood text) caveat →
     IsFaultAt text n ask fault ↔ (fault ≡ first_fault_from n (caveat ∷ []) ask)
 
--- with one more caveat the first fault is that of the caveats before, or else that of the last one
+-- after one caveat is appended, the first fault is that of the earlier caveats, or else that of the last one
 abbrev pub FindsTheFaultOfOneMore : Type 0
 FindsTheFaultOfOneMore =
     (caveats : List (Option Caveat)) (caveat : Option Caveat) (ask : Ask) →
     first_fault_of (caveats ++ caveat ∷ []) ask ≡ option_or (first_fault_of caveats ask) (first_fault_from (length caveats + 1) (caveat ∷ []) ask)
 
--- `caveat_of` returns a caveat exactly if the text is understood as that caveat
+-- `caveat_of` returns a caveat if and only if the text is understood as that caveat
 abbrev pub ReadsWhatIsUnderstood : Type 0
 ReadsWhatIsUnderstood = (text : List ℕ) (caveat : Caveat) → Understood text caveat ↔ (caveat_of text ≡ Some caveat)
 
--- `permits` is true exactly if the caveat allows the request
+-- `permits` is true if and only if the caveat allows the request
 abbrev pub TestsTheSet : Type 0
 TestsTheSet = (caveat : Caveat) (ask : Ask) → Permits caveat ask ↔ IsTrue (permits caveat ask)
 

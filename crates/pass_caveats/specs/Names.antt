@@ -6,7 +6,7 @@ use Rattle.club_values.specs.Name.{IsName}
 abbrev pub max_names : ℕ
 max_names = 8
 
--- one name or more
+-- one or more names
 pub record AreNames (names : List (List ℕ)) : Type 0 where
   pub some : 0 < length names
   pub few : length names ≤ max_names

@@ -18,8 +18,8 @@ pub struct Actions {
 impl Actions {
     ghost use Rattle.pass_caveats.specs.Actions.{has_action, SpellsActions};
 
-    /// Returns the set of a list with commas: some of `view,book,cancel,account`, in this order;
-    /// `None` for any other text.
+    /// Returns the set for a comma-separated list of some of `view,book,cancel,account`, in this
+    /// order; `None` for any other text.
     pub fn read(text: &[u8]) -> Option<Actions>
         ensures { Reads (SpellsActions text.now) result }
     {

@@ -1,14 +1,14 @@
-//! A request, as caveats see it.
+//! The parts of a request that caveats see.
 
 use club_values::{Action, Kind, Moment, Slot};
 
-/// A request, as caveats see it.
+/// A request as caveats see it.
 #[derive(Clone, Copy, Debug, PartialEq, Eq)]
 pub struct Ask {
     pub action: Action,
-    /// The slot; `None` for the account.
+    /// The slot, or `None` for the account.
     pub slot: Option<Slot>,
-    /// The kind of the slot's facility; `None` if it is unknown, or there is no slot.
+    /// The kind of the slot's facility; `None` if it is unknown or there is no slot.
     pub kind: Option<Kind>,
     /// The guests of a booking, else 0.
     pub guests: u8,

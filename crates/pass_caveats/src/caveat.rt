@@ -34,17 +34,17 @@ pub enum Caveat<'a> {
     Weekdays(Weekdays),
     /// The moment of the request is before this one.
     Until(Moment),
-    /// At most this many guests, 0 to 49.
+    /// The booking has at most this many guests, 0 to 49.
     Guests(u8),
-    /// Nothing is owed, or what the key has spent and what is owed come to at most this many
-    /// points, 0 to 999,999,999.
+    /// Nothing is owed, or the points spent plus the points owed are at most this many, 0 to
+    /// 999,999,999.
     Spend(u32),
     /// The action is in the set.
     Actions(Actions),
 }
 
 impl Caveat<'_> {
-    /// Returns whether it is a caveat on the kind.
+    /// Returns whether this is a caveat on the kind.
     fn is_on_kind(&self) -> bool
         ensures { result ≡ is_on_kind (Some self.now) }
     {
@@ -140,8 +140,8 @@ pub fn allows(caveat: &Caveat, ask: &Ask) -> bool
     is_in_set(caveat, ask)
 }
 
-/// Returns whether a text is a caveat on the kind of the slot's facility. It isn't if and only if
-/// its fault is the same for each kind.
+/// Returns whether a text is a caveat on the kind of the slot's facility. The answer is false if
+/// and only if the text's fault is the same for each kind.
 #[tactic(auto, using(crate::proofs::KindLemmas::blind_to_kind))]
 pub fn looks_at_kind(text: &[u8]) -> bool
     ensures function { result ≡ is_on_kind (caveat_of text.now) }

@@ -9,7 +9,7 @@ use crate::caveat::{allows, read};
 use std::error::Error;
 use std::fmt;
 
-/// Why a list of caveats refuses a request. The number of the caveat counts from 1.
+/// Why a list of caveats refuses a request. Caveats are numbered from 1.
 #[derive(Clone, Copy, Debug, PartialEq, Eq)]
 pub enum CaveatFault {
     /// The caveat isn't understood.
@@ -48,8 +48,8 @@ fn fault_of_text(text: &[u8], number: usize, ask: &Ask) -> Option<CaveatFault>
 }
 
 /// Returns the fault of one caveat with this number in its list; `None` if it allows the request. A
-/// caller that tests caveats one by one numbers them from 1; the first fault that comes is that of
-/// the list.
+/// caller that tests caveats one by one numbers them from 1; the first fault that it gets is the
+/// fault of the list.
 #[tactic(auto, using(crate::proofs::CaveatOfLemmas::is_fault_at))]
 pub fn fault_at(text: &[u8], number: usize, ask: &Ask) -> Option<CaveatFault>
     ensures cases { IsFaultAt text.now number ask.now result }

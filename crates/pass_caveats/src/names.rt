@@ -11,8 +11,8 @@ use std::marker::Model;
 /// The most names of a list in a caveat.
 pub const MAX_NAMES: usize = 8;
 
-/// One to eight names with commas between them, borrowed from a text. Contracts see them as the
-/// list of the names.
+/// One to eight comma-separated names, borrowed from a text. Contracts see them as the list of the
+/// names.
 #[derive(Debug, Drop)]
 pub struct Names<'a> {
     text: &'a [u8],
@@ -31,7 +31,8 @@ impl<'a> Model for Names<'a> {
 }
 
 impl<'a> Names<'a> {
-    /// Returns the names of a list with commas; `None` if it isn't a list of one to eight names.
+    /// Returns the names of a comma-separated list; `None` if it isn't a list of one to eight
+    /// names.
     pub fn read(text: &'a [u8]) -> Option<Names<'a>>
         ensures { Reads (λ names. AreNames names × (text.now ≡ comma_list names)) result }
     {

@@ -28,7 +28,7 @@ pub(crate) fn has_part(text: &[u8], name: &[u8]) -> bool
     text.split(|byte| *byte == b',').any(|part| part == name)
 }
 
-/// Returns the part before the first comma, and what follows the comma, if there is one.
+/// Returns the part before the first comma, and the text after the comma, if there is one.
 fn first_part(text: &[u8]) -> (&[u8], Option<&[u8]>)
     ensures { comma_parts text.now ≡ result.0.now ∷ parts_left (option_copied result.1) }
 {
@@ -38,7 +38,8 @@ fn first_part(text: &[u8]) -> (&[u8], Option<&[u8]>)
     }
 }
 
-/// Returns whether the next part is the word, and what follows it; if it isn't, the whole rest.
+/// Returns whether the next part is the word, and the text after it. If it isn't the word, returns
+/// the whole rest.
 pub(crate) fn skip<'a>(rest: Option<&'a [u8]>, word: &[u8]) -> (bool, Option<&'a [u8]>)
     ensures { Skips word.now (parts_left (option_copied rest.entry)) result.0
         (parts_left (option_copied result.1)) }

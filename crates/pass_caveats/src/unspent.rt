@@ -7,18 +7,19 @@ use crate::ask::Ask;
 use crate::caveat::{Caveat, allows, read};
 use crate::fault::CaveatFault;
 
-/// The fault for a key that has spent nothing before, and how much it may have spent for the same.
+/// The fault for a key that has spent nothing before, and how much it may have spent for the same
+/// fault.
 #[derive(Clone, Copy, Debug, PartialEq, Eq)]
 pub struct Unspent {
     /// The fault; `None` if the request is allowed.
     pub fault: Option<CaveatFault>,
-    /// The most that the key may have spent before for the same fault; `None` if any amount gives
-    /// the same.
+    /// The most that the key may have spent before for the same fault; `None` if every amount gives
+    /// the same fault.
     pub slack: Option<u64>,
 }
 
-/// Returns the fault of one caveat with this number in its list, if the key has spent nothing
-/// before. For any amount up to the slack it is the same, and for no other.
+/// Returns the fault of one caveat with this number in its list, for a key that has spent nothing
+/// before. The fault is the same for amounts up to the slack, and for no others.
 pub fn unspent_at(text: &[u8], number: usize, ask: &Ask) -> Unspent
     ensures { HoldsWithin text.now number ask.now result.fault result.slack }
 {
@@ -40,8 +41,8 @@ pub fn unspent_at(text: &[u8], number: usize, ask: &Ask) -> Unspent
     }
 }
 
-/// Returns what a spend limit leaves for earlier spending, if the charge alone is within it; `None`
-/// if the caveat limits nothing.
+/// Returns the part of a spend limit that is left for earlier spending, if the charge alone is
+/// within the limit; `None` if the caveat limits nothing.
 fn slack_of(caveat: &Caveat, ask: &Ask) -> Option<u64>
     ensures { result ≡ slack_under caveat.now ask.now }
 {

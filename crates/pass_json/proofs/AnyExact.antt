@@ -27,7 +27,7 @@ same_reading One Other to from text (Err fault) h =
 abbrev Computed : Relation
 Computed form bytes wide = wide_in form bytes ≡ Some wide
 
--- by the laws of each form, and of texts
+-- the reading is exact, by the laws of each form and of texts
 module _ (packets : ComputesSpelled SpellsV1 v1.wide_at) (sections : ComputesSpelled SpellsV2 v2.wide_at)
     (json : ComputesSpelled SpellsJson wide_json) (texts : ReadsTextsExactly) where
   in_each : (form : Form) (bytes : List ℕ) (wide : WidePass) → SpellsForm form bytes wide ↔ Computed form bytes wide

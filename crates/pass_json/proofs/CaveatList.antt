@@ -5,11 +5,11 @@ use Rattle.pass_json.proofs.Common.{common_steps}
 use Rattle.pass_forms.specs.computed.Parts.{◌>>=◌}
 use Rattle.serde_json.specs.declared.value.Value.{Value}
 
--- what is kept of all caveats
+-- the parts that are kept of all caveats
 abbrev pub kept_of : Items → Option (List (List ℕ) × Bool)
 kept_of items = option_map kept_caveats (caveats_of items)
 
--- what was kept before the rest
+-- the parts kept before the rest
 abbrev pub with_kept : List (List ℕ) → Bool → Option (List (List ℕ) × Bool) → Option (List (List ℕ) × Bool)
 with_kept identifiers third_party rest = option_map (λ p. (identifiers ++ p.0, third_party || p.1)) rest
 

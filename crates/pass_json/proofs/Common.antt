@@ -1,4 +1,4 @@
--- The names that most proofs here cite, passed on from one place. Declares nothing.
+-- Re-exports the names that most proofs here cite. Declares nothing.
 pub use Rattle.std.proofs.Common.{arith, ◌≡◌, ℕ, List, length, Option, refl, Bool, ap, Some, [], true, ◌∙◌, map, false, Result, ◌≤◌, ◌∷◌, None, sym, ◌↔◌, Ok}
 pub use Rattle.std.proofs.Common.{Err, subst, ◌⊎◌, inl, inr, cond, codes, append_assoc, ◌<◌, ◌++◌, drop, eqb, rules, ◌+◌, ◌||◌, get_or, ◌&&◌, Bor, Contains}
 pub use Rattle.std.proofs.{Common.{decimal, option_and_then, append-nil, ltb, Vec, Global, take}, lemmas.Bool.{eq-eqb, and_parts, eqb-true, or_from}}

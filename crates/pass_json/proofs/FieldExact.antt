@@ -1,4 +1,4 @@
--- A field, computed, is what is spelled.
+-- The computed field is the one that is spelled.
 use Rattle.pass_json.proofs.Common.{◌≡◌, ℕ, List, Option, Some, None, refl, sym, ap, subst, ◌⊎◌, inl, inr, option_map, Data, string, object, Members, get}
 use Rattle.pass_json.proofs.Common.{as_str, FromBase64IsBase64, IsBase64, IsField, decoded_text, field_bytes, field_from, must_have, arith}
 use Rattle.pass_forms.specs.computed.{Envelope.from_base64, Parts.{◌>>=◌}}
@@ -25,7 +25,7 @@ IsFieldBytes plain base64 (Some bytes) =
 required_by : (o : Option (Option (List ℕ))) (bytes : List ℕ) → must_have o ≡ Some bytes → o ≡ Some (Some bytes)
 required_by o bytes e = grind arith
 
--- What has a field is an object.
+-- A value with a field is an object.
 pub is_object : (plain base64 : List ℕ) (value : Data) (bytes : List ℕ) → IsField plain base64 value (Some bytes) →
     (members : Members) × (value ≡ object members)
 is_object plain base64 value bytes h = grind arith

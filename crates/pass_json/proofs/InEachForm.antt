@@ -3,12 +3,12 @@ use Rattle.pass_json.proofs.Common.{◌≡◌, ◌↔◌, ℕ, List, length, Res
 use Rattle.pass_json.proofs.Common.{IsWriting, v1_bytes, v2_bytes, TextsReadBack, WritesExactly, IsAnyReading, IsTextIn, SpellsForm, writing, JsonReadsBack}
 use Rattle.pass_json.proofs.{Common.{WritesJsonExactly, MayFailAs, arith}, Wrapped.reads_back}
 
--- what is read back of a text is its reading
+-- the pass read back from a text is the text's reading
 pub back_from : (form : Form) (bytes : List ℕ) (pass : Plain) (text : List ℕ) → IsReadBack (SpellsForm form) form bytes pass text →
     IsAnyReading text (Ok (form, pass))
 back_from form bytes pass text back = reads_back text form bytes pass back.content back.read
 
--- What the writers of V1 and V2 answer, any writer may.
+-- The results of the writers of V1 and V2 are allowed for any writer.
 pub may_fail : (writing : Result (List ℕ) FormFault) (fault : FormFault) → FailsAs writing fault → MayFailAs writing fault
 may_fail writing fault h = grind arith
 

@@ -1,4 +1,4 @@
--- What is computed of JSON is what it spells.
+-- The computed pass of JSON is the pass that it spells.
 use Rattle.pass_json.proofs.Common.{◌≡◌, ◌↔◌, ℕ, Bool, true, cond, eqb, ◌&&◌, List, [], ◌∷◌, codes, length, Option, Some, None, Result, refl, sym, ap, subst}
 use Rattle.pass_json.proofs.Common.{◌∙◌, unwrap_or, IsUtf8, is_utf8, and_parts, eq-eqb, eqb-true, IsUtf8-from_is_utf8, is_utf8-from_IsUtf8, Data, array, object}
 use Rattle.pass_json.proofs.Common.{Items, no_items, item, Members, get, as_array, read, FormFault, FromBase64IsBase64, AnswersExactly, Plain, WideCaveat}

@@ -46,7 +46,7 @@ whole caveats identifier location signature =
 
 -- ---- it is the object of the pass
 
--- the member put among others
+-- the member inserted among others
 abbrev put_text : List ℕ → List ℕ → FieldText → Members → Members
 put_text plain base64 (true, text) rest = put plain (string text) rest
 put_text plain base64 (false, text) rest = put base64 (string text) rest
@@ -59,7 +59,7 @@ put_by test plain base64 bytes rest e = grind arith
 put_is : (plain base64 bytes : List ℕ) (rest : Members) → put_member plain base64 bytes rest ≡ put_text plain base64 (field_text bytes) rest
 put_is plain base64 bytes rest = put_by (is_utf8 bytes) plain base64 bytes rest refl
 
--- It may be the first.
+-- The member may be the first.
 put_first : (plain base64 : List ℕ) (one : FieldText) → put_text plain base64 one no_members ≡ named plain base64 one no_members
 put_first plain base64 one = grind arith
 
@@ -115,7 +115,7 @@ object_reads pass =
 
 -- ---- its numbers, its depth, its floats and its texts
 
--- what a value needs to be written, and to be read back: numbers of JSON, at most this depth, no floats, texts in UTF-8
+-- the conditions for a value to be written and read back: numbers of JSON, at most this depth, no floats, and texts in UTF-8
 pub record IsFine (Numbers : Type 0) (depth most : ℕ) (float : Bool) (Texts : Type 0) : Type 0 where
   pub numbers : Numbers
   pub shallow : depth ≤ most

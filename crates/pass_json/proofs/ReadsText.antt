@@ -8,7 +8,7 @@ use Rattle.json.proofs.Printed.{Tokens.tokens-print, Trees.{ArePrintable-json_to
 use Rattle.json.proofs.Printed.Utf8.{IsUtf8-are_ascii, IsUtf8-boolean, IsUtf8-key, IsUtf8-quoted}
 use Rattle.serde_json.proofs.Texts.{print-outline}
 
--- what follows the grammar's reading
+-- the value after the grammar's parse
 abbrev of_parsed : Option (Json × List Token) → Option Data
 of_parsed parsed = option_and_then of_json (option_and_then (λ p. if_last p.0 p.1) parsed)
 

@@ -1,4 +1,4 @@
--- What the writer of JSON answers, and that its text is read back.
+-- The result of the writer of JSON, and the proof that its text is read back.
 use Rattle.pass_json.proofs.Common.{◌≡◌, ◌↔◌, ℕ, Bool, cond, ltb, List, length, Result, Ok, Err, refl, FormFault, TooLong, TooMany, Json, FromBase64IsBase64}
 use Rattle.pass_json.proofs.Common.{Plain, max_caveats, max_text_len, HasBytes, IsReadBack, IsWritableText, IsWriting, SpellsJson, IsJsonText, IsRefusedJson}
 use Rattle.pass_json.proofs.{Common.{MayFailAs, json_text, WritesJsonExactly, arith}, WritingOnce.one_writing_for_each_form}
@@ -12,7 +12,7 @@ answer_by many long text = cond many (Err TooMany) (cond long (Err TooLong) (Ok 
 
 -- ---- the result, a text or a fault
 
--- the computed result, by its two tests, is one that the relation allows
+-- the computed result, which depends on two tests, is one that the relation allows
 allowed_by : FromBase64IsBase64 → (pass : Plain) (many long : Bool) → HasBytes pass → length pass.signature ≡ 32
     → ltb max_caveats (length pass.caveats) ≡ many → ltb max_text_len (length (json_text pass)) ≡ long
     → IsWriting IsJsonText pass (answer_by many long (json_text pass))

@@ -1,4 +1,4 @@
--- A writing has one result: its text is short and few enough, or it isn't.
+-- Writing a pass has only one result: either the text and the number of caveats are within their limits, or not both.
 use Rattle.pass_json.proofs.Common.{arith, OneTextEachForm, OneWritingEachForm}
 
 pub one_writing_for_each_form : OneTextEachForm → OneWritingEachForm

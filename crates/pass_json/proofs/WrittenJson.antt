@@ -1,4 +1,4 @@
--- What is written of a pass in JSON spells it, and is read back.
+-- The written form of a pass in JSON spells the pass, and is read back.
 use Rattle.pass_json.proofs.Common.{◌≡◌, ℕ, Bool, true, false, eqb, List, [], ◌∷◌, length, map, Option, Some, None, refl, ap, ◌∙◌, arith, AllByRecursion}
 use Rattle.pass_json.proofs.Common.{IsUtf8, is_utf8, eq-eqb, IsBytes, encode_of, object, Items, no_members, read, FromBase64IsBase64, starts_with_brace, Plain}
 use Rattle.pass_json.proofs.Common.{WideCaveat, as_wide_pass, widened_caveat, HasBytes, SpellsJson, caveat_from, caveats_of, field_from, has_only_names}
@@ -10,7 +10,7 @@ use Rattle.pass_forms.specs.computed.Envelope.{from_base64}
 
 -- ---- the members hold the parts of the pass
 
--- the text under a name holds these bytes
+-- the text under a name encodes these bytes
 abbrev YieldsBytes : FieldText → List ℕ → Type 0
 YieldsBytes (true, text) bytes = text ≡ bytes
 YieldsBytes (false, text) bytes = from_base64 text ≡ Some bytes

@@ -1,10 +1,10 @@
--- Pass texts in any of the three forms (ours): how they are read and written.
+-- Reading and writing pass texts in any of the three forms (ours).
 use Rattle.std.specs.Prelude.{◌≡◌, ◌⊎◌, ℕ, List, length, Result, Ok, Err}
 use Rattle.pass_forms.specs.{Envelope.IsUnwrapped, Pass.{Plain, WidePass}, Reading.IsReadAs, Text.IsTextReading, V1.SpellsV1, V2.SpellsV2}
 use Rattle.pass_forms.specs.{Writing.{IsWriteFault, IsV1Text, IsV2Text}, declared.{fault.FormFault.FormFault, form.Form.{Form, TheVariants.{V1, V2, Json}}}}
 use Rattle.pass_json.specs.{Json.SpellsJson, JsonWriting.{IsJsonText, IsRefusedJson}}
 
--- Bytes spell a wide pass in this form.
+-- The bytes spell the wide pass in this form.
 abbrev pub SpellsForm : Form → List ℕ → WidePass → Type 0
 SpellsForm V1 bytes wide = SpellsV1 bytes wide
 SpellsForm V2 bytes wide = SpellsV2 bytes wide
@@ -19,8 +19,7 @@ abbrev pub IsReadingInForm : Form → List ℕ → Result (Form × Plain) FormFa
 IsReadingInForm form bytes (Ok read) = (read.0 ≡ form) × IsReadAs (length bytes) (SpellsForm form bytes) (Ok read.1)
 IsReadingInForm form bytes (Err fault) = IsReadAs (length bytes) (SpellsForm form bytes) (Err fault)
 
--- When reading a text may run out of memory: in V1 and V2 only for a pass that passed all checks, in JSON for any text
--- within the limit.
+-- The cases in which reading a text may run out of memory: in V1 and V2 only for a pass that passed all checks, in JSON for any text within the limit.
 abbrev pub MayRunOut : List ℕ → Type 0
 MayRunOut text =
     ((read : Form × Plain) × IsAnyReading text (Ok read)) ⊎ ((bytes : List ℕ) × IsUnwrapped text (Ok (Json, bytes)))

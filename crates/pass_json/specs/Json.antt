@@ -1,11 +1,11 @@
--- The JSON spelling of a pass: one object, after libmacaroons' V2 JSON. Which names may be left out, and that a `64` name
--- takes either alphabet of base64, is ours.
+-- The JSON spelling of a pass: one object, in the style of libmacaroons' V2 JSON. It is ours which names may be left out, and that a `64` name takes both
+-- alphabets of base64.
 use Rattle.std.specs.Prelude.{◌≡◌, ◌⊎◌, ℕ, List, [], ◌∷◌, codes, length, Option, None, Some, unwrap_or, IsSome, IsUtf8, Contains}
 use Rattle.serde_json.specs.{Data.{Data, number, string, array, unsigned, Items, no_items, item}, Find.get, Read.read}
 use Rattle.pass_forms.specs.{Envelope.IsBase64, Pass.{WideCaveat, WidePass}}
 
--- Bytes are under a plain name, as a text that has these bytes in UTF-8, or under a `64` name, as a text that is base64
--- of them. They are never under both, and may be under neither.
+-- Bytes are under a plain name, as the text that has these bytes in UTF-8, or under a `64` name, as base64. They are never under both names, and may be under
+-- neither.
 abbrev pub IsField : List ℕ → List ℕ → Data → Option (List ℕ) → Type 0
 IsField plain base64 value None = (get plain value ≡ None) × (get base64 value ≡ None)
 IsField plain base64 value (Some bytes) =
@@ -25,14 +25,14 @@ pass_names =
 abbrev pub caveat_names : List (List ℕ)
 caveat_names = codes "i" ∷ codes "i64" ∷ codes "l" ∷ codes "l64" ∷ codes "v" ∷ codes "v64" ∷ []
 
--- The value is an object, since it has an identifier, and holds the caveat. `v` is the verifier id here, and the version of a pass.
+-- The value is an object with an identifier, and holds the caveat. In a caveat, `v` is the verifier id; in a pass, it is the version.
 pub record IsCaveatObject (value : Data) (caveat : WideCaveat) : Type 0 where
   pub names : HasOnly caveat_names value
   pub identifier : IsField (codes "i") (codes "i64") value (Some caveat.identifier)
   pub verifier_id : IsField (codes "v") (codes "v64") value caveat.verifier_id
   pub location : IsField (codes "l") (codes "l64") value caveat.location
 
--- each item is a caveat, in their order
+-- the items are the caveats, in order
 abbrev pub AreCaveats : Items → List WideCaveat → Type 0
 AreCaveats no_items [] = Unit {0}
 AreCaveats (item value values) (caveat ∷ caveats) = IsCaveatObject value caveat × AreCaveats values caveats
@@ -48,11 +48,11 @@ abbrev pub IsVersion : Option Data → Type 0
 IsVersion None = Unit {0}
 IsVersion (Some value) = value ≡ number (unsigned 2)
 
--- The value is an object, since it has an identifier, and holds the pass.
+-- The value is an object with an identifier, and holds the pass.
 pub record IsPass (value : Data) (wide : WidePass) : Type 0 where
   pub names : HasOnly pass_names value
   pub version : IsVersion (get (codes "v") value)
-  -- a location that is left out is the empty one
+  -- a missing location is the empty location
   pub location : Option (List ℕ)
   pub is_location : IsField (codes "l") (codes "l64") value location
   pub location_is : wide.location ≡ unwrap_or location []

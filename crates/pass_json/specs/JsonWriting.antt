@@ -34,17 +34,16 @@ object_of pass =
     (put (codes "c") (array (caveat_objects pass.caveats))
     (put_member (codes "i") (codes "i64") pass.identifier (with_location pass.location no_members)))))
 
--- its text, with no white space, as `serde_json` writes it: the names in the order of their bytes
+-- the text of this object as `serde_json` writes it, without white space and with the names in the order of their bytes
 unfoldable pub json_text : Plain → List ℕ
 json_text pass = compact_text (object_of pass)
 
--- The text of this pass: that of its object, which spells it.
+-- The text of this pass is the text of its object, which spells the pass.
 pub record IsJsonText (pass : Plain) (text : List ℕ) : Type 0 where
   pub compact : text ≡ json_text pass
   pub spelling : SpellsJson text (as_wide_pass pass)
 
--- The writer's faults: those of the other forms. Memory may also run out for a text that is too long, since the text is
--- written before it is measured.
+-- The writer's faults are those of the other forms. Memory may run out even for a text that is too long, since the text is written before it is measured.
 abbrev pub IsRefusedJson : Plain → FormFault → Type 0
 IsRefusedJson pass Memory = length pass.caveats ≤ max_caveats
 IsRefusedJson pass TooLong = IsWriteFault IsJsonText pass TooLong
@@ -52,8 +51,7 @@ IsRefusedJson pass Malformed = IsWriteFault IsJsonText pass Malformed
 IsRefusedJson pass ThirdParty = IsWriteFault IsJsonText pass ThirdParty
 IsRefusedJson pass TooMany = IsWriteFault IsJsonText pass TooMany
 
--- The fault that a writer may return for this computed result: the same fault, or out of memory in place of a text or of
--- `TooLong`.
+-- The fault that a writer may return for this computed result: the same fault, or out of memory instead of a text or of `TooLong`.
 abbrev pub MayFailAs : Result (List ℕ) FormFault → FormFault → Type 0
 MayFailAs writing Memory = ¬ (writing ≡ Err TooMany)
 MayFailAs writing TooLong = writing ≡ Err TooLong

@@ -45,12 +45,12 @@ abbrev pub WritesAnyFormExactly : Type 0
 WritesAnyFormExactly = (form : Form) (pass : Plain) (answer : Result (List ℕ) FormFault) → HasBytes pass → length pass.signature ≡ 32 →
     (writing form pass ≡ answer) ↔ IsWriting (IsTextIn form) pass answer
 
--- A text has one reading: its form and its pass, or its fault.
+-- A text has exactly one reading: its form and its pass, or its fault.
 abbrev pub OneReadingEachText : Type 0
 OneReadingEachText = (text : List ℕ) (one other : Result (Form × Plain) FormFault) → IsAnyReading text one → IsAnyReading text other →
     one ≡ other
 
--- Writing a pass in a form has one result: its text, or its fault.
+-- Writing a pass in a form has exactly one result: its text or its fault.
 abbrev pub OneWritingEachForm : Type 0
 OneWritingEachForm = (form : Form) (pass : Plain) (one other : Result (List ℕ) FormFault) →
     IsWriting (IsTextIn form) pass one → IsWriting (IsTextIn form) pass other → one ≡ other

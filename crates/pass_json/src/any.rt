@@ -17,19 +17,19 @@ use pass_forms::{
 };
 use std::alloc::Global;
 
-/// Reads a pass text in any form: JSON plain or in base64, V1 and V2 in base64. `unwrap_text`
-/// decides the form.
+/// Reads a pass text in any form: plain JSON, or base64 of JSON, V1 or V2. `unwrap_text` decides
+/// the form.
 ///
 /// # Errors
 ///
-/// The first that applies: `TooLong` for more than 8,192 bytes, `Malformed` if the text spells no
-/// pass in any form, `ThirdParty` if a caveat is a third party's, `TooMany` for more than 64
-/// caveats. `Memory` only if an allocation fails, in V1 and V2 only for a pass that passed all
-/// checks.
+/// Fails with the first fault that applies: `TooLong` for more than 8,192 bytes, `Malformed` if the
+/// text isn't a pass in any form, `ThirdParty` if there is a third-party caveat, `TooMany` for more
+/// than 64 caveats. Fails with `Memory` only if an allocation fails, and in V1 and V2 only for a
+/// pass that passed all checks.
 pub fn read_any(alloc: Global, text: &[u8]) -> Result<(Form, Pass), FormFault>
     // The pass that the text spells, in any form.
     ensures spelling { UnlessMemory (IsAnyReading text.now) result }
-    // The same, computed.
+    // The same result, computed from the text.
     ensures computed { UnlessMemory (λ answer. reading text.now ≡ answer) result }
     ensures memory { result ≡ Err Memory → MayRunOut text.now }
 {
@@ -37,7 +37,7 @@ pub fn read_any(alloc: Global, text: &[u8]) -> Result<(Form, Pass), FormFault>
     unwrapping(alloc, text)
 }
 
-// The same, by what the text wraps.
+// The same result, from the contents that the text wraps.
 fn unwrapping(alloc: Global, text: &[u8]) -> Result<(Form, Pass), FormFault>
     ensures spelling { UnlessMemory (IsAnyReading text.now) result }
     ensures memory { result ≡ Err Memory → MayRunOut text.now }
@@ -65,19 +65,20 @@ fn in_form(alloc: Global, form: Form, bytes: &[u8]) -> Result<Pass, FormFault>
     }
 }
 
-/// Returns the text of a pass in this form: V1 and V2 in base64, JSON plain.
+/// Returns the text of a pass in this form: base64 for V1 and V2, plain JSON.
 ///
 /// # Errors
 ///
-/// `TooMany` for more than 64 caveats, else `TooLong` if the pass has no such text of at most 8,192
-/// bytes. `Memory` only if an allocation fails; in JSON also for a text that is too long.
+/// Fails with `TooMany` for more than 64 caveats, and otherwise with `TooLong` if the pass has no
+/// such text of at most 8,192 bytes. Fails with `Memory` only if an allocation fails, in JSON even
+/// for a text that is too long.
 #[tactic(auto, using(crate::proofs::InEachForm::may_fail), unfolding(crate::specs::computed::AnyForm::writing))]
 pub fn write_any(alloc: Global, form: Form, pass: &Pass) -> Result<String, FormFault>
     ensures ok { IfOk result (λ text. IsWritableText (IsTextIn form) pass.now (string_bytes text)) }
     ensures err { IfErr result (IsRefusedIn form pass.now) }
     ensures read_back { IfOk result
         (λ text. IsAnyReading (string_bytes text) (Ok (form, pass.now))) }
-    // The same, computed from the pass.
+    // The same result, computed from the pass.
     ensures computed { MatchResult result (λ text. writing form pass.now ≡ Ok (string_bytes text))
         (MayFailAs (writing form pass.now)) }
 {

@@ -1,4 +1,4 @@
-//! One field of an object: bytes under a plain name, or under a `64` name.
+//! One field of an object: bytes under a plain name, or in base64 under a `64` name.
 
 ghost use Rattle.std.specs.Prelude.{◌≡◌, Some, option_map, IfErr, IfOk};
 ghost use Rattle.serde_json.specs.{Find.as_str, View.view};
@@ -39,7 +39,7 @@ fn plain_bytes(alloc: Global, value: &Value) -> Result<Vec<u8>, FormFault>
     Ok(Vec::from_slice(alloc, text.as_bytes())?)
 }
 
-// The bytes that a text is base64 of.
+// The bytes that a text encodes in base64.
 fn decode_text(alloc: Global, value: &Value) -> Result<Vec<u8>, FormFault>
     ensures ok { IfOk result (λ bytes. decoded_text (view value.now) ≡ Some bytes.items) }
     ensures err { IfErr result (RefusesPart (decoded_text (view value.now))) }

@@ -1,10 +1,10 @@
-//! The fields of a pass that was read, one after the other.
+//! The fields of a pass that was read, one after another.
 
 use pass_forms::{Field, FieldSource, Pass, PassFields};
 use std::marker::Model;
 
-/// The fields of a pass that `read_json` or `read_any` returned, without a copy: each is a slice of
-/// the pass. Contracts see them as the list of the fields that are left.
+/// The fields of a pass that `read_json` or `read_any` returned. Nothing is copied: each field is a
+/// slice of the pass. Contracts see them as the list of the fields that are left.
 #[derive(Drop)]
 pub struct JsonFields<'a> {
     fields: PassFields<'a>,
@@ -23,7 +23,7 @@ impl<'a> JsonFields<'a> {
     ghost use Rattle.std.specs.Prelude.{◌≡◌};
     ghost use Rattle.pass_forms.specs.FieldSource.{pass_fields};
 
-    /// Returns all fields of the pass. No memory is allocated.
+    /// Returns all fields of the pass. Allocates no memory.
     pub fn over(pass: &'a Pass) -> JsonFields<'a>
         ensures { result ≡ pass_fields pass.now }
     {

@@ -61,13 +61,12 @@ pub fn refuses_what_wraps_nothing()
     ensures { RefusesWhatWrapsNothing }
 {}
 
-/// A text that is written in JSON is read back as the same pass.
+/// A text written in JSON is read back as the same pass.
 pub fn json_reads_back()
     ensures { JsonReadsBack }
 {}
 
-/// The relation allows exactly one result of writing a pass in JSON: the computed one, a text or a
-/// fault.
+/// The relation allows exactly one result of writing a pass in JSON: the computed text or fault.
 #[tactic(auto, using(crate::proofs::WritingJson::exact_json))]
 pub fn writes_json_exactly()
     ensures { WritesJsonExactly }
@@ -75,7 +74,7 @@ pub fn writes_json_exactly()
     from_base64_is_base64();
 }
 
-/// A pass has at most one text in each form that a writer may write.
+/// A pass has at most one text in each form that a writer may return.
 #[tactic(auto, using(crate::proofs::InEachForm::one_text))]
 pub fn one_text_for_each_form()
     ensures { OneTextEachForm }
@@ -90,8 +89,8 @@ pub fn any_form_reads_back()
     json_reads_back();
 }
 
-/// The relation allows exactly one result of writing a pass, in any form: the computed one, a text
-/// or a fault.
+/// The relation allows exactly one result of writing a pass in any form: the computed text or
+/// fault.
 #[tactic(auto, using(crate::proofs::InEachForm::exact_in_any_form))]
 pub fn writes_any_form_exactly()
     ensures { WritesAnyFormExactly }
@@ -100,7 +99,7 @@ pub fn writes_any_form_exactly()
     writes_json_exactly();
 }
 
-/// A text has one reading: its form and its pass, or its fault.
+/// A text has exactly one reading: its form and its pass, or its fault.
 #[tactic(auto, using(crate::proofs::AnyExact::one_reading))]
 pub fn one_reading_for_each_text()
     ensures { OneReadingEachText }
@@ -111,7 +110,7 @@ pub fn one_reading_for_each_text()
     reads_texts_exactly();
 }
 
-/// Writing a pass in a form has one result: its text, or its fault.
+/// Writing a pass in a form has exactly one result: its text or its fault.
 pub fn one_writing_for_each_form()
     ensures { OneWritingEachForm }
 {

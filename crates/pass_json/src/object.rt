@@ -1,4 +1,4 @@
-//! The object of a pass, and those of its caveats.
+//! The JSON object of a pass, and the objects of its caveats.
 
 ghost use Rattle.std.specs.Prelude.{◌≡◌, Some, codes, option_map, map, IfErr, IfOk};
 ghost use Rattle.pass_forms.specs.computed.Reading.{pass_summary};
@@ -16,7 +16,8 @@ const PASS_NAMES: [&str; 8] = ["v", "l", "l64", "i", "i64", "c", "s", "s64"];
 
 const CAVEAT_NAMES: [&str; 6] = ["i", "i64", "l", "l64", "v", "v64"];
 
-/// The pass of an object, and what the pass itself doesn't hold.
+/// The pass of an object, and whether it has a third-party caveat, which the pass itself doesn't
+/// hold.
 #[derive(Drop)]
 pub struct Read {
     pub pass: Pass,
@@ -24,14 +25,14 @@ pub struct Read {
     pub third_party: bool,
 }
 
-// A caveat, and whether it is a third party's.
+// A caveat, and whether it is a third-party caveat.
 #[derive(Drop)]
 struct Caveat {
     identifier: Vec<u8>,
     third_party: bool,
 }
 
-// The identifiers of caveats, and whether any is a third party's.
+// The identifiers of caveats, and whether any is a third-party caveat.
 #[derive(Drop)]
 struct Caveats {
     identifiers: Vec<Vec<u8>>,
@@ -64,7 +65,7 @@ pub fn pass_from(alloc: Global, value: &Value) -> Result<Read, FormFault>
     })
 }
 
-// Whether the version is the whole number 2, or left out.
+// Whether the version is the whole number 2 or missing.
 fn is_version(value: &Value) -> bool
     ensures { result ≡ reading.is_version (get (codes "v") (view value.now)) }
 {
@@ -74,7 +75,7 @@ fn is_version(value: &Value) -> bool
     }
 }
 
-// The bytes of a field that may not be left out.
+// The bytes of a required field.
 fn must_have(alloc: Global, value: &Value, plain: &str, base64: &str) -> Result<Vec<u8>, FormFault>
     ensures ok { IfOk result
         (λ bytes. reading.must_have (reading.field_from plain.now base64.now (view value.now))

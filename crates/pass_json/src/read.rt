@@ -13,18 +13,18 @@ use pass_forms::{FormFault, MAX_CAVEATS, MAX_TEXT, Pass};
 use serde_json::Value;
 use std::alloc::Global;
 
-/// Reads a pass from JSON: one object after libmacaroons' V2 JSON, as `serde_json` parses it. Its
-/// names may come in any order, and white space is allowed.
+/// Reads a pass from JSON: one object in the style of libmacaroons' V2 JSON, as `serde_json` parses
+/// it. The names may come in any order, and white space is allowed.
 ///
 /// # Errors
 ///
-/// The first that applies: `TooLong` for more than 8,192 bytes, `Malformed` if the bytes spell no
-/// pass, `ThirdParty` if a caveat is a third party's, `TooMany` for more than 64 caveats. `Memory`
-/// only if an allocation fails, and only for bytes within the limit.
+/// Fails with the first fault that applies: `TooLong` for more than 8,192 bytes, `Malformed` if the
+/// bytes aren't a pass, `ThirdParty` if there is a third-party caveat, `TooMany` for more than 64
+/// caveats. Fails with `Memory` only if an allocation fails, and only for bytes within the limit.
 pub fn read_json(alloc: Global, bytes: &[u8]) -> Result<Pass, FormFault>
     // The pass that the bytes spell.
     ensures spelling { UnlessMemory (IsReadAs (length bytes.now) (SpellsJson bytes.now)) result }
-    // The same, computed.
+    // The same result, computed from the bytes.
     ensures computed { UnlessMemory (λ answer. reading.reading_json bytes.now ≡ answer) result }
     ensures memory { result ≡ Err Memory → length bytes.now ≤ max_text_len }
 {
@@ -32,7 +32,7 @@ pub fn read_json(alloc: Global, bytes: &[u8]) -> Result<Pass, FormFault>
     read_object(alloc, bytes)
 }
 
-// The pass of an object, or the first fault that applies.
+// The pass of an object, or else the first fault that applies.
 #[tactic(auto, unfolding(crate::specs::computed::JsonReading::reading_json, crate::specs::computed::JsonReading::wide_json))]
 fn read_object(alloc: Global, bytes: &[u8]) -> Result<Pass, FormFault>
     ensures answer { UnlessMemory (λ answer. reading.reading_json bytes.now ≡ answer) result }

@@ -18,20 +18,20 @@ use pass_forms::{FormFault, MAX_CAVEATS, MAX_TEXT, Pass};
 use serde_json::{Map, Value, put};
 use std::alloc::{AllocError, Global};
 
-/// Returns the text of a pass in JSON, with no white space and the names in the order of their
+/// Returns the text of a pass in JSON, without white space and with the names in the order of their
 /// bytes. A `64` name is written only if the bytes aren't UTF-8. The signature always has its `64`
 /// name.
 ///
 /// # Errors
 ///
-/// `TooMany` for more than 64 caveats, else `TooLong` for a text of more than 8,192 bytes. `Memory`
-/// only if an allocation fails.
+/// Fails with `TooMany` for more than 64 caveats, and otherwise with `TooLong` for a text of more
+/// than 8,192 bytes. Fails with `Memory` only if an allocation fails.
 pub fn write_json(alloc: Global, pass: &Pass) -> Result<String, FormFault>
     ensures ok { IfOk result (λ text. IsWritableText IsJsonText pass.now (string_bytes text)) }
     ensures err { IfErr result (IsRefusedJson pass.now) }
     ensures read_back { IfOk result
         (λ text. IsReadBack SpellsJson Json (string_bytes text) pass.now (string_bytes text)) }
-    // The same, computed from the pass.
+    // The same result, computed from the pass.
     ensures computed { MatchResult result (λ text. writing_json pass.now ≡ Ok (string_bytes text))
         (MayFailAs (writing_json pass.now)) }
 {
@@ -40,7 +40,7 @@ pub fn write_json(alloc: Global, pass: &Pass) -> Result<String, FormFault>
     short_text(alloc, pass)
 }
 
-// The text, or the first fault that applies.
+// The text, or else the first fault that applies.
 #[tactic(auto, unfolding(crate::specs::computed::JsonWriting::writing_json, crate::specs::JsonWriting::json_text))]
 fn short_text(alloc: Global, pass: &Pass) -> Result<String, FormFault>
     ensures bytes { OnOk result (HasBytes pass.now) }

@@ -23,7 +23,7 @@ abbrev pub GrowsByOneHmac : Type 0
 GrowsByOneHmac = (key identifier : List ℕ) (caveats : List (List ℕ)) (caveat : List ℕ) →
     chain key identifier (caveats ++ caveat ∷ []) ≡ hmac (chain key identifier caveats) caveat
 
--- The signature of some caveats is enough to compute that of more caveats, without the key.
+-- The signature of some caveats is enough to compute the signature of more caveats, without the key.
 abbrev pub NarrowsWithoutTheKey : Type 0
 NarrowsWithoutTheKey = (key identifier signature : List ℕ) (caveats more : List (List ℕ)) →
     signature ≡ chain key identifier caveats → extended_signature signature more ≡ chain key identifier (caveats ++ more)

@@ -1,4 +1,4 @@
--- HMAC with SHA-256 (RFC 2104, section 2; SHA-256 is that of FIPS 180-4).
+-- HMAC (RFC 2104, section 2) with SHA-256 (FIPS 180-4).
 use Rattle.std.specs.Prelude.{ℕ, ◌-◌, List, ◌++◌, length, map, replicate, nat_lt, if◌then◌else◌, bit_xor}
 use Rattle.sha2.specs.Sha256.{sha256}
 

@@ -2,12 +2,12 @@
 
 ghost use Rattle.pass_mac.specs.Chain.{GrowsByOneHmac, NarrowsWithoutTheKey};
 
-/// A caveat at the end of a chain is one more HMAC.
+/// A caveat at the end of a chain adds one HMAC.
 pub fn grows_by_one_hmac()
     ensures { GrowsByOneHmac }
 {}
 
-/// A signature in a chain, extended by more caveats, is the chain's signature of all of them.
+/// Extending a signature of a chain by more caveats gives the chain's signature of all caveats.
 pub fn narrows_without_the_key()
     ensures { NarrowsWithoutTheKey }
 {}

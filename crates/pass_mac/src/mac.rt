@@ -60,7 +60,7 @@ pub fn derive(root: &[u8]) -> [u8; 32]
     hmac(DERIVATION_KEY, root)
 }
 
-/// Returns whether two signatures are equal. The time it takes may depend on their bytes.
+/// Returns whether two signatures are equal. The running time may depend on their bytes.
 pub fn same(a: &[u8; 32], b: &[u8; 32]) -> bool
     ensures value { result ≡ bytes_eq a.now b.now }
     ensures equal { IsTrue result ↔ (a.now ≡ b.now) }

@@ -1,4 +1,4 @@
--- Laws on what the commands answer.
+-- Laws on the commands' answers.
 use Rattle.std.proofs.Common.{◌≡◌, ◌∙◌, ℕ, ◌+◌, nat_lt, List, length, Result, Ok, Err, MatchResult, refl, sym, ap, subst, codes, inl, inr}
 use Rattle.std.proofs.lemmas.{Bool.cases_Bool, List.Sums.fold-append}
 use Rattle.std.specs.Io.BufRead.{strip_last}

@@ -1,4 +1,4 @@
--- There is one test of caveats, by which arguments ask for one command.
+-- There is only one test of caveats, so arguments ask for only one command.
 use Rattle.std.proofs.{Common.{◌≡◌, ◌↔◌, Bool, true, false, IsTrue, is_some, List, Option, Some, None, Result, refl, sym, ap, subst}, Math.Path.fun_ext}
 use Rattle.clap.specs.Words.{Row, Text}
 use Rattle.command_line.specs.{Job.Answers, JobLaws.{RowsAnswerOnce, ReadsOnce}, declared.errors.ArgumentsFault.ArgumentsFault}
@@ -11,7 +11,7 @@ same_test true b P h k = sym (k.1 (h.0 refl))
 same_test false true P h k = h.1 (k.0 refl)
 same_test false false P h k = refl
 
--- the code's test is one
+-- the code's test is such a test
 pub is_test : ReadsWhatIsUnderstood → IsCaveatTest is_understood
 is_test reads text = (found (caveat_of text) refl, λ is. ap is_some ((reads text is.0).0 is.1))
   where
@@ -24,7 +24,7 @@ pub values_read : ReadsWhatIsUnderstood → (name : Name) (rows : List Row) (res
     → Answers (command_of is_understood name rows) result → ReadsCommand name rows result
 values_read reads name rows result is = record { is_understood = is_understood; is_test = is_test reads; answers = is }
 
--- as one command at most
+-- a row's values are read as at most one command
 pub reads_once : RowsAnswerOnce Command OurBadValue → ReadsOnce ReadsCommand
 reads_once once name rows command result one other =
     let Reads : (Text → Bool) → Type 0 = λ test. Answers (command_of test name rows) result in

@@ -13,6 +13,6 @@ prefix_map : (p : Text → Bool) (xs : List (Bor Text)) → prefix_len p (map (�
 prefix_map p [] = refl
 prefix_map p (x ∷ xs) = ap (λ n. cond (p x.now) (1 + n) 0) (prefix_map p xs)
 
--- the place of a text is that of the reference to it
+-- the position of a text equals the position of the reference to it
 pub place_map : (p : Text → Bool) (xs : List (Bor Text)) → position p (map (λ text. text.now) xs) ≡ position (λ text. p text.now) xs
 place_map p xs = rw (length-map xs (λ text. text.now), prefix_map (λ text. not (p text)) xs) refl

@@ -1,4 +1,4 @@
--- What a command answers is what it performs, and what the arguments ask for is what a run does.
+-- A command performs its answer, and a run performs the command that the arguments ask for.
 use Rattle.std.proofs.Common.{◌≡◌, ℕ, List, Option, Result, Ok, Err, inl, inr, refl, ap₂, subst, sym}
 use Rattle.std.specs.Io.KnownBytes.{Appends}
 use Rattle.clap.specs.Words.{Text}
@@ -37,7 +37,7 @@ module _ (command : Command) (left left' held held' : Option (List ℕ)) (bytes 
   failed fault is = (bytes, reads, is)
 
 module _ (once : AskForOneCommand) (arguments : List Text) (command : Command) (ask : AskForCommand arguments command) where
-  -- what is performed is what the arguments allow
+  -- the performed command is one that the arguments allow
   pub performs_arguments : (left left' held held' : Option (List ℕ)) (result : Result Outcome Fault) → Performs command left left' held held' result
       → AnswersArguments arguments result
   performs_arguments left left' held held' (Ok Done) is = inl (command, ask)

@@ -1,4 +1,4 @@
--- Steps that may fail, one after the other.
+-- Consecutive steps that may fail.
 use Rattle.std.proofs.Common.{◌≡◌, ◌∙◌, Result, Ok, Err, MatchResult, refl, sym, subst}
 use Rattle.pass_forms.specs.{Reading.UnlessMemory, declared.fault.FormFault.{FormFault, TheVariants.Memory}}
 use Rattle.passtool_commands.specs.Answer.{IsOnly, Results, ◌>>=◌}
@@ -9,12 +9,12 @@ module _ {A B : Type 0} (step : Results A) (rest : A → Results B) where
   fails Memory is = tt
   fails fault is = (Err fault, is, refl)
 
-  -- the first step gave this value
+  -- the first step returned this value
   pub goes_on : (value : A) (answer : Result B FormFault) → step (Ok value) → UnlessMemory (rest value) answer → UnlessMemory (step >>= rest) answer
   goes_on value (Err Memory) is next = tt
   goes_on value answer is next = (Ok value, is, next)
 
--- the step has one result at most
+-- the step has at most one result
 abbrev pub HasOne : {A : Type 0} → Results A → Type 0
 HasOne {A} step = (one other : Result A FormFault) → step one → step other → one ≡ other
 

@@ -1,4 +1,4 @@
--- What each command answers (ours).
+-- The answers of the commands (ours).
 use Rattle.std.specs.Io.BufRead.{strip_last}
 use Rattle.std.specs.Prelude.{◌≡◌, ℕ, ◌+◌, Bool, true, false, nat_lt, if◌then◌else◌, List, ◌++◌, length, codes, Result, Ok, Err, MatchResult}
 use Rattle.pass_mac.specs.Chain.{extended_signature}
@@ -9,7 +9,7 @@ use Rattle.pass_json.specs.AnyForm.{IsAnyReading, IsTextIn}
 use Rattle.passtool_commands.specs.{Minting.Minting, Shown.{with_line_feed, shown_text}, declared.answer.Outcome.{Outcome, TheVariants.{Done, NotSigned}}}
 use Rattle.passtool_commands.specs.declared.command.Command.{Command, TheVariants.{Mint, Show, Narrow, Convert, Verify}}
 
--- how the command ended, and the text that it wrote
+-- the command's outcome, and the text that it wrote
 abbrev pub OutcomeText : Type 0
 OutcomeText = Outcome × List ℕ
 
@@ -17,11 +17,11 @@ OutcomeText = Outcome × List ℕ
 abbrev pub Results : Type 0 → Type 1
 Results A = Result A FormFault → Type 0
 
--- the step that has this result alone
+-- the step that has only this result
 abbrev pub IsOnly : {A : Type 0} → Result A FormFault → Results A
 IsOnly expected result = expected ≡ result
 
--- The ? of the logic: the step has a result, and the answer is its fault, or one that the rest has for its value.
+-- Bind for results, like `?` in code: the answer is the step's fault, or a result of the rest for the step's value.
 infixl 10 ◌>>=◌
 abbrev pub ◌>>=◌ : {A B : Type 0} → Results A → (A → Results B) → Results B
 step >>= rest = λ answer. (result : Result _ FormFault) × step result × MatchResult result (λ value. rest value answer) (λ fault. answer ≡ Err fault)
@@ -34,7 +34,7 @@ ReadsPass bytes = IsAnyReading (strip_last 10 bytes)
 abbrev pub done_with : List ℕ → Result OutcomeText FormFault
 done_with text = Ok (Done, with_line_feed text)
 
--- that text, which reads as the pass in its form
+-- the text of the pass in this form, which reads back as the pass
 abbrev pub AnswersText : Form → Plain → List ℕ → Results OutcomeText
 AnswersText form pass text result = (done_with text ≡ result) × ReadsPass (with_line_feed text) (Ok (form, pass))
 
@@ -52,7 +52,7 @@ with_caveats caveats pass = record {
   signature = extended_signature pass.signature caveats;
 }
 
--- the same, unless there are too many caveats
+-- the pass with more caveats, unless these are too many
 unfoldable pub narrowing : List (List ℕ) → Plain → Result Plain FormFault
 narrowing caveats pass =
     if nat_lt max_caveats (length pass.caveats + length caveats) then Err TooMany
@@ -68,7 +68,8 @@ IsVerdict root pass (Ok (Done, text)) = IsSigned root pass × (text ≡ with_lin
 IsVerdict root pass (Ok (NotSigned, text)) = (¬ IsSigned root pass) × (text ≡ with_line_feed (codes "not signed"))
 IsVerdict root pass (Err fault) = ⊥
 
--- The answer of each command to its input: its outcome and the text that it writes, or the fault of a pass. It has one: `AnswersOnce`.
+-- The answer of each command to its input: its outcome and the text that it writes, or the fault of a pass. `AnswersOnce` says that there is at most one
+-- answer.
 
 abbrev pub MintsPass : Minting → Results OutcomeText
 MintsPass minting = do
@@ -103,7 +104,7 @@ IsAnswer (Narrow caveats) bytes = NarrowsPass caveats bytes
 IsAnswer (Convert form) bytes = ConvertsPass form bytes
 IsAnswer (Verify root) bytes = VerifiesPass root bytes
 
--- `mint` alone reads no input
+-- every command except `mint` reads input
 abbrev pub reads_input : Command → Bool
 reads_input (Mint minting) = false
 reads_input _ = true

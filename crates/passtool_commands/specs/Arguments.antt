@@ -1,4 +1,4 @@
--- What the arguments ask for (ours).
+-- The command that arguments ask for (ours).
 use Rattle.std.specs.Option.{ok_or}
 use Rattle.std.specs.Prelude.{◌↔◌, ℕ, ◌+◌, Bool, IsTrue, not, if◌then◌else◌, List, [], Option, Some, None, Result, Ok, Err, codes, position, unwrap_or}
 use Rattle.clap.specs.Words.{Row, Text, all_of}
@@ -12,7 +12,7 @@ use Rattle.passtool_commands.specs.declared.table.Name.TheVariants as name
 abbrev pub root_in : List Row → Result (List ℕ) (Refusal BadValue)
 root_in rows = ok_or (root_of (value_in (codes "root") rows)) (bad_value Root)
 
--- the values of an argument that may be used again and again
+-- the values of an argument that may be repeated
 abbrev pub caveats_in : List Row → List Text
 caveats_in rows = unwrap_or (all_of (codes "caveat") rows) []
 
@@ -24,7 +24,7 @@ unless_unknown (Some place) caveats = Err (bad_value (Caveat (place + 1)))
 abbrev pub IsCaveatText : Text → Type 0
 IsCaveatText text = (caveat : ACaveat) × Understood text caveat
 
--- The test is true of those texts and of no other. All such tests agree.
+-- The test is true for exactly these texts. All such tests agree.
 abbrev pub IsCaveatTest : (Text → Bool) → Type 0
 IsCaveatTest is_understood = (text : Text) → IsTrue (is_understood text) ↔ IsCaveatText text
 
@@ -37,7 +37,7 @@ module _ (is_understood : Text → Bool) where
   unfoldable pub checked_caveats : Bool → List Text → Result (List Text) (Refusal BadValue)
   checked_caveats any caveats = if any then Ok caveats else unless_unknown (first_unknown caveats) caveats
 
-  -- what the command of a row asks for: the form is checked first, then the root, then the caveats
+  -- the command of a row with its values: the form is checked first, then the root, then the caveats
   abbrev pub command_of : JobOf Name Command BadValue
   command_of name.Mint rows = do
     form ← form_given rows

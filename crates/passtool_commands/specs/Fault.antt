@@ -33,7 +33,7 @@ form_number form.ThirdParty = Some 3
 form_number form.TooMany = Some 4
 form_number form.Memory = None
 
--- a text after the number that it has
+-- a text with its number before it
 abbrev pub with_number : Option ℕ → List ℕ → List ℕ
 with_number None text = text
 with_number (Some number) text = codes "fault " ++ (decimal number ++ (codes ": " ++ text))

@@ -6,16 +6,16 @@ use Rattle.passtool_commands.specs.{Minting.Minting, Shown.with_line_feed, decla
 use Rattle.passtool_commands.specs.declared.command.Command.TheVariants.{Verify}
 use Rattle.command_line.specs.JobLaws.{AskOnce}
 
--- Arguments that ask for a command ask for no other, and have no fault: each of their results is this command, or out of memory.
+-- Arguments that ask for a command ask for no other command, and have no fault: each of their results is this command, or out of memory.
 abbrev pub AskForOneCommand : Type 0
 AskForOneCommand = AskOnce passtool ReadsCommand
 
--- A command has one answer to an input at most.
+-- A command has at most one answer to an input.
 abbrev pub AnswersOnce : Type 0
 AnswersOnce = (command : Command) (bytes : List ℕ) (one other : Result OutcomeText FormFault)
     → IsAnswer command bytes one → IsAnswer command bytes other → one ≡ other
 
--- `verify` prints `signed` exactly if the pass that it read is signed under the root.
+-- `verify` prints `signed` if and only if the pass that it read is signed under the root.
 abbrev pub VerifyDecidesSigned : Type 0
 VerifyDecidesSigned = (root bytes : List ℕ) (form : Form) (pass : Plain) → ReadsPass bytes (Ok (form, pass))
     → IsAnswer (Verify root) bytes (Ok (Done, with_line_feed (codes "signed"))) ↔ IsSigned root pass
@@ -24,7 +24,7 @@ VerifyDecidesSigned = (root bytes : List ℕ) (form : Form) (pass : Plain) → R
 abbrev pub MintSigns : Type 0
 MintSigns = (minting : Minting) (pass : Plain) → narrowing minting.caveats (new_pass minting) ≡ Ok pass → IsSigned minting.root pass
 
--- A pass that is signed under a root stays signed under it, with whatever caveats.
+-- A pass that is signed under a root is still signed under it after any caveats are added.
 abbrev pub NarrowingKeepsSigned : Type 0
 NarrowingKeepsSigned = (root : List ℕ) (caveats : List (List ℕ)) (pass narrowed_pass : Plain) → IsSigned root pass
     → narrowing caveats pass ≡ Ok narrowed_pass → IsSigned root narrowed_pass

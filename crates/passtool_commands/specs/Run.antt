@@ -1,4 +1,4 @@
--- What a run of the program does (ours).
+-- The effect of a run of the program (ours).
 use Rattle.std.specs.{Io.{StartsWith, KnownBytes.{Appends, Keeps}}, Prelude.{◌≡◌, ◌⊎◌, ℕ, List, [], Option, Result, Ok, Err, Bool, false, true}}
 use Rattle.clap.specs.Words.{Text}
 use Rattle.pass_forms.specs.declared.fault.FormFault.TheVariants.{Memory}
@@ -13,20 +13,20 @@ abbrev pub ReadsInput : Bool → Option (List ℕ) → Option (List ℕ) → Lis
 ReadsInput true left left' bytes = ReadsAtMost 8194 left left' bytes
 ReadsInput false left left' bytes = bytes ≡ []
 
--- A command read its input, this is its answer to that, and these bytes were written.
+-- A command read its input, this is its answer, and these bytes were written.
 pub record Writes (command : Command) (left left' held held' : Option (List ℕ)) (ending : OutcomeText) (written : List ℕ) : Type 0 where
   pub bytes : List ℕ
   pub reads : ReadsInput (reads_input command) left left' bytes
   pub answers : IsAnswer command bytes (Ok ending)
   pub appends : Appends held held' written
 
--- A beginning of that answer was written, or all of it.
+-- A prefix of the answer, or all of it, was written.
 abbrev pub WritesFront : Command → Option (List ℕ) → Option (List ℕ) → Option (List ℕ) → Option (List ℕ) → Type 0
 WritesFront command left left' held held' =
     (ending : OutcomeText) × (front : List ℕ) × StartsWith ending.1 front × Writes command left left' held held' ending front
 
--- A command reads its input and writes its answer to that and nothing else. It may run out of memory. If the reader or the
--- writer fails, nothing was written, or a beginning of the answer to the whole input.
+-- A command reads its input and writes exactly its answer. It may run out of memory. If the reader or the writer fails, nothing was written, or a prefix of the
+-- answer to the whole input.
 abbrev pub Performs : Command → Option (List ℕ) → Option (List ℕ) → Option (List ℕ)
     → Option (List ℕ) → Result Outcome Fault → Type 0
 Performs command left left' held held' (Ok outcome) = (text : List ℕ) × Writes command left left' held held' (outcome, text) text

@@ -21,7 +21,7 @@ escaped_text bytes = flat_map escaped_byte bytes
 abbrev pub value_line : List ℕ → List ℕ → List ℕ
 value_line name bytes = with_line_feed (name ++ 32 ∷ escaped_text bytes)
 
--- a line for each caveat; the first has this number
+-- a line for each caveat, numbered from this number
 unfoldable pub caveat_lines : ℕ → List (List ℕ) → List ℕ
 caveat_lines number [] = []
 caveat_lines number (caveat ∷ caveats) =

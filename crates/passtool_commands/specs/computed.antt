@@ -1,3 +1,3 @@
--- A definition that computes what another of specs/ states. The law `reads_what_is_understood` of pass_caveats says that both agree.
+-- A function that computes what another definition of `specs/` states. The law `reads_what_is_understood` of `pass_caveats` states that both agree.
 
 pub mod Arguments

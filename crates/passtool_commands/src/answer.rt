@@ -8,7 +8,7 @@ use pass_forms::FormFault;
 use std::marker::Model;
 use std::{error, fmt, io};
 
-/// How a command ended.
+/// The outcome of a command.
 #[derive(Clone, Copy, Debug, PartialEq, Eq)]
 pub enum Outcome {
     /// The command succeeded.
@@ -49,21 +49,21 @@ impl Model for Answer {
 }
 
 impl Answer {
-    /// Returns an outcome with a text to write.
+    /// Makes an answer from an outcome and the text to write.
     pub fn new(outcome: Outcome, text: String) -> Answer
         ensures { result ≡ (outcome, string_bytes text) }
     {
         Answer { outcome, text }
     }
 
-    /// Returns how the command ended.
+    /// Returns the outcome of the command.
     pub fn outcome(&self) -> Outcome
         ensures { result ≡ self.now.0 }
     {
         self.outcome
     }
 
-    /// Returns the text that it writes.
+    /// Returns the text that the command writes.
     pub fn text(&self) -> &str
         ensures { result.now ≡ self.now.1 }
     {
@@ -71,12 +71,12 @@ impl Answer {
     }
 }
 
-/// A value that an argument doesn't spell.
+/// An invalid argument, which is a root or a caveat.
 #[derive(Debug, Drop)]
 pub enum BadValue {
-    /// A root, which is 1 to 64 bytes in hexadecimal.
+    /// A root must be 1 to 64 bytes in hexadecimal.
     Root,
-    /// The caveat of this number, counted from 1.
+    /// The caveat with this number, counted from 1, isn't understood.
     Caveat(usize),
 }
 
@@ -87,11 +87,11 @@ pub enum Fault {
     Arguments(clap::Error),
     /// The text isn't a pass, or the pass can't be narrowed or written, or memory ran out.
     Pass(FormFault),
-    /// The caveat of this number, counted from 1, isn't understood.
+    /// The caveat with this number, counted from 1, isn't understood.
     CaveatNotUnderstood(usize),
     /// The root isn't 1 to 64 bytes in hexadecimal.
     BadRoot,
-    /// The input couldn't be read, or the output written.
+    /// The input couldn't be read, or the output couldn't be written.
     InputOutput,
 }
 

@@ -23,7 +23,7 @@ impl<'a> Model for Caveats<'a> {
 }
 
 impl<'a> Caveats<'a> {
-    /// These texts.
+    /// Copies a list of texts.
     pub fn new(alloc: Global, texts: &[&'a str]) -> Result<Caveats<'a>, AllocError>
         ensures { IfOk result (λ caveats. caveats ≡ map (λ text. text.now) texts.now) }
     {
@@ -31,7 +31,7 @@ impl<'a> Caveats<'a> {
         Ok(Caveats { texts })
     }
 
-    /// Returns the texts, in their order.
+    /// Returns the texts, in order.
     pub fn as_slice(&self) -> &[&'a str]
         ensures { map (λ text. text.now) result.now ≡ self.now }
     {

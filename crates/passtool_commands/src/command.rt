@@ -53,7 +53,7 @@ impl<'a> Job<'a> for Command<'a> {
     ) -> Result<Command<'a>, ArgumentsFault<BadValue>>
         ensures { ReadsCommand name (rows_of (found_of options.now)) result }
     {
-        // By this law the code tests caveats as the clause does.
+        // By this law, the code tests caveats as the clause does.
         reads_what_is_understood();
         match name {
             Name::Mint => mint_of(alloc, options),
@@ -137,7 +137,7 @@ impl<'a> Command<'a> {
         }
     }
 
-    // The answer to the bytes that were read.
+    // Returns the answer to the bytes that were read.
     fn answer(&self, alloc: Global, bytes: &[u8]) -> Result<Answer, FormFault>
         ensures { UnlessMemory (spec.IsAnswer self.now bytes.now) result }
     {
@@ -151,7 +151,7 @@ impl<'a> Command<'a> {
     }
 }
 
-// The caveats, if any text is accepted or all of them are understood.
+// Returns the caveats, if any text is accepted or all of them are understood.
 #[tactic(auto, unfolding(crate::specs::Arguments::checked_caveats))]
 fn checked_caveats(caveats: Caveats<'_>, any: bool) -> Result<Caveats<'_>, ArgumentsFault<BadValue>>
     ensures { Answers (checked_caveats is_understood any caveats.entry) result }

@@ -9,10 +9,10 @@ use pass_forms::{Form, FormFault, Pass};
 use pass_json::read_any;
 use std::alloc::Global;
 
-/// More bytes than the longest text of a pass and its line feed.
+/// One byte more than the longest text of a pass with its line feed.
 pub const MAX_READ: usize = 8194;
 
-/// Returns the form and the pass of the input, without one line feed at its end.
+/// Returns the form and the pass of the input. One line feed at its end is ignored.
 pub fn read_pass(alloc: Global, bytes: &[u8]) -> Result<(Form, Pass), FormFault>
     ensures read { UnlessMemory (ReadsPass bytes.now) result }
     ensures few { IfOk result (λ read. length read.1.caveats ≤ max_caveats) }

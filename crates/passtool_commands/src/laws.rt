@@ -9,7 +9,7 @@ use crate::command::Command;
 use command_line::laws::{arguments_ask_once, rows_answer_once};
 use pass_json::laws::{one_reading_for_each_text, one_writing_for_each_form};
 
-/// Arguments that ask for a command ask for no other, and have no fault.
+/// Arguments that ask for a command ask for no other command, and have no fault.
 pub fn ask_for_one_command()
     ensures { AskForOneCommand }
 {
@@ -25,7 +25,7 @@ pub fn answers_once()
     one_writing_for_each_form();
 }
 
-/// `verify` prints `signed` exactly if the pass is signed under the root.
+/// `verify` prints `signed` if and only if the pass is signed under the root.
 pub fn verify_decides_signed()
     ensures { VerifyDecidesSigned }
 {
@@ -38,7 +38,7 @@ pub fn mint_signs()
     ensures { MintSigns }
 {}
 
-/// A pass stays signed under its root, whatever caveats `narrow` adds.
+/// A pass stays signed under its root after `narrow` adds any caveats.
 #[tactic(auto, using(crate::proofs::AnswerLaws::narrowing_keeps_signed))]
 pub fn narrowing_keeps_signed()
     ensures { NarrowingKeepsSigned }

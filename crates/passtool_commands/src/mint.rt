@@ -38,7 +38,7 @@ impl<'a> Model for Mint<'a> {
 }
 
 impl<'a> Mint<'a> {
-    /// Returns a pass of these parts, to be written in this form.
+    /// Returns the parts of a new pass and the form in which it is written.
     pub fn new(
         root: Root,
         identifier: &'a str,

@@ -11,7 +11,7 @@ use crate::output::written;
 use pass_forms::{FormFault, Pass};
 use std::alloc::Global;
 
-/// Returns the pass of the input with the caveats added in their order, in the form it came in.
+/// Returns the pass of the input with the caveats added in order, in the form that it came in.
 pub fn narrow(alloc: Global, caveats: &Caveats<'_>, bytes: &[u8]) -> Result<Answer, FormFault>
     ensures { UnlessMemory (spec.NarrowsPass caveats.now bytes.now) result }
 {
@@ -20,7 +20,7 @@ pub fn narrow(alloc: Global, caveats: &Caveats<'_>, bytes: &[u8]) -> Result<Answ
     written(alloc, form, &pass)
 }
 
-/// Returns a pass with caveats added one by one. A pass that was read or minted has at most 64.
+/// Adds caveats to a pass one by one. A pass that was read or minted has at most 64 caveats.
 pub fn narrowed_pass(alloc: Global, mut pass: Pass, caveats: &[&str]) -> Result<Pass, FormFault>
     requires { length pass.caveats ≤ max_caveats }
     ensures { UnlessMemory

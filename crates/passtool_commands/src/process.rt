@@ -29,7 +29,7 @@ pub fn run_process<P: GivenArguments + FaultLines, R: Read, W: Write>(
     }
 }
 
-/// Returns the exit status of a run that ended so, and prints the line of its fault.
+/// Returns the exit status for a run's result, and prints the line of its fault.
 pub fn finish<P: FaultLines>(process: &P, ended: Result<Outcome, Fault>) -> u8
     ensures status { result ≡ exit_status ended }
     ensures line { IfErr ended (λ fault. P.asked process.now (fault_output fault)) }

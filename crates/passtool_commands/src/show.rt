@@ -1,4 +1,4 @@
-//! `show`: the fields of a pass, one a line.
+//! `show`: the fields of a pass, one per line.
 
 ghost use Rattle.std.specs.Prelude.{◌≡◌, ◌+◌, ◌<◌, ◌^◌, ◌++◌, IfOk, OnOk, length, map};
 ghost use Rattle.std.specs.String.{string_bytes};
@@ -12,7 +12,7 @@ use command_line::form_name;
 use pass_forms::{Form, FormFault, Pass};
 use std::alloc::{AllocError, Global};
 
-/// Returns the fields of the pass of the input.
+/// Returns the fields of the pass in the input, one per line.
 pub fn show(alloc: Global, bytes: &[u8]) -> Result<Answer, FormFault>
     ensures { UnlessMemory (ShowsPass bytes.now) result }
 {

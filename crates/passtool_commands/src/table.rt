@@ -73,7 +73,7 @@ const NARROW_ARGUMENTS: &[Argument] = &[
     Argument::NeededPositionals("caveat", "CAVEAT", CAVEAT_HELP),
 ];
 
-/// The program.
+/// The program `passtool` with its commands.
 static PASSTOOL: Program<Name> = Program {
     name: "passtool",
     about: "Passes on the command line",

@@ -15,37 +15,38 @@ use std::io::{Read, Write};
 
 /// Runs the program on its arguments. The first is its name.
 ///
-/// The arguments are checked before the input is read: by `clap`, then the form, the root and the
-/// caveats. The input is read to its end, but at most 8,194 bytes of it; `mint` reads none. The
-/// answer is complete before it is written. Help and the version are written as `clap` makes them.
+/// The arguments are checked before the input is read: first by `clap`, then the form, the root and
+/// the caveats. The input is read to its end, but at most 8,194 bytes of it. `mint` reads no input.
+/// The answer is complete before it is written. Help and the version are written as `clap` makes
+/// them.
 ///
 /// # Errors
 ///
-/// Of the arguments: `Arguments` if `clap` refuses them or the form is unknown, `BadRoot`, and
-/// `CaveatNotUnderstood` with the number of the caveat among those given. `Pass` with the fault of
-/// the pass, or with `Memory` only if an allocation fails. After these nothing was written.
-/// `InputOutput` if the reader or the writer failed: nothing was written, or a beginning of the
-/// answer to the whole input, or of help or the version.
+/// Fails with `Arguments` if `clap` refuses them or the form is unknown, with `BadRoot`, or with
+/// `CaveatNotUnderstood` and the number of the caveat among those given. Fails with `Pass` and the
+/// fault of the pass, or with `Memory` only if an allocation fails. After all these faults nothing
+/// was written. Fails with `InputOutput` if the reader or the writer failed. Then nothing was
+/// written, or a prefix of the answer to the whole input, of the help or of the version.
 pub fn run<S: AsStr, R: Read, W: Write>(
     alloc: Global,
     arguments: &[S],
     reader: &mut R,
     writer: &mut W,
 ) -> Result<Outcome, Fault>
-    // The fault of the arguments, or what they ask for.
+    // The result is the fault of the arguments, or that of the job that they ask for.
     ensures arguments { AnswersArguments (map S.text arguments.now) result }
-    // If they ask for a command, it read its input and wrote its answer to that. If the reader or
-    // the writer failed, it wrote nothing or a beginning of the answer.
+    // If the arguments ask for a command, it read its input and wrote its answer. If the reader or
+    // the writer failed, it wrote nothing or a prefix of the answer.
     ensures command { (command : CommandOf) → AskForCommand (map S.text arguments.now) command
         → Performs command (R.remaining reader.old) (R.remaining reader.new)
         (W.contents writer.old) (W.contents writer.new) result }
-    // If they ask for no command, or for one without input, nothing was read.
+    // Reads nothing unless the arguments ask for a command that takes input.
     ensures unread { AskForNoInput (map S.text arguments.now) → reader.new ≡ reader.old }
     // After any other fault nothing was written.
     ensures silent { IfErr result (λ fault. fault ≢ Fault.InputOutput
         → writer.new ≡ writer.old) }
 {
-    // By this law the arguments ask for one command.
+    // By this law, the arguments ask for only one command.
     ask_for_one_command();
     let command: Command<'_> = match read_job(alloc, arguments) {
         Ok(Asked::Perform(command)) => command,

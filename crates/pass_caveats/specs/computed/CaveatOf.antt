@@ -1,4 +1,4 @@
--- Parsing a caveat, as a function for definitions that compute. `Understood` defines what it means; a law states that both agree.
+-- A function that parses a caveat. `Understood` defines the meaning, and a law states that both agree.
 use Rattle.std.specs.{Int.is_in_range, List.list_all, Prelude.{ℕ, ◌==◌, ◌&&◌, Bool, true, false, List, [], ◌∷◌, length, drop, slice_index, slice_index_or, map}}
 use Rattle.std.specs.{Prelude.{nat_lt, nat_le, if◌then◌else◌, Option, Some, None}, Str.{bytes_eq, Parse.digits_value}}
 use Rattle.pass_caveats.specs.{Actions.{all_actions, action_texts}, Caveat.{caveat_text, max_caveat_len}, Names.max_names, Parts.comma_parts}
@@ -18,7 +18,7 @@ abbrev pub after_next : List ℕ → List (List ℕ) → List (List ℕ)
 after_next word [] = []
 after_next word (part ∷ parts) = if bytes_eq part word then parts else part ∷ parts
 
--- for each word whether it is among the parts, if the parts are in the words' order
+-- for each word, whether it is among the parts, if the parts are in the words' order
 abbrev pub words_found : List (List ℕ) → List (List ℕ) → List Bool
 words_found [] parts = []
 words_found (word ∷ words) parts = is_next word parts ∷ words_found words (after_next word parts)

@@ -1,4 +1,4 @@
--- The reading and the writing of a text in any form, computed.
+-- Computes the reading and the writing of a text in any form.
 use Rattle.std.specs.Prelude.{ℕ, List, Option, Result}
 use Rattle.pass_forms.specs.{Pass.{Plain, WidePass}, computed.{Text.text_reading, Writing.{writing_v1, writing_v2}}, declared.fault.FormFault.FormFault}
 use Rattle.pass_forms.specs.declared.form.Form.{Form, TheVariants.{V1, V2, Json}}

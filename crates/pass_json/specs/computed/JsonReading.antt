@@ -1,4 +1,4 @@
--- The JSON form, computed: the value of each part of the object.
+-- Computes the JSON form: the value of each part of the object.
 use Rattle.std.specs.{List.list_any, Prelude.{◌≡◌, ℕ, ◌==◌, ◌&&◌, if◌then◌else◌, Bool, true, false, List, [], ◌∷◌, codes, length, map, Option, None, Some}}
 use Rattle.std.specs.{Prelude.{option_map, unwrap_or, Result}, Str.{bytes_eq, is_utf8}}
 use Rattle.serde_json.specs.{Data.{Data, Items, no_items, item, Members, no_members, member}, Find.{get, as_array, as_number, as_object, as_str, as_u64}}
@@ -7,7 +7,7 @@ use Rattle.pass_forms.specs.{Pass.{Plain, WideCaveat, WidePass, is_third_party, 
 use Rattle.pass_forms.specs.{computed.Reading.reading_of, declared.fault.FormFault.{FormFault, TheVariants.{Malformed, Memory}}}
 use Rattle.pass_json.specs.Json.{caveat_names, pass_names}
 
--- the bytes that a value is base64 of, if it is a text
+-- the bytes that a value encodes in base64, if it is a text
 abbrev pub decoded_text : Data → Option (List ℕ)
 decoded_text value = as_str value >>= from_base64
 
@@ -21,7 +21,7 @@ field_bytes (Some value) (Some other) = None
 unfoldable pub field_from : List ℕ → List ℕ → Data → Option (Option (List ℕ))
 field_from plain base64 value = field_bytes (get plain value) (get base64 value)
 
--- the same, for a field that may not be left out
+-- the same for a required field
 abbrev pub must_have : Option (Option (List ℕ)) → Option (List ℕ)
 must_have None = None
 must_have (Some bytes) = bytes
@@ -89,7 +89,7 @@ wide_json bytes = value_of bytes >>= pass_from
 unfoldable pub reading_json : List ℕ → Result Plain FormFault
 reading_json bytes = reading_of (length bytes) (wide_json bytes)
 
--- what the reader keeps of a caveat, and of all of them: identifiers, and whether one is a third party's
+-- the parts of a caveat, or of all caveats, that the reader keeps: identifiers, and whether one is a third-party caveat
 abbrev pub kept_caveat : WideCaveat → List ℕ × Bool
 kept_caveat caveat = (first_party_caveat caveat, is_third_party caveat)
 

@@ -1,4 +1,4 @@
--- The objects so far are those of the caveats so far, which are bytes.
+-- The objects so far are the objects of the caveats so far, which are bytes.
 use Rattle.pass_json.proofs.Common.{◌≡◌, map, take, AllByRecursion, IsBytes, view, caveat_object}
 use Rattle.pass_json.proofs.write.caveat_objects.Given as goal
 

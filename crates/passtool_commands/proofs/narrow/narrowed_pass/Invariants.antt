@@ -1,4 +1,4 @@
--- The caveats that are left make of the pass what all make of the first one.
+-- Adding the remaining caveats to the pass gives the same as adding all caveats to the first pass.
 use Rattle.std.proofs.Common.{◌≡◌, ◌≤◌, ◌+◌, length, drop}
 use Rattle.pass_forms.specs.Reading.{max_caveats}
 use Rattle.passtool_commands.specs.Answer.{with_caveats}

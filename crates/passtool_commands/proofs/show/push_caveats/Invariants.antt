@@ -1,4 +1,4 @@
--- What was written, with the lines of the caveats that are left, is the whole.
+-- The bytes so far, with the lines of the remaining caveats, are all bytes.
 use Rattle.std.proofs.Common.{◌≡◌, ◌+◌, ◌++◌, drop}
 use Rattle.std.specs.String.{string_bytes}
 use Rattle.passtool_commands.specs.Shown.{caveat_lines}

@@ -1,4 +1,4 @@
--- What was written, with what is left, is the whole.
+-- The bytes so far, with the remaining ones, are all bytes.
 use Rattle.std.proofs.Common.{◌≡◌, ◌++◌, drop}
 use Rattle.std.specs.String.{string_bytes}
 use Rattle.passtool_commands.specs.Shown.{escaped_text}

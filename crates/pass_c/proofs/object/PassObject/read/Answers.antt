@@ -1,4 +1,4 @@
--- Room is wanting only for a pass that was read.
+-- Room is insufficient only for a pass that was read.
 use Rattle.std.proofs.Common.{inl}
 use Rattle.pass_c.proofs.object.PassObject.read.Goals as goal
 
