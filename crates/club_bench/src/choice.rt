@@ -1,6 +1,6 @@
-//! Which benchmark the words choose.
+//! The benchmark that the command line chooses.
 
-/// A benchmark, and how often it measures a task, or asks.
+/// A benchmark, and how many times it runs a task or sends a request.
 #[derive(Clone, Copy)]
 pub(crate) enum Choice {
     Passes { count: u32 },
@@ -9,8 +9,8 @@ pub(crate) enum Choice {
 }
 
 impl Choice {
-    /// Reads the program's words. `None` if one is missing, unknown, or not the number that it
-    /// should be.
+    /// Parses the program's arguments. Returns `None` if one is missing, unknown, or not a valid
+    /// number.
     pub(crate) fn read(words: &[String]) -> Option<Choice> {
         let [_, name, count] = words else {
             return None;

@@ -11,19 +11,19 @@ use pass_forms::{Form, FormFault, Pass, narrow};
 use pass_json::write_any;
 use std::alloc::Global;
 
-/// How many members there are, each with one key. Their derived keys have room at the desk.
+/// The number of members, each with one key. Their derived keys fit in the desk's cache.
 pub(crate) const KEYS: u16 = 50;
 
 pub(crate) const COURT: &[u8] = b"court-1";
 
-/// Caveats that allow all that is asked for.
+/// Caveats that allow every request.
 pub(crate) const CAVEATS: [&[u8]; 3] = [
     b"guests <= 4",
     b"until < 2099-12-31T23:59",
     b"spend <= 999999999",
 ];
 
-/// What is measured at two desks, each of a new club.
+/// A benchmark of two desks, each with a new club.
 pub(crate) trait Benchmark {
     fn run<S: ClubStore + Drop>(
         &self,
@@ -33,15 +33,15 @@ pub(crate) trait Benchmark {
     ) -> Result<()>;
 }
 
-/// Runs a benchmark at two desks over tables in memory. It is the one function here that names the
-/// type of the tables, since the proof of each takes long.
+/// Runs a benchmark at two desks over tables in memory. Only this function names the type of the
+/// tables, since the proof of each function that does takes long.
 pub(crate) fn run_in_memory(rt: &HostRuntime, benchmark: &impl Benchmark) -> Result<()> {
     let first = Store::open_in_memory(rt.alloc())?;
     let second = Store::open_in_memory(rt.alloc())?;
     run_over(rt, first, second, benchmark)
 }
 
-// The same over empty tables.
+// Does the same over empty tables.
 fn run_over<S: ClubStore + Drop>(
     rt: &HostRuntime,
     first: S,
@@ -53,7 +53,7 @@ fn run_over<S: ClubStore + Drop>(
     benchmark.run(rt, first, second)
 }
 
-// The desk over empty tables, which get the court, the members and their keys.
+// Makes a desk over empty tables, and adds the court, the members and their keys.
 fn filled_desk<S: ClubStore + Drop>(alloc: Global, store: S) -> Result<Desk<S>> {
     let mut desk = Desk::new(alloc, store);
     give(&mut desk, &known(court(), "a court")?)?;
@@ -120,7 +120,7 @@ fn digit(value: u16) -> u8 {
     b'0' + (value % 10) as u8
 }
 
-/// Returns the text of each key's pass in a form, with so many caveats.
+/// Returns the text of each key's pass in a form, with this many caveats.
 pub(crate) fn passes(alloc: Global, form: Form, caveats: usize) -> Result<Vec<String>> {
     let mut texts = Vec::new(alloc);
     for index in 0..KEYS {
@@ -131,7 +131,7 @@ pub(crate) fn passes(alloc: Global, form: Form, caveats: usize) -> Result<Vec<St
     Ok(texts)
 }
 
-// The pass of the key of an index.
+// The pass of the key with this index.
 fn pass(alloc: Global, index: u16) -> Result<Pass> {
     let name = known(name_of(index), "a name")?;
     let root = known(root(), "a root")?;

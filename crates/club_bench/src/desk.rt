@@ -1,5 +1,5 @@
-//! How many requests a second the desk answers, over tables in memory. Each row books COUNT times,
-//! asks for the same bookings again, and asks for COUNT accounts.
+//! Measures how many requests per second the desk answers, over tables in memory. Each row books
+//! COUNT times, repeats the same bookings, and asks for COUNT accounts.
 
 use crate::club::{Benchmark, KEYS, passes, run_in_memory};
 use crate::known::known;
@@ -18,7 +18,7 @@ const HEAD: &str = "form caveats   booked repeated accounts";
 
 static FORMS: [(&str, Form); 3] = [("v1", Form::V1), ("v2", Form::V2), ("json", Form::Json)];
 
-/// How many caveats a pass has.
+/// The numbers of caveats of the measured passes.
 static CAVEAT_COUNTS: [usize; 3] = [0, 3, 20];
 
 static WISHES: [Wish; 3] = [Wish::Booking, Wish::Booking, Wish::Account];
@@ -42,7 +42,7 @@ pub(crate) fn compare(rt: &HostRuntime, count: u16) -> Result<()> {
     Ok(())
 }
 
-/// What a line shows: so many requests of each kind under these passes, at the first desk.
+/// The figures of a line: the requests of each kind under these passes, at the first desk.
 #[derive(Clone, Copy)]
 struct Row<'a> {
     passes: &'a [String],
@@ -76,7 +76,7 @@ fn time<S: ClubStore>(
     Ok(start.elapsed(rt)?)
 }
 
-// Asks so many times, under the keys in turn.
+// Sends this many requests, using the keys in rotation.
 fn ask<S: ClubStore>(desk: &mut Desk<S>, passes: &[String], wish: Wish, count: u16) -> Result<()> {
     for index in 0..count {
         let pass = known(passes.get(usize::from(index % KEYS)), "a pass")?;
@@ -93,7 +93,7 @@ fn ask_once<S: ClubStore>(desk: &mut Desk<S>, pass: &[u8], wish: Wish, index: u1
     }
 }
 
-// What is asked for with an index, and when.
+// The request with this index, and its moment.
 fn request_at(wish: Wish, index: u16) -> Option<(Moment, Request)> {
     let (slot, moment) = slot_and_moment(index)?;
     match wish {

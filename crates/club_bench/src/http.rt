@@ -1,8 +1,8 @@
-//! How many exchanges a second there are over memory, and how long the parts of one take. Each row
-//! has COUNT exchanges with a desk over tables in memory: bookings, the same bookings again, and
-//! accounts. The parts are measured on their own, with another desk: the words of the requests, the
-//! desk's answers, the texts of the replies. Beside the words is the time that `httparse` takes for
-//! the heads alone.
+//! Measures exchanges per second in memory, and the time of an exchange's parts. Each row has COUNT
+//! exchanges with a desk over tables in memory: bookings, the same bookings again, and accounts.
+//! The parts are measured separately with another desk: decoding the requests, the desk's answers,
+//! and the texts of the replies. Next to decoding is the time that `httparse` takes for the heads
+//! alone.
 
 mod parts;
 
@@ -17,7 +17,7 @@ use std::alloc::Global;
 use std::rt::Clock;
 use std::time::Duration;
 
-/// How often the parts are measured that change nothing. The shortest time is printed.
+/// How many times the parts that change nothing are measured. The shortest time is printed.
 const ROUNDS: u8 = 5;
 
 const HEAD: &str = "asked for  a second | ns whole    words httparse     desk    reply";
@@ -43,7 +43,7 @@ impl Benchmark for Requests {
     }
 }
 
-/// What is measured: whole exchanges with one desk, and the parts with another one.
+/// The benchmark: whole exchanges with one desk, and the parts with another one.
 #[derive(Drop)]
 struct Bench<S: ClubStore> {
     face: Face,
@@ -62,7 +62,7 @@ impl<S: ClubStore + Drop> Bench<S> {
         })
     }
 
-    // Prints what all requests take, one after the other.
+    // Prints the time of all requests, one after another.
     fn print_row(
         &mut self,
         rt: &(impl Clock + Print + AllocGlobal),
@@ -83,7 +83,7 @@ impl<S: ClubStore + Drop> Bench<S> {
         )
     }
 
-    // What the desk and the texts take, of which the last one is this reply.
+    // The times of the desk and of the texts. The last text must be this reply.
     fn decided_and_written(
         &mut self,
         rt: &(impl Clock + AllocGlobal),
@@ -103,7 +103,7 @@ impl<S: ClubStore + Drop> Bench<S> {
     }
 }
 
-// Prints the times of so many requests, of which the first is that of whole exchanges.
+// Prints the times of this many requests. The first time is that of whole exchanges.
 fn print_times(rt: &impl Print, name: &str, count: usize, times: &[Duration; 5]) -> Result<()> {
     print!(rt; "{name:>9} {:>9} |", rate(count, times[0]))?;
     for time in times {

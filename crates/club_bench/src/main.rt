@@ -1,4 +1,4 @@
-//! Benchmarks of passes and of a club's desk. The first word chooses one:
+//! Benchmarks of passes and of a club's desk. The first argument chooses one:
 //!
 //! - `club_bench passes COUNT`: passes signed, read and verified;
 //! - `club_bench desk COUNT`: requests to the desk;

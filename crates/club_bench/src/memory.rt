@@ -1,4 +1,4 @@
-//! Exchanges over memory.
+//! Exchanges in memory.
 
 ghost use Rattle.std.specs.Prelude.{◌≤◌};
 
@@ -9,7 +9,7 @@ use club_http::{Desk, Face, MAX_REPLY_LEN, Outlet, ReadInlet, answer};
 use std::rt::Clock;
 use std::time::{Duration, Instant};
 
-/// Keeps the bytes that were written last, in memory.
+/// A writer that keeps the bytes that were written last.
 #[derive(Drop)]
 pub(crate) struct Kept {
     bytes: [u8; MAX_REPLY_LEN],
@@ -19,7 +19,7 @@ pub(crate) struct Kept {
 }
 
 impl Kept {
-    /// Nothing was written yet.
+    /// Makes a writer to which nothing has been written.
     pub(crate) fn new() -> Kept {
         Kept {
             bytes: [0; MAX_REPLY_LEN],
@@ -28,7 +28,7 @@ impl Kept {
         }
     }
 
-    /// Returns what was written last.
+    /// Returns the bytes that were written last.
     pub(crate) fn bytes(&self) -> &[u8] {
         &self.bytes[..self.len]
     }
@@ -55,11 +55,11 @@ impl Outlet for Kept {
     }
 }
 
-/// Returns how long whole exchanges take, one after the other. The last reply is kept.
+/// Returns the time of whole exchanges, one after another. Keeps the last reply.
 ///
 /// # Errors
 ///
-/// A request wasn't served.
+/// Fails if a request wasn't served.
 pub(crate) fn exchanges<S: ClubStore>(
     rt: &impl Clock,
     face: &mut Face,
@@ -74,7 +74,7 @@ pub(crate) fn exchanges<S: ClubStore>(
     Ok(start.elapsed(rt)?)
 }
 
-// One exchange, whose reply is kept in place of the one before.
+// Carries out one exchange, and keeps its reply in place of the previous one.
 fn exchange<S: ClubStore>(
     face: &mut Face,
     desk: &mut Desk<S>,

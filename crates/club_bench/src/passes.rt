@@ -1,6 +1,6 @@
-//! How many passes of three caveats are signed, read and verified in a second, COUNT times each.
-//! Reading and verifying are measured twice: with a `Pass` in memory, and field by field without
-//! one.
+//! Measures how many passes with three caveats are signed, read and verified per second, over COUNT
+//! runs each. Reading and verifying are measured twice: with a `Pass` in memory, and field by field
+//! without one.
 
 mod task;
 
@@ -56,7 +56,7 @@ fn compare_tasks(rt: &HostRuntime, name: &str, text: &[u8], count: u32) -> Resul
     Ok(())
 }
 
-// Prints how often a task runs in a second.
+// Prints how many times a task runs per second.
 fn measure(
     rt: &(impl Alloc<A = Global> + Clock + Print),
     what: &str,

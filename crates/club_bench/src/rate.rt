@@ -1,13 +1,13 @@
-//! How often in a second, and how long each.
+//! Rates per second, and times per run.
 
 use std::time::Duration;
 
-/// Returns how many a second so many in a time are.
+/// Returns the rate per second of this many runs in this time.
 pub(crate) fn rate(count: usize, time: Duration) -> u128 {
     count as u128 * 1_000_000_000 / time.as_nanos().max(1)
 }
 
-/// Returns how many nanoseconds each of so many takes, if all take this time.
+/// Returns the nanoseconds per run, if this many runs take this time.
 pub(crate) fn nanos_each(count: usize, time: Duration) -> u128 {
     time.as_nanos() / (count as u128).max(1)
 }

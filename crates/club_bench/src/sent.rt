@@ -1,4 +1,4 @@
-//! What the members ask for, as curl sends it.
+//! The members' requests, as curl sends them.
 
 use crate::club::{CAVEATS, KEYS, passes};
 use crate::known::known;
@@ -11,11 +11,11 @@ use std::alloc::{AllocError, Global};
 /// The fields that curl sends with each request.
 const FIELDS: &str = "Host: 127.0.0.1:8080\r\nUser-Agent: curl/7.88.1\r\nAccept: */*\r\n";
 
-/// The fields of a body that curl adds to these.
+/// The fields that curl adds for a body.
 const BODY_FIELDS: &str =
     "Content-Length: 12\r\nContent-Type: application/x-www-form-urlencoded\r\n";
 
-/// The bytes of a request with the pass in it, and the moment at which they come.
+/// The bytes of a request with its pass, and the moment at which they arrive.
 #[derive(Drop)]
 pub(crate) struct Sent {
     pub(crate) text: String,
@@ -23,7 +23,7 @@ pub(crate) struct Sent {
     pub(crate) moment: Moment,
 }
 
-/// The rows of exchanges, in their order: bookings, the same bookings again, and accounts.
+/// The rows of exchanges, in order: bookings, the same bookings again, and accounts.
 pub(crate) static ROWS: [(&str, Wish); 3] = [
     ("bookings", Wish::Booking),
     ("repeats", Wish::Booking),
@@ -38,7 +38,7 @@ pub(crate) struct Requests {
 }
 
 impl Requests {
-    /// So many of each kind.
+    /// Makes this many requests of each kind.
     pub(crate) fn new(alloc: Global, count: u16) -> Result<Requests> {
         Ok(Requests {
             bookings: requests_for(alloc, Wish::Booking, count)?,
@@ -46,7 +46,7 @@ impl Requests {
         })
     }
 
-    /// Those that ask for this.
+    /// The requests of this kind.
     pub(crate) fn of(&self, wish: Wish) -> &[Sent] {
         match wish {
             Wish::Booking => &self.bookings,
@@ -55,7 +55,7 @@ impl Requests {
     }
 }
 
-// So many requests, under the keys in turn, with passes in V2.
+// This many requests, using the keys in rotation, with passes in V2.
 fn requests_for(alloc: Global, wish: Wish, count: u16) -> Result<Vec<Sent>> {
     let passes = passes(alloc, Form::V2, CAVEATS.len())?;
     let mut requests = Vec::new(alloc);
@@ -66,7 +66,7 @@ fn requests_for(alloc: Global, wish: Wish, count: u16) -> Result<Vec<Sent>> {
     Ok(requests)
 }
 
-// The request of an index.
+// The request with this index.
 fn request(alloc: Global, wish: Wish, index: u16, pass: &str) -> Result<Sent> {
     let (slot, moment) = known(slot_and_moment(index), "a slot")?;
     Ok(Sent {

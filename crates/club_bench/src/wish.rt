@@ -1,4 +1,4 @@
-//! What the members ask for, and when: a slot after the other, under the keys in turn.
+//! The members' requests and their moments: one slot after another, using the keys in rotation.
 
 use crate::club::{COURT, KEYS};
 use club_rows::slot_from_columns;
@@ -11,21 +11,21 @@ const FIRST_HOUR: u16 = 8;
 
 const HOURS_A_DAY: u16 = 14;
 
-/// What is asked for, over and over.
+/// The kind of the requests that are repeated.
 #[derive(Clone, Copy)]
 pub(crate) enum Wish {
-    /// A slot that nobody else asks for, under a number of its own.
+    /// A booking of a slot that nobody else asks for, under its own number.
     Booking,
     /// The account of the key's member.
     Account,
 }
 
-/// Returns the number of the booking of an index. Each key counts its own bookings.
+/// Returns the booking number for an index. Each key numbers its own bookings.
 pub(crate) fn number_at(index: u16) -> u16 {
     index / KEYS + 1
 }
 
-/// Returns the slot of an index, counted from 0, and when it is asked for.
+/// Returns the slot for an index, counted from 0, and the moment of its request.
 pub(crate) fn slot_and_moment(index: u16) -> Option<(Slot, Moment)> {
     let slot = slot_at(index)?;
     let moment = minute_before(&slot)?;
@@ -38,8 +38,7 @@ fn slot_at(index: u16) -> Option<Slot> {
     slot_from_columns(COURT, day, i64::from(hour))
 }
 
-/// Returns a minute before a slot begins. A booking that is made then leaves few of its member to
-/// come.
+/// Returns the minute before a slot begins. So its member has few open bookings at that moment.
 fn minute_before(slot: &Slot) -> Option<Moment> {
     Moment::from_number(slot.start().saturating_sub(1))
 }

@@ -16,8 +16,8 @@ fn main(rt: HostRuntime) -> ExitCode {
     ExitCode::from(run_over_files(&rt, Program { rt: &rt }))
 }
 
-// The program on the process's arguments and standard streams. It is the process that it runs on,
-// since a call gets no proof that takes the runtime, and again the runtime as a process.
+// Runs the program on the process's arguments and standard streams. The runtime itself is the
+// process, since a call that takes the runtime twice can't be proved.
 #[derive(Drop)]
 struct Program<'a> {
     rt: &'a HostRuntime,
@@ -42,7 +42,7 @@ impl DatabasesUser for Program<'_> {
     }
 }
 
-// The contract promises nothing about its arguments.
+// The contract promises nothing about the process's arguments.
 impl GivenArguments for Program<'_> {
     ghost given = { λ _ _. Unit {0} };
 
@@ -51,7 +51,7 @@ impl GivenArguments for Program<'_> {
     }
 }
 
-// The contract promises nothing about what is printed.
+// The contract promises nothing about the printed text.
 impl FaultLines for Program<'_> {
     ghost asked = { λ _ _. Unit {0} };
 

@@ -13,7 +13,7 @@ pub all_named : (name : List ℕ) (entries : List (String Global × Value))
 all_named name [] = refl
 all_named name (entry ∷ entries) = ap (λ (b : Bool). bytes_eq (string_bytes entry.0) name && b) (all_named name entries)
 
--- either no text in UTF-8 or no JSON
+-- the bytes either aren't a text in UTF-8 or aren't JSON
 pub no_value : (bytes : List ℕ) (test : Bool) (found : Option Data) → is_utf8 bytes ≡ test → (IsUtf8 bytes → found ≡ None) → cond test found None ≡ None
 no_value bytes true found e none = none (IsUtf8-from_is_utf8 bytes e)
 no_value bytes false found e none = refl

@@ -1,4 +1,4 @@
--- The computed place of a target is the one that it names.
+-- The computed place of a target is the place that it names.
 use Rattle.http_request.proofs.Common.{◌≡◌, ℕ, ◌==◌, Bool, true, false, cond, List, [], ◌∷◌, Option, Some, None, codes, refl, sym, ap, ◌∙◌, arith, ◌&&◌, nat_le}
 use Rattle.http_request.proofs.Common.{option_map, IfSome, bytes_eq, cond-true, eqb-true, nat_tests, segments, account_at, place_of, under_root, under_slots}
 use Rattle.http_request.proofs.Common.{ReadsPlaces}
@@ -10,7 +10,7 @@ use Rattle.club_rows.specs.{Limits.{IsBookingNumber, booking_number_limit}, Rows
 use Rattle.http_request.specs.{Path.{HasRealValues, IsPlace, place_parts}, computed.Parts.{number_of_text, slot_of_parts, within_limits, ◌>>=◌}}
 use Rattle.http_request.specs.declared.path.Place.{Place, TheVariants.{SlotPlace, BookingPlace, AccountPlace}}
 
--- what is so of a value that is found: by a test, by two steps, or by a function of what was found
+-- a property of a value that is found by a test, by two steps, or by mapping a found value
 if_all : {A : Type 0} (P : A → Type 0) (test : Bool) (found : Option A) → (test ≡ true → IfSome found P) → IfSome (cond test found None) P
 if_all P true found is = is refl
 if_all P false found is = tt

@@ -9,7 +9,7 @@ use Rattle.club_values.specs.{Day.day_text, Digits.two_digits}
 use Rattle.http_request.specs.{Path.{HasRealValues, IsPlace, place_parts}, Routes.KnowsPlaces, declared.path.Place.Place}
 use Rattle.http_request.specs.declared.path.Place.TheVariants.{SlotPlace, BookingPlace, AccountPlace}
 
--- the path that has these parts
+-- the path with these parts
 abbrev glued : List (List ℕ) → List ℕ
 glued [] = []
 glued (part ∷ []) = part
@@ -24,7 +24,7 @@ glued_more : (b : ℕ) (part : List ℕ) (parts : List (List ℕ)) → glued ((b
 glued_more b part [] = refl
 glued_more b part (other ∷ parts) = refl
 
--- a path is its parts
+-- a path consists of its parts
 parted : (path : List ℕ) → (path ≡ glued (segments path)) × AreParts (segments path)
 parted [] = (refl, (refl, tt))
 parted (byte ∷ path) =
@@ -62,11 +62,11 @@ some_day : (day : ℕ) → 0 < length (day_text day)
 unfolding day_text
 some_day day = omega arith
 
--- a part of a path that a parameter takes
+-- a part of a path that a route's parameter accepts
 abbrev IsPart : List ℕ → Type 0
 IsPart part = (0 < length part) × (has_slash part ≡ false)
 
--- after a slot's facility and day comes its hour, alone or with a booking
+-- the routes after a slot's facility and day: its hour, alone or with a booking
 hour_routes : {K : Type 0} → K → K → RowsOf K
 hour_routes booking slot = (param_token ∷ codes "/bookings/" ++ param_token ∷ [], booking) ∷ (param_token ∷ [], slot) ∷ []
 

@@ -19,7 +19,7 @@ first_part (byte ∷ path) = elim (eqb byte 47) as (λ b. (part : List ℕ) × (
 pub from_the_front : (path : List ℕ) → segments path ≡ with_front [] (segments path)
 from_the_front path = let first = first_part path in first.2 ∙ sym (ap (with_front []) first.2)
 
--- all that follows some items
+-- the rest of a list after some items
 pub rest_of : {A : Type 0} (xs : List A) (k : ℕ) → take (length xs - k) (drop k xs) ≡ drop k xs
 rest_of xs k = take_all (length xs - k) (drop k xs) (omega (arith, length-drop k xs))
 
@@ -28,16 +28,16 @@ segments_at : (path : List ℕ) (i : ℕ) (slash : Bool) → i < length path →
     → segments (drop i path) ≡ cond slash ([] ∷ segments (drop (i + 1) path)) (with_front (get_or path i 0 ∷ []) (segments (drop (i + 1) path)))
 segments_at path i slash h e = rw (at_drop_more segments path i 0 h, e) refl
 
--- past a byte that is no slash
+-- a step past a byte that isn't a slash
 pub byte_passed : (path : List ℕ) (i : ℕ) → i < length path → eqb (get_or path i 0) 47 ≡ false
     → with_front (take i path) (segments (drop i path)) ≡ with_front (take (i + 1) path) (segments (drop (i + 1) path))
 byte_passed path i h e = rw (segments_at path i false h e, joined-joined, take_more path i 0 h) refl
 
--- the slash
+-- a step past a slash
 pub slash_found : (path : List ℕ) (i : ℕ) → i < length path → eqb (get_or path i 0) 47 ≡ true
     → with_front (take i path) (segments (drop i path)) ≡ take i path ∷ segments (take (length path - (i + 1)) (drop (i + 1) path))
 slash_found path i h e = rw (segments_at path i true h e, append-nil, rest_of path (i + 1)) refl
 
--- no slash
+-- the end of the path, without a slash
 pub no_slash : (path : List ℕ) (i : ℕ) → length path ≤ i → with_front (take i path) (segments (drop i path)) ≡ path ∷ []
 no_slash path i h = rw (drop_of_length-le path h, append-nil, take_all i path h) refl

@@ -1,11 +1,11 @@
--- Which paths have a route: a walk of matchit over one part of a path.
+-- The paths that have a route: a walk of matchit over one part of a path.
 use Rattle.http_request.proofs.Common.{◌≡◌, ℕ, zero, suc, ◌-◌, ◌<◌, List, [], ◌∷◌, ◌++◌, length, drop, Option, Some, None, true, false, cond, ◌==◌, ltb, nat_eq}
 use Rattle.http_request.proofs.Common.{refl, ap, ◌∙◌, arith, length-append, IsSome, and_right, nat_tests}
 use Rattle.std.specs.Cmp.Lexicographic.{pointwise}
 use Rattle.std.proofs.Math.Seq.{drop-append_seam}
 use Rattle.matchit.specs.{Rows.{RowsOf, param_token}, Seek.{segment, has_slash, cuts, step, or_else, param_step, seek}}
 
--- the rows that go on after some bytes
+-- the rows that continue after some bytes
 abbrev pub steps : {K : Type 0} → List ℕ → RowsOf K → RowsOf K
 steps [] rs = rs
 steps (b ∷ word) rs = steps word (step b rs)
@@ -28,7 +28,7 @@ unfolding seek
 skipped [] rs rest = refl
 skipped (b ∷ part) rs rest = skipped part rs rest
 
--- past a parameter that takes a part
+-- a step past a parameter that takes a part
 past : {K : Type 0} (gone : ℕ × RowsOf K) (b : ℕ) (part rest : List ℕ) (kept : RowsOf K) → gone ≡ (length (b ∷ part), kept) → IsSome (seek 0 kept rest)
     → IsSome (seek (gone.0 - 1) gone.1 (part ++ rest))
 past gone b part rest kept e is =
@@ -43,7 +43,7 @@ over_part rs ts kept [] rest some from takes is = let no : ⊥ = omega arith in 
 over_part rs ts kept (b ∷ part) rest some from takes is =
     some_second _ _ (some_first _ _ (past _ b part rest kept (ap (λ (r : _). param_step r (b ∷ part ++ rest)) from ∙ takes) is))
 
--- a part without a slash, by its first byte and the others
+-- a part without a slash, from its first byte and the rest
 no_slash : (b : ℕ) (part : List ℕ) → has_slash (b ∷ part) ≡ false → ((b == 47) ≡ false) × (has_slash part ≡ false)
 no_slash b part none =
     elim (b == 47) as (λ v. cond v true (has_slash part) ≡ false → (v ≡ false) × (has_slash part ≡ false)) [
@@ -79,19 +79,19 @@ not_at (suc n) (b ∷ part) none = not_at n part (no_slash b part none).1
 cuts_no_slash : (part : List ℕ) → has_slash part ≡ false → cuts part (47 ∷ []) ≡ false
 cuts_no_slash part none = and_right _ _ (not_at (length part - 1) part none)
 
--- what a parameter takes of a part and a slash, if each row goes on with a slash
+-- the bytes that a parameter takes of a part and a slash, if each row continues with a slash
 pub takes_two : {K : Type 0} (t s : List ℕ) (k j : K) (part rest : List ℕ) → 0 < length part → has_slash part ≡ false
     → param_step ((47 ∷ t, k) ∷ (47 ∷ s, j) ∷ []) (part ++ 47 ∷ rest) ≡ (length part, (47 ∷ t, k) ∷ (47 ∷ s, j) ∷ [])
 unfolding param_step
 takes_two t s k j part rest some none = rw (segment_of part rest none, cuts_slash part some, one_less part) refl
 
--- if one row goes on with a slash, and one ends
+-- the same if one row continues with a slash and one ends
 pub takes_one : {K : Type 0} (t : List ℕ) (k j : K) (part rest : List ℕ) → 0 < length part → has_slash part ≡ false
     → param_step ((47 ∷ t, k) ∷ ([], j) ∷ []) (part ++ 47 ∷ rest) ≡ (length part, (47 ∷ t, k) ∷ [])
 unfolding param_step
 takes_one t k j part rest some none = rw (segment_of part rest none, cuts_slash part some, one_less part) refl
 
--- what it takes of a path's last part
+-- the bytes that a parameter takes of a path's last part
 pub takes_last : {K : Type 0} (t : List ℕ) (k j : K) (part : List ℕ) → has_slash part ≡ false
     → param_step ((47 ∷ t, k) ∷ ([], j) ∷ []) part ≡ (length part, (47 ∷ t, k) ∷ ([], j) ∷ [])
 unfolding param_step

@@ -1,4 +1,4 @@
--- When a request is whole, and what follows it.
+-- The conditions under which a request is complete, and the bytes after it.
 use Rattle.http_request.proofs.Common.{◌≡◌, ◌⊎◌, ℕ, ◌-◌, ◌<◌, ◌≤◌, ◌↔◌, inl, inr, List, ◌++◌, length, take, drop, sym, ap, ◌∙◌, arith, append_assoc}
 use Rattle.http_request.proofs.Common.{length-append, take-append-le, take-append-drop, length-drop, HeaderSpan, RequestHead, Head, IsFramed, IsOneRequest}
 use Rattle.http_request.proofs.Common.{IsRefusedHead, HasNoPiece, IsWhole, has_frame, endless, bad_head, IsHeadAt, IsFrontOf, OneReading, ReadsPlaces}
@@ -7,19 +7,19 @@ use Rattle.http_request.proofs.FrameLemmas.{Asks, asks_at, cut_frame, framed, no
 use Rattle.http_request.specs.declared.front.Front.{Front, TheVariants.{Refused, Asking}}
 use Rattle.http_request.specs.Words as words
 
--- if no head has ended within the limit, the bytes hold no whole request
+-- if no head has ended within the limit, the bytes have no complete request
 pub open_head : (bytes : List ℕ) → HasNoPiece bytes → length bytes < 16384 → ¬ (IsWhole bytes)
 open_head bytes none short (has_frame head body is) = no_piece (framed is).cut none
 open_head bytes none short (endless empty long) = omega arith
 open_head bytes none short (bad_head is) = no_piece (record { cut = is.cut; parts = is.parts }) none
 
--- nor if the body is cut off
+-- if the body is cut off, the bytes have no complete request
 pub open_body : {bytes rest : List ℕ} {head : RequestHead} {n : ℕ} → Asks bytes head n rest → length rest < n → ¬ (IsWhole bytes)
 open_body asks short (has_frame other body is) = cut_frame asks short other body is
 open_body asks short (endless none long) = no_piece asks.cut none
 open_body asks short (bad_head is) = not_refused asks is
 
--- bytes that begin with a head are one request if and only if its body is all that follows
+-- bytes that begin with a head are one request if and only if they end with its body
 pub body_only : (bytes : List ℕ) (fields : List HeaderSpan) (found : Head) → IsHeadAt bytes fields found
     → (length bytes - found.len ≡ found.body_len) ↔ IsOneRequest bytes
 body_only bytes fields found at =
@@ -35,7 +35,7 @@ body_only bytes fields found at =
       λ one. let same = same_asked (asks_at at) (only one) in omega (arith, same.1, ap length same.2),
     )
 
--- bytes decode in one way
+-- bytes decode in only one way
 pub one : ReadsPlaces → OneReading
 one reads bytes a b (words.has_frame head body place is at decoded) (words.has_frame other again found and there returned) =
     let asked = same_asked (framed is) (framed and) in
@@ -47,7 +47,7 @@ one reads bytes a b (words.has_frame head body place is at decoded) (words.lacks
 one reads bytes a b (words.lacks_frame none returned) (words.has_frame head body place is at decoded) = absurd (none head body is)
 one reads bytes a b (words.lacks_frame none returned) (words.lacks_frame again decoded) = cc
 
--- what bytes begin with stays if more follow
+-- the front of bytes stays the same if more bytes follow
 frame_more : (bytes more : List ℕ) (head : RequestHead) (body : List ℕ) → IsFramed bytes head body → IsFramed (bytes ++ more) head body
 frame_more bytes more head body is = record {
   piece = is.piece;

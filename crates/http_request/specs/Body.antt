@@ -16,16 +16,16 @@ has_only_name name value = unwrap_or (option_map (only_named name) (as_object va
 abbrev pub whole_number : Option Data → Option ℕ
 whole_number value = option_and_then as_u64 (option_and_then as_number value)
 
--- so many guests, if a booking may have them
+-- this many guests, if a booking may have them
 abbrev pub few_guests : Option ℕ → Option ℕ
 few_guests None = None
 few_guests (Some n) = if nat_le n guests_limit then Some n else None
 
--- an object with the one name `guests`, and a whole number that is within the limit
+-- an object whose only name is `guests`, with a whole number within the limit
 unfoldable pub guests_of_value : Data → Option ℕ
 guests_of_value value = if has_only_name (codes "guests") value then few_guests (whole_number (get (codes "guests") value)) else None
 
--- the value of bytes, as serde_json reads them (RFC 8259)
+-- the value that serde_json parses from bytes (RFC 8259)
 unfoldable pub json_value_of : List ℕ → Option Data
 json_value_of bytes = if is_utf8 bytes then read bytes else None
 

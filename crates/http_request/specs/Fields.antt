@@ -3,11 +3,11 @@ use Rattle.std.specs.{Char.to_ascii_lowercase, Prelude.{◌≡◌, ℕ, Bool, Li
 use Rattle.httparse.specs.{Spans.header_bytes, declared.spans.HeaderSpan.HeaderSpan}
 use Rattle.http_request.specs.declared.fields.Values.{Values, TheVariants.{None, One, More}}
 
--- two names are the same, in any case (RFC 9110, section 5.1)
+-- two names are the same, ignoring case (RFC 9110, section 5.1)
 abbrev pub same_word : List ℕ → List ℕ → Bool
 same_word a b = bytes_eq (map to_ascii_lowercase a) (map to_ascii_lowercase b)
 
--- the values of the fields with a name, in their order; a field is a name and a value
+-- the values of the fields with a name, in order; a field is a name and a value
 abbrev pub values_of : List ℕ → List (List ℕ × List ℕ) → List (List ℕ)
 values_of name [] = []
 values_of name (field ∷ fields) = if same_word field.0 name then field.1 ∷ values_of name fields else values_of name fields
@@ -16,7 +16,7 @@ values_of name (field ∷ fields) = if same_word field.0 name then field.1 ∷ v
 abbrev pub values_in_head : List ℕ → List ℕ → List HeaderSpan → List (List ℕ)
 values_in_head head name fields = values_of name (map (header_bytes head) fields)
 
--- none, one, or more
+-- there are no values, one value, or several
 abbrev pub ClassifiesValues : List (List ℕ) → Values → Type 0
 ClassifiesValues values None = values ≡ []
 ClassifiesValues values (One value) = values ≡ value.now ∷ []

@@ -1,10 +1,10 @@
--- The head that bytes begin with, if they do.
+-- The head at the front of bytes, if there is one.
 use Rattle.std.specs.Prelude.{◌≤◌, ℕ, List, length, take}
 use Rattle.httparse.specs.{Grammar.RequestHead, Spans.{IsRequestWithin, IsRequestAt}, declared.spans.HeaderSpan.HeaderSpan}
 use Rattle.http_request.specs.{Frame.{AsksForBody, HasNoPiece, IsRefusedHead}, Head.IsPiece, declared.front.Front.Front}
 use Rattle.http_request.specs.declared.{front.{Front.TheVariants.{NoPiece, Refused, Asking}, Head.Head}, scan.HeadScan.HeadScan}
 
--- the bytes begin with this head; its spans and the fields say where its parts are
+-- the bytes begin with this head; its spans and the fields are the positions of its parts
 pub record IsHeadAt (bytes : List ℕ) (fields : List HeaderSpan) (found : Head) : Type 0 where
   pub head : RequestHead
   pub inside : found.len ≤ length bytes
@@ -13,12 +13,12 @@ pub record IsHeadAt (bytes : List ℕ) (fields : List HeaderSpan) (found : Head)
   pub within : IsRequestWithin (take found.len bytes) fields found.spans
   pub spans : IsRequestAt (take found.len bytes) fields found.spans head
 
--- the bytes begin with this: no head yet, a head that is refused, or a head with the length of its body
+-- the front of the bytes is no head yet, a head that is refused, or a head with the length of its body
 abbrev pub IsFrontOf : List ℕ → List HeaderSpan → Front → Type 0
 IsFrontOf bytes fields NoPiece = HasNoPiece bytes
 IsFrontOf bytes fields Refused = IsRefusedHead bytes
 IsFrontOf bytes fields (Asking found) = IsHeadAt bytes fields found
 
--- the scan holds what the bytes begin with
+-- the scan keeps what the bytes parse to
 abbrev pub Covers : HeadScan → List ℕ → Type 0
 Covers scan bytes = IsFrontOf bytes scan.fields scan.front

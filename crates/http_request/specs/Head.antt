@@ -1,4 +1,4 @@
--- The head of a request, cut out of bytes.
+-- The head of a request at the front of bytes.
 use Rattle.std.specs.{List.ends_with, Prelude.{◌≡◌, ℕ, ◌<◌, ◌≤◌, true, false, List, [], length, take, nat_eq, codes}}
 use Rattle.httparse.specs.Grammar.{RequestHead, ReadsRequest}
 use Rattle.http_request.specs.Limits.{max_fields, max_head_len}
@@ -7,13 +7,13 @@ use Rattle.http_request.specs.Limits.{max_fields, max_head_len}
 abbrev pub empty_line : List ℕ
 empty_line = codes "\r\n\r\n"
 
--- the shortest beginning that ends with an empty line, no longer than the longest head
+-- the shortest prefix that ends with an empty line, no longer than the longest head
 pub record IsPiece (piece : List ℕ) : Type 0 where
   pub ends : ends_with nat_eq piece empty_line ≡ true
   pub shortest : (n : ℕ) → n < length piece → ends_with nat_eq (take n piece) empty_line ≡ false
   pub short : length piece ≤ max_head_len
 
--- the piece is, whole, the head of a request (RFC 9112, as httparse reads it), with no more than so many fields
+-- the whole piece is the head of a request (RFC 9112, as httparse reads it), with at most the allowed number of fields
 pub record IsHeadOf (piece : List ℕ) (head : RequestHead) : Type 0 where
   pub reads : ReadsRequest piece head []
   pub few : length head.fields ≤ max_fields

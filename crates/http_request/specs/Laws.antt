@@ -4,7 +4,7 @@ use Rattle.club_core.specs.declared.refusal.Refusal.{Refusal}
 use Rattle.http_request.specs.{Frame.IsWhole, Path.IsPlaceOf, Words.{DecodedRequest, IsRequestReading, HoldsBody}, computed.Path.place_of}
 use Rattle.http_request.specs.declared.path.Place.{Place}
 
--- a target names one place at most: that which is computed
+-- a target names at most one place, which is the computed one
 abbrev pub ReadsPlaces : Type 0
 ReadsPlaces = (target : List ℕ) (place : Option Place) → IsPlaceOf target place ↔ (place_of target ≡ place)
 
@@ -13,12 +13,12 @@ abbrev pub OneReading : Type 0
 OneReading =
     (bytes : List ℕ) (a b : Result DecodedRequest Refusal) → IsRequestReading bytes a → IsRequestReading bytes b → a ≡ b
 
--- a whole request decodes the same, whatever bytes follow it
+-- a complete request decodes the same, whatever bytes follow it
 abbrev pub WholeKeepsItsReading : Type 0
 WholeKeepsItsReading =
     (bytes more : List ℕ) (answer : Result DecodedRequest Refusal)
     → IsWhole bytes → IsRequestReading bytes answer → IsRequestReading (bytes ++ more) answer
 
--- bytes that hold a body that needs memory still hold it, whatever bytes follow
+-- if bytes have a body that needs memory, they still have it after more bytes are appended
 abbrev pub BodyStays : Type 0
 BodyStays = (bytes more : List ℕ) → HoldsBody bytes → HoldsBody (bytes ++ more)

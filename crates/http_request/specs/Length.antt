@@ -1,4 +1,4 @@
--- How many bytes a body has (RFC 9112, section 6.2).
+-- The length of a body (RFC 9112, section 6.2).
 use Rattle.std.specs.{Prelude.{ℕ, ◌==◌, ◌||◌, List, [], ◌∷◌, length, nat_le, codes, if◌then◌else◌, Option, Some, None, option_and_then}, Str.bytes_eq}
 use Rattle.club_values.specs.Number.{number_of_digits}
 use Rattle.http_request.specs.{Fields.values_of, Limits.max_body_len}
@@ -7,7 +7,7 @@ use Rattle.http_request.specs.{Fields.values_of, Limits.max_body_len}
 abbrev pub body_length : ℕ → Option ℕ
 body_length n = if nat_le n max_body_len then Some n else None
 
--- 1 to 4 digits, of a number up to the length of the longest body (ours)
+-- the number that 1 to 4 digits spell, at most the length of the longest body (ours)
 abbrev pub length_in : List ℕ → Option ℕ
 length_in value = if nat_le (length value) 4 then option_and_then body_length (number_of_digits value) else None
 

@@ -1,7 +1,7 @@
 -- The parts of a path.
 use Rattle.std.specs.{Borrow.Bor, Prelude.{◌≡◌, ℕ, ◌==◌, List, [], ◌∷◌, ◌++◌, if◌then◌else◌, Option, Some, None}}
 
--- bytes in front of the first part
+-- bytes added in front of the first part
 abbrev pub with_front : List ℕ → List (List ℕ) → List (List ℕ)
 with_front front [] = front ∷ []
 with_front front (part ∷ parts) = (front ++ part) ∷ parts
@@ -16,6 +16,6 @@ abbrev pub following_parts : Option (Bor (List ℕ)) → List (List ℕ)
 following_parts None = []
 following_parts (Some rest) = segments rest.now
 
--- a path's first part, and what follows the slash after it
+-- a path's first part, and the rest after the following slash
 abbrev pub BeginsWith : List ℕ → List ℕ → Option (Bor (List ℕ)) → Type 0
 BeginsWith path part rest = segments path ≡ part ∷ following_parts rest

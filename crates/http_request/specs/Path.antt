@@ -4,7 +4,7 @@ use Rattle.club_values.specs.{Day.day_text, Digits.two_digits, declared.slot.Slo
 use Rattle.club_rows.specs.{Limits.IsBookingNumber, Rows.IsSlot}
 use Rattle.http_request.specs.{Parts.segments, declared.path.Place.{Place, TheVariants.{SlotPlace, BookingPlace, AccountPlace}}}
 
--- the parts of a slot's path, and of what follows it
+-- the parts of a slot's path, followed by further parts
 abbrev pub slot_parts : Slot → List (List ℕ) → List (List ℕ)
 slot_parts slot parts = codes "slots" ∷ slot.facility ∷ day_text slot.day ∷ two_digits slot.hour ∷ parts
 
@@ -20,7 +20,7 @@ HasRealValues (SlotPlace slot) = IsSlot slot
 HasRealValues (BookingPlace slot number) = IsSlot slot × IsBookingNumber number
 HasRealValues AccountPlace = Unit {0}
 
--- the target is the place's path: a slash, and the parts with a slash between each two
+-- the target is the place's path: a slash, followed by the parts separated by slashes
 pub record IsPlace (target : List ℕ) (place : Place) : Type 0 where
   pub path : List ℕ
   pub slash : target ≡ 47 ∷ path

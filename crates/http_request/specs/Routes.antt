@@ -1,4 +1,4 @@
--- The routes of the desk's paths; matchit refuses a target that has none.
+-- The routes of the desk's paths; matchit refuses a target without a route.
 use Rattle.std.specs.Prelude.{◌≡◌, ℕ, List, Some, IsSome}
 use Rattle.matchit.specs.{Rows.RowsOf, Seek.first}
 use Rattle.http_request.specs.{computed.Path.place_of, declared.path.Place.Place}

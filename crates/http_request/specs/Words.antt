@@ -13,16 +13,16 @@ abbrev pub ◌>>=◌ : {A B : Type 0} → Result A Refusal → (A → Result B R
 Ok a >>= f = f a
 Err e >>= f = Err e
 
--- a decoded request: the text of its pass, and what it asks for
+-- a decoded request: the text of its pass, and the request itself
 pub record DecodedRequest : Type 0 where
   pub pass : List ℕ
   pub request : Request
 
--- the guests that a request brings: the number in the body of a PUT, 0 for another method
+-- the guests of a request: the number in the body of a PUT, or 0 for any other method
 abbrev pub guests_by_method : List ℕ → List ℕ → Option ℕ
 guests_by_method method body = if bytes_eq method (codes "PUT") then guests_in body else Some 0
 
--- what a method asks for at a place; methods are compared by their bytes
+-- the request that a method makes at a place; methods are compared by their bytes
 abbrev pub request_at : Place → List ℕ → ℕ → Result Request Refusal
 request_at (SlotPlace slot) method guests =
     if bytes_eq method (codes "GET") then Ok (requests.View slot) else Err (MethodNotAllowed resources.Slot)
@@ -32,7 +32,7 @@ request_at (BookingPlace slot number) method guests =
 request_at AccountPlace method guests =
     if bytes_eq method (codes "GET") then Ok requests.Account else Err (MethodNotAllowed resources.Account)
 
--- a request, decoded from its method, the place of its target, its fields and its body; or the first refusal that fits
+-- a request, decoded from its method, the place of its target, its fields and its body; or the first refusal that applies
 unfoldable pub decoded_request : List ℕ → Option Place → List (List ℕ × List ℕ) → List ℕ → Result DecodedRequest Refusal
 decoded_request method place fields body = do
   guests ← ok_or (guests_by_method method body) BadRequest
@@ -41,7 +41,7 @@ decoded_request method place fields body = do
   pass ← ok_or (pass_text_of fields) NoPass
   Ok (record { pass = pass; request = request })
 
--- bytes decode by the head and the body that they begin with; if there are none, as `BadRequest`
+-- bytes decode by the head and the body at their front; if there are none, the result is `BadRequest`
 pub data IsRequestReading (bytes : List ℕ) (answer : Result DecodedRequest Refusal) : Type 0 where
   has_frame : (head : RequestHead) (body : List ℕ) (place : Option Place) → IsFramed bytes head body → IsPlaceOf head.target place
       → answer ≡ decoded_request head.method place (header_fields head) body → IsRequestReading bytes answer
@@ -54,7 +54,7 @@ NeedsMemory method body = (method ≡ codes "PUT") × (0 < length body)
 abbrev pub HoldsBody : List ℕ → Type 0
 HoldsBody bytes = (head : RequestHead) × (body : List ℕ) × IsFramed bytes head body × NeedsMemory head.method body
 
--- this holds of the answer; or the answer is `Unavailable`, because memory was needed and there was none
+-- this holds for the answer, or the answer is `Unavailable` because memory was needed and there was none
 abbrev pub OrUnavailable : Type 0 → (Result DecodedRequest Refusal → Type 0) → Result Words Refusal → Type 0
 OrUnavailable Needs Answers (Ok words) = Answers (Ok (record { pass = words.pass.now; request = words.request }))
 OrUnavailable Needs Answers (Err refusal) = ((refusal ≡ Unavailable) × Needs) ⊎ Answers (Err refusal)

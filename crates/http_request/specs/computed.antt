@@ -1,4 +1,4 @@
--- Definitions that compute what the others of specs/ state. Laws say that both agree.
+-- Functions that compute what the other definitions of `specs/` state. Laws state that both agree.
 
 pub mod Parts
 pub mod Path

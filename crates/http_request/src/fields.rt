@@ -1,4 +1,4 @@
-//! The fields of a head, by their names.
+//! Finds the fields of a head by their names.
 
 ghost use Rattle.std.specs.Prelude.{◌≡◌, ◌∷◌, [], length, All, MatchOption};
 ghost use Rattle.httparse.specs.Spans.{IsHeaderWithin, header_bytes};
@@ -42,7 +42,7 @@ fn next_value<'a, 'b>(
     None
 }
 
-/// Returns the values of the fields with a name, in any case.
+/// Returns the values of the fields with a name, which is compared in any case.
 pub(crate) fn values_of<'a>(head: &'a [u8], fields: &[HeaderSpan], name: &[u8]) -> Values<'a>
     requires { All (IsHeaderWithin (length head.now)) fields.now }
     ensures { ClassifiesValues (values_in_head head.now name.now fields.now) result }

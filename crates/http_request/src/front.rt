@@ -1,4 +1,4 @@
-//! The head that bytes begin with, if they do.
+//! The head at the front of bytes, if there is one.
 
 ghost use Rattle.std.specs.Prelude.{◌≡◌, ◌≤◌, length, map, take, All};
 ghost use Rattle.http_request.specs.{Frame.HasNoPiece, Front.IsFrontOf};
@@ -7,30 +7,30 @@ use crate::head::{MAX_FIELDS, piece_len, read_head};
 use crate::length::asked_length;
 use httparse::spans::{HeaderSpan, RequestSpans};
 
-/// A head at the beginning of bytes.
+/// A head at the front of bytes.
 #[derive(Clone, Copy)]
 pub(crate) struct Head {
-    /// How many bytes it has.
+    /// The number of bytes of the head.
     pub(crate) len: usize,
-    /// Where its parts are.
+    /// The positions of the head's parts.
     pub(crate) spans: RequestSpans,
-    /// How many bytes its body has.
+    /// The number of bytes of the body.
     pub(crate) body_len: usize,
 }
 
-/// What bytes begin with.
+/// The result of looking for a head at the front of bytes.
 #[derive(Clone, Copy)]
 pub(crate) enum Front {
     /// No head ends within the first `MAX_HEAD_LEN` bytes.
     NoPiece,
-    /// The head is refused, whatever follows.
+    /// The head is refused, whatever bytes follow it.
     Refused,
-    /// A head, and how long its body is.
+    /// A head, with the length of its body.
     Asking(Head),
 }
 
-/// Returns what the bytes begin with, if no head ends within the first `searched` of them. Writes
-/// the places of the head's fields to `fields`.
+/// Looks for a head at the front of the bytes, given that no head ends within the first `searched`
+/// bytes. Writes the positions of the head's fields to `fields`.
 pub(crate) fn front_of(
     bytes: &[u8],
     searched: usize,

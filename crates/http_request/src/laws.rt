@@ -4,7 +4,7 @@ ghost use Rattle.http_request.specs.Laws.{OneReading, WholeKeepsItsReading, Body
 
 use club_values::laws::{is_text_of_day, reads_days, reads_hours, reads_names, reads_numbers};
 
-/// A target names one place at most, which is the computed one.
+/// A target names at most one place, which is the computed one.
 pub fn reads_places()
     ensures { ReadsPlaces }
 {
@@ -22,12 +22,12 @@ pub fn one_reading()
     reads_places();
 }
 
-/// A whole request decodes the same, whatever bytes follow it.
+/// A complete request decodes the same, whatever bytes follow it.
 pub fn whole_keeps_its_reading()
     ensures { WholeKeepsItsReading }
 {}
 
-/// Bytes that hold a body that needs memory still hold it, whatever bytes follow.
+/// If bytes have a body that needs memory, they still have it after more bytes are appended.
 pub fn body_stays()
     ensures { BodyStays }
 {}

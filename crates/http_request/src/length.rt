@@ -1,4 +1,4 @@
-//! How many bytes a body has.
+//! The length of a body.
 
 ghost use Rattle.std.specs.Prelude.{◌≡◌, length, map, All};
 ghost use Rattle.httparse.specs.Spans.{IsHeaderWithin, header_bytes};
@@ -25,7 +25,7 @@ fn length_in(value: &[u8]) -> Option<usize>
     if len <= MAX_BODY_LEN { Some(len) } else { None }
 }
 
-/// Returns how many bytes the body of a head has; `None` if the head is refused.
+/// Returns the length in bytes of the body that a head announces; `None` if the head is refused.
 pub(crate) fn asked_length(head: &[u8], fields: &[HeaderSpan], method: &[u8]) -> Option<usize>
     requires { All (IsHeaderWithin (length head.now)) fields.now }
     ensures { result ≡ spec.asked_length method.now (map (header_bytes head.now) fields.now) }

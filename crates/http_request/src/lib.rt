@@ -13,7 +13,7 @@ mod requests;
 mod routes;
 mod scan;
 
-/// A request as it was sent: the text of its pass, and what it asks for.
+/// A request as it was sent: the text of its pass, and the parsed request.
 pub use club_core::SentWords as Words;
 pub use head::{MAX_FIELDS, MAX_HEAD_LEN};
 pub use length::MAX_BODY_LEN;

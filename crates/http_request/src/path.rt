@@ -9,7 +9,7 @@ use club_rows::BookingNumber;
 use club_values::digits::read_number;
 use club_values::{Day, Hour, Name, Slot};
 
-/// What a path names.
+/// The place that a path names.
 #[derive(Clone, Copy, Debug, PartialEq, Eq)]
 pub(crate) enum Place {
     SlotPlace(Slot),
@@ -17,7 +17,7 @@ pub(crate) enum Place {
     AccountPlace,
 }
 
-/// Returns the first part of a path, and what follows the slash after it.
+/// Returns the first part of a path, and the rest after the following slash.
 fn next_part(path: &[u8]) -> (&[u8], Option<&[u8]>)
     ensures { BeginsWith path.now result.0.now result.1 }
 {
@@ -51,7 +51,7 @@ fn read_slot(facility: &[u8], day: &[u8], hour: &[u8]) -> Option<Slot>
     })
 }
 
-/// Returns the place at a slot or at one of its bookings, by the rest of the path.
+/// Returns the place of a slot or of one of its bookings, from the rest of the path.
 fn at_slot(slot: Slot, rest: Option<&[u8]>) -> Option<Place>
     ensures { result ≡ spec.at_slot slot (following_parts rest.entry) }
 {

@@ -1,4 +1,4 @@
-//! What a method asks for at a place.
+//! The request that a method makes at a place.
 
 ghost use Rattle.std.specs.Prelude.{◌≡◌, Ok};
 ghost use Rattle.http_request.specs.Words as spec;
@@ -7,7 +7,7 @@ use crate::path::Place;
 use club_core::{Refusal, Request, Resource};
 use club_rows::Guests;
 
-/// Returns what a method asks for at a place.
+/// Returns the request that a method makes at a place.
 pub(crate) fn request_at(place: Place, method: &[u8], guests: Guests) -> Result<Request, Refusal>
     ensures { result ≡ spec.request_at place method.now guests }
 {

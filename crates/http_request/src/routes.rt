@@ -1,4 +1,4 @@
-//! The routes of the desk, and the decoding of requests by them.
+//! The routes of the desk, and the decoding of requests with them.
 
 ghost use Rattle.std.specs.Prelude.{◌≡◌, length, map, All, codes, IfOk, MatchResult, Some, Ok};
 ghost use Rattle.std.specs.Str.{IsUtf8};
@@ -31,7 +31,7 @@ pub struct Routes {
     ghost knows: { KnowsPlaces router },
 }
 
-/// Adds a route. The desk's routes are valid and don't conflict, so it fails only if there is no
+/// Adds a route. The desk's routes are valid and don't conflict, so this fails only if there is no
 /// memory.
 fn add(router: &mut Router<()>, route: &str) -> Result<(), AllocError>
     ensures { IfOk result (λ _.
@@ -48,7 +48,7 @@ impl Routes {
     ///
     /// # Errors
     ///
-    /// There is no memory for the routes.
+    /// Fails if there is no memory for the routes.
     pub fn new(alloc: Global) -> Result<Routes, AllocError> {
         let mut router = Router::new(alloc);
         add(
@@ -61,7 +61,7 @@ impl Routes {
         Ok(Routes { alloc, router })
     }
 
-    /// Returns the place that a target names: it has a route, and its parts parse.
+    /// Returns the place that a target names, if it has a route and its parts parse.
     fn place_of(&self, target: &[u8]) -> Option<Place>
         requires { IsUtf8 target.now }
         ensures { result ≡ path.place_of target.now }
@@ -74,7 +74,7 @@ impl Routes {
     }
 }
 
-/// Returns the guests that a request brings: the number in the body of a PUT, 0 for another method.
+/// Returns the guests of a request: the number in the body of a PUT, or 0 for any other method.
 fn guests_of_body(alloc: Global, method: &[u8], body: &[u8]) -> Result<Guests, Refusal>
     ensures { MatchResult result
         (λ guests. guests_by_method method.now body.now ≡ Some guests)
@@ -112,12 +112,12 @@ fn decode_request<'a>(
     Ok(Words { pass, request })
 }
 
-/// Decodes the bytes of a request with a scan that covers them, so the head isn't parsed again.
-/// Bytes that follow the request change nothing.
+/// Decodes the bytes of a request with a scan that covers them, so that the head isn't parsed
+/// again. Bytes after the request change nothing.
 ///
 /// # Errors
 ///
-/// Those of `words_of`.
+/// Fails as `words_of` does.
 pub fn words_by_scan<'a>(
     routes: &Routes,
     bytes: &'a [u8],
@@ -141,13 +141,13 @@ pub fn words_by_scan<'a>(
     decode_request(routes, piece, fields, method, target, body)
 }
 
-/// Decodes the bytes of a request: the text of its pass, and what it asks for. Bytes that follow
-/// the request change nothing.
+/// Decodes the bytes of a request: the text of its pass, and the request itself. Bytes after the
+/// request change nothing.
 ///
 /// # Errors
 ///
-/// The first that fits: `BadRequest`, `NoSuchPath`, `MethodNotAllowed`, `NoPass`. `Unavailable`
-/// means that there is no memory; only the body of a PUT needs any.
+/// Fails with the first fault that applies: `BadRequest`, `NoSuchPath`, `MethodNotAllowed`,
+/// `NoPass`. `Unavailable` means that there is no memory, which only the body of a PUT needs.
 pub fn words_of<'a>(routes: &Routes, bytes: &'a [u8]) -> Result<Words<'a>, Refusal>
     ensures { OrUnavailable (HoldsBody bytes.now) (IsRequestReading bytes.now) result }
 {

@@ -12,17 +12,17 @@ use httparse::spans::{EMPTY_HEADER_SPAN, HeaderSpan};
 /// The most bytes of a request.
 pub const MAX_REQUEST_LEN: usize = MAX_HEAD_LEN + MAX_BODY_LEN;
 
-/// A scan for the head of a request. It holds what the bytes begin with that it covers. The head is
-/// parsed once, when its end has arrived, and kept here.
+/// A scan for the head of a request. Keeps what the scanned bytes parse to. The head is parsed
+/// once, when its end has arrived.
 #[derive(Drop)]
 pub struct HeadScan {
     pub(crate) front: Front,
-    /// Where the fields of the head are.
+    /// The positions of the head's fields.
     pub(crate) fields: [HeaderSpan; MAX_FIELDS],
 }
 
 impl HeadScan {
-    /// Makes a scan that covers no byte.
+    /// Makes a scan that covers no bytes.
     pub fn new() -> HeadScan
         ensures { Covers result [] }
     {
@@ -33,8 +33,8 @@ impl HeadScan {
     }
 
     /// Extends the scan from the first `searched` bytes, which it already covers, to all of them.
-    /// Until a head has ended, it searches the new bytes for the end, and parses the head when it
-    /// finds one. After that it looks at no byte.
+    /// Until a head has ended, it searches the new bytes for the end, and parses the head once it
+    /// finds that. After that it looks at no more bytes.
     pub fn go_on(&mut self, bytes: &[u8], searched: usize)
         requires inside { searched ≤ length bytes.now }
         requires before { Covers self.old (take searched bytes.now) }
@@ -46,8 +46,8 @@ impl HeadScan {
         }
     }
 
-    /// Returns whether the bytes that the scan covers begin with a whole request. If they don't,
-    /// there are fewer than `MAX_REQUEST_LEN` of them.
+    /// Returns whether the bytes that the scan covers begin with a complete request. If they don't,
+    /// there are fewer than `MAX_REQUEST_LEN` bytes.
     pub fn is_whole(&self, bytes: &[u8]) -> bool
         requires { Covers self.now bytes.now }
         ensures whole { IsTrue result ↔ IsWhole bytes.now }
@@ -59,7 +59,7 @@ impl HeadScan {
             Front::Asking(head) => bytes.len() - head.len >= head.body_len,
         }
     }
-    /// Returns whether the bytes that the scan covers are a head and its body, and nothing more.
+    /// Returns whether the bytes that the scan covers are exactly a head and its body.
     pub fn is_over(&self, bytes: &[u8]) -> bool
         requires { Covers self.now bytes.now }
         ensures { IsTrue result ↔ IsOneRequest bytes.now }

@@ -2,7 +2,7 @@
 use Rattle.std.proofs.{Common.{◌≡◌, ℕ, List, [], ◌∷◌, ◌++◌, codes, flat_map, ap, sym, ◌∙◌, append_assoc}, lemmas.List.append-nil}
 use Rattle.http_response.specs.Body.{Member, member_text, object_text}
 
--- a text, and after it the next members
+-- a text followed by the next members
 abbrev pub written : List ℕ → List Member → List ℕ
 written line [] = line
 written line (member ∷ members) = written (line ++ codes "," ++ member_text member) members

@@ -33,7 +33,7 @@ member_text member = name_text member.0 ++ value_text member.1
 abbrev pub object_text : List Member → List ℕ
 object_text members = codes "{" ++ join_by member_text (codes ",") members ++ codes "}"
 
--- a booking by its key and its number
+-- a booking's key and its number
 abbrev pub booking_member : List ℕ → ℕ → Member
 booking_member key n = (codes "booking", text (key ++ codes "/" ++ decimal n))
 

@@ -1,4 +1,4 @@
--- The statuses of replies (RFC 9110, section 15), and the methods of what a path names (ours).
+-- The statuses of replies (RFC 9110, section 15), and the methods of a path's resource (ours).
 use Rattle.std.specs.Prelude.{ℕ, List, codes}
 use Rattle.club_core.specs.declared.refusal.Refusal.{Refusal, TheVariants.{BadRequest, NoSuchPath, MethodNotAllowed, NoPass, PassTooLong, PassMalformed}}
 use Rattle.club_core.specs.declared.refusal.Refusal.TheVariants.{ThirdPartyCaveat, TooManyCaveats, NotVerified, KeyRevoked, CaveatNotUnderstood, CaveatDenies}
@@ -35,7 +35,7 @@ abbrev pub status_of : Reply → ℕ
 status_of (Refused refusal) = refusal_status refusal
 status_of served = 200
 
--- a slot and the account are shown, a booking is made and cancelled
+-- the methods of a resource: a slot and the account can be viewed, a booking can be made and cancelled
 abbrev pub methods_of : Resource → List ℕ
 methods_of resources.Slot = codes "GET"
 methods_of resources.Booking = codes "PUT, DELETE"

@@ -19,11 +19,11 @@ phrase_of status =
 abbrev pub status_line : Reply → List ℕ
 status_line reply = codes "HTTP/1.1 " ++ code_digits (status_of reply) ++ codes " " ++ phrase_of (status_of reply) ++ codes "\r\n"
 
--- on 401 (RFC 9110, section 11.6.1; RFC 6750, section 3)
+-- the challenge, for status 401 (RFC 9110, section 11.6.1; RFC 6750, section 3)
 abbrev pub challenge_field : Reply → List ℕ
 challenge_field reply = if status_of reply == 401 then codes "WWW-Authenticate: Bearer\r\n" else []
 
--- on 405, the methods of what the path names (RFC 9110, section 10.2.1)
+-- the methods of the path's resource, for status 405 (RFC 9110, section 10.2.1)
 abbrev pub allow_field : Reply → List ℕ
 allow_field (Refused (MethodNotAllowed resource)) = codes "Allow: " ++ methods_of resource ++ codes "\r\n"
 allow_field reply = []

@@ -33,7 +33,7 @@ fn push_value(line: &mut Line, text: &[u8])
     line.push(b"\"");
 }
 
-/// Starts an object with a text.
+/// Starts an object whose first member is a text.
 #[tactic(auto, unfolding(crate::specs::Body::member_text))]
 fn object_of_text(name: &[u8], value: &[u8]) -> Line
     requires { length name.now + length value.now + 6 ≤ max_line_len }
@@ -47,7 +47,7 @@ fn object_of_text(name: &[u8], value: &[u8]) -> Line
     line
 }
 
-/// Appends the next member, a text.
+/// Appends the next member, whose value is a text.
 #[tactic(auto, unfolding(crate::specs::Body::member_text))]
 fn push_text(line: &mut Line, name: &[u8], value: &[u8])
     requires { length line.old + length name.now + length value.now + 6 ≤ max_line_len }
@@ -60,7 +60,7 @@ fn push_text(line: &mut Line, name: &[u8], value: &[u8])
     push_value(line, value);
 }
 
-/// Appends the next member, a number.
+/// Appends the next member, whose value is a number.
 #[tactic(auto, unfolding(crate::specs::Body::member_text))]
 fn push_number(line: &mut Line, name: &[u8], value: u64)
     requires { length line.old + length name.now + 24 ≤ max_line_len }
@@ -73,7 +73,7 @@ fn push_number(line: &mut Line, name: &[u8], value: u64)
     line.push_number(value);
 }
 
-/// Appends the next member, a truth value.
+/// Appends the next member, whose value is a truth value.
 #[tactic(auto, unfolding(crate::specs::Body::member_text))]
 fn push_truth(line: &mut Line, name: &[u8], value: bool)
     requires { length line.old + length name.now + 9 ≤ max_line_len }
@@ -101,7 +101,7 @@ fn slot_body(slot: &Slot, kind: Kind, price: u16, places: u8, taken: u64, closed
     line
 }
 
-/// Starts an object with a booking's key and number.
+/// Starts an object whose first members are a booking's key and number.
 #[tactic(auto, unfolding(crate::specs::Body::member_text))]
 fn object_of_booking(key: &Name, number: BookingNumber) -> Line
     ensures text { result ≡ codes "{" ++ spec.member_text (spec.booking_member key.now number) }

@@ -15,7 +15,7 @@ fn status_code(reply: &Reply) -> StatusCode
     StatusCode::from_u16(status_of(reply)).unwrap()
 }
 
-/// Appends the field `Allow` on 405: the methods of what the path names.
+/// Appends the field `Allow` if the status is 405, with the methods of the path's resource.
 fn push_allow(line: &mut Line, reply: &Reply)
     requires { length line.old + 20 ≤ max_line_len }
     ensures text { line.new ≡ line.old ++ spec.allow_field reply.now }
@@ -28,7 +28,7 @@ fn push_allow(line: &mut Line, reply: &Reply)
     }
 }
 
-/// Returns the field `WWW-Authenticate` on 401.
+/// Returns the field `WWW-Authenticate` if the status is 401, else nothing.
 fn challenge(reply: &Reply) -> &'static [u8]
     ensures text { result.now ≡ spec.challenge_field reply.now }
     ensures len { length result.now ≤ 26 }

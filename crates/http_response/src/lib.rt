@@ -1,5 +1,5 @@
 //! The replies of the desk as bytes: an HTTP/1.1 response with a JSON object as its body. Nothing
-//! here allocates.
+//! here allocates memory.
 #![tactic(auto)]
 
 mod body;

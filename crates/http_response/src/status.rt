@@ -1,4 +1,4 @@
-//! The HTTP statuses of replies, and the methods of what a path names.
+//! The HTTP statuses of replies, and the methods of a path's resource.
 
 ghost use Rattle.std.specs.Prelude.{◌≡◌, ◌≤◌, length};
 ghost use Rattle.http_response.specs.Status as spec;
@@ -30,7 +30,8 @@ fn refusal_status(refusal: Refusal) -> u16
     }
 }
 
-/// Returns the HTTP status of a reply: 200 if the request is served, else that of the refusal.
+/// Returns the HTTP status of a reply: 200 if the request is served, else the status of the
+/// refusal.
 pub fn status_of(reply: &Reply) -> u16
     ensures { result ≡ spec.status_of reply.now }
 {
@@ -40,7 +41,7 @@ pub fn status_of(reply: &Reply) -> u16
     }
 }
 
-/// Returns the methods of what a path names, with commas between them.
+/// Returns the methods of a path's resource, separated by commas.
 pub(crate) fn methods_of(resource: Resource) -> &'static [u8]
     ensures text { result.now ≡ spec.methods_of resource }
     ensures len { length result.now ≤ 11 }

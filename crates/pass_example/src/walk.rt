@@ -1,5 +1,5 @@
-//! A walk through the commands of `passtool`: prints each command line and its output. A pass that
-//! is printed is saved in a file, and the next commands read it from there.
+//! A walk through the commands of `passtool`, which prints each command line and its output. A
+//! printed pass is saved to a file, and the next commands read it from there.
 
 use passtool_commands::run;
 use std::alloc::Global;
@@ -8,7 +8,7 @@ const ROOT: &str = "00112233445566778899aabbccddeeff";
 
 const OTHER_ROOT: &str = "ffeeddccbbaa99887766554433221100";
 
-/// Prints the walk: a new pass, narrowed, shown, converted and verified, and a caveat that isn't
+/// Prints the walk: a new pass is narrowed, shown, converted and verified, and a caveat isn't
 /// understood.
 pub(crate) fn print_walk(rt: &(impl Print + Alloc<A = Global>)) -> anyhow::Result<()> {
     let pass = mint_pass(rt)?;
@@ -56,7 +56,7 @@ fn mint_pass(rt: &(impl Print + Alloc<A = Global>)) -> anyhow::Result<String> {
     step(rt, words.as_slice(), " | tee pass", "")
 }
 
-// Prints a command line and the output of its run, which it returns.
+// Prints a command line and the output of its run, and returns the output.
 fn step(
     rt: &(impl Print + Alloc<A = Global>),
     words: &[&str],
@@ -79,7 +79,7 @@ fn output_of(alloc: Global, words: &[&str], input: &str) -> anyhow::Result<Strin
     }
 }
 
-// The words as a shell takes them, with quotes if a word has a space.
+// The words as typed in a shell, with quotes around a word with a space.
 fn command_line(alloc: Global, words: &[&str]) -> anyhow::Result<String> {
     let mut line = String::new(alloc);
     for (index, word) in words.iter().enumerate() {

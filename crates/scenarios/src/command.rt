@@ -11,7 +11,7 @@ use std::alloc::Global;
 
 const NO_COMMAND: &str = "no command";
 
-/// The words of a line, one after the other.
+/// The words of a line, one after another.
 #[derive(Drop)]
 pub(crate) struct Values<'a> {
     left: &'a str,
@@ -22,7 +22,7 @@ impl<'a> Values<'a> {
         Values { left: text }
     }
 
-    /// Returns the next word; empty after the last.
+    /// Returns the next word, or an empty one after the last.
     fn word(&mut self) -> &'a str {
         let (word, left) = self.left.split_once(' ').unwrap_or((self.left, ""));
         self.left = left;
@@ -70,7 +70,7 @@ impl<'a> Values<'a> {
         }
     }
 
-    /// Returns the form that is asked for: V2 if none is.
+    /// Returns the requested form, or V2 if none is requested.
     fn form(&mut self) -> Result<Form, Fault> {
         match self.word() {
             "" => Ok(Form::V2),
@@ -79,7 +79,7 @@ impl<'a> Values<'a> {
         }
     }
 
-    /// Returns the command of this word, whose values come next.
+    /// Returns the command that this word names; its values come next.
     fn command(&mut self, known: &Known, word: &str) -> Result<Command, Fault> {
         Ok(match word {
             "add-member" => Command::AddMember {
@@ -206,7 +206,8 @@ fn member_in(key: &str) -> &str {
     }
 }
 
-/// Returns the command that makes a key: `KEY`, `KEY of MEMBER`, each maybe with `under ROOT`.
+/// Returns the command that makes a key: `KEY` or `KEY of MEMBER`, each optionally with
+/// `under ROOT`.
 fn key_of(known: &Known, text: &str) -> Result<Command, Fault> {
     let (text, root) = text.split_once(" under ").unwrap_or((text, "first"));
     let (key, member) = text.split_once(" of ").unwrap_or((text, member_in(text)));
@@ -235,7 +236,7 @@ fn push_part(commands: &mut Vec<Command>, known: &Known, part: &str) -> Result<(
     Ok(())
 }
 
-/// Returns the commands that make the last club.
+/// Returns the commands that make the most recent club.
 pub(crate) fn commands_of(alloc: Global, known: &Known) -> Result<Vec<Command>, Fault> {
     let mut commands = Vec::new(alloc);
     let club = known.club.as_str();

@@ -1,15 +1,15 @@
-//! Why a file isn't played to its end.
+//! Why playing a file stops before its end.
 
 use pass_forms::FormFault;
 use std::alloc::{AllocError, AllocFailed};
 use std::fmt;
 
-/// Why a file isn't played beyond a line.
+/// Why playing a file stops at a line.
 #[derive(Debug, Drop)]
 pub(crate) enum Fault {
     /// The line breaks this rule of the language.
     Rule(&'static str),
-    /// The player gave another answer than the line states.
+    /// The player's answer differs from the one that the line states.
     Differs { wanted: String, found: String },
     /// The player failed.
     Player(&'static str),
@@ -48,7 +48,7 @@ impl From<FormFault> for Fault {
     }
 }
 
-/// Returns the value that a line needs by this rule.
+/// Returns the value that a line must have by this rule.
 pub(crate) fn needed<T: Drop>(value: Option<T>, rule: &'static str) -> Result<T, Fault> {
     match value {
         Some(value) => Ok(value),

@@ -4,19 +4,19 @@ use crate::fault::{Fault, needed};
 use club_http::{Moment, Name, Root};
 use std::alloc::Global;
 
-/// The name of the root that a key has unless its line names another one, and its bytes.
+/// The name and the bytes of the root that a key has unless its line names another one.
 const FIRST: &[u8] = b"first";
 
 const FIRST_ROOT: &[u8] = b"\x00\x11\x22\x33\x44\x55\x66\x77\x88\x99\xaa\xbb\xcc\xdd\xee\xff";
 
-/// A root with a name: its own, or that of a key.
+/// A root with a name, which is the root's own or that of a key.
 #[derive(Clone, Copy)]
 struct Named {
     name: Name,
     root: Root,
 }
 
-/// A text with a name, which takes the place of a pass.
+/// A named text, which can replace a pass.
 #[derive(Drop)]
 struct NamedText {
     name: Name,
@@ -29,14 +29,14 @@ pub(crate) struct Known {
     roots: Vec<Named>,
     keys: Vec<Named>,
     texts: Vec<NamedText>,
-    /// The line of the last club.
+    /// The line of the most recent club.
     pub(crate) club: String,
     pub(crate) moment: Option<Moment>,
-    /// Whether the next line is stopped, and comes again.
+    /// Whether the next line crashes and is then repeated.
     pub(crate) crashes: bool,
 }
 
-/// Returns a name, which a line needs.
+/// Returns a name, which the line must have.
 pub(crate) fn name(text: &str) -> Result<Name, Fault> {
     needed(Name::read(text.as_bytes()), "no name")
 }

@@ -1,5 +1,5 @@
-//! The pure machine as a player. It takes words, so the bytes of a request are read for it, and
-//! the roots under which its pass is signed are found among those of the club's keys.
+//! The pure machine as a player. The machine takes words, so the player decodes the bytes of a
+//! request for it, and finds the roots that signed the pass among those of the club's keys.
 
 use crate::fault::Fault;
 use crate::player::{Maker, Player};
@@ -15,14 +15,14 @@ use pass_json::read_any;
 use std::alloc::{AllocError, Global};
 use std::cmp::Ordering;
 
-/// No member, so that others hold all of a slot.
+/// The name of no member, so that all bookings of a slot count as those of others.
 const NOBODY: &[u8] = b"nobody";
 
 /// Makes machines.
 #[derive(Clone, Copy)]
 pub(crate) struct Machines;
 
-/// The machine, and what reads requests for it.
+/// The machine, with the routes that decode requests for it.
 #[derive(Drop)]
 pub(crate) struct Machine {
     alloc: Global,
@@ -49,7 +49,7 @@ pub(crate) fn text_of(alloc: Global, reply: &Reply) -> Result<String, Fault> {
     text_in(alloc, &room[..len])
 }
 
-/// Returns the text that is in bytes.
+/// Returns the text that these bytes are.
 pub(crate) fn text_in(alloc: Global, bytes: &[u8]) -> Result<String, Fault> {
     match std::str::from_utf8(bytes) {
         Ok(text) => Ok(String::from_str(alloc, text)?),
@@ -57,7 +57,7 @@ pub(crate) fn text_in(alloc: Global, bytes: &[u8]) -> Result<String, Fault> {
     }
 }
 
-/// Returns why a text is no pass; `None` if memory was refused.
+/// Returns why a text isn't a pass; `None` if memory was refused.
 fn pass_fault(fault: FormFault) -> Option<PassFault> {
     match fault {
         FormFault::TooLong => Some(PassFault::TooLong),
@@ -108,7 +108,7 @@ fn yes_or_no(holds: bool) -> &'static str {
     if holds { "yes" } else { "no" }
 }
 
-/// Until when a key's older root is good.
+/// Returns the moment until which a key's older root is good.
 fn older_text(alloc: Global, key: &Key) -> Result<String, AllocError> {
     match &key.older {
         None => String::from_str(alloc, "none"),
@@ -130,7 +130,7 @@ impl Machine {
         })
     }
 
-    /// Returns the pass of a text, or why it is none.
+    /// Returns the pass of a text, or why the text isn't one.
     fn read(&self, text: &[u8]) -> Result<Result<Pass, PassFault>, Fault> {
         match read_any(self.alloc, text) {
             Ok((_, pass)) => Ok(Ok(self.seen(&pass)?)),

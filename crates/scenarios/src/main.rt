@@ -1,8 +1,8 @@
-//! Plays the scenarios of its data folder: what a club's desk answers, line by line. Each file is
+//! Plays the scenarios in its data folder, which state a desk's answers line by line. Each file is
 //! played by the pure machine, by the desk over tables in memory, and by exchanges from bytes to
-//! bytes with each pass in three forms.
+//! bytes, with each pass in three forms.
 //!
-//! It prints each file with its count, or the first line that has another answer.
+//! It prints each file with the number of its lines, or the first line with a different answer.
 #![tactic(auto)]
 
 mod command;
@@ -39,7 +39,7 @@ struct Found {
     at: FaultAt,
 }
 
-/// Returns the names of the files, in their order.
+/// Returns the names of the files, in order.
 fn names(rt: &HostRuntime) -> Result<Vec<String>> {
     let mut names = Vec::new(rt.alloc());
     for entry in fs::read_dir(rt, ".")? {
@@ -52,7 +52,7 @@ fn names(rt: &HostRuntime) -> Result<Vec<String>> {
     Ok(names)
 }
 
-/// Plays lines by each player, where the first try of a line that is stopped is kept or lost.
+/// Plays lines with each player. The first try of a line that crashes is either kept or lost.
 fn play_each(alloc: Global, lines: &[&str], keeps: bool) -> Result<Count, Found> {
     let form = Form::V2;
     let way = Way { form, keeps };
@@ -74,7 +74,7 @@ fn lines_of<'a>(alloc: Global, text: &'a str) -> Result<Vec<&'a str>, AllocError
     text.lines().collect(alloc)
 }
 
-/// Plays a text. With a line that is stopped it is played twice.
+/// Plays a text, and plays it twice if it has a line that crashes.
 fn play_text(alloc: Global, lines: &[&str]) -> Result<Count, Found> {
     let count = play_each(alloc, lines, false)?;
     if lines.iter().any(|line| line.starts_with("crash")) {
@@ -83,7 +83,7 @@ fn play_text(alloc: Global, lines: &[&str]) -> Result<Count, Found> {
     Ok(count)
 }
 
-/// Plays a file, and prints its count or its fault. Returns whether it has none.
+/// Plays a file, and prints its count or its fault. Returns whether it has no fault.
 fn play_file(rt: &HostRuntime, name: &str) -> Result<bool> {
     let text = fs::read_to_string(rt, name)?;
     let lines = lines_of(rt.alloc(), text.as_str())?;
@@ -99,7 +99,7 @@ fn play_file(rt: &HostRuntime, name: &str) -> Result<bool> {
     }
 }
 
-/// Prints whether each odd text is refused. Returns whether it is so.
+/// Prints whether all odd texts are refused, and returns that.
 fn refuse_odd_texts(rt: &HostRuntime) -> Result<bool> {
     match odd::first_played_of_all(rt.alloc())? {
         None => {

@@ -5,11 +5,11 @@ use crate::play::{Way, play};
 use pass_forms::Form;
 use std::alloc::{AllocError, Global};
 
-/// A club and a moment.
+/// Lines with a club and a moment.
 const CLUB: &str = "club  members amy 5 100; court-1 court 4 200 8-22; keys amy-1\n\
     at  2026-04-20T12:00\n";
 
-/// Lines after these two, and the number of the line with the fault.
+/// Texts after these two lines, each with the number of the line with the fault.
 static AFTER_A_CLUB: [(&str, usize); 29] = [
     ("", 2),
     ("amy-1", 3),
@@ -42,7 +42,7 @@ static AFTER_A_CLUB: [(&str, usize); 29] = [
     ("root  third", 3),
 ];
 
-/// The same with a crash, or with lines that belong to none.
+/// Further such texts, with a crash or with lines that belong to no other line.
 static MORE_LINES: [(&str, usize); 5] = [
     ("crash  at noon", 3),
     (
@@ -85,7 +85,7 @@ fn is_refused(alloc: Global, text: &str, line: usize) -> Result<bool, AllocError
     }
 }
 
-/// Returns the first of these texts that isn't refused at its line, after a beginning.
+/// Returns the first of these texts that isn't refused at its line, when played after `front`.
 fn first_played<'a>(
     alloc: Global,
     front: &str,
@@ -100,7 +100,7 @@ fn first_played<'a>(
     Ok(None)
 }
 
-/// Returns the first odd text that isn't refused at its line; `None` if each is.
+/// Returns the first odd text that isn't refused at its line; `None` if all are refused.
 pub(crate) fn first_played_of_all(alloc: Global) -> Result<Option<&'static str>, AllocError> {
     if let Some(text) = first_played(alloc, CLUB, &AFTER_A_CLUB)? {
         return Ok(Some(text));

@@ -2,10 +2,10 @@
 
 use std::alloc::{AllocError, Global};
 
-/// The spaces between two columns, at least.
+/// The fewest spaces between two columns.
 const GAP: &str = "  ";
 
-/// Words that begin a line, and that one space may separate from the next column.
+/// Words that begin a line, which may be separated from the next column by only one space.
 static WORDS: [&str; 11] = [
     "club", "root", "text", "at", "bytes", "office", "sheet", "account", "slot", "crash", "reopen",
 ];
@@ -16,7 +16,7 @@ pub(crate) fn below<'a>(lines: &'a [&'a str]) -> &'a [&'a str] {
     &lines[..next.unwrap_or(lines.len())]
 }
 
-/// Returns the word that a line begins with, if it is one of the language, and the rest.
+/// Returns the first word of a line, if it is a word of the language, and the rest.
 fn first_word(line: &str) -> Option<(&str, &str)> {
     let (word, rest) = line.split_once(' ').unwrap_or((line, ""));
     if WORDS.contains(&word) {

@@ -33,7 +33,7 @@ pub(crate) fn form_named(text: &str) -> Option<Form> {
     }
 }
 
-/// Returns a text in place of another one.
+/// Replaces a text in a part of the form `X instead of Y`.
 fn replace(text: &mut Vec<u8>, part: &str) -> Result<(), Fault> {
     text.clear();
     push_unescaped(text, unquoted(part))
@@ -52,7 +52,7 @@ fn forged(pass: Pass) -> Pass {
 }
 
 impl Draft {
-    /// Returns the pass of a key as the office makes it.
+    /// Returns a key's pass as the office makes it.
     fn of_key(alloc: Global, key: &Name, root: &Root, form: Form) -> Result<Draft, Fault> {
         let mut identifier = Vec::from_slice(alloc, b"key:")?;
         identifier.extend_from_slice(key.as_bytes())?;
@@ -66,7 +66,7 @@ impl Draft {
         })
     }
 
-    /// Adds a caveat as often as its text says.
+    /// Adds a caveat as many times as its text says.
     fn add_caveats(&mut self, alloc: Global, part: &str) -> Result<(), Fault> {
         let (count, text) = repeated(part);
         for _ in 0..count {
@@ -117,8 +117,8 @@ fn key_and_parts(holder: &str) -> Result<(&str, &str), Fault> {
     }
 }
 
-/// Returns the root of a key. A key that the club hasn't has the first root, and a part that says
-/// so.
+/// Returns the root of a key. A key that the club doesn't have gets the first root, and must be
+/// marked `unknown`.
 fn root_of(known: &Known, key: &Name, parts: &str) -> Result<Root, Fault> {
     let is_unknown = parts.split("; ").any(|part| part == UNKNOWN);
     match known.root_of_key(key) {

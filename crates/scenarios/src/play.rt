@@ -15,7 +15,7 @@ use pass_forms::Form;
 use pass_json::write_any;
 use std::alloc::Global;
 
-/// What follows `crash`.
+/// The rest of the line after `crash`.
 const AGAIN: &str = "anywhere in the next line; then the same line again";
 
 const ANSWER: &str = "no expectation";
@@ -25,9 +25,9 @@ const NO_CLUB: &str = "no club before it";
 /// A way to play a file.
 #[derive(Clone, Copy)]
 pub(crate) struct Way {
-    /// The form of each pass whose line names none.
+    /// The form of each pass whose line names no form.
     pub(crate) form: Form,
-    /// Whether the first try of a line that is stopped was kept.
+    /// Whether the first try of a line that crashes is kept.
     pub(crate) keeps: bool,
 }
 
@@ -77,7 +77,7 @@ fn expect(alloc: Global, wanted: &str, found: &str) -> Result<(), Fault> {
     })
 }
 
-/// Returns the lines of a text with commas between them.
+/// Returns the lines of a text, separated by commas.
 fn on_one_line(alloc: Global, text: &str) -> Result<String, Fault> {
     let mut line = String::new(alloc);
     for value in text.lines() {
@@ -90,7 +90,7 @@ fn on_one_line(alloc: Global, text: &str) -> Result<String, Fault> {
 }
 
 impl<'a> Line<'a> {
-    /// Returns a column; none is a fault.
+    /// Returns a column. A missing column is a fault.
     fn column(&self, number: usize, rule: &'static str) -> Result<&'a str, Fault> {
         needed(self.columns.get(number).copied(), rule)
     }
@@ -130,7 +130,7 @@ impl<'a> Line<'a> {
     }
 }
 
-/// Returns the outcome of a command, as a line states it: its output, or why it is refused.
+/// Returns the outcome of a command in the words of a line: its output, or why it is refused.
 fn outcome(
     alloc: Global,
     command: &Command,
@@ -149,7 +149,8 @@ fn outcome(
     }
 }
 
-/// Returns the output that a line's outcome of a command stands for: `done` may be a key's pass.
+/// Returns the output that a line's outcome of a command stands for. `done` may stand for a key's
+/// pass.
 fn wanted_outcome(
     alloc: Global,
     command: &Command,
@@ -221,8 +222,8 @@ where
         }
     }
 
-    /// Returns whether the line is played first, and then the tables are opened again: it was
-    /// stopped, and its first try was kept.
+    /// Returns whether the line crashes and its first try is kept. If so, the line is played once
+    /// before the tables are reopened.
     fn was_kept(&mut self) -> Result<bool, Fault> {
         let crashes = self.known.crashes;
         self.known.crashes = false;
@@ -385,7 +386,7 @@ where
         }
     }
 
-    /// Fails if a crash is before a line that nothing stops.
+    /// Fails if a crash comes before a line that can't crash.
     fn isnt_stopped(&self) -> Result<(), Fault> {
         if self.known.crashes {
             Err(Fault::Rule("a crash is followed by a request or a command"))
@@ -433,7 +434,7 @@ where
 
     /// Plays all lines.
     fn plays_all(&mut self, lines: &[&str]) -> Result<(), FaultAt> {
-        // The lines up to this one belong to one that was played.
+        // The lines up to this one belong to a line that was already played.
         let mut played = 0;
         for number in 0..lines.len() {
             let text = lines[number];

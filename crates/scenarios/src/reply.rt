@@ -6,7 +6,7 @@ use std::alloc::{AllocError, Global};
 
 const METHODS: &str = "with status 405, and with no other, the methods of the path are told";
 
-/// Returns the words of a status.
+/// Returns the phrase of a status.
 fn phrase(status: &str) -> Option<&'static str> {
     match status {
         "200" => Some("OK"),
@@ -22,7 +22,7 @@ fn phrase(status: &str) -> Option<&'static str> {
     }
 }
 
-/// Returns the methods of the path that are told beside a reply with status 405.
+/// Returns the methods of the path, which a line states next to a reply with status 405.
 fn methods<'a>(status: &str, columns: &[&'a str]) -> Result<Option<&'a str>, Fault> {
     let mut found = None;
     for column in columns {
@@ -35,7 +35,7 @@ fn methods<'a>(status: &str, columns: &[&'a str]) -> Result<Option<&'a str>, Fau
     }
 }
 
-/// Returns the field of a head that only this status has, with its line's end.
+/// Returns the head's field that only this status has, with its line end.
 fn own_field(alloc: Global, status: &str, methods: Option<&str>) -> Result<String, AllocError> {
     match methods {
         Some("GET") => String::from_str(alloc, "Allow: GET\r\n"),
@@ -45,7 +45,7 @@ fn own_field(alloc: Global, status: &str, methods: Option<&str>) -> Result<Strin
     }
 }
 
-/// Fails unless a count beside a reply is right: `43 bytes` of the body, `133 in all`.
+/// Fails unless a count next to a reply is right, such as `43 bytes` for the body or `133 in all`.
 fn expect_count(count: &str, body: usize, all: usize) -> Result<(), Fault> {
     let (digits, what) = halves(count, ' ', "a count has a number")?;
     let found = match what {

@@ -7,14 +7,14 @@ use crate::text::{halves, push_repeated};
 use pass_forms::Form;
 use std::alloc::Global;
 
-/// The holder of no pass.
+/// The holder's name in a line for a request without a pass.
 const NOBODY: &str = "nobody";
 
 fn push(bytes: &mut Vec<u8>, text: &str) -> Result<(), Fault> {
     Ok(bytes.extend_from_slice(text.as_bytes())?)
 }
 
-/// Returns the text before a path, unless the line gives it whole.
+/// Returns the text to put before a path, unless the line has the whole path.
 fn front_of(path: &str) -> &'static str {
     if path.starts_with('/') {
         ""
@@ -71,7 +71,7 @@ fn push_pieces(bytes: &mut Vec<u8>, known: &Known, form: Form, line: &str) -> Re
     Ok(())
 }
 
-/// Returns the bytes of a request whose lines are these.
+/// Returns the bytes of a request with these lines.
 pub(crate) fn request_in(
     alloc: Global,
     known: &Known,

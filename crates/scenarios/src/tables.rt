@@ -1,4 +1,5 @@
-//! The desk over tables as a player: it is asked by words, or by the bytes of an exchange.
+//! The desk over tables as a player, which is asked through words or through the bytes of an
+//! exchange.
 
 use crate::fault::Fault;
 use crate::machine::{text_in, text_of};
@@ -13,14 +14,15 @@ use club_store::Store;
 use sqlite::{Alter, Connection, MemStore};
 use std::alloc::Global;
 
-/// Makes the tables those of an older program: without older roots, and with the first index alone.
+/// Turns the tables into those of an older program, without older roots and with only the first
+/// index.
 const AS_VERSION_1: &str = "DROP TABLE old_roots; DROP INDEX IF EXISTS bookings_by_key; \
     UPDATE desk SET version = 1";
 
-/// The way in which a desk is asked.
+/// The way in which requests reach a desk.
 #[derive(Clone, Copy)]
 pub(crate) enum AskedBy {
-    /// The words that are read from a request.
+    /// The words that are decoded from a request.
     Words,
     /// An exchange from bytes to bytes.
     Bytes,
@@ -32,7 +34,7 @@ pub(crate) struct InMemory {
     pub(crate) asked_by: AskedBy,
 }
 
-/// A desk, and what reads requests for it.
+/// A desk, with the routes that decode requests for it.
 #[derive(Drop)]
 pub(crate) struct Counter<S: Alter> {
     alloc: Global,
@@ -49,7 +51,7 @@ fn fault_of(fault: StoreFault) -> Fault {
     }
 }
 
-/// Returns the lines that a desk shows; `None` if there is nothing of the name.
+/// Returns the lines that a desk shows; `None` if nothing has the name.
 fn shown(shown: Result<String, DeskFault>) -> Result<Option<String>, Fault> {
     match shown {
         Ok(text) => Ok(Some(text)),

@@ -4,16 +4,16 @@ use crate::fault::Fault;
 
 const NO_ESCAPE: &str = "no escape";
 
-/// The part of an escape that was read.
+/// The part of an escape that was read so far.
 #[derive(Clone, Copy)]
 enum Escape {
     /// No escape has begun.
     None,
-    /// A backslash came.
+    /// A backslash was read.
     Begun,
-    /// `\x` came.
+    /// `\x` was read.
     Hex,
-    /// `\x` and the first digit came.
+    /// `\x` and the first digit were read.
     Digit(u8),
 }
 
@@ -25,7 +25,7 @@ fn digit(byte: u8) -> Result<u8, Fault> {
     }
 }
 
-/// Returns the byte that a letter after a backslash stands for.
+/// Returns the byte that a letter after a backslash means.
 fn simple(letter: u8) -> Result<u8, Fault> {
     match letter {
         b'r' => Ok(b'\r'),
@@ -36,7 +36,8 @@ fn simple(letter: u8) -> Result<u8, Fault> {
     }
 }
 
-/// Reads a byte. Returns the part of an escape that was read, and the byte that is complete.
+/// Reads a byte. Returns the part of an escape that was read so far, and the byte that is now
+/// complete, if any.
 fn step(state: Escape, byte: u8) -> Result<(Escape, Option<u8>), Fault> {
     match state {
         Escape::None if byte == b'\\' => Ok((Escape::Begun, None)),
@@ -87,7 +88,7 @@ pub(crate) fn repeated(text: &str) -> (u32, &str) {
     }
 }
 
-/// Adds a text to bytes as often as it says, with its escapes replaced.
+/// Adds a text to bytes as many times as it says, with its escapes replaced.
 pub(crate) fn push_repeated(bytes: &mut Vec<u8>, text: &str) -> Result<(), Fault> {
     let (count, what) = repeated(text);
     for _ in 0..count {
@@ -96,7 +97,7 @@ pub(crate) fn push_repeated(bytes: &mut Vec<u8>, text: &str) -> Result<(), Fault
     Ok(())
 }
 
-/// Returns a text without the double quotes round it, if it has them.
+/// Returns a text without its surrounding double quotes, if it has them.
 pub(crate) fn unquoted(text: &str) -> &str {
     match text.strip_prefix('"') {
         Some(rest) => rest.strip_suffix('"').unwrap_or(text),

@@ -9,25 +9,26 @@ use club_values::{Kind, Moment, Name};
 /// A command of the office.
 #[derive(Clone, Copy)]
 pub enum PlainCommand {
-    /// A member with this quota.
+    /// Adds a member with this quota.
     AddMember(&'static str, u32),
-    /// So many points for a member.
+    /// Credits this many points to a member.
     Credit(&'static str, u32),
-    /// Points that are taken back from a member.
+    /// Takes this many points off a member's credit.
     Debit(&'static str, u32),
-    /// Another quota for a member.
+    /// Gives a member a new quota.
     SetQuota(&'static str, u32),
-    /// A facility with so many places, each for so many points, from one hour to another.
+    /// Adds a facility with this many places, each for this many points, open from one hour to
+    /// another.
     AddFacility(&'static str, Kind, u32, u32, u32, u32),
-    /// The same numbers, anew, for a facility that is there.
+    /// Gives an existing facility new values of the same numbers.
     SetFacility(&'static str, u32, u32, u32, u32),
-    /// A key of a member with this root.
+    /// Adds a key of a member with this root.
     AddKey(&'static str, &'static str, &'static [u8]),
     RevokeKey(&'static str),
-    /// Another root for a key. Passes under the older root are good until the minute, counted from
+    /// Gives a key a new root. Passes under the older root are good until the minute, counted from
     /// 1970-01-01T00:00.
     RotateKey(&'static str, &'static [u8], u32),
-    /// The booking of a key under a number.
+    /// Cancels the booking of a key under a number.
     CancelBooking(&'static str, u32),
     CloseSlot(PlainSlot),
     OpenSlot(PlainSlot),
@@ -132,7 +133,7 @@ fn open_slot(slot: &PlainSlot) -> Option<Command> {
 }
 
 impl PlainCommand {
-    /// Returns the command; `None` if a name, a root, a moment or a slot is out of its limits.
+    /// Returns the command; `None` if a name, a root, a moment or a slot is outside its limits.
     pub fn command(&self) -> Option<Command> {
         match self {
             PlainCommand::AddMember(member, quota) => add_member(member, *quota),

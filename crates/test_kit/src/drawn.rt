@@ -10,7 +10,7 @@ use crate::slots::{COURT_AT_18, PlainSlot, ROOM_AT_18};
 use club_values::Kind;
 use pass_forms::Form;
 
-// The linear congruential generator of Knuth's MMIX, of whose 64 bits the upper 31 are used.
+// The linear congruential generator of Knuth's MMIX. The upper 31 of its 64 bits are used.
 const FACTOR: u64 = 6_364_136_223_846_793_005;
 
 const SUMMAND: u64 = 1_442_695_040_888_963_407;
@@ -23,7 +23,7 @@ static MEMBERS: [&str; 3] = [AMY, "bob", "cy"];
 
 static KEYS: [&str; 4] = ["amy-1", "bob-1", "cy-1", SPARE];
 
-// The key that no member begins with.
+// A key that no member has at the start.
 const SPARE: &str = "spare";
 
 /// The slots on 2026-05-01.
@@ -36,7 +36,7 @@ pub static SLOTS: [PlainSlot; 3] = [
     ROOM_AT_18,
 ];
 
-/// Keys of the three members, which no event names. Their accounts show the totals.
+/// A key for each of the three members, which no event names. Their accounts show the totals.
 pub const AUDIT_AMY: &str = "audit-amy";
 
 const AUDIT_BOB: &str = "audit-bob";
@@ -45,8 +45,8 @@ const AUDIT_CY: &str = "audit-cy";
 
 pub static AUDITORS: [&str; 3] = [AUDIT_AMY, AUDIT_BOB, AUDIT_CY];
 
-/// What a club begins with: three members with a key each, and their auditors' keys; `court-1` and
-/// `room-1`.
+/// The commands at the start of a club: three members with a key each and an audit key each,
+/// `court-1` and `room-1`.
 pub static BEGINNING: [PlainCommand; 14] = [
     PlainCommand::AddMember(AMY, 2),
     PlainCommand::Credit(AMY, 1_500),
@@ -80,13 +80,13 @@ static CAVEATS: [&[&str]; 12] = [
     &["days = 2026-05-01..2026-05-02", "shoe = red"],
 ];
 
-/// The roots of keys. The first is that of the keys that a club begins with.
+/// The roots of keys. The first one belongs to the keys at the start of a club.
 static ROOTS: [&[u8]; 2] = [ROOT, SECOND_ROOT];
 
 static FORMS: [Form; 3] = [Form::V1, Form::V2, Form::Json];
 
-/// A request, and the pass of the office's that comes with it: of a key under a root, with caveats
-/// that were added without the root.
+/// A request, and its pass: the office's pass of a key under a root, with caveats that were added
+/// without the root.
 #[derive(Clone, Copy)]
 pub struct Asking {
     pub key: &'static str,
@@ -97,7 +97,7 @@ pub struct Asking {
     pub moment: u32,
 }
 
-/// Returns the asking for a member's account by a key that nothing else is asked for by.
+/// Returns the request for a member's account under a key that no other request uses.
 pub fn audit(key: &'static str) -> Asking {
     Asking {
         key,
@@ -116,19 +116,19 @@ pub enum Event {
     Commanded(PlainCommand),
 }
 
-/// The random numbers, from the next one on.
+/// A generator of random numbers.
 #[derive(Drop)]
 pub struct Numbers {
     state: u64,
 }
 
 impl Numbers {
-    /// Returns the numbers of a seed.
+    /// Returns the generator with this seed.
     pub fn new(first: u64) -> Numbers {
         Numbers { state: first }
     }
 
-    /// Returns the next number, brought below a bound.
+    /// Returns the next number, reduced below a bound.
     fn below(&mut self, bound: u32) -> u32
         requires { 0 < bound }
         ensures { result < bound }
@@ -141,7 +141,7 @@ impl Numbers {
         SLOTS[self.below(3) as usize]
     }
 
-    // Three times in four a number goes with the same slot.
+    // In three of four cases, a number comes with the same slot.
     fn slot_of(&mut self, booking: u32) -> PlainSlot {
         if self.below(4) == 0 {
             return self.slot();
@@ -212,7 +212,7 @@ impl Numbers {
         }
     }
 
-    /// Returns the next event: a request, or once in six a command.
+    /// Returns the next event, which is a request or, in one of six cases, a command.
     pub fn event(&mut self) -> Event {
         match self.below(6) {
             0 => Event::Commanded(self.command()),

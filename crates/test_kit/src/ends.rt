@@ -1,15 +1,15 @@
-//! How a run of a command ends.
+//! The expected end of a command's run.
 
 use std::alloc::{AllocError, Global};
 
-/// How a run is to end.
+/// The expected end of a run.
 #[derive(Clone, Copy, Debug)]
 pub enum End {
-    /// With status 0, and this text and a line feed as its output.
+    /// It ends with status 0, and outputs this text and a line feed.
     Writes(&'static str),
-    /// With this status and this text: its output, or its line on standard error.
+    /// It ends with this status and this text, which is its output or its line on standard error.
     Prints(u8, &'static str),
-    /// The same of a text that begins so.
+    /// It ends with this status and a text with this prefix.
     Begins(u8, &'static str),
 }
 
@@ -21,7 +21,7 @@ pub struct Output {
 }
 
 impl Output {
-    /// Returns whether a run ended with this status, and its text begins so.
+    /// Returns whether a run ended with this status and a text with this prefix.
     pub fn begins(&self, status: u8, front: &str) -> bool {
         self.status == status && self.text.as_str().starts_with(front)
     }
@@ -36,7 +36,7 @@ fn is_line(text: &str, line: &str) -> bool {
 }
 
 impl End {
-    /// Returns whether a run with this output ended so.
+    /// Returns whether a run with this output ended as expected.
     pub fn fits(&self, output: &Output) -> bool {
         let text = output.text.as_str();
         match self {
@@ -47,7 +47,7 @@ impl End {
     }
 }
 
-/// Returns the beginning of the line about a form that is none of the three.
+/// Returns the start of the line about an unknown form.
 pub fn form_line(alloc: Global, form: &str) -> Result<String, AllocError> {
     format!(in alloc;
         "error: invalid value '{form}' for '--form <FORM>'\n  [possible values: v1, v2, json]\n"

@@ -1,6 +1,6 @@
 //! Values that the test crates share: commands of the office, requests, replies and rows as plain
-//! values, the club that most tests begin with, and known passes. It has the bytes of known
-//! exchanges and tables of version 1, too. It asserts nothing: a value out of its limits is `None`.
+//! values, the club that most tests begin with, and known passes. It also has the bytes of known
+//! exchanges, and tables of version 1. It asserts nothing: a value outside its limits is `None`.
 #![tactic(auto)]
 
 mod commands;

@@ -21,7 +21,7 @@ pub const AMY_JSON: &str =
     "{\"c\":[],\"i\":\"key:amy-1\",\"l\":\"club-desk\",\"s64\":\"DsU-vMVpq3Ex5_BQk6D5VX6Tim\
     C0IfCk7Dn6nv7TIJk\",\"v\":2}";
 
-/// Those of `bob-1` and `cy-1` in V2.
+/// The passes of `bob-1` and `cy-1` in V2.
 pub const BOB_V2: &str =
     "AgEJY2x1Yi1kZXNrAglrZXk6Ym9iLTEAAAYg8McQ9g9QU63VDji91jYCIscN9G1Hs83nqsNV5o3a3ms";
 
@@ -51,7 +51,7 @@ pub const CY: PassTexts = PassTexts {
         IK2zIECytmH0lE\",\"v\":2}",
 };
 
-/// Their signatures, and that of `bob-2`.
+/// The signatures of these passes, and of that of `bob-2`.
 pub const AMY_1_SIGNATURE: [u8; 32] = *b"\
     \x0e\xc5\x3e\xbc\xc5\x69\xab\x71\x31\xe7\xf0\x50\x93\xa0\xf9\x55\
     \x7e\x93\x8a\x60\xb4\x21\xf0\xa4\xec\x39\xfa\x9e\xfe\xd3\x20\x99";
@@ -68,7 +68,7 @@ pub const BOB_2_SIGNATURE: [u8; 32] = *b"\
     \x94\x8d\x38\xf4\x34\xdb\x4a\x87\x01\x9e\x5b\x93\x13\x8c\xc1\xe3\
     \xd2\x40\x6a\x70\xa1\xcd\x88\x5f\x27\xf3\x72\x25\x34\x40\xbe\xf6";
 
-/// That of `amy-1` under `SECOND_ROOT`.
+/// The signature of the pass of `amy-1` under `SECOND_ROOT`.
 pub const AMY_1_SECOND_SIGNATURE: [u8; 32] = *b"\
     \x28\x21\x57\xe9\x8b\xa6\x97\x8e\xaa\x38\xd3\x9a\x5c\xb7\x7c\x35\
     \xd4\x9c\x30\x71\x77\x46\x18\x1e\xaf\x66\xe9\xbc\x38\x69\x1e\x8f";

@@ -1,8 +1,8 @@
-//! Long texts, made of pieces.
+//! Long texts made of pieces.
 
 use std::alloc::{AllocError, Global};
 
-/// Some text, so many times.
+/// A text, and how many times it is repeated.
 pub type Piece = (usize, &'static str);
 
 fn append(text: &mut String, piece: &Piece) -> Result<(), AllocError> {
@@ -12,7 +12,7 @@ fn append(text: &mut String, piece: &Piece) -> Result<(), AllocError> {
     Ok(())
 }
 
-/// Returns the pieces, one after the other.
+/// Returns the pieces joined together.
 pub fn join(alloc: Global, pieces: &[Piece]) -> Result<String, AllocError> {
     let mut text = String::new(alloc);
     for piece in pieces {

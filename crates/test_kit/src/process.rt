@@ -1,4 +1,4 @@
-//! A process that is given arguments, and keeps what is printed on its standard error.
+//! A process with given arguments, which keeps the text printed on its standard error.
 
 use std::alloc::Global;
 use std::cell::RefCell;
@@ -6,7 +6,7 @@ use std::env::{Env, FillError};
 use std::fmt::Display;
 use std::io::{self, ErrorKind};
 
-/// A process with these arguments, and no variables.
+/// A process with these arguments and no environment variables.
 #[derive(Drop)]
 pub struct Process<'a> {
     alloc: Global,
@@ -24,7 +24,7 @@ impl<'a> Process<'a> {
         }
     }
 
-    /// Returns what was printed on standard error.
+    /// Returns the text printed on standard error.
     pub fn into_printed(self) -> String {
         let Process { printed, .. } = self;
         printed.into_inner()

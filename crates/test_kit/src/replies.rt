@@ -8,13 +8,14 @@ use club_values::{Kind, Name};
 /// A reply.
 #[derive(Clone, Copy)]
 pub enum PlainReply {
-    /// Of `court-1` at 18: the persons who booked, and whether it is closed.
+    /// The state of `court-1` at 18: the number of persons who booked, and whether it is closed.
     SlotShown(u64, bool),
     /// The key, the number, the charge, and the places that are left.
     Booked(&'static str, u32, u32, u8),
     /// The key, the number, and the refund.
     Cancelled(&'static str, u32, u32),
-    /// Of amy, who has quota 5: the balance, her open bookings, and what the key has spent.
+    /// The account of amy, who has quota 5: her balance, her open bookings, and what the key has
+    /// spent.
     AccountShown(u32, u64, u64),
     Refused(Refusal),
 }
@@ -26,12 +27,12 @@ pub const CANCELLED_7: PlainReply = PlainReply::Cancelled("amy-1", 7, 600);
 /// Amy's booking of `court-1` for herself alone, under number 8.
 pub const BOOKED_8: PlainReply = PlainReply::Booked("amy-1", 8, 200, 3);
 
-/// Bob's booking for himself alone, the first one of the slot; and number 7 after it.
+/// Bob's booking for himself alone, the first one of the slot, and number 7 after it.
 pub const BOOKED_2: PlainReply = PlainReply::Booked("bob-1", 2, 200, 3);
 
 pub const FILLED_BY_7: PlainReply = PlainReply::Booked("amy-1", 7, 600, 0);
 
-/// Amy's account before any booking, and with number 7.
+/// Amy's account before any booking, and after booking number 7.
 pub const ACCOUNT_BEFORE: PlainReply = PlainReply::AccountShown(10_000, 0, 0);
 
 pub const ACCOUNT_AFTER: PlainReply = PlainReply::AccountShown(9_400, 1, 600);
@@ -88,7 +89,7 @@ fn account_shown(balance: u32, open_count: u64, spent: u64) -> Option<Reply> {
 }
 
 impl PlainReply {
-    /// Returns the reply; `None` if a name or a number is out of its limits.
+    /// Returns the reply; `None` if a name or a number is outside its limits.
     pub fn reply(&self) -> Option<Reply> {
         match self {
             PlainReply::SlotShown(taken, closed) => slot_shown(*taken, *closed),

@@ -8,7 +8,7 @@ use club_rows::{BookingNumber, Guests};
 #[derive(Clone, Copy)]
 pub enum PlainRequest {
     View(PlainSlot),
-    /// A booking of a slot under a number, with so many guests.
+    /// A booking of a slot under a number, with this many guests.
     Book(PlainSlot, u32, u8),
     /// The cancellation of a slot's booking under a number.
     Cancel(PlainSlot, u32),
@@ -20,12 +20,12 @@ pub const ACCOUNT: PlainRequest = PlainRequest::Account;
 /// A view of `court-1` at 18 hours.
 pub const VIEW: PlainRequest = PlainRequest::View(COURT_AT_18);
 
-/// Amy's booking of it under number 7, for three persons, and its cancellation.
+/// Amy's booking of that slot under number 7 for three persons, and its cancellation.
 pub const BOOK_7: PlainRequest = PlainRequest::Book(COURT_AT_18, 7, 2);
 
 pub const CANCEL_7: PlainRequest = PlainRequest::Cancel(COURT_AT_18, 7);
 
-/// The same number without guests.
+/// A booking under the same number without guests.
 pub const BOOK_7_ALONE: PlainRequest = PlainRequest::Book(COURT_AT_18, 7, 0);
 
 /// Bookings of `court-1` under other numbers.
@@ -56,7 +56,7 @@ fn cancel(slot: &PlainSlot, number: u32) -> Option<Request> {
 }
 
 impl PlainRequest {
-    /// Returns the request; `None` if a part is out of its limits.
+    /// Returns the request; `None` if a part is outside its limits.
     pub fn request(&self) -> Option<Request> {
         match self {
             PlainRequest::View(slot) => view(slot),

@@ -61,7 +61,7 @@ pub const BOOKING_8: PlainBooking = PlainBooking {
     refund: None,
 };
 
-/// Amy's row, with so many points credited and this quota.
+/// Returns amy's row, with this many points credited and this quota.
 pub fn amy(credited: u32, quota: u8) -> Option<Member> {
     Some(Member {
         name: Name::read(b"amy")?,
@@ -71,7 +71,7 @@ pub fn amy(credited: u32, quota: u8) -> Option<Member> {
 }
 
 impl PlainFacility {
-    /// Returns the row; `None` if it can't be named so.
+    /// Returns the row; `None` if its name isn't valid.
     pub fn facility(&self) -> Option<Facility> {
         Some(Facility {
             name: Name::read(self.name.as_bytes())?,
@@ -85,7 +85,7 @@ impl PlainFacility {
 }
 
 impl PlainBooking {
-    /// Returns the row; `None` if a part is out of its limits.
+    /// Returns the row; `None` if a part is outside its limits.
     pub fn booking(&self) -> Option<Booking> {
         Some(Booking {
             key: Name::read(self.key.as_bytes())?,

@@ -30,7 +30,7 @@ const COURT: PlainSlot = COURT_AT_18;
 
 const ROOM: PlainSlot = ROOM_AT_18;
 
-/// Both at other hours of that day. They are open from 8 to 22.
+/// Both facilities at other hours of that day. They are open from 8 to 22.
 pub const COURT_AT_9: PlainSlot = PlainSlot { hour: 9, ..COURT };
 
 pub const COURT_AT_10: PlainSlot = PlainSlot { hour: 10, ..COURT };
@@ -42,7 +42,7 @@ pub const ROOM_AT_9: PlainSlot = PlainSlot { hour: 9, ..ROOM };
 pub const ROOM_AT_10: PlainSlot = PlainSlot { hour: 10, ..ROOM };
 
 impl PlainSlot {
-    /// Returns the slot; `None` if a part is out of its limits.
+    /// Returns the slot; `None` if a part is outside its limits.
     pub fn slot(&self) -> Option<Slot> {
         Some(Slot {
             facility: Name::read(self.facility.as_bytes())?,

@@ -1,5 +1,5 @@
-//! Statements that make tables of version 1 with a club, and that change them to version 2 without
-//! the index of the bookings.
+//! Statements that create tables of version 1 with a club, and change them to version 2 without the
+//! index of the bookings.
 
 /// The table of the version, which every version has.
 pub const DESK: &str = "CREATE TABLE desk (version INTEGER NOT NULL) STRICT";
@@ -27,7 +27,7 @@ const BOOKINGS: &str =
 
 const FIRST: &str = "INSERT INTO desk (version) VALUES (1)";
 
-/// Makes the tables, and the rows of the fixture: amy's booking of the court under number 7, and
+/// Creates the tables and the rows of the fixture: amy's booking of the court under number 7, and
 /// her booking of the room under number 8, which is cancelled with a refund of 300.
 pub static STATEMENTS: [&str; 18] = [
     DESK,
@@ -55,8 +55,8 @@ pub static STATEMENTS: [&str; 18] = [
     "INSERT INTO bookings VALUES ('amy-1', 8, 'room-1', 20574, 18, 0, 601, 0, 1, 300)",
 ];
 
-/// Makes the tables as they were before they held what a member has used and what is taken of a
-/// slot, and a member.
+/// Creates the tables as they were before they had the totals of members and slots, and adds a
+/// member.
 pub static WITHOUT_TOTALS: [&str; 8] = [
     DESK,
     "CREATE TABLE members (name TEXT NOT NULL PRIMARY KEY, credited INTEGER NOT NULL CHECK \
@@ -73,7 +73,7 @@ pub static WITHOUT_TOTALS: [&str; 8] = [
     "INSERT INTO members VALUES ('amy', 10000, 5)",
 ];
 
-/// Makes tables of version 1 those of version 2 without the index of the bookings.
+/// Changes tables of version 1 to version 2 without the index of the bookings.
 pub static OLDER_ROOTS: [&str; 2] = [
     "CREATE TABLE old_roots (pass_key TEXT NOT NULL PRIMARY KEY REFERENCES keys (name), root BLOB \
         NOT NULL, until INTEGER NOT NULL CHECK (until BETWEEN 15778080 AND 68374079)) STRICT",

@@ -1,4 +1,4 @@
-//! Passes as the reference machine takes them: with the roots under which they are signed.
+//! Passes as the reference machine takes them, with the roots under which they are signed.
 
 use club_reference::Pass;
 use club_rows::Root;
@@ -19,8 +19,8 @@ fn only(alloc: Global, root: Root) -> Result<Vec<Root>, AllocError> {
     Ok(roots)
 }
 
-/// Returns a pass with these caveats that is signed under one root. `None` if the root is none, or
-/// memory is refused.
+/// Returns a pass with these caveats that is signed under one root. Returns `None` if the root
+/// isn't valid, or memory is refused.
 pub fn signed_pass(
     alloc: Global,
     key: Option<Name>,

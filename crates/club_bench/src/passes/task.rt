@@ -19,15 +19,15 @@ pub(crate) static CAVEATS: [&[u8]; 3] = [
 /// A task on a pass in V1 or V2.
 #[derive(Clone, Copy)]
 pub(crate) enum Task {
-    /// Its signature is computed.
+    /// Computes the signature.
     Sign,
-    /// Its bytes are read to a `Pass`.
+    /// Reads the bytes into a `Pass`.
     ReadWhole,
-    /// The fields of its bytes are read one after the other.
+    /// Reads the fields of the bytes one after another.
     ReadFields,
-    /// Its text is read to a `Pass`, whose signature is compared.
+    /// Reads the text into a `Pass`, and compares its signature.
     VerifyWhole,
-    /// The signature is compared while the fields of its text are read.
+    /// Compares the signature while reading the fields of the text.
     VerifyFields,
 }
 
@@ -40,7 +40,8 @@ pub(crate) struct Written<'a> {
 }
 
 impl Task {
-    /// Runs it once. Returns a byte of the result, so that the compiler can't remove the work.
+    /// Runs the task once. Returns a byte of the result, so that the compiler can't remove the
+    /// work.
     pub(crate) fn once(self, alloc: Global, written: &Written<'_>) -> Result<u8, FormFault> {
         match self {
             Task::Sign => Ok(sign()),

@@ -1,4 +1,4 @@
--- The values that the parts of a path spell, computed.
+-- Computes the values that the parts of a path spell.
 use Rattle.std.specs.Prelude.{ℕ, ◌&&◌, List, nat_le, if◌then◌else◌, Option, Some, None, option_and_then}
 use Rattle.club_rows.specs.Limits.{booking_number_limit}
 use Rattle.club_values.specs.{computed.TextOf.{name_of_text, day_of_text, hour_of_text, decimal_of_text}, declared.slot.Slot.Slot}

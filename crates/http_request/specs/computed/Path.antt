@@ -1,10 +1,10 @@
--- The place that a target names, computed.
+-- Computes the place that a target names.
 use Rattle.std.specs.{Prelude.{ℕ, ◌==◌, List, [], ◌∷◌, codes, if◌then◌else◌, Option, Some, None, option_map}, Str.bytes_eq}
 use Rattle.club_values.specs.declared.slot.Slot.{Slot}
 use Rattle.http_request.specs.{Parts.segments, computed.Parts.{number_of_text, slot_of_parts, ◌>>=◌}, declared.path.Place.Place}
 use Rattle.http_request.specs.declared.path.Place.TheVariants.{SlotPlace, BookingPlace, AccountPlace}
 
--- the place at a slot, by the parts that follow
+-- the place at a slot, from the parts that follow
 abbrev pub at_slot : Slot → List (List ℕ) → Option Place
 at_slot slot [] = Some (SlotPlace slot)
 at_slot slot (word ∷ []) = None
