@@ -17,7 +17,8 @@ use std::alloc::Global;
 use std::rt::Clock;
 use std::time::Duration;
 
-/// How many times the parts that change nothing are measured. The shortest time is printed.
+/// The number of times that the parts that change nothing are measured. The shortest time is
+/// printed.
 const ROUNDS: u8 = 5;
 
 const HEAD: &str = "asked for  a second | ns whole    words httparse     desk    reply";

@@ -19,7 +19,7 @@ pub(crate) struct Kept {
 }
 
 impl Kept {
-    /// Makes a writer to which nothing has been written.
+    /// Makes a writer that holds no bytes.
     pub(crate) fn new() -> Kept {
         Kept {
             bytes: [0; MAX_REPLY_LEN],

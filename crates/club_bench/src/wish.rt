@@ -38,7 +38,7 @@ fn slot_at(index: u16) -> Option<Slot> {
     slot_from_columns(COURT, day, i64::from(hour))
 }
 
-/// Returns the minute before a slot begins. So its member has few open bookings at that moment.
+/// Returns the minute before a slot begins. Members who book then have few open bookings.
 fn minute_before(slot: &Slot) -> Option<Moment> {
     Moment::from_number(slot.start().saturating_sub(1))
 }

@@ -28,8 +28,8 @@ seen_by_caveats view = record (bare_view view.key) { facility = view.facility; b
 abbrev pub books_anew : View → Bool
 books_anew view = not (is_some view.booking) && is_some view.facility
 
--- the part of a view that the decision depends on. To show a slot, that is its state; for a new booking, everything except what the key has spent; for a
--- repeat, a cancellation or an unknown facility, no sums; for the account, its sums.
+-- the part of a view that the decision depends on. To show a slot, that is its state. For a new booking, it is everything except what the key has spent. For a
+-- repeat, a cancellation or an unknown facility, no sums are needed. For the account, it is its sums.
 abbrev pub seen_by_decision : Request → View → View
 seen_by_decision (asked.View slot) view = record (seen_by_caveats view) { taken = view.taken; closed = view.closed }
 seen_by_decision (asked.Book slot number guests) view =

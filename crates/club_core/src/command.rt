@@ -1,4 +1,4 @@
-//! The commands of the office, the answers to them, and the faults for which they are refused.
+//! The commands of the office, the answers to them, and their faults.
 
 ghost use Rattle.std.specs.Prelude.{◌≡◌};
 

@@ -16,7 +16,7 @@ use crate::view::View;
 use club_rows::{Booking, BookingNumber, Facility, Guests};
 use club_values::{MINUTES_A_DAY, Moment, Name, Slot};
 
-/// How far ahead of the moment a slot may begin, in minutes: 60 days.
+/// The booking window, in minutes: a slot may begin at most 60 days after the moment.
 const BOOKING_WINDOW: u64 = 60 * MINUTES_A_DAY as u64;
 
 /// Returns whether a slot of the facility can be booked at a moment.

@@ -8,8 +8,7 @@ use Rattle.club_laws.specs.RunsWithFailures.{SoloLawOfTwoWithFailures, SoundWith
 use Rattle.club_laws.specs.RunsWithFailures.CancellationsWithFailures
 use Rattle.club_gate.specs.{Runs.ReturnsTheRecord, declared.event.{Event.Event as DeskEvent, OfficeReply.OfficeReply}}
 
--- A law of the computed events of a handled list and of the responses to it also holds for any events as which the machine sees that list, and for the
--- responses that the desk returns.
+-- A law of a handled list's computed events and responses also holds for any events that the machine sees for that list, and for the desk's responses.
 pub for_seen : {S T E : Type 0} (Represents : S → Club → List Club
     → Type 0) (new : S) (club : Club) (others : List Club) (events : List DeskEvent) (r : Result T E)
     (responses : T → List DeskResponse) (P : List Event → List DeskResponse → Type 0) → SeesEvents

@@ -43,8 +43,8 @@ pub sums_read : (club : Club) (moment : ℕ) (view shown : View) (spent : ℕ) (
 sums_read club moment view shown spent None is e = absurd (cc)
 sums_read club moment view shown spent (Some account) is e = rw (is, same_Some shown (with_account club moment view account) e) refl
 
--- the view with what the decision depends on. To show a slot, that is its state; for a new booking, the slot's state and the member's sums; for the account,
--- the sums of the member and of the key; otherwise nothing more.
+-- the view with what the decision depends on. To show a slot, that is its state. For a new booking, it is the slot's state and the member's sums. For the
+-- account, it is the sums of the member and of the key. Otherwise nothing is added.
 abbrev pub last_view : Club → Request → ℕ → View → Option View
 last_view club (asked.View slot) moment view = Some (with_slot club slot view)
 last_view club (asked.Book slot number guests) moment view =

@@ -32,8 +32,7 @@ abbrev pub others_after : Option Change → List Club → List Club
 others_after None others = others
 others_after (Some change) others = []
 
--- Either the store represents the club after the change, if there is one; or it failed and represents the same club, but may recover to the changed club after
--- a crash.
+-- Either the store represents the club after the change, if any. Or it failed and represents the same club, but may recover to the changed club after a crash.
 abbrev pub Settles : {S A E : Type 0} → (S → Club → List Club → Type 0) → S → Option Change → Result A E → Club → List Club → Type 0
 Settles Represents new change result club others = MatchResult result
     (λ _. Represents new (after_change change club) (others_after change others))
@@ -88,8 +87,8 @@ abbrev pub NamesItsFault : {S : Type 0} → (Option Change → S → StoreFault 
 NamesItsFault Fails old new club event reply =
     (fault : StoreFault) → reply ≡ Refused (faults.Store fault) → FailsAt Fails old new (change_of club event) fault
 
--- If the reply to a request is `Unavailable`, then either the store itself failed, at a read or while it wrote the request's change; or the text is JSON, which
--- needs memory to be parsed, and the store is unchanged.
+-- A reply to a request is `Unavailable` only for a cause. Either the store itself failed, at a read or while it wrote the request's change. Or the text is
+-- JSON, which needs memory to be parsed, and the store is unchanged.
 abbrev pub FailsForCause : {S : Type 0} → (Option Change → S → StoreFault → S → Type 0) → S → S → Club → List ℕ → Request → ℕ → Reply → Type 0
 FailsForCause Fails old new club text request moment reply =
     reply ≡ member_replies.Refused Unavailable

@@ -14,7 +14,7 @@ use Rattle.club_gate.specs.{computed.DecodedPass.{decoded_pass, machine_events, 
 abbrev pub SeenAlike : Type 0
 SeenAlike = (pass : Plain) (seen : Pass) → IsSeenAs pass seen ↔ (machine_pass pass ≡ seen)
 
--- `decoded_pass` is the only value to which a text decodes
+-- `decoded_pass` is the only value that a text decodes to
 abbrev pub Decodes : Type 0
 Decodes = (text : List ℕ) (seen : Result Pass PassFault) → IsBytes text → IsDecoded text seen ↔ (decoded_pass text ≡ seen)
 

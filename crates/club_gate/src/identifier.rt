@@ -1,4 +1,4 @@
-//! The identifier by which a pass names its key: `key:` and the name.
+//! The identifier of a pass, which names its key: `key:` and the name.
 
 ghost use Rattle.std.specs.Prelude.{◌≡◌};
 ghost use Rattle.club_gate.specs.Identifier.{key_name_in as name_of};

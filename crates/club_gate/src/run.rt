@@ -52,9 +52,9 @@ impl<S: ClubStore> Desk<S> {
             self.old events.now replies.items self.new) }
         // After a crash the store holds the club of the answered events, or that club after one
         // event that failed since the last change. If the run changed nothing, it may also hold a
-        // club that a crash could have left before the run. In the club of the answered events, and
-        // in each other club that is one event away from it, a repeat of a served request gets the
-        // same reply and changes nothing.
+        // club that a crash could have left before the run. A repeat of a served request gets the
+        // same reply and changes nothing, in the club of the answered events and in each other club
+        // one event away from it.
         ensures represents { S.disk_is_clean self.new → (club : Club) (others : List Club)
             → S.represents self.old club others
             → IfOk result (λ replies. (seen : List machine.Event) → AreEventsOf events.now seen

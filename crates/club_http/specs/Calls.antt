@@ -2,8 +2,7 @@
 use Rattle.std.specs.Prelude.{◌⊎◌, ℕ, ◌<◌, ◌≤◌, List, [], ◌++◌, length, take, Option, Some, None}
 use Rattle.http_request.specs.{Frame.IsWhole, Limits.max_request_len}
 
--- A call: the reader or writer before it, the returned number of bytes, the buffer after a read or the bytes given to a write, and the reader or writer after
--- it.
+-- A call: the reader or writer before it, the returned number of bytes, the buffer of a read or the bytes to write, and the reader or writer after it.
 abbrev pub Call : Type 0 → Type 1
 Call End = End → Option ℕ → List ℕ → End → Type 0
 

@@ -2,7 +2,7 @@
 
 use std::io::{Read, Write};
 
-/// The reader of an exchange, from which a request is read.
+/// The reader of an exchange, which yields the request.
 pub trait Inlet {
     ghost use Rattle.std.specs.Prelude.{◌≡◌, ◌≤◌, ℕ, List, length, Option, IfSome};
     ghost use Rattle.club_http.specs.{Calls.Call, Ends.{Fills, read_failures}};
@@ -25,7 +25,7 @@ pub trait Inlet {
         ensures called { fills self.old result room.new self.new };
 }
 
-/// The writer of an exchange, to which a reply is written.
+/// The writer of an exchange, which takes the reply.
 pub trait Outlet {
     ghost use Rattle.std.specs.Prelude.{◌≡◌, ◌≤◌, ℕ, List, length, Option, IfSome};
     ghost use Rattle.club_http.specs.{Calls.Call, Ends.{Takes, put_failures}};

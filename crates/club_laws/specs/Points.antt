@@ -38,8 +38,7 @@ refund_of_reply reply = []
 abbrev pub refunds_of_replies : List EventReply → List Entry
 refunds_of_replies replies = flat_map refund_of_reply replies
 
--- the amount that an event gave back for a booking: the refund in the reply to a served cancellation, or the first of these charges if the office cancelled the
--- booking
+-- the amount that an event gave back for a booking: the refund in a served cancellation's reply, or the first of these charges if the office cancelled it
 abbrev pub refund_given : List Entry → Event → EventReply → List Entry
 refund_given charges (Commanded (CancelBooking key number)) (ToOffice Done) =
     record { key = key; number = number; points = charge_told key number charges } ∷ []

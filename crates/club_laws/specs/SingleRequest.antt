@@ -40,8 +40,8 @@ ServesOnlyTheEntitled =
 abbrev pub words_with : Pass → Request → Words
 words_with pass request = record { pass = Ok pass; request = request }
 
--- take two passes of one key: the wide one is signed under a root of the key's row that is good at the moment, and the narrow one has more caveats; a request
--- that is served under the narrow pass is served under the wide one, with the same reply and the same change
+-- Take two passes of one key. The wide one is signed under a root of the key's row that is good at the moment, and the narrow one has more caveats. A request
+-- that is served under the narrow pass is served under the wide one, with the same reply and the same change.
 abbrev pub MoreCaveatsNeverOpenMore : Type 0
 MoreCaveatsNeverOpenMore =
     (wide narrow : Pass) (more : List (Option Caveat)) (key : Key) (request : Request) (moment : ℕ) (club : Club)

@@ -28,8 +28,9 @@ pub fn refuses_the_unsigned()
     tests_the_signature();
 }
 
-/// A request is served only if the pass names a key of the club that isn't revoked, is signed under
-/// a root of its row that is good at the moment, and has only caveats that allow the request.
+/// A request is served only if its pass names a key of the club that isn't revoked. The pass must
+/// also be signed under a root of that key that is good at the moment, and each caveat must allow
+/// the request.
 #[tactic(auto, using(crate::proofs::ServedPasses::served_entitled))]
 pub fn serves_only_the_entitled()
     ensures { ServesOnlyTheEntitled }

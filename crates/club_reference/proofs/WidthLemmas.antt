@@ -249,7 +249,7 @@ record IsBasisIn (club : Club) (request : Request) (basis : Basis) : Type 0 wher
   facility : (slot : Slot) → request_slot request ≡ Some slot → facility_named slot.facility club ≡ basis.state.facility
   taken : (slot : Slot) → request_slot request ≡ Some slot → taken_in slot club.bookings ≤ basis.state.held.taken
 
--- a booking for which there are places and points
+-- a booking when there are enough places and points
 fits_booked : (club : Club) (request : Request) (basis : Basis) (facility : Facility) (booking : Booking) → FitsWidths club → IsBasisIn club request basis
     → request_slot request ≡ Some booking.slot → basis.state.facility ≡ Some facility → booking.key ≡ basis.key.name → booking.refund ≡ 0
     → basis.state.held.taken + booking.guests + 1 ≤ facility.places → booking.charge ≤ balance_of basis.member basis.bookings

@@ -15,7 +15,7 @@ pub const MAX_CHARGE: u32 = MAX_PLACES * MAX_PRICE;
 /// The most places left after a booking, which has at least one person.
 const MAX_LEFT: u32 = MAX_PLACES - 1;
 
-/// How long before a slot's start all points are refunded, in minutes: one day.
+/// The time before a slot's start until which all points are refunded, in minutes: one day.
 const FULL_REFUND_MINUTES: u64 = MINUTES_A_DAY as u64;
 
 /// A booking of a slot. A booking that was cancelled keeps its row.

@@ -19,7 +19,7 @@ pub fn files_hold_one_of<D: Disk>(store: &FileStore<D>)
 {}
 
 /// The crash law: reopening the files after a crash recovers exactly one of the clubs that the old
-/// store could recover to, and after every later crash that club is recovered again.
+/// store could recover to. Every later crash recovers the same club.
 pub fn one_club_recovered<D: Disk, Q: Start>(
     before: &FileStore<D>,
     after: &Store<FileStore<FileFrom<Q>>>,

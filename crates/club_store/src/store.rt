@@ -355,9 +355,9 @@ impl<S: Alter> Store<S> {
     ///
     /// # Errors
     ///
-    /// Fails if the database refused a statement or the commit. A change that doesn't fit fails
-    /// with `Storage`, unless memory was refused first: a value is outside its limits, a statement
-    /// breaks a rule of the tables, or a statement inserts or updates no row.
+    /// Fails if the database refused a statement or the commit. A change that doesn't fit has a
+    /// value outside its limits, or a statement that breaks a rule of the tables or writes no row.
+    /// It fails with `Storage`, unless memory was refused first.
     pub fn apply(&mut self, change: &Change) -> Result<(), StoreFault>
         ensures makes { ChangesClub S.Store change.now self.old self.new result }
     {

@@ -42,8 +42,8 @@ pub record FailsToRun {S : Type 0} (g : Ghosts S) (fewest : ℕ) (all : List Bou
   pub failure : FailsInTurn g fewest all (transaction_start old) mid fault
   pub fault_count : (state g mid).faults ≤ (state g new).faults
 
--- Statements in their own transaction, each of which must insert or update at least this many rows. Either all ran and were committed, or the committed state
--- is unchanged, but after a crash their effects may be there.
+-- Statements in their own transaction. Each must insert or update at least this many rows. Either all ran and were committed, or the committed state is
+-- unchanged, but after a crash their effects may be there.
 pub record Commits {S : Type 0} (g : Ghosts S) (fewest : ℕ) (all : List BoundStatement) (old new : Held S) (result : Result (Unit {0}) StoreFault)
     : Type 0
   where

@@ -124,8 +124,8 @@ pub record MadeAll {S : Type 0} (g : Ghosts S) (old new : Held S) : Type 0 where
   pub no_desk_table : HasNoDesk (state g old).committed.schema
   pub ran : Ran g 0 table_batch from (state g new).committed
 
--- an opening accepts tables of version 2, whose index of the bookings it creates if it is missing; tables of version 1, which it migrates; or a database
--- without a version, in which it creates the tables
+-- An opening accepts three kinds of databases. In tables of version 2 it creates the index of the bookings if it is missing. It migrates tables of version 1.
+-- In a database without a version, it creates the tables.
 abbrev pub AcceptsTables : {S : Type 0} → Ghosts S → Held S → Held S → Type 0
 AcceptsTables g old new =
     FoundReady 2 indexed_texts (state g old) (state g new) ⊎ (AddsIndex g old new ⊎ (Migrated g old new ⊎ MadeAll g old new))
@@ -141,8 +141,8 @@ pub record FailsToPrepareOne {S : Type 0} (g : Ghosts S) (texts : List (List ℕ
   pub after : IsAfterReadings g old from
   pub failure : OneOf (λ text. FailsToPrepare g text from new fault) texts
 
--- why an opening fails: out of memory while it reads the version or looks for the index; the batch that creates the tables, migrates them or creates the index
--- is refused; a row can't be read by its key; or the version is another one
+-- Why an opening fails. It runs out of memory while it reads the version or looks for the index. A batch that creates the tables, migrates them or creates the
+-- index is refused. A row can't be read by its key, or the version is another one.
 abbrev pub FailsToTake : {S : Type 0} → Ghosts S → Held S → Held S → StoreFault → Type 0
 FailsToTake g old new fault =
     ((fault ≡ Memory) × (FailsToAsk g (version_text, []) old new fault ⊎ FailsToPrepare g index_text old new fault))

@@ -56,7 +56,7 @@ pub record Ran {S : Type 0} (g : Ghosts S) (fewest : ℕ) (all : List BoundState
   pub turns : RanInTurn g fewest all (transaction_start old) last
   pub is : db ≡ (state g last).now
 
--- these trees may be there after a crash: statements of this kind, each on at least this many rows, left them over a connection in the same state as this one
+-- these trees may be there after a crash: statements of this kind, each on at least this many rows, left them over a connection in this state
 pub record MayCommit {S : Type 0} (g : Ghosts S) (fewest : ℕ) (AreStatements : List BoundStatement → Type 0) (old : Held S) (trees : Trees) : Type 0 where
   pub from : Held S
   pub same : IsUntouched (state g old) (state g from)

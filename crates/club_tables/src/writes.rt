@@ -248,8 +248,8 @@ impl<S: Alter> Tables<S> {
 
     /// Inserts a booking under a key of the member, adds its persons to its slot, and adds its
     /// charge to what the member's bookings have cost. Fails without effect if a value is outside
-    /// its limits, the key has a booking under this number, the key is another member's, the member
-    /// doesn't have the points, or the slot doesn't have the places.
+    /// its limits, the key has a booking under this number, or the key is another member's. Fails
+    /// without effect also if points or places are missing.
     pub fn insert_booking(&mut self, booking: &Booking, member: &Name) -> Result<(), StoreFault>
         ensures commits { IsBooking booking.now
             → Commits S.Store 1 (adding_booking booking.now member.now) self.old self.new result }
@@ -297,9 +297,9 @@ impl<S: Alter> Tables<S> {
     }
 
     /// Marks a booking cancelled with its refund, pays the refund to the member, and frees the
-    /// places of the slot. Fails without effect if the refund is more than the charge, or if the
-    /// booking isn't on record with these values, is cancelled, or is under a key of another
-    /// member.
+    /// places of the slot. Fails without effect if the refund is more than the charge. Fails
+    /// without effect also if the booking isn't on record with these values, is cancelled, or is
+    /// under another member's key.
     pub fn cancel_booking(
         &mut self,
         booking: &Booking,

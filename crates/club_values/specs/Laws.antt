@@ -5,8 +5,8 @@ use Rattle.club_values.specs.{Moment.{IsMoment, SpellsMoment, moment_text}, Name
 use Rattle.club_values.specs.computed.TextOf.{name_of_text, decimal_of_text, kind_of_text, action_of_text, day_of_text, hour_of_text, moment_of_text}
 use Rattle.club_values.specs.declared.{action.Action.Action, kind.Kind.Kind}
 
--- The functions `.._of_text` return exactly what the text spells, for any list of numbers. a name is returned if and only if the text is a name, and then the
--- name is the text
+-- The functions `.._of_text` return exactly the value that the text spells, for any list of numbers. A name is returned if and only if the text is a name, and
+-- then the name is the text.
 abbrev pub ReadsNames : Type 0
 ReadsNames = (text name : List ℕ) → (name_of_text text ≡ Some name) ↔ (IsName text × (name ≡ text))
 

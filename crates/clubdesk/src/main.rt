@@ -16,8 +16,8 @@ fn main(rt: HostRuntime) -> ExitCode {
     ExitCode::from(run_over_files(&rt, Program { rt: &rt }))
 }
 
-// Runs the program on the process's arguments and standard streams. The runtime itself is the
-// process, since a call that takes the runtime twice can't be proved.
+// Runs the program on the process's arguments and standard streams. It also serves as the process,
+// since a call that takes the runtime twice can't be proved.
 #[derive(Drop)]
 struct Program<'a> {
     rt: &'a HostRuntime,

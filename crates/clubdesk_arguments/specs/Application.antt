@@ -6,7 +6,7 @@ use Rattle.clubdesk_arguments.specs.declared.table.CommandName.{CommandName, The
 use Rattle.clubdesk_arguments.specs.declared.table.CommandName.TheVariants.{RevokeKey, RotateKey, CloseSlot, OpenSlot, CancelBooking, Sheet, Serve, ShowAccount}
 use Rattle.clubdesk_arguments.specs.declared.table.CommandName.TheVariants.{ShowSlot}
 
--- required positional arguments, of which FILE comes first
+-- required positional arguments; FILE comes first
 abbrev pub positionals_over_file : List Text → List Rule
 positionals_over_file names = map (λ name. as_required (positional_named name)) (codes "FILE" ∷ names)
 

@@ -21,7 +21,7 @@ abbrev pub key_command : List ℕ → KeyChange → List ℕ → Command
 key_command name (Add member) root = office.AddKey name member root
 key_command name (Rotate until) root = office.RotateKey name root until
 
--- the line is the text of a key's pass under a root, in a form, with a line feed; there is no line if the pass has no text within the limits
+-- the line is the text of a key's pass under a root, in a form, with a line feed; it exists if the text is within the limits
 pub record IsPassLine (name root : List ℕ) (form : Form) (line : List ℕ) : Type 0 where
   pub text : List ℕ
   pub is : IsWritableText (IsTextIn form) (key_pass name (minted_signature name root)) text

@@ -34,9 +34,9 @@ abbrev pub outcome_of_server : Result Unit ClockFault → Result Unit Fault
 outcome_of_server (Ok done) = Ok done
 outcome_of_server (Err stopped) = Err ClockOutOfRange
 
--- The end of a server. Either it served this many clients, at moments of its clock, which may be the machine's, and carried out the commands that came before
--- and between them; or it stopped because the clock failed. Then its log noted all turns. Or it couldn't listen or write its address, and served and noted
--- nothing.
+-- The end of a server. Either it served this many clients, at moments of its clock, and carried out the commands that came before and between them; or it
+-- stopped because the clock failed. In both cases its log noted all turns. Or it couldn't listen or write its address, and served and noted nothing. The clock
+-- may be the machine's.
 pub data RunsServer {Desk Machine : Type 0} (Shows : Machine → Option Timestamp → Type 0) (machine : Machine)
     (Answers : ℕ → AnswerRelation Desk) (Carries : served.CommandRelation Desk) (service : Service) (turns : List Turn) (old new : Desk)
     (Noted : List Turn → Type 0) (result : Result Unit Fault) : Type 0 where

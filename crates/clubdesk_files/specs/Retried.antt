@@ -1,8 +1,7 @@
 -- A command that is handed to one server after another (ours).
 use Rattle.std.specs.Prelude.{◌≡◌, ℕ, List, Option, IsSomeAnd}
 
--- the effect of handing a command to the next server: the servers before, the bytes of the command, the answer's status and text, if there is one, and the
--- servers after
+-- the effect of handing a command to the next server: the servers before, the command's bytes, the status and text of an answer, and the servers after
 abbrev pub Handing : Type 0 → Type 1
 Handing Servers = Servers → List ℕ → Option (ℕ × List ℕ) → Servers → Type 0
 

@@ -5,7 +5,7 @@ ghost use Rattle.clubdesk_files.specs.Attempts.{GainsWithin};
 use std::thread;
 use std::time::{Clock, Duration};
 
-/// How long the program sleeps after a failed attempt, in milliseconds.
+/// The sleep after a failed attempt, in milliseconds.
 pub(crate) const SLEEP_MILLIS: u64 = 10;
 
 /// The number of attempts in a second.

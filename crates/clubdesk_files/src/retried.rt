@@ -16,7 +16,7 @@ use std::time::{Clock, Duration, Instant};
 /// The timeout for a server to take a command and answer it, in seconds.
 const ANSWER_SECONDS: u64 = 600;
 
-/// How long a command is retried, in seconds.
+/// The period of retries of a command, in seconds.
 const RETRY_SECONDS: u64 = 10;
 
 /// The most retries of a command.

@@ -16,7 +16,7 @@ use pass_forms::Form;
 use std::alloc::Global;
 use std::convert::AsStr;
 
-/// What the arguments of a program ask for.
+/// The request of a program's arguments: a text, or a command.
 #[derive(Drop)]
 pub enum Asked<J> {
     /// The help text or the version, which `clap` made.

@@ -14,8 +14,8 @@ use std::os::fd::{AsRawFd, RawFd};
 use std::os::unix::net::UnixListener;
 use std::time::Duration;
 
-/// How long the server sleeps after waiting or accepting failed, in milliseconds. Without this
-/// pause, a listener that keeps failing would use up the count of clients at once.
+/// The server's sleep after waiting or accepting failed, in milliseconds. Without this pause, a
+/// listener that keeps failing would use up the count of clients at once.
 const REST_MILLISECONDS: u64 = 10;
 
 /// No descriptor; `poll` ignores it.

@@ -41,7 +41,7 @@ pub trait ClientStream: TimedStream {
         ensures writes_nothing { Keeps (Self.taken self.old) (Self.taken self.new) };
 }
 
-/// How long the server sleeps after it couldn't accept a connection of the office, in milliseconds.
+/// The server's sleep after it couldn't accept a connection of the office, in milliseconds.
 const REST_MILLISECONDS: u64 = 10;
 
 /// A client's socket, with the office's door next to it, if there is one.

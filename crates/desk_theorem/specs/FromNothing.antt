@@ -27,8 +27,8 @@ pub record HandlesFromNothing (events : List Event) (replies : List EventReply) 
   pub empty : Represents (state over_memory start) empty_club []
   pub handled : AreHandledInMemory start events replies last
 
--- the tables handled the events and then a request: if the reply is `Unavailable`, either the store itself failed, at a read or at the request's change; or the
--- text is JSON, and the store is unchanged
+-- The tables handled the events and then a request. If the reply is `Unavailable`, either the store itself failed, at a read or at the request's change; or the
+-- text is JSON, and the store is unchanged.
 pub record RepliesFromNothing (events : List Event) (replies : List EventReply) (text : List ℕ) (request : Request) (moment : ℕ) (reply : Reply)
     : Type 0 where
   pub run : HandlesFromNothing events replies

@@ -76,9 +76,9 @@ pub fn run_and_leave<D: Disk + Drop, E: Disk>(
         → IsAnsweredRun club seen (responses_of left.0.items)) }
     // After any crash, a store opened by `open_file` or `adopt` holds the club of the answered
     // events, or that club after one event that failed since the last change. If the run changed
-    // nothing, it may also hold a club that a crash could have left before the run. In the club of
-    // the answered events, and in each other club that is one event away from it, a repeat of a
-    // served request gets the same reply and changes nothing.
+    // nothing, it may also hold a club that a crash could have left before the run. A repeat of a
+    // served request gets the same reply and changes nothing, in the club of the answered events
+    // and in each other club one event away from it.
     ensures again { IfOk result (λ left. (club : Club) (others : List Club)
         → sound_in over_files desk club others
         → (seen : List machine.Event) → AreEventsOf events.now seen

@@ -1,5 +1,5 @@
-//! The law of the desk and its tables together: the responses to any list of commands and requests
-//! from an empty database, the reply to a request after them, and the state after a crash.
+//! The law of the desk and its tables together. It covers the responses to any list of commands and
+//! requests from an empty database, the reply to a further request, and the state after a crash.
 #![tactic(auto)]
 
 mod crash;

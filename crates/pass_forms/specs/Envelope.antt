@@ -19,8 +19,8 @@ starts_with_brace bytes = starts_with nat_eq bytes (codes "{")
 abbrev pub is_lower_hex_digit : ℕ → Bool
 is_lower_hex_digit byte = (nat_le 48 byte && nat_le byte 57) || (nat_le 97 byte && nat_le byte 102)
 
--- The form, from the first byte: a V2 pass begins with the byte 2, a JSON pass with `{`, and a V1 pass with the lower-case hexadecimal length of a packet
--- (ours, after libmacaroons' formats). `{` is the byte 123.
+-- The form, from the first byte (ours, after libmacaroons' formats). A V2 pass begins with the byte 2, a JSON pass with `{`, and a V1 pass with the lower-case
+-- hexadecimal length of a packet. `{` is the byte 123.
 abbrev pub form_of_byte : ℕ → Option Form
 form_of_byte first =
     if first == 2 then Some V2
@@ -32,8 +32,8 @@ form_of_byte first =
 abbrev pub form_of : List ℕ → Option Form
 form_of bytes = option_and_then form_of_byte (slice_get bytes 0)
 
--- The text wraps these bytes, in this form: a text that starts with `{` is itself JSON, and any other text is base64 of bytes whose first byte decides the form
--- (ours).
+-- The text wraps these bytes, in this form (ours). A text that starts with `{` is itself JSON. Any other text is base64 of bytes whose first byte decides the
+-- form.
 abbrev pub Wraps : List ℕ → Form → List ℕ → Type 0
 Wraps text form bytes =
     (IsTrue (starts_with_brace text) × (form ≡ Json) × (bytes ≡ text))

@@ -11,8 +11,8 @@ max_text_len = 8192
 abbrev pub max_caveats : ℕ
 max_caveats = 64
 
--- The result of reading a text of this length that spells the wide passes for which Spelled holds. It is the first fault that applies (too long, malformed,
--- third-party, too many caveats), else the pass.
+-- The result of reading a text with this length that spells the wide passes in Spelled. It is the first fault that applies (too long, malformed, third-party,
+-- too many caveats), else the pass.
 abbrev pub IsReadAs : ℕ → (WidePass → Type 0) → Result Plain FormFault → Type 0
 IsReadAs len Spelled (Err TooLong) = max_text_len < len
 IsReadAs len Spelled (Err Malformed) = (len ≤ max_text_len) × ((wide : WidePass) → ¬ Spelled wide)

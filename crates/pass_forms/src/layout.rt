@@ -241,9 +241,9 @@ impl<'a, L: Layout> Fields<'a, L> {
     ///
     /// # Errors
     ///
-    /// Fails with the first fault that applies: `TooLong` for more than 8,192 bytes, `Malformed` if
-    /// the bytes aren't a pass, `ThirdParty` if there is a third-party caveat, `TooMany` for more
-    /// than 64 caveats.
+    /// Fails with the first fault that applies: `TooLong` above 8,192 bytes, `Malformed` if the
+    /// bytes aren't a pass, `ThirdParty` for a third-party caveat, `TooMany` for more than 64
+    /// caveats.
     pub fn open(bytes: &'a [u8]) -> Result<Fields<'a, L>, FormFault>
         // The fields of the pass that the bytes spell.
         ensures spelling { IsOpening (IsReadAs (length bytes.now) (L.Spells bytes.now)) result }

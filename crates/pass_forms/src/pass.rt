@@ -152,7 +152,7 @@ impl Pass {
         self.location.as_slice()
     }
 
-    /// Returns the identifier, by which the desk finds the root that the pass was signed under.
+    /// Returns the identifier. The desk uses it to find the root that the pass was signed under.
     pub fn identifier(&self) -> &[u8]
         ensures { result.now ≡ self.now.identifier }
     {

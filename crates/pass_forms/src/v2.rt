@@ -141,9 +141,9 @@ pub type V2Fields<'a> = Fields<'a, Sections>;
 ///
 /// # Errors
 ///
-/// Fails with the first fault that applies: `TooLong` for more than 8,192 bytes, `Malformed` if the
-/// bytes aren't a pass, `ThirdParty` if there is a third-party caveat, `TooMany` for more than 64
-/// caveats. Fails with `Memory` only for a pass that passed all checks.
+/// Fails with the first fault that applies: `TooLong` above 8,192 bytes, `Malformed` if the bytes
+/// aren't a pass, `ThirdParty` for a third-party caveat, `TooMany` for more than 64 caveats. Fails
+/// with `Memory` only for a pass that passed all checks.
 pub fn read_v2(alloc: Global, bytes: &[u8]) -> Result<Pass, FormFault>
     // The pass that the bytes spell.
     ensures spelling { OrOutOfMemory (IsReadAs (length bytes.now) (SpellsV2 bytes.now)) result }

@@ -19,7 +19,7 @@ abbrev pub IsReadingInForm : Form → List ℕ → Result (Form × Plain) FormFa
 IsReadingInForm form bytes (Ok read) = (read.0 ≡ form) × IsReadAs (length bytes) (SpellsForm form bytes) (Ok read.1)
 IsReadingInForm form bytes (Err fault) = IsReadAs (length bytes) (SpellsForm form bytes) (Err fault)
 
--- The cases in which reading a text may run out of memory: in V1 and V2 only for a pass that passed all checks, in JSON for any text within the limit.
+-- The texts whose reading may run out of memory: in V1 and V2 only a pass that passed all checks, in JSON any text within the limit.
 abbrev pub MayRunOut : List ℕ → Type 0
 MayRunOut text =
     ((read : Form × Plain) × IsAnyReading text (Ok read)) ⊎ ((bytes : List ℕ) × IsUnwrapped text (Ok (Json, bytes)))

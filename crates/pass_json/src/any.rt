@@ -22,10 +22,10 @@ use std::alloc::Global;
 ///
 /// # Errors
 ///
-/// Fails with the first fault that applies: `TooLong` for more than 8,192 bytes, `Malformed` if the
-/// text isn't a pass in any form, `ThirdParty` if there is a third-party caveat, `TooMany` for more
-/// than 64 caveats. Fails with `Memory` only if an allocation fails, and in V1 and V2 only for a
-/// pass that passed all checks.
+/// Fails with the first fault that applies: `TooLong` above 8,192 bytes, `Malformed` if the text
+/// isn't a pass, `ThirdParty` for a third-party caveat, `TooMany` for more than 64 caveats. Fails
+/// with `Memory` only if an allocation fails, and in V1 and V2 only for a pass that passed all
+/// checks.
 pub fn read_any(alloc: Global, text: &[u8]) -> Result<(Form, Pass), FormFault>
     // The pass that the text spells, in any form.
     ensures spelling { UnlessMemory (IsAnyReading text.now) result }

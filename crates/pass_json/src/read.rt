@@ -18,9 +18,9 @@ use std::alloc::Global;
 ///
 /// # Errors
 ///
-/// Fails with the first fault that applies: `TooLong` for more than 8,192 bytes, `Malformed` if the
-/// bytes aren't a pass, `ThirdParty` if there is a third-party caveat, `TooMany` for more than 64
-/// caveats. Fails with `Memory` only if an allocation fails, and only for bytes within the limit.
+/// Fails with the first fault that applies: `TooLong` above 8,192 bytes, `Malformed` if the bytes
+/// aren't a pass, `ThirdParty` for a third-party caveat, `TooMany` for more than 64 caveats. Fails
+/// with `Memory` only if an allocation fails, and only for bytes within the limit.
 pub fn read_json(alloc: Global, bytes: &[u8]) -> Result<Pass, FormFault>
     // The pass that the bytes spell.
     ensures spelling { UnlessMemory (IsReadAs (length bytes.now) (SpellsJson bytes.now)) result }

@@ -33,7 +33,7 @@ pub(crate) fn form_named(text: &str) -> Option<Form> {
     }
 }
 
-/// Replaces a text in a part of the form `X instead of Y`.
+/// Replaces a text with that of a part, without its quotes and escapes.
 fn replace(text: &mut Vec<u8>, part: &str) -> Result<(), Fault> {
     text.clear();
     push_unescaped(text, unquoted(part))

@@ -27,8 +27,8 @@ const BOOKINGS: &str =
 
 const FIRST: &str = "INSERT INTO desk (version) VALUES (1)";
 
-/// Creates the tables and the rows of the fixture: amy's booking of the court under number 7, and
-/// her booking of the room under number 8, which is cancelled with a refund of 300.
+/// Creates the tables and the rows of the fixture. Amy has booked the court under number 7. Her
+/// booking of the room under number 8 is cancelled with a refund of 300.
 pub static STATEMENTS: [&str; 18] = [
     DESK,
     "CREATE TABLE members (name TEXT NOT NULL PRIMARY KEY, credited INTEGER NOT NULL CHECK \

@@ -5,7 +5,7 @@ use Rattle.club_tables.proofs.Common.{State, HasCleanDisk, Survives, Shown, Held
 use Rattle.club_tables.proofs.Common.{key_values, booking_values, HoldsClub, Holds, RepresentsBy, Represents, keys_tree, bookings_tree, select, BoundStatement}
 use Rattle.club_tables.proofs.{Common.{Asked, IsKept, transaction_start}, statements.SelectLemmas.selected}
 
--- if a crash leaves one of these states, the state still represents the same club, for any predicate by which a database holds it
+-- the state still represents the same club if a crash leaves one of these states, for any relation between a database and its club
 pub represents_by : (IsHeld : Database → Club → Type 0) (old new : State) → IsKept old new → (HasCleanDisk new → HasCleanDisk old) → (club : Club)
     (others next : List Club) → RepresentsBy IsHeld old club others
     → (HasCleanDisk new → (trees : Trees) → new.may_leave trees → IsLeftOf trees (club ∷ next)) → RepresentsBy IsHeld new club next
