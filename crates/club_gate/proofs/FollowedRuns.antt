@@ -5,7 +5,7 @@ use Rattle.club_gate.proofs.Common.{IsAnsweredRun, IsFollowed, IsLawfulRun, IsOn
 use Rattle.club_gate.proofs.Common.{desk_presentation}
 use Rattle.club_laws.specs.{Conservation.{IsConserved, SoundClubsHavePlaces}, RunsWithFailures.{ConservesWithFailures, SoloLawWithFailures}}
 use Rattle.club_laws.specs.RunsWithFailures.{SoloLawOfTwoWithFailures, SoundWithFailures, RepeatsServedReplies, RepeatsAfterOneMore, RepeatsWithFailures}
-use Rattle.club_laws.specs.RunsWithFailures.CancellationsWithFailures
+use Rattle.club_laws.specs.RunsWithFailures.{CancellationsWithFailures}
 use Rattle.club_gate.specs.{Runs.ReturnsTheRecord, declared.event.{Event.Event as DeskEvent, OfficeReply.OfficeReply}}
 
 -- A law of a handled list's computed events and responses also holds for any events that the machine sees for that list, and for the desk's responses.
