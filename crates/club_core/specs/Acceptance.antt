@@ -1,4 +1,4 @@
--- Which passes are accepted, and which requests an accepted pass allows (ours).
+-- The passes that are accepted, and the requests that an accepted pass allows (ours).
 use Rattle.std.specs.Prelude.{◌≡◌, ◌≢◌, ℕ, All, false, Option, Some, None, Ok}
 use Rattle.pass_caveats.specs.{Caveat.Permits, declared.{ask.Ask.Ask, caveat.Caveat.Caveat}}
 use Rattle.club_core.specs.{Answer.ask_of, Basis.{Basis, basis_of, view_of}, Club.{Club, key_named}, Pass.{Pass, IsSignedUnder, Words}}

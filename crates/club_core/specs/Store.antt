@@ -1,4 +1,4 @@
--- What a store of the club's rows returns, keeps and may recover to (ours).
+-- The promises of a store of the club's rows: its results, its club, and the clubs that it may recover to (ours).
 use Rattle.std.specs.Prelude.{◌≡◌, ℕ, ◌≤◌, false, List, [], ◌∷◌, Option, Some, None, Result, IfOk, MatchResult}
 use Rattle.club_rows.specs.declared.{booking.Booking.Booking, facility.Facility.Facility, key.Key.Key, member.Member.Member}
 use Rattle.club_core.specs.{After.after, Club.{Club, IsSound, key_named, member_named, facility_named}, Sums.booking_under, declared.change.Change.Change}

@@ -11,9 +11,9 @@ pub enum PassFault {
     TooLong,
     /// The text isn't a pass in any form.
     Malformed,
-    /// It has a third-party caveat.
+    /// The text has a third-party caveat.
     ThirdParty,
-    /// There are too many caveats.
+    /// The text has too many caveats.
     TooMany,
 }
 

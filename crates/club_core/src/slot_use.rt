@@ -1,6 +1,6 @@
-//! How much of a slot is taken.
+//! The use of a slot.
 
-/// How much of a slot is taken.
+/// The use of a slot: its persons, and whether it is closed.
 #[derive(Clone, Copy, Debug, PartialEq, Eq)]
 pub struct SlotUse {
     /// The persons booked into the slot.

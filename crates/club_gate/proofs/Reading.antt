@@ -57,7 +57,7 @@ nothing_owed : (request : Request) (facility : Option Facility) → owed_at requ
 nothing_owed (asked.Book slot number guests) facility = refl
 nothing_owed request facility = refl
 
--- a caveat's fault refuses the request, whatever else is in a view of the key
+-- a caveat's fault refuses the request, regardless of the rest of the key's view
 refused_by_fault : (view other : View) (request : Request) (moment : ℕ) → view.key ≡ other.key → (fault : Option CaveatFault) → is_some fault ≡ true
     → answer_by_view (Some view) true fault request moment ≡ answer_by_view (Some other) true fault request moment
 refused_by_fault view other request moment e None some = absurd (cc)

@@ -117,7 +117,7 @@ refused_alike false revoked row last refusal e = cc
 refused_alike true true row last refusal e = cc
 refused_alike true false row last refusal e = absurd (cc)
 
--- a pass that isn't signed, or whose key is revoked, is refused, whatever else the club holds
+-- a pass that isn't signed, or whose key is revoked, is refused, regardless of the rest of the club
 pub refused_by_row : (club : Club) (pass : Plain) (request : Request) (moment : ℕ) → IsSound club → (refusal : Refusal)
     → signer_of pass moment (key_in club pass.identifier) ≡ Err refusal
     → refusal_verdict refusal ≡ verdict_in club (words_with (machine_pass pass) request) moment

@@ -7,7 +7,7 @@ use Rattle.club_gate.proofs.{Common.{others_after, answer_or_fault, is_failure, 
 use Rattle.club_core.specs.declared.{command.{Command.{Command, TheVariants.AddKey}, OfficeAnswer.OfficeAnswer}, reply.Reply.TheVariants.Refused}
 use Rattle.club_laws.specs.SoundRuns.{ChangesFit}
 
--- a command that is done is no failure
+-- a command that is done isn't a failure
 done_is_no_failure : (command : Command) → is_failure (office_reply_of (done_answer command)) ≡ false
 done_is_no_failure (AddKey name member root) = refl
 done_is_no_failure command = refl

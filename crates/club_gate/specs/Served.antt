@@ -46,7 +46,7 @@ IsBlind club text request reply =
     (words : Words) → AreWordsOf text request words → basis_of club words ≡ None
     → reply ≢ Refused Unavailable → reply ≡ Refused (blind_refusal words.pass)
 
--- Any other text that spells the same pass, in whatever form, gets the same reply.
+-- Any other text that spells the same pass, in any form, gets the same reply.
 abbrev pub AnswersItsForms : Club → List ℕ → Request → ℕ → Reply → Type 0
 AnswersItsForms club text request moment reply =
     (other : List ℕ) (words : Words) (form other_form : Form) (pass : Plain) → IsBytes other

@@ -23,8 +23,7 @@ abbrev pub ReadsOrLacksMemory : {S : Type 0} → (Option Change → S → StoreF
 ReadsOrLacksMemory Fails IsJsonText old new (Ok verdict) = IsRead Fails old new
 ReadsOrLacksMemory Fails IsJsonText old new (Err fault) = Fails None old fault new ⊎ (IsJsonText × (new ≡ old))
 
--- The verdict on a text with this fault: the store wasn't called, and there is no change. A text that is read in place is always refused by its
--- fault.
+-- The verdict on a text with this fault: the store wasn't called, and there is no change. A text that is read in place is always refused with its own fault.
 pub record RefusesText {S : Type 0} (old new : S) (IsInPlace : Type 0) (fault : FormFault) (result : Result Verdict StoreFault) : Type 0 where
   pub same_store : new ≡ old
   pub no_change : IfOk result (λ verdict. verdict.change ≡ None)

@@ -1,4 +1,4 @@
-//! Whether a pass is signed under a root of its key that is good at the moment.
+//! Tests whether a pass is signed under a root of its key that is good at the moment.
 
 ghost use Rattle.std.specs.Prelude.{◌≡◌, Some, drop};
 ghost use Rattle.pass_forms.specs.{FieldSource.pass_fields, Pass.Plain};

@@ -22,7 +22,7 @@ abbrev pub IsChangeBy : Club → Event → Change → Type 0
 IsChangeBy club (Asked words moment) change = (verdict_in club words moment).change ≡ Some change
 IsChangeBy club (Commanded command) change = office_verdict club command ≡ Ok (Some change)
 
--- such a change fits the club, if the club is sound: the rows that it carries are the club's, and it leaves a sound club
+-- such a change fits a sound club: the values that it carries are those of the club's rows, and it leaves a sound club
 abbrev pub ChangesFit : Type 0
 ChangesFit = (club : Club) (event : Event) (change : Change) → IsSound club → IsEvent event → IsChangeBy club event change → FitsClub change club
 

@@ -1,4 +1,4 @@
--- Edits of each element of a list, one after the other.
+-- Edits of each element of a list, one after another.
 use Rattle.std.proofs.Common.{◌≡◌, ℕ, ◌+◌, ◌<◌, zero, suc, List, [], ◌∷◌, ◌++◌, length, take, drop, get_or, set, refl, arith, ◌∙◌, sym, ap, subst, add-one}
 use Rattle.std.proofs.lemmas.List.{get_or-map, length-map}
 use Rattle.std.specs.Prelude.{map, All}

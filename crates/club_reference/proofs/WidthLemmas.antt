@@ -94,7 +94,7 @@ named name member = bytes_eq member.name name
 abbrev IsNamed : List Member → Member → Type 0
 IsNamed members member = find (named member.name) members ≡ Some member
 
--- a new member of a new name
+-- a new member with a new name
 still_named : (members : List Member) (new member : Member) → IsNamed members member → IsNamed (members ++ new ∷ []) member
 still_named members new member h = find-append (named member.name) members (new ∷ []) ∙ rw h
 
@@ -316,7 +316,7 @@ is_basis club words basis e = record {
   taken = λ slot s. grind arith;
 }
 
--- so is the basis with what others take of the slot added
+-- the basis is also taken from the club in this way after what others take of the slot is added
 is_basis_with : (club : Club) (words : Words) (others : SlotUse) (basis : Basis) → option_map (with_others others) (basis_of club words) ≡ Some basis
     → IsBasisIn club words.request basis
 is_basis_with club words others basis e = go (basis_of club words) refl e

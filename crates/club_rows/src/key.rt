@@ -45,7 +45,7 @@ impl KeyRow {
     }
 }
 
-/// A key of a member, which its passes name.
+/// A key of a member. The key's passes name it.
 #[derive(Clone, Copy, Debug, PartialEq, Eq)]
 pub struct Key {
     pub name: Name,

@@ -18,7 +18,7 @@ pub struct Member {
     pub name: Name,
     /// All points ever credited to the member, 0 to 999,999,999.
     pub credited: u32,
-    /// How many bookings the member may have open, 0 to 99.
+    /// The most bookings that the member may have open, 0 to 99.
     pub quota: u8,
 }
 

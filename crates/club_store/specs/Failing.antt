@@ -1,4 +1,4 @@
--- How a call of a store fails (ours).
+-- The failures of a store's calls (ours).
 use Rattle.std.specs.Prelude.{List, Option, Some, None}
 use Rattle.sqlite.specs.{Held.Held, Store.Ghosts}
 use Rattle.club_core.specs.{Club.Club, Store.FitsClub, declared.{change.Change.Change, store.StoreFault.StoreFault}}

@@ -33,7 +33,7 @@ refers_to parent place = record {
   is_deferred = false;
 }
 
--- a table, whose key has the columns at these places, or none
+-- a table with a key of the columns at these places, or without a key
 abbrev pub table_of : List ℕ → List Column → List (List ℕ) → List Term → List Reference → Table
 table_of name columns keys checks references = record {
   name = name;

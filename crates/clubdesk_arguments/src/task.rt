@@ -35,7 +35,7 @@ pub struct KeyCommand {
 pub enum KeyChange {
     /// The key is added, for a member.
     Add { member: Name },
-    /// Its former root is good until the moment.
+    /// The key gets a new root, and its former root is good until the moment.
     Rotate { until: Moment },
 }
 

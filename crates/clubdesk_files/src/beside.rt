@@ -21,7 +21,7 @@ pub(crate) const IN_MEMORY: &str = ":memory:";
 /// The folder in which a program runs.
 const HERE: &str = ".";
 
-/// The ending of the door's name, after the database's name.
+/// The suffix of the door's name, after the database's name.
 const OFFICE: &str = "-office";
 
 /// The user id of root.
@@ -65,7 +65,7 @@ impl Place {
         self.path(rt, OFFICE)
     }
 
-    // The path of the database's name with this ending.
+    // The path of the database's name with this suffix.
     fn path(&self, rt: &HostRuntime, ending: &str) -> Result<String, AllocError> {
         let descriptor = self.folder.as_raw_fd();
         let name = self.name.as_str();
@@ -82,7 +82,7 @@ impl Place {
         }
     }
 
-    /// Returns whether the door's name is that of a socket which may be the door of this database.
+    /// Returns whether the door's name is that of a socket that may be the door of this database.
     ///
     /// # Errors
     ///

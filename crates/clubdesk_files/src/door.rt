@@ -11,7 +11,7 @@ use std::os::unix::net::{SocketAddr, UnixListener};
 use std::rt::Files;
 use std::{fs, io};
 
-/// How many commands may wait.
+/// The most commands that may wait for the server.
 const BACKLOG: i32 = 128;
 
 /// The socket of a server's door. The socket's file is removed when this value is dropped, unless

@@ -35,8 +35,8 @@ pub(crate) fn next_of(door: RawFd, client: RawFd, milliseconds: i32, command_fir
     }
 }
 
-/// Returns whether a read of a descriptor wouldn't block, because bytes, the end or a fault are
-/// there.
+/// Returns whether a read of a descriptor wouldn't block, because bytes, the end or a fault has
+/// arrived.
 pub(crate) fn is_readable(fd: RawFd) -> bool {
     c::poll(&mut [waits_for(fd, c::POLLIN)], 0) > 0
 }

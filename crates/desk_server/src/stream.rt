@@ -11,7 +11,7 @@ use std::os::fd::AsRawFd;
 use std::os::unix::net::UnixListener;
 use std::time::Duration;
 
-/// How a wait for a client and for the office ended.
+/// The result of a wait for a client and for the office.
 #[derive(Drop)]
 pub enum Woken<O> {
     /// A command came.

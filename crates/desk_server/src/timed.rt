@@ -16,11 +16,11 @@ use std::time::Duration;
 /// The result of a call that waits for a limited time.
 #[derive(Clone, Copy, Debug, PartialEq, Eq)]
 pub enum Waited {
-    /// It read or wrote this many bytes.
+    /// The call read or wrote this many bytes.
     Moved(usize),
-    /// A signal interrupted it, before any byte.
+    /// A signal interrupted the call before any byte was read or written.
     Interrupted,
-    /// It failed, or its time was over before any byte.
+    /// The call failed, or its time was over before any byte was read or written.
     Failed,
 }
 
@@ -155,7 +155,7 @@ fn write_under<W: TimedStream, C: MonotonicClock>(
 /// The most bytes that `take_rest` takes.
 pub const MAX_REST: usize = 65_536;
 
-/// How many milliseconds `take_rest` waits for the next bytes, or the end.
+/// The time that `take_rest` waits for the next bytes or the end, in milliseconds.
 const REST_MILLISECONDS: u64 = 200;
 
 /// The most bytes that `take_rest` reads in one call.

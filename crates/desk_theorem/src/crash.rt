@@ -20,7 +20,7 @@ use sqlite_disk::Disk;
 
 /// The crash law. Reopening the files after a crash recovers exactly one of the clubs that the old
 /// store could recover to. If each of these clubs repeats the replies to served requests, so does
-/// the recovered one, and every later crash leaves it.
+/// the recovered one. Every later crash recovers the same club.
 pub fn served_survives_a_crash<D: Disk, Q: Start>(
     before: &FileStore<D>,
     after: &Store<FileStore<FileFrom<Q>>>,

@@ -38,7 +38,7 @@ pub fn run_from_nothing(alloc: Global, events: &[Event]) -> Result<Vec<EventRepl
     }
 }
 
-/// The responses to a list of events, and the reply to a request after it.
+/// The responses to a list of events, and the reply to a request after them.
 #[derive(Drop)]
 pub struct RunAndReply {
     pub replies: Vec<EventReply>,
@@ -46,7 +46,7 @@ pub struct RunAndReply {
 }
 
 /// Returns the responses of a desk over an empty database to a list of events, and its reply to a
-/// request after it.
+/// request after them.
 ///
 /// # Errors
 ///

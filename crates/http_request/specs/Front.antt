@@ -13,7 +13,7 @@ pub record IsHeadAt (bytes : List ℕ) (fields : List HeaderSpan) (found : Head)
   pub within : IsRequestWithin (take found.len bytes) fields found.spans
   pub spans : IsRequestAt (take found.len bytes) fields found.spans head
 
--- the front of the bytes is no head yet, a head that is refused, or a head with the length of its body
+-- the bytes have no complete head yet, begin with a head that is refused, or begin with a head whose body has a known length
 abbrev pub IsFrontOf : List ℕ → List HeaderSpan → Front → Type 0
 IsFrontOf bytes fields NoPiece = HasNoPiece bytes
 IsFrontOf bytes fields Refused = IsRefusedHead bytes

@@ -1,4 +1,4 @@
-//! Tests of which keys are cached.
+//! Tests which keys are cached.
 
 use super::*;
 use std::fmt::Debug;
@@ -93,7 +93,7 @@ fn derive_many(rt: &impl Abort, keys: &mut KeptKeys, root: &Root, count: u8) {
     }
 }
 
-// Of 65 keys the one that was used longest ago is evicted, and is computed again.
+// Of 65 keys, the least recently used one is evicted and must be computed again.
 #[test]
 fn keeps_the_last_of_many_keys(rt: HostRuntime) {
     let root = root(&rt, ROOT);
@@ -103,7 +103,7 @@ fn keeps_the_last_of_many_keys(rt: HostRuntime) {
     is_derived_anew(&rt, &mut keys, &name(&rt, b"00"), &root, DERIVED);
 }
 
-// Of 65 keys the first stays cached if it was used again, and the second is evicted.
+// Of 65 keys, the first one stays cached if it was used again, and the second one is evicted.
 #[test]
 fn keeps_a_key_that_is_used_again(rt: HostRuntime) {
     let root = root(&rt, ROOT);

@@ -52,7 +52,7 @@ module _ (old mid new : State) (earlier : HasCleanDisk mid) (clean : HasCleanDis
       → (IsIdle mid → All (IsUnderstood new.committed.schema) texts) → FoundReady version texts old new
   found_ready version texts rows one answered known = search rules
 
--- ---- statements that are prepared in turn
+-- ---- statements that are prepared one after another
 
 abbrev pub text_at : Bor (List ℕ) → List ℕ
 text_at text = text.now
