@@ -204,5 +204,5 @@ def plant(name, folder):
 
 
 def is_found(name, status, log):
-    """Whether a test failed for its fault."""
+    """Returns whether a test failed for its fault."""
     return status not in (0, 77) and PLANTS[name][3] in log

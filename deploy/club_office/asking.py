@@ -1,4 +1,4 @@
-"""Questions to a clerk at a terminal. Ctrl-C and the end of input leave a question, and nothing is changed by then."""
+"""Questions to a clerk at a terminal. Ctrl-C or the end of input leaves a question, before anything has changed."""
 
 import datetime
 import sys
@@ -7,7 +7,7 @@ import textwrap
 from club_office.reading import found, read_day, read_facilities, read_hours
 from club_office.texts import day_text, means, say
 
-# How many of those that fit are listed.
+# The most matches that are listed.
 MOST_LISTED = 15
 BOOKABLE_DAYS = 60
 
@@ -21,7 +21,7 @@ def is_terminal():
 
 
 def show_lines(lines):
-    """Prints lines, at a terminal as 80 columns show them."""
+    """Prints lines, wrapped at 80 columns on a terminal."""
     for line in lines:
         if sys.stdout.isatty():
             line = textwrap.fill(line, 80, subsequent_indent="    ", break_long_words=False, break_on_hyphens=False)
@@ -29,7 +29,7 @@ def show_lines(lines):
 
 
 def ask(text):
-    """What the clerk answers, without spaces at its ends."""
+    """Returns the clerk's answer, without spaces at its ends."""
     try:
         return input(text).strip()
     except (EOFError, KeyboardInterrupt):
@@ -38,7 +38,8 @@ def ask(text):
 
 
 def confirms(question="shall"):
-    """Whether a question is answered by yes. The prompt goes to standard output, and the answer comes from standard input, whatever they are."""
+    """Returns whether the answer to a question is yes. The prompt goes to standard output, and the answer comes from standard input, terminal or
+    not."""
     print(say(question), end="", flush=True)
     try:
         return means("yes", sys.stdin.buffer.readline(100).decode(errors="replace"))
@@ -48,7 +49,7 @@ def confirms(question="shall"):
 
 
 def chosen(typed, names, about=lambda name: ""):
-    """One of several names, by its number."""
+    """Lets the clerk choose one of several names by its number."""
     print(say("several fit", typed=typed))
     for number, name in enumerate(names[:MOST_LISTED], 1):
         print(f"  {number:2} {name}  {about(name)}".rstrip())
@@ -78,7 +79,7 @@ def until_read(prompt, read, fault):
 
 
 def ask_name(prompt, names, about=lambda name: "", fitting=found):
-    """One of the names, by a part of it."""
+    """Lets the clerk choose one of the names by a part of it."""
     if not names:
         print("   " + say("none yet"))
         raise Back
@@ -99,7 +100,7 @@ def ask_day(prompt, today):
 
 
 def doubts(day, today):
-    """What is odd about a day for a booking or a closure. None for a day to come that can be booked."""
+    """Returns what is odd about a day for a booking or a closure, or None for a future day that can be booked."""
     if day < today:
         return say("is past", day=day_text(day))
     if day > today + datetime.timedelta(BOOKABLE_DAYS):

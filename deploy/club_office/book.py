@@ -1,4 +1,4 @@
-"""The book of orders, and the turn of a command among those that change a club."""
+"""The book of commands, and the turns of commands that change a club."""
 
 import fcntl
 import io
@@ -16,32 +16,32 @@ from club_office.copies import clear_unnamed
 from club_office.faults import STORAGE, Fault, fault, storage_failed
 from club_office.texts import say
 
-# How long an order waits for another one, and a line for the journal, in seconds.
+# The seconds that a command waits for another one, and a line waits for the journal.
 WAITS_FOR_TURN = 60
 WAITS_FOR_JOURNAL = 2
 JOURNAL = "/run/systemd/journal/socket"
-# The most bytes of a line: the journal and the file take it whole.
+# The most bytes in a line, so that the journal and the file accept it whole.
 MOST_LINE = 8_000
 BEGUN = re.compile(r"(?s)20[0-9-]{8}T[0-9:]{8} \S+ \? .*")
-# What a terminal sends at Ctrl-Z, at its end, and to whoever is behind. An order that has its turn goes on.
+# A terminal sends these at Ctrl-Z, when it closes, and to background processes. These signals don't stop a command that has its turn.
 HELD_BACK = (signal.SIGTSTP, signal.SIGHUP, signal.SIGTTIN, signal.SIGTTOU)
 
 
 def clerk():
-    """Who gives the order: sudo says it, or root's own call."""
+    """Returns who gives the command: sudo's caller, or root."""
     return os.environ.get("SUDO_USER") or os.environ.get("OFFICE_CLERK") or pwd.getpwuid(os.getuid()).pw_name
 
 
-# ---- Lines: in the system's journal; in a file if one is configured for it, if there is no journal, or if it doesn't take a line.
+# ---- Lines: in the system's journal; in a file if one is configured, if there is no journal, or if the journal doesn't take a line.
 
 
 def printable(text):
-    """The text, with its number in place of each letter that isn't printed as itself, as an end of a line in whichever alphabet."""
+    """Returns the text with a number for each letter that can't be printed, such as a line separator of any alphabet."""
     return "".join(it if it.isprintable() else f"\\x{ord(it):02x}" if ord(it) < 256 else f"\\u{ord(it):04x}" for it in text)
 
 
 def line_of(moment, status, words):
-    """A line of the book, cut if it is too long."""
+    """Returns a line of the book, truncated if it is too long."""
     quoted = " ".join(shlex.quote(it.replace("\\", "\\\\")) for it in words)
     line = printable(f"{moment} {clerk()} {status} {quoted}")
     size = len(line.encode())
@@ -64,7 +64,7 @@ def write_line(club, line):
 
 
 def is_taken(club, line):
-    """Whether the journal takes a line, within seconds."""
+    """Returns whether the journal took a line in time."""
     fields = {"MESSAGE": line, "PRIORITY": "6", "SYSLOG_IDENTIFIER": "clubdesk-office", "CLUBDESK_CLUB": club.name}
     with socket.socket(socket.AF_UNIX, socket.SOCK_DGRAM) as journal:
         journal.settimeout(WAITS_FOR_JOURNAL)
@@ -76,7 +76,7 @@ def is_taken(club, line):
 
 
 def add_line(path, line):
-    """Adds a line to a file, below one that a full disk has cut."""
+    """Adds a line to a file, on a new line even if a full disk has truncated the last one."""
     book = os.open(path, os.O_RDWR | os.O_APPEND | os.O_CREAT, 0o600)
     try:
         end = os.lseek(book, 0, os.SEEK_END)
@@ -95,9 +95,9 @@ def add_line(path, line):
 class Turn:
     """The turn of a command among those of a club that change something: a lock on FILE-orders.
 
-    While an order is under way the file has its line, with a question mark for its status. A line that is there when the lock is gained
-    is that of an order that was broken off, and goes into the book so. Lines for standard error wait until the lock is given back: a terminal
-    or a pipe that takes nothing, as after Ctrl-S, holds no turn.
+    While a command runs, the file has its line, with a question mark as status. A line found there with the lock belongs to an interrupted
+    command, and goes into the book like that. Lines for standard error wait until the lock is released: a terminal or a pipe that takes nothing,
+    as after Ctrl-S, can't hold up a turn.
     """
 
     def __init__(self, club):
@@ -136,7 +136,8 @@ class Turn:
         raise storage_failed("order under way", seconds=WAITS_FOR_TURN)
 
     def is_gained(self):
-        """Whether the lock is gained now. Nothing stops this process between the lock and its refusal of such signals."""
+        """Returns whether it got the lock. Signals are blocked, so nothing stops this process between taking the lock and ignoring
+        them."""
         signal.pthread_sigmask(signal.SIG_BLOCK, HELD_BACK)
         try:
             fcntl.flock(self.file, fcntl.LOCK_EX | fcntl.LOCK_NB)
@@ -158,8 +159,8 @@ class Turn:
         os.ftruncate(self.file, 0)
 
     def order(self, words, act):
-        """Carries an order out by `act`, which returns its status, and writes its line into the book: also if it is refused, and with a
-        question mark if it is interrupted."""
+        """Runs a command by `does`, which returns its status, and writes its line into the book. A refused command gets a line too, and an
+        interrupted one a question mark."""
         moment, status = now(), "?"
         os.pwrite(self.file, (line_of(moment, "?", words) + "\n").encode(), 0)
         os.fsync(self.file)
@@ -185,7 +186,7 @@ def now():
 
 
 def refuse(club, words, failure):
-    """Ends an order by a fault, with its line in the book."""
+    """Ends a command with a fault, and writes its line into the book."""
 
     def act():
         raise failure
@@ -195,7 +196,7 @@ def refuse(club, words, failure):
 
 
 def give_order(club, command, words, options=(), root=None):
-    """An order of clubdesk in a turn of its own."""
+    """Runs a command of clubdesk in its own turn."""
     printed = []
 
     def act():

@@ -1,4 +1,4 @@
-"""Corrections that the desk makes, by commands of clubdesk: shown, asked, and given one after the other, while the server goes on."""
+"""Corrections that the desk makes by clubdesk's commands: shown, confirmed, and given one after the other while the server runs."""
 
 import contextlib
 import sqlite3
@@ -17,11 +17,11 @@ from club_office.undoing import Record, broken_off, forget_undo, rows_edited, ro
 from club_office.values import date_of
 
 CORRECTIONS = ("set-quota", "debit", "set-facility", "reopen-slot", "cancel", "close", "rain", "leave")
-# These give only the commands that were shown and are still left to do. The others are refused if the plan is another one by now.
+# These give only the commands that were shown and are still to do. The others are refused if the plan has changed by then.
 LISTED = ("cancel", "close", "rain", "leave")
-# A correction asks again about slots that members booked meanwhile, at most this often.
+# The most rounds in which a correction asks about slots that members booked meanwhile.
 MOST_ROUNDS = 20
-# The status of clubdesk if it doesn't know whether a command was done.
+# clubdesk's status if it doesn't know whether a command was done.
 NO_ANSWER = 8
 # Columns of the tables `slots` and `members`.
 TAKEN, USED = 4, 3
@@ -36,7 +36,7 @@ class RestDeclined(Fault):
 
 
 def correct(club, words, planned, then):
-    """Shows a correction, asks, and has the desk do exactly that. Calls `then` at the end of each turn."""
+    """Shows a correction, asks, and has the desk carry out exactly that. Calls `then` at the end of each turn."""
     wants_file(club)
     it = Correction(club, words, planned, then)
     try:
@@ -46,20 +46,20 @@ def correct(club, words, planned, then):
         raise
     print(say("done"), flush=True)
     it.tell_concerned()
-    # Only now: whoever was killed before, and saw no end of it, gives it again.
+    # This comes last: a clerk whose command was killed earlier saw no result, and gives it again.
     it.record.finish()
     return 0
 
 
 class Correction:
-    """A correction that was begun. Its record is next to the club's file from the first command on."""
+    """A correction that was begun. The record is next to the club's file from the first command until it is done."""
 
     def __init__(self, club, words, planned, then):
         self.club, self.words, self.planned, self.then = club, words, planned, then
         self.record = None
 
     def go_through(self):
-        """Shows, asks and carries out, until nothing is left that members booked meanwhile."""
+        """Shows, asks and carries out, until no slot is left that members booked meanwhile."""
         for _ in range(MOST_ROUNDS):
             shown = None if self.words.yes else self.asked()
             try:
@@ -70,7 +70,7 @@ class Correction:
         raise meanwhile
 
     def asked(self):
-        """Plans the correction over a copy, shows it, and asks. Returns the plan, or why the order is refused."""
+        """Plans the correction on a copy, shows it, and asks. Returns the plan, or the reason for a refusal."""
         try:
             refuse_to_come(self.words)
             with snapshot(self.club) as db:
@@ -86,7 +86,7 @@ class Correction:
         return refusal("not confirmed")
 
     def plan(self, db, left):
-        """Plans the correction. `left` is the record of an earlier run that was broken off, if any. Only then may the plan be empty."""
+        """Plans the correction. `left` is the record of an earlier, interrupted run, if any. The plan may be empty only with a record."""
         try:
             if left and self.words.command == "debit":
                 plan = plan_rest_of_debit(db, self.words, left)
@@ -101,7 +101,7 @@ class Correction:
         return plan
 
     def carry_out(self, shown):
-        """Takes a turn, and has the desk do what was shown. With --yes nothing was shown, so it does what is planned now."""
+        """Takes a turn, and has the desk do what was shown. With --yes nothing was shown, so the desk does what is planned now."""
         plans = []
 
         def act():
@@ -122,12 +122,12 @@ class Correction:
                 show_lines(plans[0].all_lines())
 
     def give_all(self, turn, shown, plans):
-        """Gives the desk all commands of the plan, which is added to the plans."""
+        """Gives the desk all commands of the plan, and adds the plan to the list of plans."""
         wants_file(self.club)
         refuse_to_come(self.words)
         left = broken_off(self.club, self.words)
         if left:
-            # The desk does one command after the other: it has done what it got of the order, or dropped it, before this one.
+            # The desk carries out commands one by one, so an earlier command of this correction is either done or dropped by now.
             self.give(turn, ["sheet", "2000-01-01"])
         try:
             with snapshot(self.club) as db:
@@ -148,7 +148,7 @@ class Correction:
             raise BookedMeanwhile(meanwhile.status, str(meanwhile), meanwhile.why)
 
     def agreed(self, plan, shown):
-        """The commands that are given: those of the plan, as far as they were shown."""
+        """Returns the commands to give: those of the plan that were shown."""
         if shown is None:
             return [it.words for it in plan.orders]
         is_listed = self.words.command in LISTED
@@ -158,7 +158,7 @@ class Correction:
         return [it.words for it in plan.orders if it.words in listed]
 
     def keep(self, db, plan, words, left):
-        """Keeps the club as it was before the correction, and a record of it."""
+        """Keeps a copy of the club from before the correction, and a record of the correction."""
         orders = [it for it in plan.orders if it.words in words]
         rows = rows_edited(db, [edit for order in orders for edit in order.edits])
         refuse_unsound(rows)
@@ -168,7 +168,7 @@ class Correction:
         self.record.keep(rows, [list(it) for it in plan.cancelled if cancel_words(it) in words])
 
     def give_each(self, turn, words, is_first):
-        """Gives the desk commands, and returns the slots that aren't closed, since members have booked them meanwhile."""
+        """Gives the desk commands, and returns the slots that couldn't be closed because members booked them meanwhile."""
         in_use = []
         for place, each in enumerate(words):
             try:
@@ -181,7 +181,8 @@ class Correction:
         return in_use
 
     def give(self, turn, words):
-        """Gives the desk a command, and returns whether it is done. The turn isn't over before the command has ended, even if this process is killed."""
+        """Gives the desk a command, and returns whether it is done. The turn ends only after the command has ended, even if this process is
+        killed."""
         done = run_clubdesk(self.club, words[0], words[1:], held=[turn.file])
         said = done.stderr.decode(errors="backslashreplace").strip()
         if done.returncode == 0 or (words[0], said) == ("close-slot", "refused: exists"):
@@ -190,12 +191,12 @@ class Correction:
             return False
         if done.returncode == REFUSED:
             raise Fault(REFUSED, f"{in_language(said)}: {' '.join(words)}")
-        # Another program may have ended it.
+        # Another program may have killed it.
         status = done.returncode if 0 < done.returncode < 128 else NO_ANSWER
         raise fault(status, "command undone", order=" ".join(words), said=in_language(said) or f"status {done.returncode}")
 
     def look_again(self):
-        """Says what members booked since the copy that doesn't fit the new hours. It stays."""
+        """Prints the bookings that members made since the copy and that don't fit the new hours. It stays."""
         try:
             with snapshot(self.club) as db:
                 self.plan(db, None)
@@ -203,7 +204,7 @@ class Correction:
             print(say("booked meanwhile", slots=failure.why), file=sys.stderr)
 
     def give_names(self):
-        """Gives a member who leaves, and its keys, other names in the file. If it has booked meanwhile, returns these slots, and does nothing."""
+        """Renames a leaving member and its keys in the file. If the member has booked meanwhile, returns these slots and does nothing."""
         try:
             with contextlib.closing(file_taken(self.club)) as db:
                 plan = self.plan(db, None)
@@ -220,7 +221,7 @@ class Correction:
         forget_person(self.club, self.words.member)
 
     def tell_concerned(self):
-        """Says who has to be told what was cancelled, by this run and by those that were broken off; with --mail mails it."""
+        """Prints whom to tell about cancellations, by this run and interrupted ones; with --mail it mails them."""
         cancelled = [Booking(*it) for it in self.record.content["cancelled"]]
         show_concerned(self.club, [it.member for it in cancelled])
         if getattr(self.words, "mail", False):
@@ -228,7 +229,7 @@ class Correction:
 
 
 def refuse_unsound(rows):
-    """Refuses what would take more from a total than it has, as of rows that somebody has changed by hand."""
+    """Refuses to take more from a total than it has, such as after a change by hand."""
     for table, _, was, is_now in rows:
         if table == "slots" and is_now[TAKEN] < 0:
             raise refusal("nothing changed", why=say("taken off", facility=is_now[0], day=date_of(is_now[1]), hour=is_now[2], persons=-is_now[TAKEN]))

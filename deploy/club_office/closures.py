@@ -1,4 +1,4 @@
-"""Why slots are closed, for the page: lines beside the club, each a facility, a day, hours and a reason."""
+"""Reasons for closed slots, which the page shows: lines in a file next to the club, each with a facility, a day, hours and a reason."""
 
 import json
 import os
@@ -20,7 +20,7 @@ def reason(word):
 
 
 def reasons_of(club):
-    """What was written so far, the oldest first; a file that can't be read gives none."""
+    """Returns the lines written so far, oldest first, or none if the file can't be read."""
     try:
         with open(club.file + "-reasons", encoding="utf-8") as file:
             return json.load(file)
@@ -29,7 +29,7 @@ def reasons_of(club):
 
 
 def add_reasons(club, words, today):
-    """Adds why slots were closed, and leaves out what is over."""
+    """Adds reasons for closed slots, and drops past ones."""
     begin, end = words.hours
     more = [
         {"facility": facility, "day": day, "from": begin, "until": end, "why": words.why} for day in days_of(words) for facility in unique(words.facilities)
@@ -45,7 +45,7 @@ def add_reasons(club, words, today):
 
 
 def closures_of(db, reasons, today):
-    """The hours that are closed from today on and have a reason, the newest reason of each, as the page takes them."""
+    """Returns the hours closed from today on that have a reason, each with its newest one, in the page's form."""
     why = {(it["facility"], it["day"], hour): it["why"] for it in reasons for hour in range(it["from"], it["until"])}
     found = []
     for facility, day, hour in db.execute("SELECT facility, day, hour FROM slots WHERE closed = 1 AND day >= ? ORDER BY facility, day, hour", [today]):

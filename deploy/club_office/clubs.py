@@ -16,14 +16,14 @@ from club_office.faults import STORAGE, bad_value, fault, refusal
 from club_office.texts import in_language, say
 from club_office.values import NAME, moment, moment_text
 
-# The program that the clerk called.
+# The program that the clerk started.
 SELF = os.path.realpath(sys.modules["__main__"].__file__ or "")
 class Club(collections.namedtuple("Club", "name file zone stop book back_ups settings")):
-    """A club of the machine; `settings` are the lines of its configuration, whose names are in small letters."""
+    """A club on the machine. The names of the configuration's lines are in small letters in `lines`."""
 
     @property
     def is_old(self):
-        """Whether it is the file of an old year. It can only be listed."""
+        """Returns whether it is the file of an old year. It allows only lists."""
         return "@" in self.name
 
     @property
@@ -32,12 +32,12 @@ class Club(collections.namedtuple("Club", "name file zone stop book back_ups set
 
     @property
     def title(self):
-        """What people call the club."""
+        """The club's title."""
         return self.settings.get("title") or self.name
 
     @property
     def site(self):
-        """The address of the club's pages, without a slash at its end."""
+        """The address of the club's pages, without a final slash."""
         return self.settings.get("site", "").rstrip("/")
 
 
@@ -54,32 +54,32 @@ def settings(path):
     return found
 
 
-# The files beside a club's file that clubdesk or the office makes: its name and one of these, or `-until-` and a day.
+# The names of files that clubdesk or the office makes next to a club's file: its name with one of these endings, or with `-until-` and a day.
 ENDINGS = ("-before", "-book", "-metrics", "-new", "-office", "-offsite", "-orders", "-people.csv", "-reasons", "-seasons", "-undo", "-wal")
 
 
 def is_beside(file, other):
-    """Whether a path is that of a file which is made beside a club's."""
+    """Returns whether a path is one of the files made next to a club's file."""
     ending = other.removeprefix(file) if other.startswith(file) else ""
     return ending in ENDINGS or ending.startswith("-until-")
 
 
 def clubs_of(folder):
-    """Each club that is configured, and its file."""
+    """Yields each configured club and its file."""
     for path in sorted(glob.glob(os.path.join(glob.escape(folder), "*.conf"))):
         with contextlib.suppress(OSError, UnicodeDecodeError):
             yield os.path.basename(path).removesuffix(".conf"), settings(path).get("file", "")
 
 
 def refuse_files_of_others(file, folder):
-    """Refuses a club beside whose file another club's is, in a place where one of its own files is made: it would be overwritten."""
+    """Refuses a club if another club's file has the name of one of its own files, which would overwrite that file."""
     for other, path in clubs_of(folder):
         if is_beside(file, path):
             raise refusal("file of another", path=path, club=other)
 
 
 def club_named(called, is_at_desk=False):
-    """The club of this name, or of NAME@YEAR its file of an old year. Its zone is the zone of the command's clock from then on."""
+    """Returns the club of this name, or for NAME@YEAR its file of an old year. From then on, the command's clock is in the club's zone."""
     word, at, year = called.partition("@")
     if not NAME.fullmatch(word) or at and not re.fullmatch("20[0-9]{2}", year):
         raise bad_value("no club name", word=called)
@@ -101,8 +101,8 @@ def club_named(called, is_at_desk=False):
 
 
 def old_files(file):
-    """The files of old years beside a club, each with the last day that left the club into it, the oldest first. Of two of a day the later
-    one counts."""
+    """Returns the files of old years next to a club, oldest first, each with its last day. If two files have the same day,
+    the later one counts."""
     found = {}
     for path in sorted(glob.glob(glob.escape(file) + "-until-*"), key=lambda it: (os.stat(it).st_mtime_ns, it)):
         day = re.fullmatch(r".*-until-([0-9]{4}-[0-9]{2}-[0-9]{2})(-[0-9]+)?", path)
@@ -112,7 +112,7 @@ def old_files(file):
 
 
 def old_file(file, year):
-    """The first file that has a whole year, else the last that has a part of it."""
+    """Returns the first file with a whole year, otherwise the last one with a part of it."""
     found = old_files(file)
     whole = [path for day, path in found if day >= f"{year}-12-31"]
     part = [path for day, path in found if day.startswith(year)]
@@ -121,13 +121,13 @@ def old_file(file, year):
     return whole[0] if whole else part[-1]
 
 
-# Where the desk's side finds programs, and what else of the environment it takes.
+# The desk's side uses this path to find programs, and these environment variables.
 PATH = "/usr/local/sbin:/usr/local/bin:/usr/sbin:/usr/bin:/sbin:/bin"
 KEPT = ("LANG", "LC_ALL", "LC_CTYPE", "LOGNAME", "OFFICE_CLERK", "SUDO_USER", "TERM", "COLUMNS", "USER")
 
 
 def forget_environment():
-    """A clerk's variables name no program and no folder to the desk's side, whatever sudo hands on."""
+    """Clears the environment, so that a clerk's variables can't choose a program or folder for the desk's side, whatever sudo passes on."""
     for each in set(os.environ) - set(KEPT):
         del os.environ[each]
     os.environ["PATH"] = PATH
@@ -135,7 +135,7 @@ def forget_environment():
 
 
 def program(variable, called):
-    """The path of a program: that of the variable, else where the shell finds it."""
+    """Returns a program's path: the variable's, otherwise the one that the shell finds."""
     found = os.environ.get(variable) or shutil.which(called, path=os.environ.get("PATH", "") + ":/usr/local/bin:/usr/bin")
     if not found:
         raise fault(STORAGE, "no program", path=called)
@@ -143,7 +143,7 @@ def program(variable, called):
 
 
 def back_up_program():
-    """deploy/back_up, which lies beside the folder of these modules."""
+    """Returns deploy/back_up, next to the folder of these modules."""
     found = os.path.join(os.path.dirname(os.path.dirname(os.path.realpath(__file__))), "back_up")
     if not os.access(found, os.X_OK):
         raise fault(STORAGE, "no program", path=found)
@@ -151,7 +151,7 @@ def back_up_program():
 
 
 def now_of(words):
-    """The minute of the club's clock, or that of --at."""
+    """Returns the minute of the club's clock, or that of --at."""
     return clock() if getattr(words, "at", None) is None else words.at
 
 
@@ -160,19 +160,19 @@ def clock():
 
 
 def refuse_to_come(words):
-    """A correction at a moment to come would take for over what is to come."""
+    """A correction at a future moment would treat future bookings as over."""
     if getattr(words, "at", None) is not None and words.at > clock():
         raise refusal("at is to come", at=moment_text(words.at), now=moment_text(clock()))
 
 
 def run_clubdesk(club, command, words, options=(), root=None, held=()):
-    """Runs a command of clubdesk over the club's file, and returns its end. `held` are descriptors that it keeps open until then."""
+    """Starts a command of clubdesk on the club's file, and returns the process, which keeps the descriptors `kept` open."""
     line = [program("CLUBDESK", "clubdesk"), command, *options, "--", club.file, *words]
     return subprocess.run(line, input=root, capture_output=True, check=False, stdin=None if root is not None else subprocess.DEVNULL, pass_fds=held)
 
 
 def clubdesk(club, command, words, options=(), root=None):
-    """Runs a command of clubdesk over the club's file; its status and what it prints."""
+    """Runs a command of clubdesk on the club's file; returns its status and output."""
     done = run_clubdesk(club, command, words, options, root)
     for said in done.stderr.decode(errors="backslashreplace").splitlines():
         print(in_language(said), file=sys.stderr, flush=True)
@@ -180,8 +180,8 @@ def clubdesk(club, command, words, options=(), root=None):
 
 
 def ended_by_itself(line, given=None, **how):
-    """Waits for the end of a command; its status, and what it printed into a pipe. Ctrl-C is the command's own, since a clerk's process can't end
-    sudo's. A reading command is interrupted after it; an order's status says what became of it."""
+    """Waits for a command to end; returns its status, and its output into a pipe. The command itself handles Ctrl-C, since a clerk's process
+    can't end sudo's. After Ctrl-C a reading command counts as interrupted; the status of any other command tells its result."""
     command = subprocess.Popen(line, **how)
     text, is_interrupted = given, False
     while True:
@@ -209,7 +209,7 @@ def wants_file(club):
 
 
 def desk_user(club):
-    """The user whose the folder of the club's file is."""
+    """Returns the owner of the folder that holds the club's file."""
     try:
         return pwd.getpwuid(os.stat(os.path.dirname(club.file)).st_uid)
     except (OSError, KeyError):

@@ -1,4 +1,4 @@
-"""The commands of the office, their words, and who carries each out."""
+"""The commands of the office, their arguments, and who carries each out."""
 
 import argparse
 import collections
@@ -33,7 +33,7 @@ from club_office.values import MOST_CREDIT, MOST_NUMBER, copy_name, day, days, h
 
 
 def make_new(club):
-    """Makes the club's file, if there is none."""
+    """Creates the club's file if it is missing."""
 
     def act():
         if os.path.lexists(club.file):
@@ -47,19 +47,19 @@ def make_new(club):
     return status
 
 
-# argparse's own texts, in the clerk's language.
+# Translates argparse's own texts into the clerk's language.
 argparse._ = usage
 
 
 class Words(argparse.ArgumentParser):
-    """A parser whose words are never abbreviated."""
+    """A parser that accepts no abbreviated options."""
 
     def __init__(self, **how):
         super().__init__(allow_abbrev=False, **how)
 
 
 class ShowVersion(argparse.Action):
-    """Prints the version, which is clubdesk's."""
+    """Prints the version of clubdesk, which is the office's too."""
 
     def __call__(self, parser, *_):
         done = subprocess.run([program("CLUBDESK", "clubdesk"), "--version"], stdout=subprocess.PIPE, text=True, check=False)
@@ -68,11 +68,11 @@ class ShowVersion(argparse.Action):
 
 
 Command = collections.namedtuple("Command", "kind words help does")
-# Who carries a command out: clubdesk, as an order or a look; a function of a copy of the club, or of the club; a correction; or a function
-# of the clerk's side. One without help is asked by the clerk's side alone.
+# Who carries out a command: clubdesk, for a change or a listing; a function on a copy of the club, or on the club; a correction; or a function
+# on the clerk's side. A command without help is internal: only the clerk's side calls it.
 ORDER, LOOK, PASS, LIST, CORRECTION, DESK, COUNTER = "order look pass list correction desk counter".split()
 
-# How many words a command has at most, its own among them, and how many bytes each.
+# The most words of a command, including its name, and the most bytes of each.
 MOST_WORDS = 200
 MOST_BYTES = 1_000
 AT = ("--at", {"metavar": "MOMENT", "type": moment, "help": "the moment, in place of the clock's"})
@@ -269,7 +269,7 @@ COMMANDS = {
     ),
     "new": Command(DESK, [], "make the club's file", lambda club, _words: make_new(club)),
     "log": Command(COUNTER, [word("WORD", nargs="?")], "print the book of orders, or those of its lines that have a word", read_book),
-    # What the clerk's side asks of the desk's.
+    # Internal commands, which the clerk's side calls on the desk's side.
     "names": Command(LIST, [], "", print_names),
     "import-state": Command(LIST, [], "", import_state),
     "old-passes": Command(DESK, [], "", list_old_passes),
@@ -292,7 +292,7 @@ COMMANDS = {
 
 
 def words_of(given, is_desk):
-    """The words of a command line, as the commands have them."""
+    """Parses a command line by the table of commands."""
     top = Words(prog="office", description="The office of a club, for clerks who are not root: office CLUB COMMAND [WORD ..].", epilog="office CLUB COMMAND --help shows the words of a command.")
     top.add_argument("--version", action=ShowVersion, nargs=0, help="print the program's name and version")
     top.add_argument("club", metavar="CLUB", help="a club that /etc/clubdesk/CLUB.conf describes")
@@ -309,12 +309,12 @@ def words_of(given, is_desk):
 
 
 def plain_words(words, command):
-    """The words of an order or a look of clubdesk, in their order."""
+    """Returns the arguments for clubdesk, in its order."""
     return [getattr(words, place) for place, _ in command.words if not place.startswith("-")]
 
 
 def at_desk(given):
-    """The desk's side: carries a command out, as the user whose file it is."""
+    """The desk's side: carries out a command as the file's owner."""
     os.umask(0o077)
     words = words_of(given, True)
     words.given = [w for w in words.given if w != "--yes"]
@@ -357,7 +357,7 @@ def at_desk(given):
 
 
 def keep_outputs(club, words):
-    """Writes the files beside the club that a correction changes: the reasons of closed slots, and the page's list."""
+    """Writes the files next to the club that a correction changes: the reasons for closed slots, and the page's list."""
     if words.command == "close" and words.why:
         outputs.keep_reasons(club, words)
     if words.command in ("set-facility", "close", "reopen-slot", "undo"):
@@ -365,7 +365,7 @@ def keep_outputs(club, words):
 
 
 def order_pass(club, words):
-    """add-key and rotate-key, with the root from standard input."""
+    """Runs add-key or rotate-key with the root from standard input."""
     if words.to or words.root or not words.root_stdin:
         raise fault(USAGE, "root from input", command=words.command)
     line = [words.key, words.member if words.command == "add-key" else words.moment]
@@ -388,7 +388,7 @@ def look(club, words, command):
 
 @contextlib.contextmanager
 def old_year_copied(club):
-    """The club, or a copy of an old year's file, which clubdesk would change as it opens it."""
+    """Yields the club, or a copy of an old year's file, since clubdesk would change the file when it opens it."""
     if not club.is_old:
         yield club
         return
@@ -397,7 +397,7 @@ def old_year_copied(club):
 
 
 def show_names(club, sheet):
-    """Who the keys of a sheet are, as far as their persons are known."""
+    """Prints the known persons behind the keys of a sheet."""
     known = people.read_people(club)
     if not known:
         return
@@ -409,13 +409,13 @@ def show_names(club, sheet):
 
 
 def refuse_too_much(given):
-    """So many words are no command of a clerk, and would be no line of the book."""
+    """No clerk's command has this many words, and the book has no room for them."""
     if len(given) > MOST_WORDS or any(len(os.fsencode(it)) > MOST_BYTES for it in given):
         raise bad_value("too many words", words=MOST_WORDS, bytes=MOST_BYTES)
 
 
 def at_counter(given):
-    """The clerk's side: reads what was typed, reads and writes the clerk's own files, and hands the rest to the desk's side."""
+    """The clerk's side: parses the typed words, reads and writes the clerk's own files, and passes the rest to the desk's side."""
     if given == ["help"]:
         given = ["--help"]
     if len(given) == 1 and not given[0].startswith("-") and is_terminal():
@@ -442,13 +442,13 @@ def at_counter(given):
 
 
 def each_hour(given, words):
-    """The commands that a command stands for: of clubdesk's that take one hour, one for each of several hours."""
+    """Expands a command: clubdesk's commands that take one hour become one command for each of several hours."""
     read = read_hours(words.hour) if words.command in ("close-slot", "show-slot") and not words.hour.isdigit() else None
     return [[*given[:2], words.facility, words.day, f"{hour:02d}"] for hour in range(*read)] if read else [given]
 
 
 def carry_out_each(club, commands):
-    """Carries several commands out, up to the first that isn't done. Orders are listed first; what isn't done is said."""
+    """Runs several commands until one isn't done. Lists them first, and prints those that weren't done."""
     lines, count = [shlex.join(["office", *it]) for it in commands], 0
     if COMMANDS[commands[0][1]].kind == ORDER:
         print(*lines, sep="\n", flush=True)
@@ -465,7 +465,7 @@ def carry_out_each(club, commands):
 
 
 def carry_out(club, given):
-    """Has the desk's side carry a command out."""
+    """Has the desk's side carry out a command."""
     if os.geteuid() == desk_user(club).pw_uid:
         return at_desk(given)
     line, how = desk_line(club, given[1:])
@@ -473,7 +473,7 @@ def carry_out(club, given):
 
 
 def read_at_counter(given):
-    """A command's words as the desk's side takes them. What is odd about them is asked about at a terminal."""
+    """Returns a command's words in the form that the desk's side takes. At a terminal it asks about odd ones."""
     club, called, command = club_named(given[0]), given[1], COMMANDS[given[1]]
     reader = Reader(club, called)
     made = [*given[:2], *read_words(reader, command, given[2:])]
@@ -485,7 +485,7 @@ def read_at_counter(given):
 def main():
     given = sys.argv[1:]
     try:
-        # A word that is no UTF-8 is printed with its bytes' numbers.
+        # A word that isn't UTF-8 is printed with its bytes' numbers.
         sys.stdout.reconfigure(errors="backslashreplace")
         refuse_too_much(given)
         if given[:1] == ["--desk"]:

@@ -1,4 +1,4 @@
-"""Copies of a club: in memory for lists, of before a correction, byte for byte."""
+"""Copies of a club: in memory for lists, from before a correction, and byte for byte."""
 
 import contextlib
 import glob
@@ -18,7 +18,7 @@ from club_office.faults import storage_failed
 
 BACK_UPS_KEPT = 30
 MEMORY = "/dev/shm"
-# The folder of a copy, the copy, its log, and a few for others.
+# Inodes for the copy's folder, the copy, its log, and a few for others.
 FILES_FREE = 20
 
 
@@ -26,7 +26,7 @@ FILES_FREE = 20
 
 
 def begun_at(process):
-    """When a process began, in the system's ticks; None if there is none of this number, or it has ended and nobody has asked for its status."""
+    """Returns when a process began, in ticks, or None if there is no such process or it is a zombie."""
     try:
         with open(f"/proc/{process}/stat", encoding="utf-8", errors="replace") as stat:
             state, *rest = stat.read().rpartition(")")[2].split()
@@ -36,7 +36,7 @@ def begun_at(process):
 
 
 def clear_killed(home):
-    """Removes the folders of this user's processes that are gone. Their names say whose they are."""
+    """Removes the folders of this user's processes that have ended. A folder's name tells its process."""
     for stale in glob.glob(os.path.join(glob.escape(home), ".office-*")):
         owner = re.match(r"\.office-([0-9]+)-([0-9]+)-", os.path.basename(stale))
         with contextlib.suppress(OSError):
@@ -45,20 +45,20 @@ def clear_killed(home):
 
 
 def clear_left(club):
-    """Removes what killed commands left of copies."""
+    """Removes the copies that killed commands left."""
     for home in {MEMORY, os.path.dirname(club.file)}:
         clear_killed(home)
 
 
 def homes(club, size=None):
-    """Where copies of the club, or of a file of this size, are made: in memory if it has room for them, and beside the club's file."""
+    """Returns the folders for copies of the club, or of a file of this size: in memory if there is room, and next to the club's file."""
     beside = os.path.dirname(club.file)
     if size is None:
         size = sum(os.path.getsize(club.file + it) for it in ("", "-wal") if os.path.exists(club.file + it))
     found = [beside]
     if os.access(MEMORY, os.W_OK | os.X_OK):
         room = os.statvfs(MEMORY)
-        # A copy, its log, and what SQLite writes of the log into it. A disk that counts no files says that it has none at all.
+        # The copy, its log, and the pages that SQLite copies from the log. A file system that doesn't count inodes reports 0.
         if room.f_bavail * room.f_frsize > 3 * size + 1_000_000 and (room.f_files == 0 or room.f_favail > FILES_FREE):
             found.insert(0, MEMORY)
     return found
@@ -66,7 +66,7 @@ def homes(club, size=None):
 
 @contextlib.contextmanager
 def scratch(club, home=None):
-    """A folder that is removed at the end. Those that a killed command left go as well."""
+    """Yields a folder that is removed at the end, together with those that killed commands left."""
     clear_left(club)
     prefix = f".office-{os.getpid()}-{begun_at('self')}-"
     with tempfile.TemporaryDirectory(prefix=prefix, dir=home or homes(club)[0], ignore_cleanup_errors=True) as folder:
@@ -75,7 +75,7 @@ def scratch(club, home=None):
 
 @contextlib.contextmanager
 def snapshot(club):
-    """The club as it is, in memory, by a copy that back_up makes in a folder of its own and that is removed at once."""
+    """Yields the current club in memory. back_up makes the copy in a temporary folder, which is removed at once."""
     wants_file(club)
     memory = sqlite3.connect(":memory:", isolation_level=None)
     said = ""
@@ -102,7 +102,7 @@ def address(path, mode):
 
 
 def keep_before(club, db, command):
-    """Copies the club as it was before the correction into FILE-before, where the newest copies are kept; returns the copy's path."""
+    """Copies the club to FILE-before, which keeps the newest copies, before a correction; returns the copy's path."""
     folder = club.file + "-before"
     os.makedirs(folder, 0o700, exist_ok=True)
     called = time.strftime("%Y-%m-%dT%H-%M-%S-") + command
@@ -125,7 +125,7 @@ def keep_before(club, db, command):
 
 
 def name_new(made, path):
-    """Gives a file a name that isn't there yet: this one, or this one with a number from 2 on. Returns the name."""
+    """Gives a file an unused name: this one, or this one with a number from 2 on. Returns the name."""
     for number in itertools.count(1):
         named = path if number == 1 else f"{path}-{number}"
         if is_named(made, named):
@@ -134,7 +134,7 @@ def name_new(made, path):
 
 
 def is_named(made, path):
-    """Gives a file a name, if there is nothing of this name. A disk without hard links gets an empty file first, which the file replaces."""
+    """Gives a file a name if the name is unused. On a disk without hard links it first creates an empty file, which the file replaces."""
     try:
         os.link(made, path)
     except FileExistsError:
@@ -151,7 +151,7 @@ def is_named(made, path):
 
 
 def clear_unnamed(club):
-    """Removes copies without a name, which a killed command left. Wants the turn."""
+    """Removes the unnamed copies that a killed command left. Wants the turn."""
     folder = glob.escape(club.file)
     for stale in [*glob.glob(f"{folder}-before/.*.new*"), *glob.glob(f"{folder}-until-*.new")]:
         with contextlib.suppress(OSError):
@@ -167,14 +167,14 @@ def synced(path):
 
 
 def is_run(words):
-    """Whether another program did its part. Its lines go to this program's standard error, which waits during a turn."""
+    """Returns whether another program succeeded. Its lines go to this program's standard error, which is held back during a turn."""
     done = subprocess.run(words, check=False, stdin=subprocess.DEVNULL, stdout=subprocess.DEVNULL, stderr=subprocess.PIPE, text=True, errors="replace")
     print(done.stderr, end="", file=sys.stderr)
     return done.returncode == 0
 
 
 def copy_file(club, db, to):
-    """Copies the file with its log, byte for byte, by another program: with a descriptor of its own this one would lose its locks."""
+    """Copies the file and its log, byte for byte, in another process: if this one opened and closed the file, it would lose its locks."""
     if db.execute("PRAGMA wal_checkpoint(TRUNCATE)").fetchone()[0]:
         raise storage_failed("log uncopied")
     place = next(path for path in [to, *(f"{to}-{more}" for more in range(2, 1000))] if not os.path.exists(path))
@@ -185,7 +185,7 @@ def copy_file(club, db, to):
 
 
 def lost_name(club):
-    """A name for a file that is put away, which isn't there yet."""
+    """Returns an unused name for a file that is moved away."""
     called = f"{club.file}-lost-{time.strftime('%Y-%m-%dT%H-%M-%S')}"
     names = itertools.chain([called], (f"{called}-{more}" for more in itertools.count(2)))
     return next(it for it in names if not os.path.lexists(it) and not os.path.lexists(it + "-wal"))

@@ -1,4 +1,4 @@
-"""Corrections that want the file: shown, asked, and carried out over it while no server has it."""
+"""Corrections that need the file: shown, confirmed, and carried out while no server has it."""
 
 import contextlib
 import sqlite3
@@ -19,7 +19,7 @@ WAITS_FOR_FILE = 20
 
 
 def correct(club, words, planned):
-    """A correction: shows what it would do, asks, and does just that in one transaction."""
+    """Shows what a correction would do, asks, and does exactly that in one transaction."""
     shown = preview(club, words, planned)
     if not words.yes:
         show_lines(shown.all_lines())
@@ -36,7 +36,7 @@ def correct(club, words, planned):
 
 
 def preview(club, words, planned):
-    """What a correction would do to the club as it is, by a copy. A refusal has its line in the book."""
+    """Returns what a correction would do to the current club, from a copy. A refusal gets its line in the book."""
     wants_file(club)
     try:
         refuse_to_come(words)
@@ -49,7 +49,7 @@ def preview(club, words, planned):
 
 
 def carry_out(club, words, planned, plans, shown):
-    """Does what a correction does to the club by now: nothing, if something else was shown. The plan is added to the plans."""
+    """Carries out a correction on the club as it is now, or nothing if something else was shown. Adds the plan to the list of plans."""
     try:
         with contextlib.closing(file_taken(club)) as db:
             plan = planned(db, words, now_of(words))
@@ -71,13 +71,13 @@ def carry_out(club, words, planned, plans, shown):
 
 
 def file_taken(club):
-    """A connection that alone has the file. If a server has it, its service ends it, and starts it again after a second, so that
-    it waits for the file till this connection ends, however that happens."""
+    """Yields a connection with exclusive use of the file. If a server has the file, its service stops the server, and restarts it after a
+    second. That server waits for the file until this connection ends, however it ends."""
     db = sqlite3.connect(address(club.file, "rw"), uri=True, timeout=0, isolation_level=None)
     try:
         db.execute("PRAGMA locking_mode = EXCLUSIVE")
         db.execute("PRAGMA foreign_keys = ON")
-        # What is taken out of a row, as the name of a member who leaves, is taken out of the file.
+        # Values that are removed from a row, such as a leaving member's name, are overwritten in the file.
         db.execute("PRAGMA secure_delete = ON")
         take(club, db)
     except BaseException:
@@ -106,7 +106,7 @@ def take(club, db):
 
 
 def ended(club):
-    """Ends the club's server; what its service says of it, as that there is none."""
+    """Stops the club's server; returns the service's message, such as that there is none."""
     try:
         done = subprocess.run(club.stop, stdin=subprocess.DEVNULL, capture_output=True, text=True, errors="replace", check=False, timeout=WAITS_FOR_FILE)
     except (OSError, subprocess.TimeoutExpired) as fault:
@@ -115,8 +115,8 @@ def ended(club):
 
 
 def change(db, plan, keep):
-    """Runs the statements of a plan in one transaction, and commits it only if the club stays as sound as it was. Calls `keep` right
-    before the commit."""
+    """Runs the statements of a plan in one transaction, and commits only if the club is still as sound as before. Calls `keep` just before the
+    commit."""
     db.execute("BEGIN EXCLUSIVE")
     try:
         before, kept = faults(db), rows_kept(db, plan)

@@ -1,4 +1,4 @@
-"""The clerk's side of every command: by sudo to the desk's user, with the clerk's own files."""
+"""The clerk's side of every command: it calls the desk's user by sudo, and handles the clerk's own files."""
 
 import contextlib
 import heapq
@@ -22,12 +22,13 @@ from club_office.spares import PASSES
 from club_office.texts import say
 
 
-# A moment from which on a rotated key's older root is good no more.
+# A past moment, so that a rotated key's older root has already expired.
 LONG_AGO = "2000-01-01T00:00"
 
 
 def desk_line(club, words):
-    """The words that carry out a command as the desk's user, and how the process is started. `--own` is the user's own club."""
+    """Returns the words that run a command as the desk's user, and the options for its process. `--own` means that the club belongs to the
+    caller."""
     user = desk_user(club)
     if os.geteuid() == user.pw_uid:
         return [sys.executable, "-I", SELF, "--own", club.name, *words], {}
@@ -40,14 +41,14 @@ def desk_line(club, words):
 
 
 def as_desk(club, words, given=None):
-    """Carries out a command as the desk's user; its status and what it prints."""
+    """Runs a command as the desk's user; returns its status and output."""
     line, how = desk_line(club, words)
     return ended_by_itself(line, given, stdin=subprocess.DEVNULL if given is None else subprocess.PIPE, stdout=subprocess.PIPE, **how)
 
 
 def make_pass(club, words):
-    """add-key and rotate-key: the root comes from a word, from standard input, or is drawn; the pass goes to standard output, or into
-    a file that isn't there yet."""
+    """Runs add-key or rotate-key. The root comes from an argument or from standard input, or is random. The pass goes to standard output, or to
+    a new file."""
     if words.command == "lost-pass":
         words.root, words.root_stdin, words.moment = None, False, LONG_AGO
     if words.root and words.root_stdin:
@@ -77,7 +78,7 @@ def make_pass(club, words):
 
 
 def lost_files(words):
-    """The files of the lost pass: that of `--to`, and the one where letters look for it. Other commands lose none."""
+    """Returns the files of the lost pass: that of `to`, and the one where letters look for it. Other commands lose none."""
     found = []
     for path in (words.to, os.path.join(PASSES, words.key)) if words.command == "lost-pass" else ():
         with contextlib.suppress(OSError, ValueError, TypeError), open(path, encoding="ascii") as file:
@@ -86,7 +87,7 @@ def lost_files(words):
 
 
 def remove_lost(words, paths):
-    """Removes the files of a lost pass, so that no letter has it. The new pass may get such a file's name."""
+    """Removes the files of a lost pass, so that no letter uses it, except a file that the new pass replaces."""
     for path in paths:
         with contextlib.suppress(FileNotFoundError):
             os.unlink(path)
@@ -95,7 +96,7 @@ def remove_lost(words, paths):
 
 
 def read_book(club, words):
-    """The lines of the book: of the system's journal those that the desk's user has written, and of the file."""
+    """Returns the lines of the book: those that the desk's user wrote to the system's journal, and those of the file."""
     status, text = as_desk(club, ["show-book"])
     found = [text]
     if status == 0 and is_in_journal(club):
@@ -108,7 +109,7 @@ def read_book(club, words):
         found.append(done.stdout)
     if status:
         return status
-    # Line feeds alone end lines: an order may hold what other readers of lines take for their ends.
+    # Only line feeds end lines: a command may hold characters that other line readers treat as ends.
     lines = [each.split("\n")[:-1] for each in (text.decode(errors="backslashreplace") for text in found)]
     for line in heapq.merge(*lines, key=lambda line: line[:19]):
         if not words.word or words.word in line.split(" "):
@@ -123,7 +124,7 @@ def show_book(club):
 
 
 def ask_person(club, words):
-    """Asks for what is known of a member's person, and hands it over by standard input: it is in no argument."""
+    """Asks for a member's personal data, and passes it on by standard input, never in an argument."""
     status, text = as_desk(club, ["show-person", words.member])
     if status:
         return status
@@ -140,7 +141,7 @@ def ask_person(club, words):
 
 
 def write_report(club, words):
-    """The board's page, in a file of the clerk that isn't there yet; also as PDF, if the machine has a browser."""
+    """Writes the board's page to a new file of the clerk, and as PDF if the machine has a browser."""
     place = words.to or f"report-{words.year or time.strftime('%Y')}.html"
     if os.path.lexists(place):
         raise refusal("file there", path=place)
@@ -157,7 +158,7 @@ def write_report(club, words):
 
 
 def print_to_pdf(place):
-    """The page as PDF beside it, by the machine's browser; None if there is none, or it doesn't, or a file came to that name meanwhile."""
+    """Prints the page as PDF with the machine's browser. Returns None if there is no browser, it fails, or a file got that name meanwhile."""
     browser = shutil.which("chromium") or shutil.which("chromium-browser")
     made = os.path.splitext(place)[0] + ".pdf"
     if not browser or os.path.lexists(made):
@@ -175,7 +176,7 @@ def print_to_pdf(place):
 
 
 def written(path, text):
-    """Writes a file whole under a temporary name beside its own, which it returns."""
+    """Writes a complete file under a temporary name next to the final one, and returns that name."""
     made = os.path.join(os.path.dirname(path) or ".", f".{os.path.basename(path)}.new")
     with contextlib.suppress(FileNotFoundError):
         os.unlink(made)
@@ -188,13 +189,13 @@ def written(path, text):
 
 
 def write_new(path, text):
-    """Writes a file whole, which isn't there yet."""
+    """Writes a complete new file."""
     if not is_named(written(path, text), path):
         raise FileExistsError(f"there is a file {path} by now")
     synced(os.path.dirname(path) or ".")
 
 
 def write_again(path, text):
-    """Writes a file of our own whole, in place of the one that was there."""
+    """Replaces a file of ours with a complete new one."""
     os.rename(written(path, text), path)
     synced(os.path.dirname(path) or ".")

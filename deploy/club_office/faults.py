@@ -1,4 +1,4 @@
-"""How a command of the office ends if it isn't done."""
+"""The ways in which a command of the office can fail."""
 
 from club_office.texts import say
 
@@ -6,7 +6,7 @@ REFUSED, USAGE, BAD_VALUE, STORAGE, OUTPUT = 1, 2, 3, 5, 7
 
 
 class Fault(Exception):
-    """Ends the command with a status and a line on standard error. `why` is the line without its beginning."""
+    """Ends the command with a status and a line on standard error. `said` is the line without its prefix."""
 
     def __init__(self, status, line, why=None):
         super().__init__(line)
@@ -15,7 +15,7 @@ class Fault(Exception):
 
 
 def fault(status, text, /, **values):
-    """A fault whose line is a text of the tables."""
+    """A fault whose line comes from the tables of texts."""
     return Fault(status, say(text, **values))
 
 
@@ -25,11 +25,11 @@ def refusal(text, /, **values):
 
 
 class NothingLeft(Fault):
-    """A refusal since all is done already. An order that was broken off, and is given again, has then come to its end."""
+    """A refusal because everything is done already. An interrupted command that is given again is complete then."""
 
 
 class Doubtful(Fault):
-    """A refusal to go on with an order that was broken off. Given once more, the order begins anew."""
+    """A refusal to continue an interrupted command. If it is given again, it starts from the beginning."""
 
 
 def doubtful(text, /, **values):

@@ -1,4 +1,4 @@
-"""Members from a list: what becomes of each row, a pass for each, and the desk's side of a row."""
+"""Imports members from a list: the plan for each row, the passes, and the desk's side of a row."""
 
 import collections
 import contextlib
@@ -26,7 +26,7 @@ ROOT = re.compile("[0-9a-f]{64}")
 
 
 def read_given():
-    """The roots and the person that standard input has."""
+    """Reads roots and a person from standard input."""
     try:
         given = json.loads(sys.stdin.buffer.read(100_000))
         roots, person = given["roots"], given["person"]
@@ -38,11 +38,10 @@ def read_given():
 
 
 def import_row(club, words):
-    """A row of an import: the member, its credit, its key and its person, each only if it isn't there yet; prints the pass of a key that it
-    makes.
+    """Imports a row: member, credit, key and person, each only if it is missing. Prints the pass of a key that it makes.
 
-    Standard input has the person, and the roots that this import has drawn for the key, the newest last. A key that has one of them was made
-    by this import, and its pass was never handed out: it gets the newest root.
+    Standard input has the person, and the roots that this import drew for the key, newest last. A key with one of these roots was made
+    by this import, and its pass was never handed out, so the key gets the newest root.
     """
     roots, person = read_given()
     passes = []
@@ -94,14 +93,14 @@ def refuse_twins(path, rows, columns=("member", "key")):
 
 
 def spare_rows(club, path, rows):
-    """A row for each spare key of the members. It has no points, so that nothing is credited again."""
+    """Returns a row for each spare key of the members. These rows have no points, so nothing is credited twice."""
     spares = [row._replace(points=0, key=key) for row in rows for key in spare_keys(club, row.member)]
     refuse_twins(path, [*rows, *spares], ["key"])
     return spares
 
 
 def import_members(club, words):
-    """Shows what each row becomes, asks, and gives its orders. What an earlier run did isn't done again."""
+    """Shows the plan for each row, asks, and gives the commands. Work of an earlier run isn't repeated."""
     rows, understood = rows_of(words)
     show_lines([understood])
     refuse_twins(words.file, rows)
@@ -131,7 +130,7 @@ def import_members(club, words):
 
 
 def refuse_spare_files(club, member):
-    """Refuses a new member whose spare passes would meet files of their names."""
+    """Refuses a new member if files with the names of its spare passes exist."""
     keys = spare_keys(club, member) if NAME.fullmatch(member) else []
     for path in (os.path.join(PASSES, key) for key in keys):
         if os.path.lexists(path):
@@ -139,7 +138,7 @@ def refuse_spare_files(club, member):
 
 
 def make_spares(club, member, quota):
-    """Makes the spare keys of a new member, each with its pass in the folder of passes."""
+    """Makes a new member's spare keys, each with its pass in the folder of passes."""
     for key in spare_keys(club, member):
         try:
             os.makedirs(PASSES, 0o700, exist_ok=True)
@@ -150,7 +149,7 @@ def make_spares(club, member, quota):
 
 
 def already(club):
-    """The points credited to each member, and the member of each key."""
+    """Returns each member's credited points, and each key's member."""
     status, text = as_desk(club, ["import-state"])
     if status:
         raise fault(status, "club unread")
@@ -175,12 +174,13 @@ def state(row, members, keys, folder):
 
 
 def mark_of(folder, key):
-    """The file that holds the roots that were drawn for a key, from before its order until its pass has its name, and the pass's digest."""
+    """Returns the mark: a file with the roots drawn for a key and the pass's digest. It exists from before the key's command until its pass has
+    its name."""
     return os.path.join(folder, f".{key}.roots")
 
 
 def read_mark(mark):
-    """The roots of a mark, and the digest of the pass that was made of the last of them, if it was made."""
+    """Returns a mark's roots, and the digest of the pass made from the last root, if there is one."""
     words = []
     with contextlib.suppress(FileNotFoundError), open(mark, encoding="ascii") as file:
         words = file.read().split()
@@ -192,14 +192,14 @@ def write_mark(mark, roots, digest=None):
 
 
 def row_fault(status, row, text, **values):
-    """A fault of a row, with its line if it is one of a list."""
+    """Raises a row's fault, with its line number if it is from a list."""
     if row.line is None:
         return fault(status, text, **values)
     return refusal("at line", line=row.line, why=say(text, **values)) if status == REFUSED else fault(status, "at line", line=row.line, why=say(text, **values))
 
 
 def import_one(club, row, folder):
-    """A row: nothing is left of its mark once its pass has its name. A file that came to that name from elsewhere stays as it is."""
+    """Imports a row; its mark is removed once the pass has its name. A file of that name that another program made stays."""
     place, mark = os.path.join(folder, row.key), mark_of(folder, row.key)
     taken = row_fault(REFUSED, row, "other's file", path=place)
     roots, digest = read_mark(mark)

@@ -1,4 +1,4 @@
-"""Letters: one file to print, a sheet for each pass, with the link that opens the club's page, its code, and what to do."""
+"""Letters: one file to print, with a sheet for each pass. A sheet has the link to the club's page, its QR code, and instructions."""
 
 import html
 import json
@@ -27,7 +27,7 @@ svg { display: block; width: 60mm; height: 60mm; margin: 1rem 0; }
 
 
 def code_of(link):
-    """The link's QR code, as a picture in SVG."""
+    """Returns the link's QR code as SVG."""
     line = [program("QRENCODE", "qrencode"), "-8", "-l", "M", "-t", "SVG", "--svg-path", "-m", "4", "-o", "-"]
     done = subprocess.run(line, input=link.encode(), capture_output=True, check=False)
     if done.returncode:
@@ -37,7 +37,7 @@ def code_of(link):
 
 
 def half(club, spares):
-    """What a member cuts off, and opens once: the spare passes, for lending."""
+    """Returns the half that a member cuts off and opens once: the spare passes, for lending."""
     link = f"{club.site}/book.html#spare={';'.join(spares)}"
     return f"""<div class="half"><h2>{html.escape(say("letter lend title"))}</h2><p>{html.escape(say("letter lend"))}</p>
 {code_of(link)}
@@ -58,7 +58,7 @@ def sheet(club, name, key, text, spares):
 
 
 def passes_of(folder, keys):
-    """The passes of a folder, or those of some keys: each with its key."""
+    """Returns the passes in a folder, or those of some keys, each with its key."""
     if not keys:
         try:
             keys = sorted(it for it in os.listdir(folder) if NAME.fullmatch(it))
@@ -83,7 +83,7 @@ def passes_of(folder, keys):
 
 
 def refuse_old(club, folder, texts):
-    """Refuses passes whose keys have got another one since: the desk takes them no more, or not for long."""
+    """Refuses passes that their keys have since replaced: the desk refuses them now or soon."""
     status, text = as_desk(club, ["old-passes"], json.dumps(texts).encode())
     if status:
         raise fault(status, "club unread")
@@ -92,7 +92,7 @@ def refuse_old(club, folder, texts):
 
 
 def spares_of(club, names, texts):
-    """The spare passes of members, which are taken out of the passes: they are the second half of their member's first sheet."""
+    """Removes the members' spare passes from the passes and returns them: they become the second half of each member's first sheet."""
     found = {}
     for key in list(texts):
         member = names.keys[key].member
@@ -102,7 +102,7 @@ def spares_of(club, names, texts):
 
 
 def letters(club, words, names_of):
-    """Writes the sheets of passes into one file, which isn't there yet."""
+    """Writes the sheets of passes to one new file."""
     if not re.fullmatch(r"https://[A-Za-z0-9.:/-]+", club.site):
         raise refusal("no site", club=club.name)
     if os.path.lexists(words.to):

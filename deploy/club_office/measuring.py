@@ -1,5 +1,6 @@
-"""Numbers of a club's desk in Prometheus' text format: requests by status and time, orders by status, the age of copies, sizes, the version. Requests are counted by the lines of the desk's log, orders by those of the book; FILE-metrics has the counts, and how far the
-lines were read."""
+"""Metrics of a club's desk in Prometheus' text format: requests by status and time, commands by status, the age of copies, sizes, the version.
+Requests are counted from the desk's log, and commands from the book. FILE-metrics has the counts, and the positions up to which both were
+read."""
 
 import json
 import os
@@ -21,7 +22,7 @@ MOST_SECONDS = 60
 
 
 def counts_of(club):
-    """Returns the counts up to now."""
+    """Returns the updated counts."""
     found = {"requests": {}, "buckets": [0] * len(BUCKETS), "seconds": 0.0, "orders": {}, "cursors": {}, "book": None}
     try:
         with open(club.settings["file"] + "-metrics", encoding="utf-8") as file:
@@ -39,7 +40,7 @@ def keep_counts(club, counts):
 
 
 def journal_lines(counts, called, *match):
-    """The lines of the journal since the last time; none at the first time, or where the journal has forgotten that line."""
+    """Returns the journal's new lines; none on the first run, or if the journal no longer has the last line read."""
     cursor = counts["cursors"].get(called)
     line = [program("JOURNALCTL", "journalctl"), "--quiet", "--no-pager", "--output=cat", "--show-cursor", *match]
     done = subprocess.run([*line, f"--after-cursor={cursor}" if cursor else "--lines=0"], capture_output=True, check=False, timeout=MOST_SECONDS)
@@ -55,7 +56,7 @@ def journal_lines(counts, called, *match):
 
 
 def book_lines(club, counts):
-    """The lines of the book since the last time: of the journal, and of the file."""
+    """Returns the book's new lines, from the journal and from the file."""
     found = []
     if is_in_journal(club):
         found += journal_lines(counts, "orders", "SYSLOG_IDENTIFIER=clubdesk-office", f"CLUBDESK_CLUB={club.name}", f"_UID={os.geteuid()}")
@@ -65,7 +66,7 @@ def book_lines(club, counts):
             begin = counts["book"] if counts["book"] is not None and counts["book"] <= size else 0
             book.seek(begin)
             data = book.read()
-            # A line that isn't whole yet is read the next time.
+            # An incomplete line is read on the next run.
             whole = data[: data.rfind(b"\n") + 1]
             counts["book"] = begin + len(whole)
             found += whole.decode(errors="replace").split("\n")
@@ -93,7 +94,7 @@ def count(club, counts):
 
 
 def ages(club):
-    """The age of the newest copy on this machine, and of the last change's copy away from it, in seconds, by the place."""
+    """Returns the ages in seconds, by place, of the newest copy on this machine and of the newest one elsewhere."""
     found = {}
     nights = [it.moment for it in copies_of(club) if it.kind == "back-up"]
     if nights:
@@ -115,13 +116,13 @@ def version():
 
 
 class Text:
-    """Lines of the format, each with the club's name."""
+    """Collects lines of the format, each labelled with the club's name."""
 
     def __init__(self, club):
         self.club, self.lines = club.name, []
 
     def add(self, name, kind, about, *values):
-        """A metric: its kind, what it is, and each value, with what follows its name and with its labels."""
+        """Adds a metric: its kind, its description, and each value with its name's suffix and its labels."""
         self.lines += [f"# HELP clubdesk_{name} {about}", f"# TYPE clubdesk_{name} {kind}"]
         for end, labels, value in values:
             named = "".join(f',{it}="{text}"' for it, text in labels.items())
@@ -151,7 +152,7 @@ def text_of(club, counts):
 
 
 def measure(club, folder):
-    """Writes clubdesk_NAME.prom in the folder, whole or not at all."""
+    """Writes clubdesk_NAME.prom to the folder atomically."""
     counts = counts_of(club)
     count(club, counts)
     place = os.path.join(folder, f"clubdesk_{club.name}.prom")

@@ -1,4 +1,4 @@
-"""The list of an import, as a spreadsheet or another program writes it: which letters, which delimiter, which column is what, and its rows."""
+"""Reads the list of an import, from a spreadsheet or another program: its encoding, its delimiter, its columns and its rows."""
 
 import codecs
 import collections
@@ -15,7 +15,7 @@ from club_office.values import MOST_CREDIT, name, number
 
 Row = collections.namedtuple("Row", "line written member quota points key person")
 MOST_BYTES = 2_000_000
-# How columns are called, without accents and in small letters.
+# Accepted column names, without accents and in small letters.
 HEADS = {
     "name": ("name", "member", "mitglied", "full name", "anzeigename"),
     "surname": ("surname", "last name", "family name", "nachname", "familienname"),
@@ -29,7 +29,7 @@ HEADS = {
 
 
 def text_of(path):
-    """The text of a file, and what its letters are written in."""
+    """Returns a file's text and its encoding."""
     try:
         with open(path, "rb") as file:
             data = file.read(MOST_BYTES + 1)
@@ -54,7 +54,7 @@ def decoded(path, data, called):
 
 
 def columns_of(path, heads, given):
-    """Which columns are what: by their names, or as a map says, as name=Player,points=Balance."""
+    """Returns the meaning of the columns, by their names or by a map such as name=Player,points=Balance."""
     called = [plain(it) for it in heads]
     found = {}
     for what, names in HEADS.items():
@@ -72,14 +72,14 @@ def columns_of(path, heads, given):
 
 
 def cells_of(text):
-    """The delimiter of a list, and a reader of its rows."""
+    """Returns a list's delimiter, and a reader of its rows."""
     first = re.sub('"[^"]*"', "", text.lstrip("\n").split("\n", 1)[0])
     delimiter = max(",;\t", key=first.count)
     return delimiter, csv.reader(io.StringIO(text, newline=""), delimiter=delimiter, strict=True)
 
 
 def lacking(path):
-    """Which of quota and points no column of a list is. `import` says what else is wrong with it."""
+    """Returns which of quota and points no column has, after a check for other faults."""
     with contextlib.suppress(Fault, csv.Error):
         columns = columns_of(path, next(cells_of(text_of(path)[0])[1], []), None)
         return [it for it in ("quota", "points") if it not in columns]
@@ -87,7 +87,7 @@ def lacking(path):
 
 
 def rows_of(words):
-    """The rows of a list, all of them fit, and a sentence that says how it was read; or a fault that names the first line that isn't."""
+    """Returns a list's rows, all valid, and a sentence that says how the list was read. Raises a fault that names the first invalid line."""
     path = words.file
     text, letters = text_of(path)
     delimiter, reader = cells_of(text)

@@ -1,5 +1,5 @@
-"""The office by questions: a menu of tasks in a clerk's order. Each answer may be a part of a name, a day as `sa`, or hours as `15-17`.
-What a task does is a command of the office, which is shown before it is given, so that a clerk can type it."""
+"""The office by questions: a menu of tasks in the order in which clerks need them. Each answer may be a part of a name, a day as `sa`, or hours
+as `15-17`. Each task runs a command of the office. The command is shown first, so that a clerk can learn to type it."""
 
 import collections
 import contextlib
@@ -29,14 +29,14 @@ Task = collections.namedtuple("Task", "group called words is_asked")
 
 
 class Office:
-    """A club with its names, as they are when a task begins."""
+    """A club with its names at the beginning of a task."""
 
     def __init__(self, club, names):
         self.club = club
         self.read = names
         self.names = None
         self.today = datetime.date.today()
-        # The name of a new member, as it is written.
+        # Asks for a new member's full name.
         self.written = {}
 
     def begin(self):
@@ -74,7 +74,7 @@ class Office:
 
 
 def key_of(office):
-    """A key of a member that isn't revoked, without a question if there is one."""
+    """Returns a member's unrevoked key; asks only if there are several."""
     member = office.member()
     keys = [it for it, key in office.names.keys.items() if key.member == member and not key.revoked]
     if not keys:
@@ -84,7 +84,7 @@ def key_of(office):
 
 
 def free_key(office, member):
-    """The next name of a key of a member: amy-1, amy-2."""
+    """Returns the next name for a member's key: amy-1, amy-2."""
     stem = member[:20].strip("-")
     return next(it for it in (f"{stem}-{number}" for number in range(1, 1000)) if it not in office.names.keys)
 
@@ -111,13 +111,13 @@ def new_member_words(office):
 
 
 def key_words(office, member, spares=()):
-    """A new key of a member, whose pass is where letters look for it; and its letter, with spare passes, if one can be made."""
+    """Makes a member's new key, with its pass where letters look for it, and its letter with spare passes, if one can be made."""
     key = free_key(office, member)
     return [["add-key", key, member, "--to", f"{PASSES}/{key}"], *letter_words(office, [key, *spares], f"letter-{key}")]
 
 
 def letter_words(office, keys, stem):
-    """The letter of keys, in a file that isn't there yet; none without what it needs."""
+    """Returns the command for a letter in a new file, or none if something for it is missing."""
     if not office.club.site or not shutil.which("qrencode"):
         return []
     names = itertools.chain([f"{stem}.html"], (f"{stem}-{number}.html" for number in itertools.count(2)))
@@ -129,7 +129,7 @@ def new_key_words(office):
 
 
 def lost_words(office):
-    """Another pass, where letters look for it, and its letter."""
+    """Makes a new pass, where letters look for it, and its letter."""
     key = key_of(office)
     return [["lost-pass", key, "--to", f"{PASSES}/{key}"], *letter_words(office, [key], f"letter-{key}-{office.today}")]
 
@@ -146,7 +146,7 @@ def book_words(office):
 
 
 def booking_of(office, member):
-    """One of a member's bookings to come."""
+    """Lets the clerk choose one of a member's future bookings."""
     rows = office.rows("bookings", member)
     if not rows:
         print("   " + say("none yet"))
@@ -193,7 +193,7 @@ def new_facility_words(office):
 
 
 def import_words(_office):
-    """A list, and for all members what no column of it is."""
+    """Asks for a list, and for the values that none of its columns has."""
     file = until_read(say("ask file"), lambda typed: typed if os.path.isfile(typed) else None, say("no such file"))
     most = {"quota": 99, "points": 1_000_000}
     return [["import", file, *(f"--{it}={ask_number(say(f'ask {it}'), 0, most[it])}" for it in lacking(file))]]
@@ -226,7 +226,7 @@ def rain_words(office):
 
 
 def reopen_words(office):
-    """One of the slots that are closed."""
+    """Lets the clerk choose one of the closed slots."""
     rows = office.rows("closed")
     if not rows:
         print("   " + say("none yet"))
@@ -247,7 +247,7 @@ def restore_words(office):
 
 
 def log_words(office):
-    """Of all, or of a word; a part of one member's name is that member."""
+    """Shows the whole book, or the lines with a word; a part of one member's name means that member."""
     word = ask(say("ask word") + ": ")
     fits = found_members(word, office.names)
     return [["log", *(fits if len(fits) == 1 else [word] if word else [])]]
@@ -266,9 +266,10 @@ def with_points(command, most):
     return lambda office: [[command, office.member(), office.points(most)]]
 
 
-# The statuses of a command that Ctrl-C breaks off.
+# The statuses of a command interrupted by Ctrl-C.
 BROKEN_OFF = (130, -signal.SIGINT)
-# In a clerk's order. The last part says whether the command is asked about here: it changes something, and doesn't ask itself.
+# In a clerk's order. The last part says whether the menu asks before the command: it does if the command changes something and doesn't ask
+# itself.
 TASKS = [
     Task("group today", "task today", lambda office: [["bookings", str(office.today)]], False),
     Task("group today", "task sheet", lambda office: [["sheet", office.day()]], False),
@@ -313,7 +314,7 @@ TASKS = [
 
 
 def menu_lines():
-    """The menu: in two columns of a terminal of 80, each group below its heading."""
+    """Prints the menu in two columns for a terminal of 80, each group below its heading."""
     blocks = []
     for number, task in enumerate(TASKS, 1):
         if not blocks or blocks[-1][0] != say(task.group):
@@ -331,7 +332,7 @@ def menu_lines():
 
 
 def tasks_named(answer):
-    """The task of a number, or those of a part of what they are called: the whole of it, its beginning, a word of it, or letters of it."""
+    """Returns the task with a number, or the tasks whose title matches: completely, by its beginning, by a word, or by letters in it."""
     if answer.isdigit():
         return [TASKS[int(answer) - 1]] if 0 < int(answer) <= len(TASKS) else []
     typed = plain(answer)
@@ -344,7 +345,7 @@ def tasks_named(answer):
 
 
 def task_named(answer):
-    """The task that is meant; of several the clerk chooses one. None if there is none."""
+    """Returns the task that the clerk means, after a choice if several match, or None."""
     tasks = tasks_named(answer)
     if len(tasks) < 2:
         return tasks[0] if tasks else None
@@ -378,7 +379,7 @@ def carry_out(office, task):
 
 
 def menu(club, names):
-    """Asks for tasks until the clerk ends. Returns the status."""
+    """Asks for tasks until the clerk ends it. Returns the status."""
     with contextlib.suppress(ImportError):
         importlib.import_module("readline")  # so that a line can be edited
     office = Office(club, names)

@@ -1,4 +1,4 @@
-"""What the desk's side makes of a copy for others: a key's bookings as its page reads them, the page's list of the club, the board's page."""
+"""Outputs that the desk's side makes from a copy: a key's bookings in the page's form, the page's list of the club, the board's page."""
 
 import datetime
 import os
@@ -21,7 +21,7 @@ RECORD = """
 
 
 def print_record(db, words, _now):
-    """The bookings of a key as the page takes them under "Bring a list here"."""
+    """Prints a key's bookings in the form that the page accepts under "Bring a list here"."""
     wants_row(db, "keys", words.key)
     print(f"record of {words.key}", *(row[0] for row in db.execute(RECORD, [words.key])), sep="\n")
 
@@ -32,7 +32,7 @@ def make_page(club, _words):
 
 
 def write_page(club):
-    """Makes club.json anew, whole or not at all, in the folder PAGES of the configuration; returns its path."""
+    """Rewrites club.json atomically in the configuration's folder PAGES; returns its path."""
     folder, zone = club.settings.get("pages"), club.settings.get("zone_name")
     if not folder or not zone:
         raise refusal("no pages", club=club.name)
@@ -59,7 +59,7 @@ def write_page(club):
 
 
 def is_as(place, text):
-    """Whether a file is there with this text."""
+    """Returns whether a file exists with this text."""
     try:
         with open(place, "rb") as file:
             return file.read() == text.encode()
@@ -68,7 +68,7 @@ def is_as(place, text):
 
 
 def keep_reasons(club, words):
-    """Keeps why slots were closed. The slots stay closed if this fails."""
+    """Records the reasons for closed slots. If this fails, the slots stay closed."""
     try:
         add_reasons(club, words, clock() // 1440)
     except OSError as failure:
@@ -76,7 +76,7 @@ def keep_reasons(club, words):
 
 
 def page_again(club):
-    """Makes the page's list anew after what it shows has changed, if the club has pages. The command is done even if this fails."""
+    """Rebuilds the page's list after a change that it shows, if the club has pages. Even if this fails, the command counts as done."""
     if not club.settings.get("pages"):
         return
     try:
@@ -86,7 +86,7 @@ def page_again(club):
 
 
 def print_report(club, words):
-    """The board's page of a year, on standard output."""
+    """Prints the board's page of a year."""
     today = datetime.date.today()
     with snapshot(club) as db:
         year = words.year or today.year

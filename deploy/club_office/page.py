@@ -1,5 +1,5 @@
-"""What the page that books has to know of a club, club.json: its name and zone, and its facilities with their titles, kinds and hours; whom to ask,
-its imprint, privacy page and logo."""
+"""club.json, which the booking page reads: the club's name and zone; its facilities with titles, kinds and hours; its contact, imprint, privacy
+page and logo."""
 
 import base64
 import json
@@ -10,12 +10,12 @@ from club_office.faults import STORAGE, fault, refusal
 from club_office.texts import say
 
 ZONES = "/usr/share/zoneinfo"
-# How long a title may be for the page, in the units of JavaScript's strings.
+# The most units of a title for the page, in JavaScript's UTF-16.
 MOST_TITLE = 80
 
 
 def rule_of(zone, zones=ZONES):
-    """The rule of a zone of this name, as POSIX writes it: the last line of its file."""
+    """Returns a zone's POSIX rule: the last line of its file."""
     if not re.fullmatch(r"[A-Za-z0-9_+-]+(/[A-Za-z0-9_+-]+)*", zone):
         raise refusal("no zone name", zone=zone)
     try:
@@ -33,8 +33,8 @@ def wants_rule(zone, rule, zones=ZONES):
 
 
 def titles_of(path, facilities):
-    """The titles of facilities: a file with a line for each, as `court-1 Court 1`, or the first line that isn't so. Empty lines and those
-    that begin with # are none."""
+    """Reads the titles of facilities from a file with a line for each, such as `court-1 Court 1`. Refuses the first line of another form. It
+    ignores empty lines and those that begin with #."""
     try:
         with open(path, "rb") as file:
             lines = file.read().removeprefix(b"\xef\xbb\xbf").split(b"\n")
@@ -70,7 +70,7 @@ def add_title(found, name, written, line, facilities):
     found[name] = line, {"title": title, **({"about": about} if about else {})}
 
 
-# What the page shows of a club besides: whom to ask, its imprint and its privacy page.
+# The settings of a club that the page also shows: contact, imprint and privacy page.
 MORE = ("contact", "imprint", "privacy")
 MOST_SENTENCE = 200
 MOST_PICTURE = 29_000
@@ -78,7 +78,7 @@ PICTURES = {".svg": "svg+xml", ".png": "png", ".jpg": "jpeg", ".jpeg": "jpeg", "
 
 
 def more_of(given):
-    """Whom to ask, the imprint, the privacy page and the logo, of settings by their names; a logo is a file."""
+    """Returns contact, imprint, privacy page and logo from the settings; the logo's setting names a file."""
     found = {it: given[it] for it in MORE if given.get(it)}
     for it, value in found.items():
         if not value.isprintable() or len(value.encode("utf-16-le")) > 2 * MOST_SENTENCE:
@@ -103,7 +103,7 @@ def logo_of(path):
 
 
 def page_of(db, name, zone, titles_file, closures=(), more=()):
-    """The text of club.json. A title may have a sentence after it, as `court-1 Court 1 | Clay, flat soles`."""
+    """Returns the text of club.json. A title may have a sentence after it, as in `court-1 Court 1 | Clay, flat soles`."""
     rows = db.execute("SELECT name, kind, opens, shuts FROM facilities ORDER BY rowid").fetchall()
     titles = titles_of(titles_file, {row[0] for row in rows}) if titles_file else {}
     if not name.isprintable():

@@ -1,4 +1,4 @@
-"""The texts of passes, as docs/PASSES.md has them: which key each names, and whether the club still takes it."""
+"""Reads texts of passes, as docs/PASSES.md describes them: which key a pass names, and whether the club still accepts it."""
 
 import base64
 import hmac
@@ -12,19 +12,19 @@ from club_office.texts import say
 
 MOST_BYTES = 50_000_000
 IDENTIFIER, VERIFIER, SIGNATURE = 2, 4, 6
-# The fields of V1 by their numbers in V2.
+# V1's field names, with the numbers of the same fields in V2.
 KINDS = {b"location": 1, b"cl": 1, b"identifier": IDENTIFIER, b"cid": IDENTIFIER, b"vid": VERIFIER, b"signature": SIGNATURE}
 
 
 def bytes_of(text):
-    """The bytes of a pass in one line, V1 or V2."""
+    """Returns the bytes of a one-line pass in V1 or V2."""
     if not re.fullmatch(r"[A-Za-z0-9_+/=-]{1,8192}", text) or re.fullmatch("[0-9a-f]+", text):
         raise ValueError(say("no one-line pass"))
     return base64.urlsafe_b64decode(text.rstrip("=").replace("+", "-").replace("/", "_") + "=" * (-len(text.rstrip("=")) % 4))
 
 
 def key_of(text):
-    """The key that a pass in V1 or V2 names."""
+    """Returns the key that a V1 or V2 pass names."""
     named = re.search(rb"key:([a-z0-9-]+)", bytes_of(text))
     if not named:
         raise ValueError(say("no key's pass"))
@@ -32,7 +32,7 @@ def key_of(text):
 
 
 def signed(root, texts):
-    """The signature of a pass under a root: of its identifier, then of each caveat."""
+    """Returns the signature of an identifier and caveats under a root."""
     signature = hmac.digest(b"macaroons-key-generator".ljust(32, b"\0"), root, "sha256")
     for text in texts:
         signature = hmac.digest(signature, text, "sha256")
@@ -40,14 +40,14 @@ def signed(root, texts):
 
 
 def pass_of(name, root, *caveats):
-    """The pass of a key, in V2."""
+    """Returns a key's pass in V2."""
     texts = [f"key:{name}".encode(), *map(str.encode, caveats)]
     packets = b"".join(packet(IDENTIFIER, text) + b"\0" for text in texts)
     return base64.urlsafe_b64encode(bytes([2]) + packets + b"\0" + packet(SIGNATURE, signed(root, texts))).decode().rstrip("=")
 
 
 def packet(kind, data):
-    """A field: its kind, its length in groups of seven bits, the data."""
+    """Returns a field: its kind, its length in groups of seven bits, and its data."""
     length, size = b"", len(data)
     while size > 127:
         length, size = length + bytes([size & 127 | 128]), size >> 7
@@ -55,7 +55,7 @@ def packet(kind, data):
 
 
 def fields_of(data):
-    """The fields of a pass in V1 or V2, each its kind and its data."""
+    """Returns the fields of a V1 or V2 pass, each as kind and data."""
     return fields_of_v2(data) if data[:1] == b"\2" else fields_of_v1(data)
 
 
@@ -82,7 +82,7 @@ def fields_of_v2(data):
 
 
 def is_signed(text, root):
-    """Whether a pass in one line is signed under a root."""
+    """Returns whether a pass in one line is signed under a root."""
     try:
         fields = list(fields_of(bytes_of(text)))
     except (ValueError, KeyError, IndexError):
@@ -92,7 +92,7 @@ def is_signed(text, root):
 
 
 def list_old_passes(club, _words):
-    """Of the passes that standard input has by their keys, the keys that have got another pass since."""
+    """Prints the keys whose passes, given on standard input, have been replaced."""
     try:
         texts = json.loads(sys.stdin.buffer.read(MOST_BYTES))
     except ValueError:

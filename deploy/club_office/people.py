@@ -1,5 +1,5 @@
-"""Persons: of members their names as they are written, their mail addresses and telephone numbers, in FILE-people.csv beside the club, whose
-mode and owner it has. Nothing of it is in the book, in an argument of a process, or in a copy of the club."""
+"""Persons: the members' full names, mail addresses and telephone numbers, in FILE-people.csv next to the club, with the club's mode and owner.
+None of this gets into the book, an argument of a process, or a copy of the club."""
 
 import collections
 import contextlib
@@ -27,7 +27,7 @@ def people_of(club):
 
 
 def read_people(club):
-    """Each person by its member's name; nobody if there is no file."""
+    """Returns each person by member name; none without a file."""
     with contextlib.suppress(FileNotFoundError), open(people_of(club), encoding="utf-8", newline="") as file:
         rows = csv.DictReader(file)
         return {row["member"]: Person(*(row.get(it) or "" for it in Person._fields)) for row in rows if row.get("member")}
@@ -47,7 +47,7 @@ def write_people(club, people):
 
 
 def person_of(values):
-    """A person of what was typed or imported, each value in a line; one that isn't so is a bad value."""
+    """Makes a person from typed or imported values, each of one line; anything else is a bad value."""
     found = Person(*(" ".join(str(values.get(it) or "").split()) for it in Person._fields))
     for it in found:
         if len(it) > MOST_LETTERS or not it.isprintable():
@@ -60,7 +60,7 @@ def person_of(values):
 
 
 def set_person(club, words):
-    """Keeps what standard input has of a member, as JSON. The book has the member alone."""
+    """Stores a member's person from standard input, as JSON. The book has only the member's name."""
     wants_file(club)
     try:
         values = json.loads(sys.stdin.buffer.read(10_000))
@@ -88,7 +88,7 @@ def keep_person(club, member, person):
 
 
 def forget_person(club, member):
-    """A member who leaves is no person here any more. Wants the turn."""
+    """Removes the person of a leaving member. Wants the turn."""
     people = read_people(club)
     if people.pop(member, None):
         write_people(club, people)
@@ -108,7 +108,7 @@ def concerned_text(person):
 
 
 def show_concerned(club, members):
-    """Lists the persons whom a correction concerns, as far as they are known, so that somebody tells them."""
+    """Lists the known persons whom a correction affects, so that the clerk can tell them."""
     people = read_people(club)
     known = [people[it] for it in dict.fromkeys(members) if it in people]
     if known:
@@ -116,8 +116,8 @@ def show_concerned(club, members):
 
 
 def mail_concerned(club, bookings, slot_text, record):
-    """Mails each of these persons what was cancelled, by the machine's mailer; says who has no address, and what couldn't be mailed. Nobody gets
-    the mail again whom the record has."""
+    """Mails each of these persons their cancellations, with the machine's mailer. Prints who has no address, and which mails failed. A person in
+    the record gets no second mail."""
     people, of_member = read_people(club), collections.defaultdict(list)
     for it in bookings:
         of_member[it.member].append(it)

@@ -1,5 +1,5 @@
-"""Bookings and cancellations for a member who telephones: requests to the desk, as the member's own page sends them, under passes that the
-desk's side makes of a key's root and that nobody else sees. The desk decides, and its rules of refunds count."""
+"""Bookings and cancellations for a member who calls. They are requests to the desk, like those of the member's page, under passes that the
+desk's side makes from a key's root and shows to nobody. The desk decides, and its refund rules apply."""
 
 import contextlib
 import http.client
@@ -18,14 +18,14 @@ from club_office.plans import slot_text
 from club_office.texts import in_language, say
 from club_office.values import date_of
 
-# How long the desk may take for a reply, in seconds, and how often it is asked again.
+# The seconds that the desk may take for a reply, and the number of retries.
 PATIENCE = 15
 TRIES = 5
 OFFICE_KEY = "-office"
 
 
 def asked(club, method, path, text, body=None):
-    """The status and the body of the desk's reply. A desk between two servers is asked again; the same request is never done twice."""
+    """Returns the status and body of the desk's reply. Retries if the desk is restarting; the same request is never done twice."""
     failed = None
     for _ in range(TRIES):
         client = http.client.HTTPConnection("127.0.0.1", club.port, timeout=PATIENCE)
@@ -45,7 +45,7 @@ def asked(club, method, path, text, body=None):
 
 
 def answer(found):
-    """The body of a reply that serves; else the refusal that it is."""
+    """Returns the body of a served reply, or raises its refusal."""
     status, body = found
     if status != 200:
         raise refusal("desk says", text=in_language(body.get("text")))
@@ -53,7 +53,7 @@ def answer(found):
 
 
 def office_key(db, member):
-    """The key under which the office books for a member, and whether it is there."""
+    """Returns the key with which the office books for a member, and whether it exists."""
     wants_row(db, "members", member)
     for number in ("", *(f"-{it}" for it in range(2, 100))):
         name = member[: 24 - len(OFFICE_KEY) - len(number)].rstrip("-") + OFFICE_KEY + number
@@ -64,7 +64,7 @@ def office_key(db, member):
 
 
 def make_key(club, turn, member, facility):
-    """Makes the key of the office for a member, if it isn't there yet."""
+    """Makes the office's key for a member if it is missing."""
     with snapshot(club) as db:
         wants_row(db, "facilities", facility)
         name, is_there = office_key(db, member)
@@ -82,7 +82,7 @@ def path_of(words, hour, number=None):
 
 
 def book(club, words):
-    """Books the slot of each hour for a member. One that the office has booked for the member already isn't booked twice."""
+    """Books the slot of each hour for a member, except slots that the office has already booked for the member."""
     wants_file(club)
     with said_at_the_end() as lines, Turn(club) as turn:
         key = make_key(club, turn, words.member, words.facility)
@@ -96,7 +96,7 @@ def book(club, words):
 
 
 def booked_by(club, words, key):
-    """Which of these hours are booked under a key: each with a booking's number."""
+    """Returns the hours that are booked under a key, each with its booking number."""
     with snapshot(club) as db:
         return db.execute(
             """SELECT hour, min(number) FROM bookings
@@ -116,7 +116,7 @@ def refuse_booked(turn, words, key, there):
 
 @contextlib.contextmanager
 def said_at_the_end():
-    """Lines that are printed once the turn is over, also after a refusal: a reader that is gone breaks no order off."""
+    """Prints lines after the turn, even after a refusal, so that a closed pipe interrupts no command."""
     lines = []
     try:
         yield lines
@@ -125,7 +125,8 @@ def said_at_the_end():
 
 
 def each_hour(turn, words, hours, lines, act, total):
-    """An order for each of the hours, up to the first that is refused: `act` gives its points. Of several the sum is said, and which aren't done."""
+    """Runs a command for each hour, until one is refused; `does` returns its points. For several hours it also prints the sum and the hours not
+    done."""
     points = []
     try:
         for hour in hours:
@@ -140,7 +141,7 @@ def each_hour(turn, words, hours, lines, act, total):
 
 
 def order_of(words, hour):
-    """The words of an order of one hour, for the book."""
+    """Returns the words of a command for one hour, for the book."""
     if len(range(*words.hour)) == 1:
         return words.given
     line = [words.command, words.member, words.facility, date_of(words.day), str(hour)]
@@ -150,7 +151,7 @@ def order_of(words, hour):
 
 
 def put(club, words, hour, key, lines):
-    """Books an hour; its charge."""
+    """Books an hour; returns the charge."""
     with snapshot(club) as db:
         (root,) = db.execute("SELECT root FROM keys WHERE name = ?", [key]).fetchone()
         (number,) = db.execute("SELECT coalesce(max(number), 0) + 1 FROM bookings WHERE pass_key = ? AND number < 900000000", [key]).fetchone()
@@ -162,14 +163,14 @@ def put(club, words, hour, key, lines):
 
 
 def cancel_for(club, words):
-    """Cancels a member's booking of each hour as the member would, with the refund of the desk's rules, under the key that booked it."""
+    """Cancels a member's booking of each hour under the key that booked it, with the refund that the member would get."""
     wants_file(club)
     with said_at_the_end() as lines, Turn(club) as turn:
         return each_hour(turn, words, list(range(*words.hour)), lines, lambda hour: delete(club, words, hour, lines), "called off in all")
 
 
 def delete(club, words, hour, lines):
-    """Cancels an hour; its refund."""
+    """Cancels an hour; returns the refund."""
     slot = slot_text(words.facility, words.day, hour)
     with snapshot(club) as db:
         wants_row(db, "members", words.member)

@@ -1,5 +1,5 @@
-"""Places for copies away from the club's disk: a folder of another machine, reached by ssh, or one that is mounted. Each takes a file whole,
-tests what came, lists what it has, and hands a file back. A place needs a shell and sha256sum, and sqlite3 to look through a copy."""
+"""Places for copies away from the club's disk: a folder on another machine, reached by ssh, or a mounted folder. A place can store a complete
+file and test it, list its files, and return a file. A place needs a shell and sha256sum, and sqlite3 to check a copy."""
 
 import collections
 import os
@@ -11,19 +11,19 @@ from club_office.clubs import program
 from club_office.faults import STORAGE, bad_value, fault
 
 Place = collections.namedtuple("Place", "text host folder")
-# A file there: its bytes, its digest, and how it was tested: `whole` by SQLite, `sum` by its digest alone, or `no`.
+# A file at the place: its size, its digest, and how it was tested: `whole` by SQLite, `sum` by its digest alone, or `no`.
 Kept = collections.namedtuple("Kept", "name size sum tested")
 NAME = re.compile(r"20[0-9]{2}-[0-9]{2}-[0-9]{2}T[0-9]{6}Z")
-# The files beside the club, as they were with the copy of the same name.
+# The archive of the files next to the club, from the time of the copy with the same name.
 BESIDE = re.compile(NAME.pattern + r"[.]tar")
 OLD_YEAR = re.compile(r"until-[0-9]{4}-[0-9]{2}-[0-9]{2}(-[0-9]{1,3})?")
-# Seconds that a host may be silent, and that a file may take.
+# The seconds that a host may be silent, and that a file may take.
 PATIENCE, MOST_SECONDS = 10, 300
 OPTIONS = (f"ConnectTimeout={PATIENCE}", "ServerAliveInterval=5", "ServerAliveCountMax=3", "LogLevel=ERROR")
-# A terminal is asked once: further calls use the first one's connection.
+# The password is asked once: later calls share the first call's connection.
 ASKS = ("ControlMaster=auto", "ControlPersist=60", "ControlPath=~/.clubdesk-%C")
 
-# In each, $1 is the folder. A file has another name until it is whole and tested; its line is in the list before it has its own.
+# In each, $1 is the folder. A file has a temporary name until it is complete and tested. Its line is in the list before it gets its final name.
 TAKE = """set -eu
 umask 077
 [ "$5" = mounted ] || mkdir -p -- "$1"
@@ -65,7 +65,7 @@ mv -f .new.tested tested
 
 
 def place_of(text):
-    """HOST:FOLDER, or a folder from / on."""
+    """A place: HOST:FOLDER, or an absolute path."""
     host, _, folder = ("", "", text) if text.startswith("/") else text.partition(":")
     if not folder or not folder.isprintable() or folder.startswith("-") or not text.startswith("/") and not re.fullmatch(r"[A-Za-z0-9_][A-Za-z0-9_.@-]*", host):
         raise bad_value("no place", text=text)
@@ -73,7 +73,7 @@ def place_of(text):
 
 
 def refuse_own_disk(place, file):
-    """A folder that isn't mounted would be on the disk that it is to outlive."""
+    """An unmounted folder would be on the very disk whose loss it must survive."""
     if place.host is None:
         try:
             is_own = os.stat(place.folder).st_dev in (os.stat(os.path.dirname(file)).st_dev, os.stat("/").st_dev)
@@ -84,7 +84,8 @@ def refuse_own_disk(place, file):
 
 
 def run_there(place, script, *words, given=None, asks=False):
-    """Runs a script in the place with words after its folder; what it prints. With `asks` ssh may ask for a password at the terminal."""
+    """Runs a script at the place, with its folder and further arguments; returns its output. With `asks`, ssh may ask for a password at the
+    terminal."""
     line = ["sh", "-c", script, "sh", place.folder, *words]
     if place.host:
         line = [program("SSH", "ssh"), *(it for option in (*OPTIONS, *(ASKS if asks else ("BatchMode=yes",))) for it in ("-o", option)), place.host, shlex.join(line)]
@@ -99,7 +100,7 @@ def run_there(place, script, *words, given=None, asks=False):
 
 
 def take(place, name, data, digest, kind):
-    """Puts a file into the place, under its name once it is there whole; how it was tested there."""
+    """Stores a file at the place, and gives it its name once it is complete; returns how it was tested."""
     return run_there(place, TAKE, name, digest, kind, "there" if place.host else "mounted", given=data).decode().strip()
 
 
@@ -116,7 +117,7 @@ def kept_in(place, asks=False):
 
 
 def given_by(place, name, asks=False):
-    """The bytes of a file of the place."""
+    """Returns a file's bytes from the place."""
     return run_there(place, GIVE, name, asks=asks)
 
 

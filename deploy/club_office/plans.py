@@ -1,4 +1,4 @@
-"""Corrections: what each would change, by the club as it is."""
+"""Plans of corrections: what each would change in the current club."""
 
 import collections
 
@@ -8,28 +8,28 @@ from club_office.texts import say
 from club_office.values import MOST_CHARGE, MOST_CREDIT, MOST_NUMBER, date_of
 
 
-# The weekday of the first day, 1970-01-01, from Monday on.
+# The weekday of day 0, 1970-01-01, counted from Monday.
 THURSDAY = 3
 Booking = collections.namedtuple("Booking", "key number facility day hour guests charge member")
-# A command of clubdesk, and what it does to the rows of the club.
+# A command of clubdesk, and its effect on the club's rows.
 Order = collections.namedtuple("Order", "words edits")
-# A row of a table by its key, with other values for some columns, and amounts to add to others.
+# A row of a table by its key, with new values for some columns, and amounts to add to others.
 Edit = collections.namedtuple("Edit", "table key sets adds", defaults=({}, {}))
 
 
 class Plan:
-    """A correction: the lines that the clerk is shown, and the commands of clubdesk that do it. A correction that wants the file has
-    statements, with their values and how many rows each changes."""
+    """A correction: the lines shown to the clerk, and the clubdesk commands that carry it out. A correction on the file has SQL statements, with
+    their values and numbers of changed rows."""
 
     def __init__(self):
         self.lines = []
         self.orders = []
         self.changes = []
-        # Queries whose rows are the same before and after.
+        # Queries whose rows must be the same before and after.
         self.keeps = []
-        # The new name of a member who leaves.
+        # The new name of a leaving member.
         self.new_name = None
-        # Where the file is copied before the change, or None.
+        # The path of a copy made before the change, or None.
         self.copy_to = None
         # What the summary counts.
         self.cancelled, self.closed, self.opened, self.undone = [], 0, 0, 0
@@ -42,7 +42,7 @@ class Plan:
         self.lines.append(say(text, **values))
 
     def all_lines(self):
-        """The lines, and a summary at their end if there are several of bookings or slots, or of what is undone."""
+        """Returns the lines, with a summary at the end if several bookings or slots change, or something is undone."""
         if len(self.cancelled) + self.closed + self.opened + self.undone < 2:
             return self.lines
         parts = [say("changes", count=self.undone)] if self.undone else []
@@ -62,7 +62,7 @@ class Plan:
         self.changes.append((rows, sql, values))
 
     def cancel(self, bookings):
-        """Cancels bookings: the whole charge back, the places free."""
+        """Plans cancellations with the whole refund, which free the places."""
         for it in bookings:
             self.tell("cancels", slot=slot_text(it.facility, it.day, it.hour), persons=persons_text(it), points=it.charge, key=it.key, number=it.number, member=it.member)
             self.cancelled.append(it)
@@ -79,7 +79,7 @@ def slot_text(facility, day, hour):
 
 
 def slot_words(facility, day, hour):
-    """A slot, as clubdesk's commands take it."""
+    """Returns a slot as arguments of clubdesk."""
     return [facility, date_of(day), f"{hour:02d}"]
 
 
@@ -92,12 +92,12 @@ def persons_text(booking):
 
 
 def unique(lists):
-    """The names of several lists, each once."""
+    """Returns the names of several lists without duplicates."""
     return list(dict.fromkeys(name for names in lists for name in names))
 
 
 def bookings_of(db, condition, *values):
-    """Bookings that aren't cancelled, in the order of their slots."""
+    """Returns the bookings that aren't cancelled, in the order of their slots."""
     rows = db.execute(
         f"""SELECT pass_key, number, facility, day, hour, guests, charge, member FROM bookings JOIN keys ON keys.name = pass_key
             WHERE cancelled = 0 AND {condition} ORDER BY day, hour, facility, pass_key, number""",
@@ -121,7 +121,7 @@ def plan_debit(db, words, _now):
 
 
 def plan_rest_of_debit(db, words, left):
-    """Plans the rest of a debit that was broken off, by the member's row in its record. Nobody but the office changes a member's credits."""
+    """Plans the rest of an interrupted debit, from the member's row in its record. Only the office changes a member's credits."""
     wants_row(db, "members", words.member)
     (credited,) = db.execute("SELECT credited FROM members WHERE name = ?", [words.member]).fetchone()
     (was, is_now), = [[row[1] for row in rows] for table, _, *rows in left["rows"] if table == "members"]
@@ -131,7 +131,7 @@ def plan_rest_of_debit(db, words, left):
 
 
 def debit(db, member, points):
-    """Takes points back, by as many commands as they need."""
+    """Takes points back with as many commands as needed."""
     plan = Plan()
     (balance,) = db.execute("SELECT max(credited - used, 0) FROM members WHERE name = ?", [member]).fetchone()
     if points > balance:
@@ -167,7 +167,8 @@ def plan_facility(db, words, now):
 
 
 def refuse_unfit(db, facility, places, opens, shuts, now):
-    """A booking to come needs its hour. Every slot needs its places, also one that is over: no slot of a club has more persons."""
+    """The new hours must include every future booking. Even past slots need enough places: no slot of a sound club has more persons than
+    places."""
     for it in bookings_of(db, "facility = ? AND day * 1440 + hour * 60 > ?", facility, now):
         if not opens <= it.hour < shuts:
             raise refusal("is booked at", key=it.key, number=it.number, day=date_of(it.day), hour=it.hour)
@@ -212,7 +213,7 @@ def plan_cancel(db, words, now):
 
 
 def plan_close(db, words, _now):
-    """Closes slots of some days; who has booked them is cancelled."""
+    """Closes slots on some days, and cancels their bookings."""
     begin, end = words.hours
     plan = Plan()
     facilities, days = unique(words.facilities), days_of(words)
@@ -229,13 +230,13 @@ def plan_close(db, words, _now):
             close_hours(db, plan, facility, day, begin, end)
     if not plan.orders:
         raise nothing_left("all closed")
-    # Each slot is closed right after its bookings are cancelled, so that hardly anybody books it in between.
+    # Each slot is closed right after its bookings are cancelled, which leaves almost no time to book it in between.
     plan.orders.sort(key=lambda it: (it.edits[-1].key[1:], it.edits[-1].key[0]))
     return plan
 
 
 def days_of(words):
-    """The days that are to be closed: of a span those of a weekday, where one is named."""
+    """Returns the days to close: all days of a span, or only those of the given weekday."""
     found = [it for it in words.day if words.weekday is None or (it + THURSDAY) % 7 == words.weekday]
     if not found:
         raise refusal("no such weekday")
@@ -263,7 +264,7 @@ def plan_rain(db, words, _now):
 
 
 def plan_leave(db, words, now):
-    """Revokes a member's keys, cancels its bookings to come, and takes its quota, by commands; then statements give member and keys other names."""
+    """Revokes a member's keys, cancels its future bookings and sets its quota to 0 by commands; then statements rename member and keys."""
     if not is_row(db, "members", words.member):
         raise nothing_left("no row members", name=words.member)
     plan = Plan()
@@ -289,13 +290,13 @@ def plan_leave(db, words, now):
 
 
 def free_number(db):
-    """The name of a member who left: a number that no member is called, and no key's name begins with."""
+    """Returns the name of a member who left: a number that is no member's name and begins no key's name."""
     taken = {row[0].split("-")[0] for row in db.execute("SELECT name FROM members UNION ALL SELECT name FROM keys")}
     return next(str(candidate) for candidate in range(1, 10**9) if str(candidate) not in taken)
 
 
 def plan_new_year(db, words, now, club):
-    """Bookings of days before a day leave the file; of each key one cancelled booking stays, with what they cost."""
+    """Removes bookings of days before a day from the file. For each key a cancelled booking with their total cost replaces them."""
     before = now // 1440 if words.before is None else words.before
     if before > now // 1440:
         raise refusal("is to come", day=date_of(before))
@@ -324,7 +325,7 @@ def plan_new_year(db, words, now, club):
 
 
 def carry_forward(db, before):
-    """What a key's old bookings cost stays spent: rows of cancelled bookings without a refund, under the highest free numbers."""
+    """Returns the rows that keep the cost of a key's old bookings spent: cancelled bookings without a refund, under the highest free numbers."""
     rows = []
     for key, cost, facility in db.execute(
         "SELECT pass_key, sum(charge - refund), min(facility) FROM bookings WHERE day < ? GROUP BY pass_key HAVING sum(charge - refund) > 0"

@@ -1,4 +1,4 @@
-"""Readers of what a clerk types: parts of names, days, hours, several facilities. They give what the commands take, or None."""
+"""Parses a clerk's input: parts of names, days, hours, several facilities. Each parser returns a value for the commands, or None."""
 
 import collections
 import datetime
@@ -8,8 +8,8 @@ import unicodedata
 from club_office.texts import MONTHS, WEEKDAYS
 
 LETTERS = {"ä": "ae", "ö": "oe", "ü": "ue", "ß": "ss", "æ": "ae", "ø": "oe", "å": "aa", "œ": "oe", "đ": "d", "ł": "l", "þ": "th", "ð": "d", "ı": "i", "ə": "e", "ħ": "h", "ŧ": "t", "ŋ": "n"}
-# What the readers know of a club: of each member what it was credited, its balance and quota; of each key its member and whether it is
-# revoked; of each facility its kind, hours, places and price; the members' names as they are written, as far as they are known.
+# The facts about a club that the parsers use: credit, balance and quota of each member; member of each key, and whether it is revoked; kind,
+# hours, places and price of each facility; the members' known full names.
 Names = collections.namedtuple("Names", "members keys facilities written")
 Member = collections.namedtuple("Member", "credited balance quota")
 Key = collections.namedtuple("Key", "member revoked")
@@ -17,23 +17,23 @@ Facility = collections.namedtuple("Facility", "kind opens shuts places price")
 
 
 def plain(text):
-    """The text in small letters without accents, as names are made of it."""
+    """Returns the text in small letters without accents, as used in names."""
     text = "".join(LETTERS.get(letter, letter) for letter in unicodedata.normalize("NFC", text.strip()).lower())
     return "".join(letter for letter in unicodedata.normalize("NFKD", text) if not unicodedata.combining(letter))
 
 
 def fitted(text, most):
-    """A name made of a text: small letters, digits and hyphens, at most `most` of them."""
+    """Makes a name from a text: small letters, digits and hyphens, at most `most` of them."""
     return re.sub(r"[^a-z0-9]+", "-", plain(text)).strip("-")[:most].strip("-")
 
 
 def loose(text):
-    """Without the e of an umlaut, so that `muller` is in `mueller`."""
+    """Drops the e of an umlaut, so that `muller` is in `mueller`."""
     return re.sub("([aou])e", r"\1", text)
 
 
 def found(typed, names):
-    """Those of the names that have each part of what was typed; the name alone that is just so."""
+    """Returns the names that contain each typed part, or only the name that matches exactly."""
     if typed in names:
         return [typed]
     parts = re.findall("[a-z0-9]+", plain(typed))
@@ -42,7 +42,7 @@ def found(typed, names):
     whole = "-".join(parts)
     if whole in names:
         return [whole]
-    # As it is typed, or with an umlaut that is typed as its vowel; else also with one that is typed and isn't in the name.
+    # Matches the typed text, also with umlauts typed as plain vowels; if nothing matches, also with typed umlauts that the name lacks.
     for made in (lambda text: text, loose):
         fits = [it for it in names if all(made(part) in made(it) or part in loose(it) for part in parts)]
         if fits:
@@ -51,7 +51,7 @@ def found(typed, names):
 
 
 def found_members(typed, names):
-    """The members who are meant, by their names or by those that are written of them."""
+    """Returns the members that the text may mean, by their names or their full names."""
     fits = found(typed, names.members)
     parts = re.findall("[a-z0-9]+", plain(typed))
     if typed in fits or not parts:
@@ -68,8 +68,7 @@ NEAR = {
 
 
 def read_day(text, today):
-    """The day that a text means, today being known; None if it means none. A weekday is the next of its name, today's included; a day of
-    a month the next such."""
+    """Returns the day that a text means, given today, or None. A weekday or a day of a month means the next one, today included."""
     text = plain(text).rstrip(",")
     if text in NEAR:
         return today + datetime.timedelta(NEAR[text])
@@ -117,7 +116,7 @@ def next_of(today, day, month, year):
 
 
 def read_hours(text):
-    """The hours that a text means, as 15-17, 15, 15:00-17:00 or 15 Uhr: the first, and the one after the last; None if it means none."""
+    """Returns the first hour, and the one after the last, of a text such as 15-17, 15, 15:00-17:00 or 15 Uhr, or None."""
     text = re.sub(r"(:00|uhr|h)\b|\s", "", text.strip().lower()).replace("–", "-").replace("bis", "-").replace("to", "-")
     parts = re.fullmatch(r"([0-9]{1,2})(?:-([0-9]{1,2}))?", text)
     if not parts:
@@ -136,24 +135,24 @@ KINDS = {
 
 
 def is_all_of_a_kind(word, following):
-    """Whether two words are one, as `all courts`."""
+    """Returns whether two words mean the same, as `all courts`."""
     return plain(word) in ALL and any(plain(following) in called for called in KINDS.values())
 
 
 def is_group(word):
-    """Whether a word stands for all facilities, or for those of a kind."""
+    """Returns whether a word stands for all facilities, or for those of a kind."""
     return plain(word) in ALL or any(plain(word) in called for called in KINDS.values())
 
 
 def read_facilities(text, facilities):
-    """The facilities that a text means: `all`, those of a kind as `all courts`, or parts of names with commas or spaces between them. Each
-    part gives a list of those that fit it; one that fits several isn't decided here."""
+    """Returns the facilities that a text means: `all`, those of a kind such as `courts`, or parts of names with commas or spaces between them.
+    Each part gives a list of matches; the caller decides if several match."""
     words = [it for it in re.split(r"[\s,]+", text.strip()) if it]
     if all(plain(it) in ALL for it in words) and words:
         return [[it] for it in facilities]
     if len(words) > 1 and plain(words[0]) in ALL:
         words = words[1:]
-    # One name with a space in it, as `court 1`.
+    # A single name with a space in it, such as `court 1`.
     whole = found(text, facilities) if "," not in text and not all(it in facilities for it in words) else []
     if len(whole) == 1:
         return [whole]

@@ -1,4 +1,4 @@
-"""Refusals of the office, in English and German: a table with a line for each text."""
+"""The office's refusals, in English and German: a table with a line for each text."""
 
 REFUSALS = {
     "refused": ("refused: {why}", "abgelehnt: {why}"),
@@ -160,7 +160,7 @@ REFUSALS = {
         "the club's file isn't whole, and is kept beside the new one: {fault}",
         "die Datei des Vereins ist nicht vollständig und bleibt neben der neuen: {fault}",
     ),
-    # A club that is brought back.
+    # Restoring a lost club.
     "place without copy": ("{place} has no copy {called}", "{place} hat keine Kopie {called}"),
     "place without tested": ("{place} has no copy that was tested", "{place} hat keine geprüfte Kopie"),
     "place without conf": ("{place} has the copies alone, and no configuration", "{place} hat nur die Kopien, keine Einrichtung"),
@@ -305,7 +305,7 @@ REFUSALS = {
     "limit reference": ("reference to nothing: {row}", "Verweis auf nichts: {row}"),
 }
 
-# Fixed texts of clubdesk about an order, and of the desk about a request.
+# Fixed texts of clubdesk about a command, and of the desk about a request.
 GERMAN = {
     "refused: exists": "abgelehnt: gibt es schon",
     "refused: unknown": "abgelehnt: gibt es nicht",

@@ -1,4 +1,4 @@
-"""A copy of the club that is put in its place."""
+"""Restores: a copy replaces the club."""
 
 import calendar
 import collections
@@ -31,7 +31,8 @@ Copy = collections.namedtuple("Copy", "called kind path size moment tested")
 
 
 def copies_of(club):
-    """The copies on this machine: those of each night, which clubdesk has opened, and those of before a correction, which SQLite has tested."""
+    """Returns the copies on this machine: nightly ones, which clubdesk has opened, and those from before corrections, which SQLite has
+    tested."""
     found = []
     for folder, kind, tested in ((club.back_ups, "back-up", "opened"), (club.file + "-before", "before a correction", "whole")):
         with contextlib.suppress(FileNotFoundError):
@@ -44,7 +45,7 @@ def copies_of(club):
 
 
 def copies_off_site(club):
-    """Those in the place of OFFSITE; none without one. A place that can't be asked is said."""
+    """Returns the copies at the place of OFFSITE, or none without one. Prints a line if the place doesn't answer."""
     if not club.settings.get("offsite"):
         return []
     try:
@@ -57,7 +58,7 @@ def copies_off_site(club):
 
 
 def moment_of(called):
-    """When a copy was made whose name is a moment in UTC; None for another name."""
+    """Returns when a copy was made, from its name in UTC, or None for another kind of name."""
     try:
         return calendar.timegm(time.strptime(called, "%Y-%m-%dT%H%M%SZ"))
     except ValueError:
@@ -65,7 +66,7 @@ def moment_of(called):
 
 
 def age_text(seconds):
-    """Returns a copy's age, in the largest unit that counts."""
+    """Returns a copy's age in the largest suitable unit."""
     for unit, size in (("days", 86_400), ("hours", 3_600), ("minutes", 60)):
         if seconds >= 2 * size or unit == "minutes":
             return say(f"age {unit}", count=int(max(seconds, 0) // size))
@@ -83,7 +84,7 @@ def list_copies(club, words):
 
 
 def copy_named(club, called):
-    """The copy of this name, on this machine if it is there, else in the place of OFFSITE."""
+    """Returns the copy of this name, from this machine or otherwise from the place of OFFSITE."""
     found = [it for it in copies_of(club) if it.called == called]
     found += [it for it in ([] if found else copies_off_site(club)) if it.called == called]
     if not found:
@@ -92,7 +93,7 @@ def copy_named(club, called):
 
 
 def brought(place, called, path, asks=False):
-    """Brings a copy from its place to a path. It has to have the digest that it was sent with."""
+    """Fetches a copy to a path. Its digest must be the one that it was sent with."""
     kept = next(it for it in kept_in(place, asks) if it.name == called)
     data = given_by(place, called, asks)
     if kept.sum and hashlib.sha256(data).hexdigest() != kept.sum:
@@ -104,7 +105,7 @@ def brought(place, called, path, asks=False):
 
 @contextlib.contextmanager
 def copy_opened(club, called):
-    """A copy, in memory, once clubdesk has opened it as it opens the club, whose tables may be newer, and its totals are the sums."""
+    """Yields a copy in memory. clubdesk has opened it, which may update its tables, and its totals match."""
     memory = sqlite3.connect(":memory:", isolation_level=None)
     found = copy_named(club, called)
     with scratch(club, homes(club, found.size)[0]) as folder:
@@ -126,7 +127,7 @@ def copy_opened(club, called):
 
 
 def what_changes(copy, db, now):
-    """What becomes of a club once a copy is in its place, a line each. What is over is left out."""
+    """Returns the changes that a restore would make, one per line, without past slots."""
     members, then = (dict(it.execute("SELECT name, max(credited - used, 0) FROM members ORDER BY name")) for it in (db, copy))
     lines = [say("forgets member", name=it) for it in members if it not in then]
     lines += [say("has member", name=it) for it in then if it not in members]
@@ -162,13 +163,13 @@ def keys_changed(keys, then):
 
 
 def of_whom(lines):
-    """The members whose bookings a restore changes: the last word of such a line."""
+    """Returns the members whose bookings a restore changes, which are the last words of those lines."""
     begin = [say(it, **dict.fromkeys(("slot", "persons", "points", "key", "number", "member"), "")).split()[0] for it in ("loses", "books again")]
     return [line.split()[-1] for line in lines if line.split()[0] in begin and "," in line]
 
 
 def restore(club, words):
-    """Puts a copy in the club's place: shows what changes, asks, and does it. The club as it was is kept."""
+    """Restores a copy: shows the changes, asks, and does it. Keeps the old club."""
     shown = preview_of_copy(club, words)
     if not words.yes:
         show_lines(shown)
@@ -186,7 +187,7 @@ def restore(club, words):
 
 
 def preview_of_copy(club, words):
-    """What a copy would change, by a copy of the club. A refusal has its line in the book."""
+    """Returns the changes that a restore would make to a copy of the club. A refusal gets its line in the book."""
     try:
         refuse_to_come(words)
         with copy_opened(club, words.copy) as copy:
@@ -202,7 +203,8 @@ def preview_of_copy(club, words):
 
 
 def put_in_place(club, words, lines, shown, lost):
-    """Puts a copy in the club's place, unless something else was shown. Adds its changes to `lines`, and the points that it takes away to `lost`."""
+    """Replaces the club with a copy, unless other changes were shown. Adds the changes to `lines`, and the points that it takes away to
+    `lost`."""
     try:
         with copy_opened(club, words.copy) as copy:
             lost |= points_lost(club, copy)
@@ -214,7 +216,7 @@ def put_in_place(club, words, lines, shown, lost):
 
 
 def write_over(club, words, copy, lines, shown):
-    """Writes a copy over the club's file in one transaction; a file that SQLite doesn't open, or that isn't there, gets a new one."""
+    """Writes a copy over the club's file in one transaction; replaces a file that is missing or that SQLite can't open."""
     try:
         if not os.path.exists(club.file):
             raise sqlite3.DatabaseError(f"there is no file {club.file}")
@@ -226,12 +228,12 @@ def write_over(club, words, copy, lines, shown):
             raise storage_failed("nothing changed", why=fault) from None
         lines[:] = [say("file unread", fault=fault)]
         put_new_file(club, copy)
-        # A server that opened the file of before meanwhile has it under its other name.
+        # A server that opened the old file meanwhile still has it under its other name.
         ended(club)
 
 
 def keep_or_put_away(club, db, words, copy, lines, shown):
-    """Keeps the club as it is before another one takes its place: as before a correction, and byte for byte where it isn't whole."""
+    """Keeps the current club before a restore: as before a correction, or byte for byte if it is damaged."""
     try:
         lines += what_changes(copy, db, now_of(words))
         if shown is not None and lines != shown:
@@ -244,13 +246,13 @@ def keep_or_put_away(club, db, words, copy, lines, shown):
         lost = lost_name(club)
         for ending in ("", "-wal"):
             if os.path.exists(club.file + ending):
-                # By another program: with a descriptor of its own this one would lose its locks.
+                # Another process does this: if this one opened and closed the file, it would lose its locks.
                 if not is_run(["cp", "--", club.file + ending, lost + ending]):
                     raise storage_failed("unkept", path=club.file) from None
 
 
 def put_new_file(club, copy):
-    """Puts a file that SQLite doesn't open, or that isn't there, away with its log, and a copy at its name."""
+    """Moves away a file that SQLite can't open, with its log, and puts a copy at its name."""
     made = club.file + "-new"
     with contextlib.suppress(FileNotFoundError):
         os.unlink(made)

@@ -1,6 +1,6 @@
-"""The season's points: a credit of every member under a name. It is given once for each name.
+"""The season's points: a credit for every member under a name, given only once per name.
 
-A line of FILE-seasons is written before and after each member's credit, so a run that was broken off goes on where it was."""
+A line of FILE-seasons is written before and after each member's credit, so an interrupted run continues where it stopped."""
 
 import collections
 import contextlib
@@ -22,7 +22,7 @@ def ledger_of(club):
 
 
 def steps_of(club, label):
-    """What was begun and done under a name: of each member the last step, and of all members together."""
+    """Returns each member's last step under a name, and the steps for all members together."""
     found = {}
     try:
         with open(ledger_of(club), encoding="ascii") as lines:
@@ -40,7 +40,8 @@ def note(club, label, member, points, before, state):
 
 
 def wanted(club, words):
-    """The members who are still to be credited, each with its credit of now. Members who left, and keys of screens, have a quota of 0."""
+    """Returns the members who still need the credit, each with the present total. Members who left, and members for screens, have a quota of
+    0."""
     steps = steps_of(club, words.label)
     if WHOLE in steps:
         raise refusal("given already", label=words.label, points=steps[WHOLE].points, members=steps[WHOLE].before)
@@ -60,7 +61,7 @@ def wanted(club, words):
 
 
 def credit_all(club, words):
-    """Credits each member that may book. Given again after a stop it goes on; once all are done it is refused."""
+    """Credits each member who may book. After a stop it continues when given again; once all are done it is refused."""
     wants_file(club)
     try:
         left, count = wanted(club, words)
@@ -83,7 +84,7 @@ def credit_all(club, words):
 
 
 def give(club, turn, words, member, credited):
-    """A member's credit, between its two lines."""
+    """Credits a member, between two lines in the ledger."""
     note(club, words.label, member, words.points, credited, "begun")
     line = ["credit", member, str(words.points)]
     status = turn.order(line, lambda: clubdesk(club, line[0], line[1:])[0])
@@ -93,7 +94,7 @@ def give(club, turn, words, member, credited):
 
 
 def points_lost(club, copy):
-    """The points that a restore of a copy takes away again: pairs of a name and a member who had them since."""
+    """Returns the credits that a restore takes away: pairs of a name and a member."""
     credited = dict(copy.execute("SELECT name, credited FROM members"))
     try:
         with snapshot(club) as db:
@@ -116,7 +117,7 @@ def labels_of(club):
 
 
 def forget_points(club, lost):
-    """Takes points that a restore took away out of the ledger, so that they can be given again. Wants the turn."""
+    """Removes credits that a restore took away from the ledger, so that they can be given again. Wants the turn."""
     if not lost:
         return
     labels, made = {label for label, _ in lost}, ledger_of(club) + ".new"

@@ -1,4 +1,4 @@
-"""Spare keys of members, whose passes the page lends: how many each has, and their names."""
+"""Members' spare keys, whose passes the page lends: how many a member has, and their names."""
 
 from club_office.faults import STORAGE, Fault, fault
 from club_office.values import name, number
@@ -9,7 +9,8 @@ LONGEST_NAME = 24
 
 
 def spare_keys(club, member):
-    """The names of a member's spare keys, as amy-lend-1. The configuration has SPARES, how many, and SPARE_NAME, `lend` without it."""
+    """Returns the names of a member's spare keys, such as amy-lend-1. The configuration has their number, SPARES, and SPARE_NAME, `lend` by
+    default."""
     try:
         count, called = number(0, MOST_SPARES)(club.settings.get("spares") or "0"), name(club.settings.get("spare_name") or "lend")
     except Fault as failure:

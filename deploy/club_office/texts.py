@@ -1,4 +1,4 @@
-"""What the office says to a clerk, in English and German: a table with a line for each text."""
+"""The office's texts for clerks, in English and German: a table with a line for each text."""
 
 import os
 
@@ -329,7 +329,7 @@ TEXTS = {
 }
 
 
-# The heads of lists, where they aren't comma-separated values, and what stands in some of their cells.
+# The column heads of lists that aren't comma-separated values, and the words in some cells.
 HEADS = {
     "member": "Mitglied", "balance": "Punkte", "quota": "zugleich", "open": "offen", "keys": "Schlüssel", "name": "Name", "facility": "Anlage", "kind": "Art",
     "places": "Plätze", "price": "Preis", "opens": "öffnet", "shuts": "schließt", "key": "Schlüssel", "revoked": "widerrufen", "spent": "ausgegeben",
@@ -338,7 +338,7 @@ HEADS = {
     "age": "Alter", "bytes": "Bytes", "tested": "geprüft", "line": "Zeile", "as written": "wie geschrieben", "points": "Punkte", "yes": "ja", "no": "nein",
     "none": "keine", "court": "Platz", "boat": "Boot", "room": "Raum",
 }
-# What argparse says of words that are no command's.
+# argparse's messages for usage errors.
 USAGE = {
     "usage: ": "Aufruf: ",
     "%(prog)s: error: %(message)s\n": "%(prog)s: Fehler: %(message)s\n",
@@ -354,7 +354,7 @@ USAGE = {
 
 
 def language():
-    """German where the clerk's language is German, else English."""
+    """Returns German if the clerk's language is German, otherwise English."""
     value = next(filter(None, (os.environ.get(it) for it in ("LC_ALL", "LC_MESSAGES", "LANG"))), "")
     return "de" if value.startswith("de") else "en"
 
@@ -365,7 +365,7 @@ def say(text, /, **values):
 
 
 def head(word):
-    """A list's head, or a cell's word, in the clerk's language."""
+    """Returns a column head or a cell's word in the clerk's language."""
     return HEADS.get(word, word) if language() == "de" else word
 
 
@@ -374,16 +374,16 @@ def usage(text):
 
 
 def in_language(line):
-    """A fixed text of clubdesk, or of the desk, in the clerk's language."""
+    """Returns a fixed text of clubdesk or the desk in the clerk's language."""
     return GERMAN.get(line, line) if language() == "de" else line
 
 
 def means(text, answer):
-    """Whether an answer is one of the words of a text, as `yes`."""
+    """Returns whether an answer is one of a text's words, such as those of `yes`."""
     return answer.strip().lower() in say(text).split()
 
 
 def day_text(day):
-    """A day as it is read aloud, as Saturday 5 December 2026."""
+    """Returns a day as a reader says it, such as Saturday 5 December 2026."""
     weekday, month = WEEKDAYS[language()][day.weekday()], MONTHS[language()][day.month - 1]
     return f"{weekday}, {day.day}. {month} {day.year}" if language() == "de" else f"{weekday} {day.day} {month} {day.year}"

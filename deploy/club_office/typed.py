@@ -1,5 +1,5 @@
-"""The words of a command as a clerk typed them, made those that the desk's side takes: parts of names at a terminal, days, hours, and
-several facilities in a word."""
+"""Converts a command's words from a clerk's typing to the desk's form: parts of names at a terminal, days, hours, and several facilities in a
+word."""
 
 import contextlib
 import datetime
@@ -16,7 +16,7 @@ from club_office.texts import day_text, say
 
 
 def names_of(club):
-    """The club's names, of a copy."""
+    """Reads the club's names from a copy."""
     status, text = as_desk(club, ["names"])
     if status:
         raise fault(status, "club unread")
@@ -41,7 +41,7 @@ def print_names(db, words, _now):
 
 
 class Reader:
-    """Reads the words of one command. The club's names are read once, if a word wants them."""
+    """Converts the words of one command. The club's names are read at most once."""
 
     def __init__(self, club, called):
         self.club, self.called = club, called
@@ -60,7 +60,7 @@ class Reader:
         return word if found_day is None else self.echoed(word, str(found_day), day_text(found_day))
 
     def days(self, word):
-        """A day, or two with .. between them."""
+        """Converts a day, or two with .. between them."""
         return "..".join(map(self.day, word.split("..")))
 
     def hours(self, word):
@@ -68,7 +68,7 @@ class Reader:
         return f"{read[0]}-{read[1]}" if read and not re.fullmatch("[0-9]{1,2}", word) else word
 
     def hour(self, word):
-        """One hour, as clubdesk takes it, or several."""
+        """Converts an hour to clubdesk's form, or several hours."""
         read = None if word.isdigit() else read_hours(word)
         if not read:
             return word
@@ -84,7 +84,7 @@ class Reader:
         return self.one_of(word, lambda: found(word, self.names.facilities))
 
     def facilities(self, word):
-        """A facility, or several with commas between them: a kind, or all."""
+        """Converts a facility, or several with commas between them, a kind, or all."""
         if not is_terminal() and not is_group(word):
             return word
         lists = read_facilities(word, self.names.facilities)
@@ -100,7 +100,7 @@ class Reader:
         return self.one_of(word, lambda: list(dict.fromkeys([*found_members(word, self.names), *found(word, self.names.facilities)])))
 
     def one_of(self, word, fitting):
-        """The name that contains the word. Without a terminal the word must be the whole name, since nobody can choose."""
+        """Returns the name that contains the word. Without a terminal the word must be the whole name, since nobody can choose."""
         if not is_terminal():
             return word
         fits = fitting()
@@ -117,23 +117,23 @@ class Reader:
             raise refusal("not confirmed") from None
 
     def echoed(self, word, read, text=None):
-        """Says how a word was read, if that isn't what was typed. Other output is the command's own."""
+        """Prints how a word was read, if it differs from the typed word. Other output comes from the command."""
         if read != word and is_terminal():
             print(f"{word}: {text or read}", file=sys.stderr)
         return read
 
 
-# What a word of a command is called, and how it is read.
+# A kind of word: its name, and its converter.
 READS = {
     "MEMBER": Reader.member, "KEY": Reader.key, "FACILITY": Reader.facility, "FACILITIES": Reader.facilities, "DAY": Reader.day, "DAYS": Reader.days,
     "HOURS": Reader.hours, "HOUR": Reader.hour, "MEMBER|DAY|FACILITY": Reader.what,
 }
-# A command that makes a key of a new name, which is read as it stands.
+# In a command that makes a key, the new name is taken literally.
 MAKES_A_KEY = ("add-key", "letters")
 
 
 def places_of(command):
-    """What the words without a dash are called, in their order, and whether the last of them is repeated; the options that have a value."""
+    """The kinds of the words without a dash, in order, whether the last one repeats, and the options with a value."""
     called, is_repeated, takes_value = [], False, set()
     for place, how in command.words:
         if place.startswith("-"):
@@ -145,7 +145,7 @@ def places_of(command):
 
 
 def read_words(reader, command, words):
-    """The words of a command, each as the desk's side takes it; options stay as they are, but for a day."""
+    """Returns a command's words in the desk's form; options stay unchanged, except for a day."""
     called, is_repeated, takes_value = places_of(command)
     made, place, option, is_over = [], 0, None, False
     for word, following in zip(words, [*words[1:], ""]):
@@ -167,24 +167,24 @@ def read_words(reader, command, words):
 
 
 def usual_points(names):
-    """The points that are in the middle of what the members were credited, of those who were; 0 if nobody was."""
+    """Returns the median of the members' credits, without members who have none, or 0."""
     credited = sorted(it.credited for it in names.members.values() if it.credited)
     return credited[len(credited) // 2] if credited else 0
 
 
-# Commands that close what members could book, and the place of the day among their words.
+# Commands that close slots, with the position of the day among their words.
 DAY_AT = {"close": 0, "close-slot": 1}
 
 
 def without_options(command, words):
-    """The words that are no options, nor their values."""
+    """Returns the words that are neither options nor their values."""
     _, _, takes_value = places_of(command)
     return [it for before, it in zip(["", *words], words) if not it.startswith("--") and before not in takes_value]
 
 
 def confirms_odd(reader, command, words, is_order):
-    """Asks about what is odd: a day that is over or far, many points, and an order whose names were guessed, since it doesn't ask itself. Of
-    several days the first counts."""
+    """Asks about odd input: a day that is over or far ahead, many points, or guessed names in a command that doesn't ask itself. For several
+    days it checks the first."""
     odd, called = [], reader.called
     plain = without_options(command, words)
     with contextlib.suppress(KeyError, IndexError, ValueError):

@@ -1,5 +1,5 @@
-"""The last correction: what it changes, row by row, is kept beside the club from before it begins. So `undo` puts the rows back that nobody has
-touched since, and a correction that was broken off goes on where it was."""
+"""The last correction: its changed rows are kept next to the club from before it begins. So `undo` can put back the rows that nobody has touched
+since, and an interrupted correction can continue."""
 
 import contextlib
 import json
@@ -13,11 +13,11 @@ from club_office.texts import say
 from club_office.values import MOST_CREDIT
 
 TABLES = ("members", "facilities", "keys", "slots", "bookings", "old_roots")
-# The first columns of these tables are the key; of other tables the first one is.
+# The key columns of these tables; in other tables the first column is the key.
 KEYS = {"slots": 3, "bookings": 2}
-# The columns of tables whose rows a command changes.
+# The columns of the tables that commands change.
 COLUMNS = {"members": ("name", "credited", "quota", "used"), "facilities": ("name", "kind", "places", "price", "opens", "shuts")}
-# More rows than these are no correction of a clerk's hand. A new year keeps a file of its own, and an undo is none.
+# A correction by a clerk has no more rows than these. A new year keeps its own file, and an undo can't be undone.
 MOST_ROWS = 5_000
 NOT_UNDONE = "new-year"
 # Options that say how a correction is given, and not what it is.
@@ -269,7 +269,7 @@ def row_undone(content):
 
 
 def is_by_command(club):
-    """Whether a command undoes the last correction, or goes on with its undo."""
+    """Returns whether a command undoes the last correction, or goes on with its undo."""
     return row_undone(read(club)) is not None
 
 

@@ -101,7 +101,7 @@ class Command:
         return ended
 
     def fails(self, ended, fault, *statuses):
-        """Whether it ended with one of these statuses and no output, else as if nothing were refused."""
+        """Returns whether it ended with one of these statuses and no output, else as if nothing were refused."""
         assert ended == self.whole or ended[0] in statuses and ended[1] == "" and (ended[0] == 2 or ended[2] == fault), ended
         return ended != self.whole
 

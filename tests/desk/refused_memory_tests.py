@@ -61,7 +61,7 @@ def built(crate):
 
 
 def ends_without_memory(output):
-    """Whether a test that failed ended with out of memory: what it passed on, or what it got in place of another value, is that fault and
+    """Returns whether a test that failed ended with out of memory: what it passed on, or what it got in place of another value, is that fault and
     nothing beside it, in an `Err` or the like. One that names the fault elsewhere, as what it had expected, failed otherwise."""
     def has_line(head):
         return any(re.fullmatch(head + FAULT, line) for line in output.splitlines())

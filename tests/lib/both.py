@@ -25,7 +25,7 @@ SPELLINGS = {"word": str, "root": bytes.hex, "moment": spelled_moment, "day": sp
 
 
 def finds_each_plant(run):
-    """Whether a run under each planted fault of the rules meets a difference."""
+    """Returns whether a run under each planted fault of the rules meets a difference."""
     missed = set(rules.PLANTS)
     for plant in rules.PLANTS:
         try:

@@ -218,7 +218,7 @@ class Trial:
             yield edit, word, line
 
     def tested(self, edit, crate, test):
-        """Whether a test fails on an edit that no contract refuses, and its line. The tests run before any proof of theirs."""
+        """Returns whether a test fails on an edit that no contract refuses, and its line. The tests run before any proof of theirs."""
         self.restore()
         self.put(edited_texts(self.crate, edit))
         front, words = f"test {test} ...", ["--test", "--", test]

@@ -86,7 +86,7 @@ class Service:
             time.sleep(1 if self.is_wanted else 0)
 
     def is_heard(self):
-        """Whether somebody listens, within half a minute."""
+        """Returns whether somebody listens, within half a minute."""
         for _ in range(1500):
             with contextlib.suppress(OSError), socket.create_connection(("127.0.0.1", self.port), 5):
                 return True

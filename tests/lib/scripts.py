@@ -161,7 +161,7 @@ def prepare(packages):
     with open(OUT / "apt.log", "wb") as log:
 
         def apt(*words, limit=None):
-            """Whether apt-get does it, in time if it has a limit: it is ended only while it downloads."""
+            """Returns whether apt-get does it, in time if it has a limit: it is ended only while it downloads."""
             with suppress(subprocess.TimeoutExpired):
                 seconds = limit and max(1, min(limit, ends - time.monotonic()))
                 return subprocess.run(["apt-get", "-o", "DPkg::Lock::Timeout=120", *words], stdin=subprocess.DEVNULL, stdout=log, stderr=log, check=False,

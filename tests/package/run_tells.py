@@ -78,7 +78,7 @@ def without_pytest(tree):
 
 
 def all_are_gone(numbers):
-    """Whether the processes of these numbers end within some seconds."""
+    """Returns whether the processes of these numbers end within some seconds."""
     for _ in range(100):
         if not any(Path(f"/proc/{it}/stat").exists() and " Z " not in Path(f"/proc/{it}/stat").read_text() for it in numbers):
             return True

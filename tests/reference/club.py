@@ -296,7 +296,7 @@ class Club:
 
 
 def are_limits(places, price, opens, shuts):
-    """Whether a facility may have these numbers."""
+    """Returns whether a facility may have these numbers."""
     return 1 <= places <= 50 and price <= 9999 and opens < shuts <= 24
 
 
