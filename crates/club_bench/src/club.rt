@@ -41,7 +41,7 @@ pub(crate) fn run_in_memory(rt: &HostRuntime, benchmark: &impl Benchmark) -> Res
     run_over(rt, first, second, benchmark)
 }
 
-// Does the same over empty tables.
+// Runs the benchmark at two desks over empty tables.
 fn run_over<S: ClubStore + Drop>(
     rt: &HostRuntime,
     first: S,

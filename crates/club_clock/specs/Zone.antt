@@ -12,7 +12,7 @@ zone_of text = if is_some (read_whole text) then Some text else None
 abbrev pub IsZoneOf : List ℕ → TimeZone → Type 0
 IsZoneOf rule zone = read_whole rule ≡ Some (tz_view zone)
 
--- this number of nanoseconds since 1970-01-01T00:00 is in the minute with this number
+-- a time of a clock, in nanoseconds since 1970-01-01T00:00, is in the minute with this number
 abbrev pub IsInMinute : ℤ → ℕ → Type 0
 IsInMinute nanos minute =
     (pos (minute * 60_000_000_000) ≤ℤ nanos) × (nanos <ℤ pos (minute * 60_000_000_000 + 60_000_000_000))

@@ -70,7 +70,7 @@ KeepsClub Represents old new = (club : Club) (others : List Club) → Represents
 abbrev pub Returns : {S A E : Type 0} → (S → Club → List Club → Type 0) → S → Result A E → (Club → A → Type 0) → Type 0
 Returns Represents old answer IsReturned = (club : Club) (others : List Club) → Represents old club others → IfOk answer (IsReturned club)
 
--- a read succeeded: a later failure of a read (`None`) or a change counts as a failure since the state before this read, too
+-- after a read that succeeded, a later failure of a read (`None`) or a change is also a failure as seen from the state before the read
 abbrev pub IsRead : {S : Type 0} → (Option Change → S → StoreFault → S → Type 0) → S → S → Type 0
 IsRead {S} Fails old new = (wish : Option Change) (fault : StoreFault) (later : S) → Fails wish new fault later → Fails wish old fault later
 

@@ -275,8 +275,8 @@ impl<S: ClubStore> Desk<S> {
             .unwrap_or(Reply::Refused(Refusal::Unavailable))
     }
 
-    /// Carries out a command of the office. When `office` returns, the change of a command that is
-    /// done is stored. A refusal changes nothing.
+    /// Carries out a command of the office. When `office` returns, the change of a successful
+    /// command is stored. A refusal changes nothing.
     ///
     /// `Fault::Refused` names the rule that forbids the command. `Fault::Store` means that memory
     /// or storage was refused, and nothing else. A store that failed to write may recover to the

@@ -109,7 +109,7 @@ wide_under wide narrow more request moment (Some basis) e signed h =
     let is_signed = signed basis refl in
     grind arith
 
--- the same in a club: both passes have the same basis, which depends on the row of their key
+-- in a club, both passes have the same basis, which depends on the row of their key
 pub wide_in : TestsTheSignature → MoreCaveatsNeverOpenMore
 wide_in signature wide narrow more key request moment club w n e row signed h =
     let words = words_with narrow request in

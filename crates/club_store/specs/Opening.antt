@@ -12,12 +12,12 @@ use Rattle.club_tables.specs.Transaction.{MayCommit, IsKept, fault_by}
 use Rattle.club_store.specs.{Crash.{HoldsOneOf, IsOpenedOn, RepresentsOne, OneIsFound}, Held.busy, declared.remains.Remains.Remains}
 use Rattle.club_store.specs.declared.remains.Remains.TheVariants as remains
 
--- the possible crash states are those of before, and the one that the opening's batch left
+-- the possible crash states are those from before the opening, and the one that its batch left
 abbrev pub SurvivesOpening : {S : Type 0} → Ghosts S → Held S → Held S → Type 0
 SurvivesOpening g old new = Survives (state g old) (state g new) (MayCommit g 0 IsOpeningBatch old)
 
 -- A connection that is returned because its tables aren't accepted. The same club is found in it, and it still holds the same database if it isn't in a
--- transaction. The possible crash states are those of before, and the one that the opening's batch left.
+-- transaction. The possible crash states are those from before the opening, and the one that its batch left.
 pub record IsHandedBack {S : Type 0} (g : Ghosts S) (old new : Held S) : Type 0 where
   pub clean : HasCleanDisk (state g new) → HasCleanDisk (state g old)
   pub kept : HasCleanDisk (state g new) → KeepsClub (found_in g) old new

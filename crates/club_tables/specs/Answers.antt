@@ -27,7 +27,7 @@ IsFacilityIn row facility = IsFacility facility × HasValues row (facility_value
 abbrev pub IsBookingIn : Row → Booking → Type 0
 IsBookingIn row booking = IsBooking booking × HasValues row (booking_values booking)
 
--- the same for a booking of this key and number
+-- the row decodes to a booking with this key and number
 abbrev pub IsBookingNamed : List ℕ → ℕ → Row → Booking → Type 0
 IsBookingNamed key number row booking = IsBookingIn row booking × ((booking.key ≡ key) × (booking.number ≡ number))
 

@@ -36,7 +36,7 @@ FailsInTurn {S} g fewest (statement ∷ more) old new fault =
     ⊎ ((mid : Held S) × (count : ℕ) × Executes statement.0 statement.1 (state g old) (state g mid) (Ok count) × FailsInTurn g fewest more mid new fault
     × (fewest ≤ count) × IsTrue (state g old).is_open)
 
--- the same for statements in their own transaction
+-- statements in their own transaction ran until one stopped them, or their commit was refused
 pub record FailsToRun {S : Type 0} (g : Ghosts S) (fewest : ℕ) (all : List BoundStatement) (old new : Held S) (fault : StoreFault) : Type 0 where
   pub mid : Held S
   pub failure : FailsInTurn g fewest all (transaction_start old) mid fault

@@ -22,6 +22,6 @@ select from filter project = record {
   offset = lit (Int (pos 0));
 }
 
--- the same with ORDER BY: each term ascending, and texts by their bytes
+-- a query with ORDER BY: each term ascending, and texts by their bytes
 abbrev pub in_order : List Term → Query → Query
 in_order terms query = record query { order = map (λ (term : Term). (term, ascending Binary)) terms }

@@ -52,7 +52,7 @@ date_by_parts text y m d (Err e) p can h = λ date t.
     let error = can (rw (same.0, same.1, same.2) (of_civil t.year date.month date.day is)) in
     cc
 
--- the same for the numbers as the code computes them
+-- a date from its parts, with the numbers as the code computes them
 pub reads_date : {E : Type 0} (text : List ℕ) (y m d : ℕ) (yz mz dz : ℤ) (r : Result Date E) (o : Option Date) → AreDateParts text y m d → yz ≡ pos y →
     mz ≡ pos m → dz ≡ pos d → (IsDate yz mz dz → IsOk r) → IfOk r (IsYmd yz mz dz) → o ≡ result_ok r → Reads (IsDateText text) o
 reads_date text y m d yz mz dz r o p ey em ed can value e =

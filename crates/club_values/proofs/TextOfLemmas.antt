@@ -17,7 +17,7 @@ found : {A : Type 0} (Spells : A → Type 0) (guess : A) (test : Bool) → Decid
     (cond test (Some guess) None ≡ Some x) ↔ Spells x
 found Spells guess test d same x = grind arith
 
--- the same, if a text function gives the spelling
+-- a value is returned if and only if the text spells it, when a text function gives the spelling
 found_where : {A : Type 0} (text : List ℕ) (Spells Fits : A → Type 0) (guess : List ℕ → A) (text_of : A → List ℕ) (fits : A → Bool) →
     ((x : A) → Decides (fits x) (Fits x)) → ((x : A) → Spells x → Fits x × (text ≡ text_of x)) → ((x : A) → Fits x → text ≡ text_of x → Spells x) →
     ((x : A) → Fits x → guess (text_of x) ≡ x) → (x : A) → (where_spelled text (guess text) (text_of (guess text)) (fits (guess text)) ≡ Some x) ↔ Spells x

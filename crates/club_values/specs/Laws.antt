@@ -32,7 +32,7 @@ ReadsMoments = (text : List ℕ) (n : ℕ) → (moment_of_text text ≡ Some n) 
 abbrev pub IsTextOfDay : Type 0
 IsTextOfDay = (text : List ℕ) (n : ℕ) → SpellsDay text n ↔ (IsDay n × (text ≡ day_text n))
 
--- the same for moments
+-- a moment's text spells the moment, and no other text does
 abbrev pub IsTextOfMoment : Type 0
 IsTextOfMoment = (text : List ℕ) (n : ℕ) → SpellsMoment text n ↔ (IsMoment n × (text ≡ moment_text n))
 

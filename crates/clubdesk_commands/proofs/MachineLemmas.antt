@@ -48,7 +48,7 @@ module _ {S : Type 0} (Clean : S → Type 0) (Represents : S → Club → List C
     follows = λ clean club others represents. (club, others, rw is represents, gives club);
   }
 
-  -- the same for a relation that follows
+  -- a simulation also holds for any relation that follows
   so : {old new : S} {Gives Wanted : Club → Club → Type 0} → Simulates old new Gives → ((club next : Club) → Gives club next → Wanted club next)
       → Simulates old new Wanted
   so simulates wants = record {

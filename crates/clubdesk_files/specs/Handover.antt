@@ -2,7 +2,7 @@
 use Rattle.std.specs.{Io.KnownBytes.{Appends, Consumes, IsAtEnd}, Prelude.{◌≡◌, ℕ, List, Option}, Str.Lossy.utf8_lossy}
 use Rattle.desk_server.specs.Served.{answer_bytes}
 
--- The bytes of the command were written once, and then their end was told.
+-- The bytes of the command were written once, and then their end was announced.
 pub record SendsCommand {Writer : Type 0} (Contents : Writer → Option (List ℕ)) (Ends : Writer → Writer → Type 0) (command : List ℕ) (old new : Writer) :
     Type 0 where
   pub written : Writer

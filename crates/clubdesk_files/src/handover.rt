@@ -47,8 +47,8 @@ pub fn greeted<R: Read>(reader: &mut R) -> io::Result<()>
     }
 }
 
-/// Sends a command, tells its end, and reads the answer: the status, the text, and the byte that
-/// ends it.
+/// Sends a command, announces its end, and reads the answer: the status, the text, and the byte
+/// that ends it.
 ///
 /// # Errors
 ///

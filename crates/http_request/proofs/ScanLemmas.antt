@@ -28,7 +28,7 @@ tested a b P holds_if fails_if = elim (cases_lt b a) [
   | inr le ↦ (λ _. holds_if le, λ _. le-leb a b le)
 ]
 
--- the same for a test of equality
+-- a test of equality that is true if and only if a property holds
 pub tested_same : (a b : ℕ) (P : Type 0) → (a ≡ b) ↔ P → IsTrue (nat_eq a b) ↔ P
 tested_same a b P is = (
   λ test. is.0 (let same : a ≡ b = grind (arith, nat_tests) in same),

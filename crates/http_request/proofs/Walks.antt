@@ -85,7 +85,7 @@ pub takes_two : {K : Type 0} (t s : List ℕ) (k j : K) (part rest : List ℕ) �
 unfolding param_step
 takes_two t s k j part rest some none = rw (segment_of part rest none, cuts_slash part some, one_less part) refl
 
--- the same if one row continues with a slash and one ends
+-- the bytes that a parameter takes, if one row continues with a slash and one ends
 pub takes_one : {K : Type 0} (t : List ℕ) (k j : K) (part rest : List ℕ) → 0 < length part → has_slash part ≡ false
     → param_step ((47 ∷ t, k) ∷ ([], j) ∷ []) (part ++ 47 ∷ rest) ≡ (length part, (47 ∷ t, k) ∷ [])
 unfolding param_step

@@ -12,7 +12,7 @@ abbrev pub values_of : List ℕ → List (List ℕ × List ℕ) → List (List �
 values_of name [] = []
 values_of name (field ∷ fields) = if same_word field.0 name then field.1 ∷ values_of name fields else values_of name fields
 
--- the same, for fields that are spans of a head
+-- the values of the fields with a name, for fields that are spans of a head
 abbrev pub values_in_head : List ℕ → List ℕ → List HeaderSpan → List (List ℕ)
 values_in_head head name fields = values_of name (map (header_bytes head) fields)
 

@@ -30,7 +30,7 @@ pub record IsTextCopied (form : Form) (pass : Plain) (old new : List ℕ) (len c
   pub written : IsWrittenAs form pass writing
   pub copied : MatchResult writing (λ text. IsCopied text old new len code) (λ fault. IsLeft (fault_code fault) old new len code)
 
--- the same for the form with this number; any other number is refused
+-- the text of a pass in the form with this number, copied to a buffer; any other number is refused
 pub record WritesForm (number : ℕ) (pass : Plain) (old new : List ℕ) (len code : ℕ) : Type 0 where
   pub known : (form : Form) → number ≡ number_of_form form → IsTextCopied form pass old new len code
   pub unknown : ((form : Form) → number ≢ number_of_form form) → IsLeft no_form_code old new len code

@@ -120,7 +120,7 @@ pub extern "C" fn clubpass_write(
     }
 }
 
-// Does the same for a known form.
+// Writes the text of a pass in a known form.
 fn write_in(alloc: Global, pass: &PassObject, form: Form, out: &mut [u8], len: &mut usize) -> u32
     ensures { IsTextCopied form (held pass.now) out.old out.new len.new result }
 {

@@ -22,7 +22,7 @@ pub one_more : (byte : ℕ) (bytes : List ℕ) → byte < 256 → IsBytes bytes 
 one_more byte bytes h others zero = h
 one_more byte bytes h others (suc i) = others i
 
--- the same, as a test
+-- a list that passes this test is a list of bytes
 pub bytes_from_passes : (text : List ℕ) → list_all (λ byte. ltb byte 256) text ≡ true → IsBytes text
 bytes_from_passes [] e = nil_is_bytes
 bytes_from_passes (byte ∷ text) e = one_more byte text (grind (arith, nat_tests)) (bytes_from_passes text (grind arith))

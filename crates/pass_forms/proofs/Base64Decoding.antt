@@ -55,7 +55,7 @@ unfolding by_decoders
 spells_to_decoders text b bytes is =
     one_answer _ _ _ _ b (is_decoded text b is) (λ c found. spells_one text c b (decoded_is text c bytes found) is)
 
--- the same for a text that was tested to be bytes
+-- for a text of bytes, `from_base64` is `by_decoders`
 pub from_base64_is : (text : List ℕ) → IsBytes text → from_base64 text ≡ by_decoders text
 unfolding from_base64
 from_base64_is text bytes = rw (passes_from_bytes text bytes) refl

@@ -53,11 +53,11 @@ impl Unwrapped {
 /// # Errors
 ///
 /// Fails with `TooLong` for a text of more than 8,192 bytes, and otherwise with `Malformed` if the
-/// text wraps no pass's bytes. There are no other faults.
+/// text doesn't wrap a pass in any form. There are no other faults.
 #[tactic(auto, unfolding(crate::specs::computed::Envelope::unwrapping))]
 pub fn unwrap_text(text: &[u8], buffer: &mut [u8; MAX_BYTES]) -> Result<Unwrapped, FormFault>
     ensures reading { IsUnwrapped text.now (unwrapped_result result text.now buffer.new) }
-    // The same result, computed from the text.
+    // The result is also the one computed from the text.
     ensures value { unwrapped_result result text.now buffer.new ≡ unwrapping text.now }
     ensures plain { IfOk result (λ unwrapping. unwrapping.plain ≡ starts_with_brace text.now) }
     ensures len { IfOk result (λ unwrapping.
@@ -109,7 +109,7 @@ fn form_of(bytes: &[u8]) -> Option<Form>
 pub fn decode_base64(alloc: Global, text: &[u8]) -> Result<Option<Vec<u8>>, AllocError>
     ensures spelling { IfOk result (λ found. (bytes : List ℕ)
         → (option_map (λ b. b.items) found ≡ Some bytes) ↔ IsBase64 text.now bytes) }
-    // The same result, computed from the text.
+    // The result is also the one computed from the text.
     ensures computed { IfOk result
         (λ found. option_map (λ bytes. bytes.items) found ≡ from_base64 text.now) }
 {
@@ -134,7 +134,7 @@ fn decode(text: &[u8], buffer: &mut [u8]) -> Option<usize>
     decode_under(&STANDARD_NO_PAD, &STANDARD, text, buffer)
 }
 
-// Does the same with the first of two engines that accepts the text.
+// Decodes a text with the first of two engines that accepts it.
 fn decode_under(
     first: &GeneralPurpose,
     second: &GeneralPurpose,
@@ -152,7 +152,7 @@ fn decode_under(
     decode_by(second, text, buffer)
 }
 
-// Does the same with one engine.
+// Decodes a text with one engine.
 fn decode_by(engine: &GeneralPurpose, text: &[u8], buffer: &mut [u8]) -> Option<usize>
     requires { decoded_estimate (length text.now) ≤ length buffer.old }
     ensures bytes { option_map (λ len. take len buffer.new) result

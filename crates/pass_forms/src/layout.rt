@@ -247,7 +247,7 @@ impl<'a, L: Layout> Fields<'a, L> {
     pub fn open(bytes: &'a [u8]) -> Result<Fields<'a, L>, FormFault>
         // The fields of the pass that the bytes spell.
         ensures spelling { IsOpening (IsReadAs (length bytes.now) (L.Spells bytes.now)) result }
-        // The same result, computed from the bytes.
+        // The result is also the one computed from the bytes.
         ensures computed { result ≡ opening_of (L.reading bytes.now) }
     {
         L::reads_exactly();

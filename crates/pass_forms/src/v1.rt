@@ -74,7 +74,8 @@ fn first_packet<'a>(key: &[u8], bytes: &'a [u8]) -> Option<(&'a [u8], &'a [u8])>
     Some((text, rest))
 }
 
-// The same for an optional packet. If it is missing, the bytes are returned unchanged.
+// The data of an optional packet, and the bytes after it. If it is missing, the bytes are returned
+// unchanged.
 #[inline(always)]
 fn optional_packet<'a>(key: &[u8], bytes: &'a [u8]) -> (bool, &'a [u8])
     ensures { (is_some (reading.optional_at key.now bytes.now).0 ≡ result.0)
@@ -152,7 +153,7 @@ pub type V1Fields<'a> = Fields<'a, Packets>;
 pub fn read_v1(alloc: Global, bytes: &[u8]) -> Result<Pass, FormFault>
     // The pass that the bytes spell.
     ensures spelling { OrOutOfMemory (IsReadAs (length bytes.now) (SpellsV1 bytes.now)) result }
-    // The same result, computed from the bytes.
+    // The result is also the one computed from the bytes.
     ensures computed { OrOutOfMemory (λ answer. reading.reading_v1 bytes.now ≡ answer) result }
 {
     layout::read::<Packets>(alloc, bytes)

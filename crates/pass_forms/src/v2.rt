@@ -64,7 +64,8 @@ fn first_field<'a>(kind: u8, bytes: &'a [u8]) -> Option<(&'a [u8], &'a [u8])>
     Some((field, rest))
 }
 
-// The same for an optional field. If it is missing, the bytes are returned unchanged.
+// The data of an optional field, and the bytes after it. If it is missing, the bytes are returned
+// unchanged.
 fn optional_field<'a>(kind: u8, bytes: &'a [u8]) -> (Option<&'a [u8]>, &'a [u8])
     ensures { (option_map (λ field. field.now) result.0, result.1.now)
         ≡ reading.optional_at kind bytes.now }
@@ -147,7 +148,7 @@ pub type V2Fields<'a> = Fields<'a, Sections>;
 pub fn read_v2(alloc: Global, bytes: &[u8]) -> Result<Pass, FormFault>
     // The pass that the bytes spell.
     ensures spelling { OrOutOfMemory (IsReadAs (length bytes.now) (SpellsV2 bytes.now)) result }
-    // The same result, computed from the bytes.
+    // The result is also the one computed from the bytes.
     ensures computed { OrOutOfMemory (λ answer. reading.reading_v2 bytes.now ≡ answer) result }
 {
     layout::read::<Sections>(alloc, bytes)

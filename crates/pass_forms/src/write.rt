@@ -46,7 +46,7 @@ pub fn write_v1(alloc: Global, pass: &Pass) -> Result<String, FormFault>
     ensures err { IfErr result (IsWriteFault IsV1Text pass.now) }
     ensures read_back { IfOk result
         (λ text. IsReadBack SpellsV1 V1 (v1_bytes pass.now) pass.now (string_bytes text)) }
-    // The same result, computed from the pass.
+    // The result is also the one computed from the pass.
     ensures computed { MatchResult result (λ text. writing_v1 pass.now ≡ Ok (string_bytes text))
         (FailsAs (writing_v1 pass.now)) }
 {
@@ -65,7 +65,7 @@ pub fn write_v2(alloc: Global, pass: &Pass) -> Result<String, FormFault>
     ensures err { IfErr result (IsWriteFault IsV2Text pass.now) }
     ensures read_back { IfOk result
         (λ text. IsReadBack SpellsV2 V2 (v2_bytes pass.now) pass.now (string_bytes text)) }
-    // The same result, computed from the pass.
+    // The result is also the one computed from the pass.
     ensures computed { MatchResult result (λ text. writing_v2 pass.now ≡ Ok (string_bytes text))
         (FailsAs (writing_v2 pass.now)) }
 {

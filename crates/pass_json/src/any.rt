@@ -29,7 +29,7 @@ use std::alloc::Global;
 pub fn read_any(alloc: Global, text: &[u8]) -> Result<(Form, Pass), FormFault>
     // The pass that the text spells, in any form.
     ensures spelling { UnlessMemory (IsAnyReading text.now) result }
-    // The same result, computed from the text.
+    // The result is also the one computed from the text.
     ensures computed { UnlessMemory (λ answer. reading text.now ≡ answer) result }
     ensures memory { result ≡ Err Memory → MayRunOut text.now }
 {
@@ -37,7 +37,7 @@ pub fn read_any(alloc: Global, text: &[u8]) -> Result<(Form, Pass), FormFault>
     unwrapping(alloc, text)
 }
 
-// The same result, from the contents that the text wraps.
+// The result is also the one computed from the contents that the text wraps.
 fn unwrapping(alloc: Global, text: &[u8]) -> Result<(Form, Pass), FormFault>
     ensures spelling { UnlessMemory (IsAnyReading text.now) result }
     ensures memory { result ≡ Err Memory → MayRunOut text.now }
@@ -78,7 +78,7 @@ pub fn write_any(alloc: Global, form: Form, pass: &Pass) -> Result<String, FormF
     ensures err { IfErr result (IsRefusedIn form pass.now) }
     ensures read_back { IfOk result
         (λ text. IsAnyReading (string_bytes text) (Ok (form, pass.now))) }
-    // The same result, computed from the pass.
+    // The result is also the one computed from the pass.
     ensures computed { MatchResult result (λ text. writing form pass.now ≡ Ok (string_bytes text))
         (MayFailAs (writing form pass.now)) }
 {

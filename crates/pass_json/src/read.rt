@@ -24,7 +24,7 @@ use std::alloc::Global;
 pub fn read_json(alloc: Global, bytes: &[u8]) -> Result<Pass, FormFault>
     // The pass that the bytes spell.
     ensures spelling { UnlessMemory (IsReadAs (length bytes.now) (SpellsJson bytes.now)) result }
-    // The same result, computed from the bytes.
+    // The result is also the one computed from the bytes.
     ensures computed { UnlessMemory (λ answer. reading.reading_json bytes.now ≡ answer) result }
     ensures memory { result ≡ Err Memory → length bytes.now ≤ max_text_len }
 {

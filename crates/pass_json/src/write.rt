@@ -31,7 +31,7 @@ pub fn write_json(alloc: Global, pass: &Pass) -> Result<String, FormFault>
     ensures err { IfErr result (IsRefusedJson pass.now) }
     ensures read_back { IfOk result
         (λ text. IsReadBack SpellsJson Json (string_bytes text) pass.now (string_bytes text)) }
-    // The same result, computed from the pass.
+    // The result is also the one computed from the pass.
     ensures computed { MatchResult result (λ text. writing_json pass.now ≡ Ok (string_bytes text))
         (MayFailAs (writing_json pass.now)) }
 {

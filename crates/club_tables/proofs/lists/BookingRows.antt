@@ -113,7 +113,7 @@ first_of {X} {A} values into Yields one held rows found is first = go held found
     go (Some x) None h = absurd h
     go (Some x) (Some a) h = ap Some (one x a h)
 
--- the same for rows that hold the whole value
+-- the first row yields its value, for rows that hold the whole value
 pub first_held : {X : Type 0} (values : X → Row) (Fits : X → Type 0) → ((a b : X) → HasValues (values a) (values b) → b ≡ a)
     → (held : Option X) (rows : List Row) (found : Option X) → rows ≡ map values (option_to_list held)
     → IsFirst (λ row x. Fits x × HasValues row (values x)) rows found → found ≡ held

@@ -82,7 +82,7 @@ unplanned : (schema : Schema) (p : Parsed) (e : CompileError) → ((base : ℕ) 
 unfolding planned meaning
 unplanned schema p e refused = rw (refused _) (stopped (returning schema _ p.statement) e p _)
 
--- a query of the one table `desk`, with no WITH, UNION or LIMIT
+-- a query of the single table `desk`, with no WITH, UNION or LIMIT
 record AsksDesk (s : Select) : Type 0 where
   source : Source
   one : (out-Core (out-Select s).first).from ≡ source ∷ []

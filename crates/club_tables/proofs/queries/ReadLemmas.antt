@@ -38,7 +38,7 @@ read_by {A = A} g reading IsAnswer old new result {IsReturned = IsReturned} kept
           record { from = old; after = at_once g old (earlier clean); reading = reading; failure = failed }) (fails clean);
     }
 
--- the same for an answer and its rows
+-- an answer that is true of the current club, from its rows
 pub read_answer : {S A : Type 0} {g : Ghosts S} (reading : Reading) {IsAnswer : List Row → A → Type 0} {old new : Held S} {result : Result A StoreFault}
     {IsShown : Club → List Row → Type 0} {IsReturned : Club → A → Type 0} → Answers g (reading_statement reading) IsAnswer old new result
     → IsKept (state g old) (state g new) → Survives (state g old) (state g new) (λ _. ⊥)

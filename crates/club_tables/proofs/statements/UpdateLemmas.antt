@@ -83,7 +83,7 @@ module _ {X : Type 0} (values : X → Row) (p : X → Bool) (change : X → X) (
     pub replaced : (one : ℤ × X) → filter passes ps ≡ one ∷ [] → rows ≡ (Int one.0 ∷ next one) ∷ [] → cast_row table (next one) ≡ next one → Left
     replaced one lone row casts = rw (row, casts, is, put_again ps one rising lone) (holds_next ps rising)
 
-    -- the same for the rows shown for the elements that pass, at most one
+    -- the rows shown for the elements that pass, at most one, are replaced
     replaced_if_any : (shown : Row → Row) (Q : X → Type 0) → AllByRecursion (λ q. Q q.1) ps
         → ((id : ℤ) (x : X) → Q x → p x ≡ true → shown (Int id ∷ values x) ≡ Int id ∷ Int id ∷ values (change x))
         → ((id : ℤ) (x : X) → cast_row table (Int id ∷ values x) ≡ Int id ∷ values x)

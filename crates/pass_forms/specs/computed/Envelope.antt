@@ -11,7 +11,7 @@ by_decoders text =
     option_or (option_or (decoded_of url_safe_no_pad text) (decoded_of url_safe text))
     (option_or (decoded_of standard_no_pad text) (decoded_of standard text))
 
--- the same, if the text is bytes
+-- the bytes that a text encodes in base64, if the text is bytes
 unfoldable pub from_base64 : List ℕ → Option (List ℕ)
 from_base64 text = if list_all (λ byte. nat_lt byte 256) text then by_decoders text else None
 

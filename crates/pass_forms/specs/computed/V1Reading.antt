@@ -29,7 +29,7 @@ packet_at key bytes = do
   text ← before_suffix (10 ∷ []) content
   Some (text, drop len bytes)
 
--- the same for a packet that may be left out
+-- the data of an optional packet, and the bytes after it
 abbrev pub optional_at : List ℕ → List ℕ → Option (List ℕ) × List ℕ
 optional_at key bytes = found_or_none bytes (packet_at key bytes)
 

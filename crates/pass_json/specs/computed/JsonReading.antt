@@ -21,7 +21,7 @@ field_bytes (Some value) (Some other) = None
 unfoldable pub field_from : List ℕ → List ℕ → Data → Option (Option (List ℕ))
 field_from plain base64 value = field_bytes (get plain value) (get base64 value)
 
--- the same for a required field
+-- the bytes of a required field
 abbrev pub must_have : Option (Option (List ℕ)) → Option (List ℕ)
 must_have None = None
 must_have (Some bytes) = bytes
