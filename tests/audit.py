@@ -3,10 +3,10 @@
 
 These contracts exist, and rest on no computing definition but three. The vectors' marks hold, too.
 
-AUDIT lists what a reader must believe of each promise. Each contract that PROMISES cites exists. It rests on no computing definition but
-the three that the page names; nor does what stands for a ghost. Each contract in COMPUTED rests on one. The vectors hold of the rules in
-Python (`tests/reference`), which mark what they show. Each step of a path in TOUR is cited by the one before it. Writes docs/AUDIT.md,
-unless it is asked to check.
+AUDIT lists the definitions that a reader must trust for each promise. Each contract that PROMISES cites exists. It rests on no computing
+definition except the three that the page names; neither does a ghost's value. Each contract in COMPUTED rests on one. The vectors hold for the
+rules in Python (`tests/reference`), which marks the definitions that they show. Each step of a path in TOUR is cited by the one before it.
+Writes docs/AUDIT.md, unless it is asked to check.
 
 It reads the promises of docs/PROMISES.md, the clauses that carry them, and the definitions below these, by tests/lib/definitions.py.
 
@@ -42,16 +42,16 @@ PROMISES = ROOT / "docs" / "PROMISES.md"
 TOUR = ROOT / "docs" / "TOUR.md"
 # What comments say of where definitions are from.
 SOURCES = (r"RFC \d+", r"FIPS [\d-]+", r"NDSS \d+", r"libmacaroons", r"\bours\b")
-# Methods that std's types have too: by their names alone nobody knows whose they are.
+# Methods that std's types have too, so that a name alone doesn't tell the type.
 OF_STD = set("len is_empty push iter next clone as_slice as_bytes as_str into_iter map unwrap unwrap_or ok_or expect write read remove".split())
 
 
 class Fault(Exception):
-    """Why there is no page."""
+    """Says why there is no page."""
 
 
 def clauses_of(book, function, labels=()):
-    """(file, function, label, text, place) of each clause; of all of a function's, if no labels are given."""
+    """Yields (file, function, label, text, place) for each clause with one of the labels, or for all clauses of a function."""
     *before, name = function.split("::")
     owner = next((it for it in before if it[0].isupper()), None)
     crate = before[0] if before and before[0] in book.crates else "club_gate"
@@ -70,7 +70,7 @@ def clauses_of(book, function, labels=()):
 
 
 def below_all(book, function):
-    """What is below all clauses of a function."""
+    """Returns the definitions below all clauses of a function."""
     cited = []
     for file, _, _, text, start in clauses_of(book, function):
         found, unknown = file.cited_by(start, text)
@@ -81,14 +81,14 @@ def below_all(book, function):
 
 
 class Promise:
-    """One of docs/PROMISES.md: its title, and the clauses that carry it, with the fields of a record that count."""
+    """A promise of docs/PROMISES.md: its title, and the clauses that carry it, with the record fields that count."""
 
     def __init__(self, book, number, line):
         self.book, self.number = book, number
         self.title = re.match(r"\d+\. \*\*(.*?)\.\*\*", line)[1]
         text, _, carriers = line.rpartition(": `")
         self.fields = [it for group in re.findall(r"\((`[^)]*)\)", text) for it in re.findall(r"`(\w+)`", group)]
-        # 7 names a clause and its function in the middle of its sentence, too.
+        # Promise 7 also names a clause and its function in the middle of its sentence.
         self.carriers = []
         for group in [*re.findall(r": (`[\w:]+`, `\w+`)\. ", text), f"`{carriers}"]:
             function, labels = None, []
@@ -106,7 +106,7 @@ class Promise:
         self.below += [it for it in heads if it not in self.below]
 
     def read(self):
-        """What the clauses cite; of a record of which the promise names fields only what those cite, and the record itself."""
+        """Returns the words that the clauses cite. For a record with named fields, returns only the words of those fields, and the record."""
         cited, heads, used = [], [], set()
         for file, _, _, text, start in self.clauses:
             found, unknown = file.cited_by(start, text)
@@ -127,7 +127,7 @@ class Promise:
 
     @property
     def words(self):
-        """The carriers as the page shows them."""
+        """Formats the carriers for the page."""
         carriers = [f"`{function}`" + (f": `{'`, `'.join(labels)}`" if labels else "") for function, labels in self.carriers]
         return "; ".join(carriers) + (f" (`{'`, `'.join(self.fields)}`)" if self.fields else "")
 
@@ -138,19 +138,19 @@ def promises_of(book):
 
 
 def named_as_computing():
-    """The computing definitions on which promises rest, as docs/PROMISES.md says."""
+    """Returns the computing definitions that promises rest on, according to docs/PROMISES.md."""
     found = re.search(r"Promises rest on \w+ of these, (.*?), and on none of `specs/computed/`", PROMISES.read_text(encoding="utf-8"))
     return set(re.findall(r"`(\w+)`", found[1])) if found else set()
 
 
 def source_of(comments):
-    """Where definitions are from, as the head of their file and their own comments say."""
+    """Returns the sources of definitions, from their file's head and their own comments."""
     found = [it[0] for pattern in SOURCES for it in re.finditer(pattern, comments)]
     return ", ".join(dict.fromkeys(found)) or "not said"
 
 
 def in_reading_order(book, files):
-    """Files from the standards up: crates in the order of crates.txt, and within one each after those that it imports."""
+    """Orders files from the standards up: crates as in crates.txt, and the files of a crate after those that they import."""
     done = []
 
     def visit(file):
@@ -218,11 +218,11 @@ class Audit:
         yield f"| together | | {len(plain)} | {sum(it.lines for it in plain)} | {len(specs) - len(plain)} | {len(types)} |"
 
     def functions(self):
-        """The functions whose clauses carry promises."""
+        """Returns the functions whose clauses carry promises."""
         return list(dict.fromkeys(function for promise in self.promises for function, _ in promise.carriers))
 
     def beside(self):
-        """The computing definitions below the other clauses of those functions, and below what stands for a ghost in any of them."""
+        """Returns the computing definitions below the other clauses of those functions, and below ghosts' values in any of them."""
         found = {id(it): it for function in self.functions() for it in below_all(self.book, function)}
         for ghost in [it for it in found.values() if it.kind == "ghost"]:
             found.update((id(it), it) for *_, below in self.book.standing_for(ghost) for it in below)
@@ -233,7 +233,7 @@ class Audit:
         return sorted((it for it in self.every.values() if it.is_computed and it.kind in OF_SPECS), key=lambda it: (it.module, it.line))
 
     def first_computed(self):
-        """The computing definitions that one of the others, or a clause, cites, with those."""
+        """Returns the computing definitions that a clause or another definition cites, with the citing ones."""
         found = defaultdict(set)
         for it in self.every.values():
             if not it.is_computed:
@@ -254,7 +254,7 @@ class Audit:
                 yield f"- `{it.name}` in `{it.file}`, by {names}"
 
     def further_faults(self):
-        """The computing definitions that only such ones cite, by their files."""
+        """Returns the computing definitions that only computing ones cite, by file."""
         cited, by_file = self.first_computed(), defaultdict(list)
         for it in self.computed():
             if id(it) not in cited:
@@ -262,7 +262,7 @@ class Audit:
         return "; ".join(f"{', '.join(names)} in `{file}`" for file, names in by_file.items())
 
     def definitions_of(self, crate):
-        """The definitions of a crate by their files. Neighbours with the same promises and mark share an item; a single one follows its file."""
+        """Returns a crate's definitions by file. Neighbours with the same promises and mark share an item; a single one follows its file."""
         listed = [it for it in self.every.values() if it.crate == crate and it.kind in OF_SPECS and not it.is_computed]
         for file in in_reading_order(self.book, [self.book.specs[module] for module in {it.module for it in listed}]):
             own = sorted((it for it in listed if it.module == file.module), key=lambda it: it.line)
@@ -301,15 +301,15 @@ class Audit:
                 stands.append(f"`{of}`, `{file.path.relative_to(ROOT)}`: `{' '.join(value.split())}`{counts}")
             yield f"| `{it.name}`, `{it.file}` | {self.numbers(it)} | {'; '.join(stands)} |"
 
-    # ---- what is trusted beside them
+    # ---- other trusted parts
 
     def libraries_below(self, promise):
-        """The crates whose code a promise's functions call: their own, and those below."""
+        """Returns the crates whose code a promise's functions call: their own crates, and those below."""
         own = {file.crate for file, *_ in promise.clauses}
         return own | crates_below(own)
 
     def calls(self):
-        """Of each library the calls that our crates make of it, by name, with the promises below which they are made."""
+        """Returns our crates' calls of each library by name, with the promises above them."""
         page = subprocess.run(["rt", "doc"], capture_output=True, text=True, check=False).stdout if shutil.which("rt") else ""
         kit = Path(page.strip() or "/none").parent / "rattle"
         if not kit.is_dir():
@@ -338,7 +338,7 @@ class Audit:
         return found, promises
 
     def words_of(self):
-        """Of each library the words of its specs that the definitions cite, with their promises."""
+        """Returns the words of each library's specs that the definitions cite, with their promises."""
         found, promises = defaultdict(set), defaultdict(set)
         for promise in self.promises:
             for it in promise.of("library"):
@@ -427,13 +427,13 @@ class Audit:
     # ---- what pages cite
 
     def named(self):
-        """The computing definitions that docs/PROMISES.md names, and those that only they cite."""
+        """Returns the computing definitions that docs/PROMISES.md names, and those that only they cite."""
         first = named_as_computing()
         return first | {it.name for it in closure([it for it in self.computed() if it.name in first]) if it.is_computed and it.kind in OF_SPECS}
 
     def citing(self):
-        """Faults of the pages' tables: of docs/PROMISES.md what isn't understood, and the contracts that reach a computing definition which it
-        doesn't name; of docs/COMPUTED.md those that reach none."""
+        """Returns faults in the pages' tables. For docs/PROMISES.md these are unreadable citations, and contracts that reach a computing
+        definition that the page doesn't name. For docs/COMPUTED.md they are contracts that reach none."""
         contracts, named = Contracts(self.book), self.named()
         for page in (PROMISES, COMPUTED):
             for citation in citations(page.read_text(encoding="utf-8")):
@@ -450,7 +450,8 @@ class Audit:
     # ---- paths
 
     def paths(self):
-        """Faults of the paths in the tour's second part: each step is a clause, or a definition that the step before cites."""
+        """Returns faults in the paths of the tour's second part, where each step must be a clause or a definition that the previous step
+        cites."""
         text = TOUR.read_text(encoding="utf-8").partition("\n# ")[2]
         for question in re.split(r"^## ", text, flags=re.MULTILINE)[1:]:
             title, cited = question.splitlines()[0], None

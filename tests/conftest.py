@@ -1,4 +1,4 @@
-"""What the tests share that pytest runs: the programs, clubs in files, a server of its own for each request, and what it answers.
+"""Fixtures of the tests that pytest runs: the programs, clubs in files, and a separate server for each request, with its answers.
 
 Files are in memory, where a sync costs nothing. With `--scripts` pytest imports no file of Python: each program of tests/ is one test, which
 tests/lib/scripts.py runs. tests/run calls it so."""
@@ -38,7 +38,7 @@ def pytest_unconfigure(config):
 
 
 class Script(pytest.Item):
-    """A run of a program of tests/, with its marks."""
+    """A run of a program in tests/, with its marks."""
 
     def __init__(self, *, test, **more):
         super().__init__(**more)
@@ -62,7 +62,7 @@ class Script(pytest.Item):
 
 
 class ScriptFile(pytest.File):
-    """A program of tests/ with its runs."""
+    """A program in tests/ with its runs."""
 
     def collect(self):
         asked = self.config.option.scripts.split(",")
@@ -77,7 +77,7 @@ def pytest_collect_file(file_path, parent):
 
 
 def pytest_runtest_logreport(report):
-    """Also where a worker ended before its test: then the report has no result."""
+    """This also holds if a worker ended before its test: then the report has no result."""
     config = report_to.get("config")
     found = dict(report.user_properties).get("found")
     if config and (found and report.when == "call" or not found and report.failed):
@@ -107,7 +107,7 @@ def pytest_sessionfinish(session):
 
 
 class Club:
-    """A club in a file of its own."""
+    """A club in its own file."""
 
     def __init__(self, program, file):
         self.program, self.file = program, file
@@ -118,7 +118,7 @@ class Club:
         return desk.command(self.program, command, self.file, *rest)
 
     def does(self, *commands):
-        """Commands that have to end well; what the last one prints."""
+        """Runs commands that must succeed; returns the last one's output."""
         printed = ""
         for words in commands:
             status, printed, fault = self.command(*words.split())
@@ -126,7 +126,7 @@ class Club:
         return printed.rstrip("\n")
 
     def balance(self, key):
-        """The points of a key's member, by a look through the door of a server or at the file."""
+        """Returns the points of a key's member, from a server's door or from the file."""
         return int(dict(line.split(" ", 1) for line in self.does(f"show-account {key} --at {kinds.NOON}").splitlines())["balance"])
 
     def sql(self, statement):
@@ -134,16 +134,16 @@ class Club:
             return database.execute(statement).fetchall()
 
     def served(self, *words, count=None, at=kinds.NOON, **more):
-        """A server over the club for so many connections, or until the end of its block."""
+        """Starts a server on the club for a number of connections, or until the end of the block."""
         return desk.Server(self.program, self.file, count, "--at", at, *words, **more)
 
     def ask(self, data, at=kinds.NOON, **more):
-        """What a server of its own answers to the bytes of a request."""
+        """Returns a separate server's answer to the bytes of a request."""
         with self.served(count=1, at=at, **more) as it:
             return Reply(it.exchange(data))
 
     def play(self, steps):
-        """Plays the steps of a scene, which are answered as they say; the replies."""
+        """Plays the steps of a scene, compares the answers, and returns the replies."""
         replies = []
         for step in steps:
             if isinstance(step, kinds.Sql):
@@ -168,7 +168,7 @@ def clubdesk():
 
 @pytest.fixture(scope="session")
 def passtool():
-    """Runs passtool: its status, and what it prints on both outputs."""
+    """Runs passtool; returns its status and both outputs."""
     program = desk.program("passtool")
 
     def run(*words, given=""):
@@ -198,7 +198,7 @@ def new_club(clubdesk, tmp_path_factory):
 
 @pytest.fixture(scope="session")
 def made(new_club):
-    """The club of which each test has a copy. A file of tests may have another."""
+    """The club that each test gets a copy of. A test file may define another one."""
     club = new_club()
     club.play(kinds.COMMANDS)
     return club

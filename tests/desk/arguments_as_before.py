@@ -3,9 +3,9 @@
 
     tests/desk/arguments_as_before.py BEFORE NOW
 
-For a change of how arguments are read that is to change nothing. Plays some 400 command lines of the program, whose name the paths end in:
-help, versions, each argument given well, badly, twice or not at all, faults in twos and threes, words after `--`, bytes that are no text.
-A `clubdesk` has a folder of its own for each line; a line that serves names a folder as its database, so that it ends. Compares status,
+Run this after a change to argument reading that must not change behaviour. Plays some 400 command lines of the program that the paths end in:
+help, versions, each argument given correctly, wrongly, twice or not at all, two or three faults at once, words after `--`, bytes that aren't
+text. A `clubdesk` gets its own folder for each line; a line that serves names a folder as its database, so that it ends. Compares status,
 standard output and standard error byte for byte, prints each line that differs, and its last line has the counts. The status is 1 if one
 differs. No run of `tests/run` has a program of before, so none plays it."""
 
@@ -21,7 +21,7 @@ FORMS = [[], ["--form", "v1"], ["--form=json"], ["--form", "v3"], ["--form="], [
 CAVEATS = [[], ["guests <= 2"], ["no caveat"], ["kind = court", "no caveat", "nor this"], ["--", "-1", "guests <= 2"]]
 COMMANDS = ["mint", "show", "narrow", "convert", "verify"]
 KEY_ROOT = "000102030405060708090a0b0c0d0e0f"
-# The arguments of each command of clubdesk: what is good at each place, then what isn't. FOLDER is no database.
+# The arguments of each command of clubdesk: good values for each place, then bad ones. FOLDER is no database.
 FOLDER = "."
 WORDS = {
     "add-member": ([FOLDER, "amy", "5"], ["", "Amy", "5x"]),
@@ -112,7 +112,7 @@ def clocks():
 
 
 def runs():
-    """Lines at a database, which is new to each."""
+    """Lines that use a database, which is new for each."""
     for command, (good, bad) in WORDS.items():
         if command != "serve":
             yield from ([command, "club.db", *good[1:]], [command, "club.db", *bad[1:]])

@@ -3,8 +3,8 @@
 
 The same requests then get the same replies.
 
-They are killed at times drawn by a fixed seed. sqlite3, the day sheets and GETs find each acknowledged booking; the one under way may be
-there too, whole. The totals are the sums. At the end all 200 bookings are there, once. ROUNDS=N kills N servers.
+The kills come at times drawn from a fixed seed. sqlite3, the day sheets and GETs find each acknowledged booking; the booking in progress may be
+there too, complete. The totals are the sums. At the end all 200 bookings are there, once. ROUNDS=N kills N servers.
 """
 
 import os
@@ -26,7 +26,7 @@ MOMENT, MAY = caveats.moment_of(NOON), caveats.day_of("2026-05-01")
 DAYS = range(MAY, MAY + 8)
 KEYS = [text(key_pass(f"k{key}")) for key in range(1, 5)]
 SLOTS = [f"/slots/court-1/{spelled_day(MAY + slot // 14)}/{8 + slot % 14:02}" for slot in range(100)]
-# Of the two in a slot the first is for two persons and the second for one.
+# Of the two bookings in a slot, the first is for two persons and the second for one.
 PUTS = [Row("PUT", f"{SLOTS[it // 2]}/bookings/{it + 1}", ONE if it % 2 else TWO, KEYS[it % 4]).data for it in range(200)]
 GETS = [Row("GET", path, passed=KEYS[0]).data for path in SLOTS] + [ACCOUNT.under(it).data for it in KEYS]
 
@@ -58,7 +58,7 @@ class Desk(Both):
         self.asks(GETS)
 
     def killed_after(self, seconds):
-        """The replies of a server that is killed so long after the first request began."""
+        """Returns the replies of a server that is killed this long after the first request began."""
         replies = []
         with self.server() as it:
             client = threading.Thread(target=lambda: replies.extend(it.exchange(data) for data in PUTS))
@@ -71,7 +71,7 @@ class Desk(Both):
 
 @pytest.fixture(scope="module")
 def seconds(clubdesk, tmp_path_factory):
-    """How long the bookings take."""
+    """Returns the time that the bookings take."""
     club = Desk(clubdesk, tmp_path_factory.mktemp("whole") / "club")
     start = time.monotonic()
     club.asks(PUTS)

@@ -3,9 +3,9 @@
 
 The server is killed and started again 100 times. Nothing that was acknowledged is lost.
 
-Every fifth time the client is killed too. It books slots, each asked for once, and cancels most of them. At the end the file has each
+Every fifth time the client is killed too. The client books slots, each requested once, and cancels most of them. At the end the file has each
 booking once: those on the client's record, with the charges, places and refunds that were acknowledged, and no others. The totals are the
-sums. Then each command of client.py is called, with what it prints, and the proxy fails in several ways. KILLS=N kills
+sums. Then each command of client.py is called and its output compared, and the proxy fails in several ways. KILLS=N kills
 N servers.
 """
 
@@ -36,7 +36,7 @@ SLOTS = [(f"court-{it % 10}", f"2026-05-{1 + it // 10 % 30:02}", f"{8 + it // 30
 
 
 class Counting(Client):
-    """Writes a line for each request that got no reply, and so is sent again."""
+    """Writes a line for each request that got no reply and is sent again."""
 
     def __init__(self, folder, port, key, file=None):
         super().__init__(f"http://127.0.0.1:{port}", (folder / f"pass.{key}").read_text().strip(), Record(folder / f"record.{key}"))
@@ -51,7 +51,7 @@ class Counting(Client):
 
 
 def work(folder, port):
-    """Books each slot that isn't on the record yet, and cancels ten of eleven, so that no member reaches the quota of 99."""
+    """Books each slot that isn't on record yet, and cancels ten of eleven, so that no member reaches the quota of 99."""
     with open(folder / "acknowledged", "a", encoding="utf-8") as file:
         clients = [Counting(folder, port, key, file) for key in KEYS]
         for client in clients:
@@ -71,7 +71,7 @@ def work(folder, port):
 
 
 def killed_and_killed(club, folder):
-    """Kills servers, and every fifth time the worker; the port of them all."""
+    """Kills servers, and every fifth time the worker. All servers have the same port."""
     draw, worker, port = random.Random(20260501), None, 0
     for kill in range(1, KILLS + 1):
         with club.served(port=port) as server:
@@ -89,7 +89,7 @@ def killed_and_killed(club, folder):
 
 
 def recorded(folder, port):
-    """What the clients' records say of each booking, once nothing is unfinished."""
+    """Returns the clients' records of each booking, once nothing is unfinished."""
     rows = {}
     for key in KEYS:
         client = Counting(folder, port, key, sys.stderr)
@@ -127,12 +127,12 @@ def test_servers_and_clients_that_are_killed(new_club, tmp_path):
 
 @pytest.fixture
 def own(new_club, tmp_path):
-    """A club of amy's, and her client."""
+    """A club with amy, and her client."""
     club = new_club("add-facility court-1 court 4 200 8 22", "add-member amy 2", "credit amy 10000")
     (tmp_path / "pass").write_text(club.does(f"add-key amy-1 amy {ROOT}"))
 
     def prints(port, words, patience=0):
-        """The status of the client, what it prints, with N for a number drawn, and the number."""
+        """Returns the client's status, its output with N for a drawn number, and that number."""
         ended = subprocess.run([desk.ROOT / "examples" / "client.py", *words.split()], cwd=tmp_path, check=False, stdout=subprocess.PIPE, text=True,
                                env={**os.environ, "DESK": f"http://127.0.0.1:{port}", "PATIENCE": str(patience)})
         drawn = re.search(r"amy-1/(\d+)", ended.stdout)

@@ -1,11 +1,11 @@
 #!/usr/bin/env -S /usr/bin/python3 -B -m pytest -q -p no:cacheprovider
 """The server under a set clock, around the first and last minutes of 2000 to 2099.
 
-It serves at moments of the club, and else ends with status 6, unchanged.
+It serves at moments of the club; otherwise it ends with status 6 and the club is unchanged.
 
-The clock is also beyond those years, and the zones are three. If it shows a moment of the club's, each client has its reply. If it
-shows none, or can't be read, the first client has no byte, and a second one isn't waited for. The server ends with its line, and the
-club is as it was.
+The clock is also beyond those years, and the zones are three. If the clock shows a moment of the club, each client gets its reply. If it shows
+none, or can't be read, the first client gets no byte, and the server doesn't wait for a second one. The server ends with its line, and the club
+is unchanged.
 """
 
 from datetime import datetime, timezone
@@ -22,7 +22,7 @@ CENTRAL, WESTERN = "CET-1CEST,M3.5.0,M10.5.0/3", "EST5"
 
 @pytest.fixture
 def clock(library, club):
-    """A server for two connections, whose clock stands at a time of UTC's, or can't be read."""
+    """A server for two connections, whose clock is stopped at a UTC time, or can't be read."""
 
     def server_at(zone, time, status=0):
         second = "unreadable" if time is None else str(int(datetime.fromisoformat(time).replace(tzinfo=timezone.utc).timestamp()))

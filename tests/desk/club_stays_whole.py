@@ -1,14 +1,14 @@
 #!/usr/bin/env -S /usr/bin/python3 -B -m pytest -q -p no:cacheprovider
 """Commands of `clubdesk` under refused memory, little storage and kills leave the club as it was, or are done.
 
-Each allocation is refused in turn, also while passes are printed. After a fault nothing was written, and the club is as it was. After a
-kill it is as it was, or the command is done.
+Each allocation is refused in turn, also while passes are printed. After a fault nothing was written, and the club is unchanged. After a kill it
+is unchanged, or the command is done.
 
 Then sqlite3 finds the file sound, and clubdesk reads it.
 - Each allocation is refused in turn: the command ends with status 4, or 2 if clap met the refusal, or as with ample memory.
-- The file may grow to so many blocks alone: the command ends with status 5, or as with ample storage.
-- The command is killed after so many milliseconds.
-STEP=N refuses each Nth allocation alone, which is faster.
+- The file may grow only to a number of blocks: the command ends with status 5, or as with ample storage.
+- The command is killed after a number of milliseconds.
+STEP=N refuses only each Nth allocation, which is faster.
 """
 
 import contextlib
@@ -30,7 +30,7 @@ pytestmark = [pytest.mark.faults, pytest.mark.needs("clubdesk"), pytest.mark.wan
 
 STEP = int(os.environ.get("STEP", "1"))
 ROOT, OTHER = "30313233343536373839616263646566", "ffeeddccbbaa99887766554433221100"
-# Each command, with what it is to sqlite3.
+# Each command, with its effect in sqlite3.
 COMMANDS = {
     "add-member amy 5": "INSERT INTO members VALUES ('amy', 0, 5, 0)",
     "credit amy 10000": "UPDATE members SET credited = credited + 10000",
@@ -64,7 +64,7 @@ def rows(club):
 
 
 class Command:
-    """A command that is given again and again, each time to a copy of a club, and what it leaves."""
+    """A command that is given repeatedly, each time to a copy of a club, with the states that it leaves."""
 
     def __init__(self, before, words):
         self.before, self.words, self.found = before, words.split(), {}
@@ -84,7 +84,7 @@ class Command:
             yield club, [club.program, self.words[0], club.file, *self.words[1:]]
 
     def keeps_a_club(self, club, *wanted):
-        """What lies in the file and its log is one of these, and clubdesk reads it. The same bytes are looked at once."""
+        """Checks that the file and its log hold one of these states, and that clubdesk reads it. The same bytes are checked only once."""
         state = hashlib.sha256(b" log ".join(it.read_bytes() for it in (club.file, Path(f"{club.file}-wal")) if it.exists())).digest()
         if state not in self.found:
             self.found[state] = rows(club.copied_to(club.file.with_name("copied")))
@@ -94,7 +94,7 @@ class Command:
         assert found in wanted
 
     def given(self, limits=None, **variables):
-        """How it ends; a fault wrote nothing."""
+        """Returns how it ended; after a fault it must have written nothing."""
         with self.copy() as (club, words):
             ended = desk.command(*words, env={**os.environ, **variables}, preexec_fn=limits, restore_signals=False)
             self.keeps_a_club(club, self.rows if ended[0] else self.after)

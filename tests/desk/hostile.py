@@ -4,9 +4,9 @@
 The rules are those of `tests/reference`; each row and total is compared, too. `--self-test` finds planted faults of the rules.
 
 Replies are compared byte for byte, rows and totals after each server. The rules are written only from the pages on the desk, passes and
-caveats. Requests are drawn by a seed. Passes in three forms are under current, older and other roots, narrowed by caveats at their limits, cut,
-changed in a byte, or a third party's. Heads and bodies with other letters, line ends, lengths, fields and paths. Servers follow one
-another, each at a moment of its own, and the office gives its commands between them.
+caveats. Requests are drawn by a seed. Passes in three forms are under current, older and other roots. They are narrowed by caveats at their
+limits, cut, changed in a byte, or a third party's. Heads and bodies have other letters, line ends, lengths, fields and paths. Servers follow one
+another, each at its own moment, and the office gives its commands between them.
 
     tests/desk/hostile.py [--seed N] [--count M] [--plant FAULT | --self-test]
 """
@@ -35,7 +35,7 @@ ENDS = (b"\r\n",) * 30 + (b"\n",)
 
 
 class World(Both):
-    """Both clubs, and draws from a seed."""
+    """Both clubs, with draws from a seed."""
 
     def __init__(self, seed, desk, folder, plant=None):
         super().__init__(desk, Path(folder) / f"club-{seed}", plant)
@@ -48,14 +48,14 @@ class World(Both):
         return self.draw.randbytes(self.draw.choice((16, 16, 32, 63, 64)))
 
     def slot(self):
-        """A slot, and mostly one that can be booked."""
+        """Draws a slot, mostly a bookable one."""
         draw = self.draw
         ahead = draw.choice((0, 1, 2, 2, 11)) if draw.random() < 0.9 else draw.choice((-1, 59, 60, 61))
         hour = draw.choice((8, 9, 18, 19, 20, 21)) if draw.random() < 0.9 else draw.choice((0, 7, 22, 23))
         return draw.choice(FACILITIES), min(max(self.moment // 1440 + ahead, caveats.FIRST_DAY), caveats.LAST_DAY), hour
 
     def booked(self):
-        """A key, a number and its booking, which may be cancelled; None if there is none yet."""
+        """Draws a key and a number with its booking, which may be cancelled; returns None without any."""
         key = self.draw.choice(KEYS)
         rows = self.club.bookings.get(key)
         if not rows:
@@ -101,7 +101,7 @@ class World(Both):
     # ---- passes
 
     def caveat(self):
-        """A caveat at some limit; one in eight isn't understood."""
+        """Draws a caveat at some limit; one in eight isn't understood."""
         draw = self.draw
         day = self.moment // 1440
         first, last = (spelled_day(day + it) for it in sorted(draw.choices((0, 1, 11, 60, 1000), k=2)))
@@ -120,7 +120,7 @@ class World(Both):
         return draw.choice(odd if draw.random() < 0.12 else lines).encode()
 
     def given_pass(self, key):
-        """The bytes of a text of a key's pass, and mostly of a good one."""
+        """Draws the bytes of a text of a key's pass, mostly a good one."""
         draw = self.draw
         roots = self.roots.get(key) or [b"no root of the club"]
         root = roots[-1] if draw.random() < 0.8 else draw.choice([*roots, b"another root...."])
@@ -138,7 +138,7 @@ class World(Both):
         return self.damaged(text) if draw.random() < 0.06 else text
 
     def third_partys(self, given, form):
-        """The pass with a caveat of a third party's at its end."""
+        """Returns the pass with a third-party caveat at its end."""
         if form == "v1":
             tail = passes.packet(b"signature", given.signature)
             extra = passes.packet(b"cid", b"who") + self.draw.choice((passes.packet(b"vid", b"x"), passes.packet(b"cl", b"")))
@@ -162,7 +162,7 @@ class World(Both):
     # ---- requests
 
     def request(self):
-        """The bytes of a request, and mostly of a whole one."""
+        """Draws the bytes of a request, mostly a complete one."""
         draw = self.draw
         key, method, path, body = self.target()
         fields = [b"Authorization: Bearer " + self.given_pass(key), b"Host: club.example"]
@@ -180,7 +180,7 @@ class World(Both):
         return self.spoiled(data) if draw.random() < 0.05 else data
 
     def target(self):
-        """The key, the method, the path and the body of a request: a new one, or about a booking that there is."""
+        """Draws a request's key, method, path and body: a new one, or about an existing booking."""
         draw = self.draw
         kind = draw.choice(("view", "book", "book", "book", "cancel", "cancel", "account"))
         key, (facility, day, hour), guests = draw.choice(KEYS), self.slot(), draw.choice((0, 0, 1, 2, 3, 49))
@@ -252,7 +252,7 @@ class World(Both):
     # ---- rounds
 
     def round(self, count):
-        """Commands, a server at a moment of its own, so many requests, and a look into the file."""
+        """Gives commands, then sends requests to a server at its own moment, and compares the file."""
         self.moment = NOON + self.draw.choice((0, 0, 1, 360, 361, 1440, 11 * 1440, 30_000)) + self.draw.randrange(3)
         for _ in range(COMMANDS_BETWEEN):
             self.give(self.words_of_command())
@@ -274,7 +274,7 @@ def begin(world):
 
 
 def run(seed, count, desk, plant=None):
-    """So many requests, at a new club after every 10,000."""
+    """Plays a number of requests, with a new club after every 10,000."""
     with tempfile.TemporaryDirectory(dir=programs.IN_MEMORY) as folder:
         for done in programs.paced(count, AT_ONE_SERVER, "requests"):
             if done % AT_ONE_CLUB == 0:

@@ -3,7 +3,7 @@
 
 It takes six bookings and three cancellations in a file, under passes in V1, V2 and JSON.
 
-A refused allocation that the server passes over would change no byte, so no test over bytes can see one. The commit is the last call that
+An allocation that the server could do without changes no byte, so tests of bytes can't see it. The commit is the last call that
 syncs the file before the reply is sent.
 """
 

@@ -1,12 +1,12 @@
 #!/usr/bin/env -S /usr/bin/python3 -B -m pytest -q -x -s -p no:cacheprovider
 """Two offices give 500 commands beside four clients with 5,000 requests: every answer and total is right.
 
-So they are with kills, slow clients, stale doors and moved files. Prints how long commands and requests took.
+They stay right with kills, slow clients, stale doors and moved files. Prints how long commands and requests took.
 
 The processes are real, and sqlite3 finds the totals to be the sums once the server is stopped. Then come 20 kills of servers and of
-commands, and a client that is silent next to one that sends a byte a second. Tried are also a door that is stale or taken, a second
-server, links to the file and its folder, and a file that is moved, replaced or removed. So are another user, the modes of the files, and
-the lines of commands. Times are those of one run, also at 300,000 bookings, with a server without commands.
+commands, and a client that is silent next to one that sends a byte a second. The test also tries a door that is stale or taken, a second server,
+links to the file and its folder, and a file that is moved, replaced or removed. It checks another user, the files' modes, and the lines of
+commands. Times are from one run, also with 300,000 bookings, compared with a server without commands.
 """
 
 import contextlib
@@ -56,7 +56,7 @@ def club(made):
 
 
 class Times(list):
-    """How long calls took, in seconds."""
+    """The seconds that calls took."""
 
     def of(self, act, *words):
         begun = time.monotonic()
@@ -97,7 +97,7 @@ def given_by(place):
 
 
 def beside(club, server, count):
-    """Four clients, and two offices if there are commands: each reply and each answer is as it is reckoned."""
+    """Runs four clients, and two offices if there are commands, and compares each reply and answer with the expected one."""
     bookings, others, commands = Times(), Times(), Times()
 
     def client(place):
@@ -123,14 +123,15 @@ def beside(club, server, count):
 
 
 def test_door_has_a_mode_and_commands_have_lines(club):
-    """500 commands beside 5,000 requests. Then three with a root, one of which is refused, and one of which reads it: none is in the log."""
+    """500 commands beside 5,000 requests. Then come three commands with a root: one is refused, and one reads the root from input. No root is in
+    the log."""
     with club.served("--log") as server:
         assert stat.filemode(os.stat(f"{club.file}-office").st_mode) == "srw-------"
         beside(club, server, 500)
         assert club.command("add-key", "given", "m1", ROOT) == (0, text(key_pass("given")) + "\n", "")
         assert club.command("rotate-key", "nobody", ROOT, "2030-01-01T00:00") == (1, "", "refused: unknown\n")
         assert desk.command(club.program, "add-key", club.file, "read", "m1", "--root-stdin", text=ROOT) == (0, text(key_pass("read")) + "\n", "")
-        # A client is served once the line before it is written.
+        # Once a client is served, the previous line has been written.
         assert server.exchange(b"GET /account HTTP/1.1\r\n\r\n")
         log = server.log.read_text()
     names = ("add-member", "credit", "close-slot", "revoke-key", "show-slot")
@@ -139,14 +140,15 @@ def test_door_has_a_mode_and_commands_have_lines(club):
 
 
 def ends(wanted, most, *words):
-    """A command ends with a status and what it prints, within so many seconds."""
+    """Runs a command, which must end with this status and output within some seconds."""
     begun = time.monotonic()
     assert desk.command(*words) == wanted
     assert time.monotonic() - begun < most
 
 
 def test_what_others_meet_beside_a_server(club):
-    """A second server, commands by a link to the file and to its folder and at a file that is moved, and another user, where the file's mode lets it in."""
+    """Tries a second server, commands through a link to the file and to its folder, commands at a moved file, and another user whom the file's
+    mode admits."""
     folder, moved = club.file.parent, club.file.with_name("moved")
     with club.served():
         ends(FAILED, 15, club.program, "serve", club.file, "--port", "0", "--count", "1")
@@ -166,7 +168,7 @@ def test_what_others_meet_beside_a_server(club):
 
 @pytest.mark.parametrize("is_replaced", [True, False], ids=["replaced", "removed"])
 def test_file_that_is_gone(made, is_replaced):
-    """The server acknowledges nothing that would go into a file without a name, and leaves one in its place as it is."""
+    """The server acknowledges nothing once its file has no name, and leaves a new file in its place unchanged."""
     club = made.copied_to(made.file.with_name("gone"))
     with club.served() as server:
         assert server.exchange(ACCOUNT.under(PASSES[1]).data).startswith(b"HTTP/1.1 200 ")
@@ -181,7 +183,7 @@ def test_file_that_is_gone(made, is_replaced):
 
 
 def test_server_whose_file_was_replaced_leaves_the_door_of_the_next(made):
-    """The next one serves the file that took the name."""
+    """The next server serves the file that took the name."""
     club = made.copied_to(made.file.with_name("twice"))
     with club.served(count=1) as first:
         made.copied_to(club.file)
@@ -221,7 +223,8 @@ def test_something_else_than_a_door_stays(club):
 
 
 def test_commands_beside_four_clients_of_which_two_dawdle(club):
-    """One is silent, one sends a byte a second. Each command is carried out within a fraction of a second, and the other two have their replies."""
+    """One client is silent, and one sends a byte a second. Each command is carried out within a fraction of a second, and the other two clients
+    get their replies."""
     commands = Times()
 
     def dawdles(server, act):
@@ -245,7 +248,8 @@ def test_commands_beside_four_clients_of_which_two_dawdle(club):
 
 @pytest.mark.parametrize("dawdle", [lambda _: None, DRIP], ids=["silent", "a byte a second"])
 def test_client_that_dawdles_keeps_no_command(club, dawdle):
-    """Each is carried out within a fraction of a second, while the client is still awaited; it is cut off by the server's patience of four seconds."""
+    """Each command is carried out within a fraction of a second, while the server still waits for the client. The client is cut off after the
+    server's patience of four seconds."""
     commands = Times()
     with club.served("--patience", "4") as server, socket.create_connection(("127.0.0.1", server.port), 60) as client:
         begun, dawdling = time.monotonic(), threading.Thread(target=dawdle, args=[client])
@@ -263,7 +267,7 @@ def test_client_that_dawdles_keeps_no_command(club, dawdle):
 
 @pytest.mark.parametrize("number", range(1, 21))
 def test_killed_command_or_server(club, number):
-    """The command was carried out or not, and its status says so if it can; the totals are the sums."""
+    """The command's status says whether it was carried out, or that this is unknown; the totals match."""
     with club.served() as server:
         before = club.balance("k1")
         command = subprocess.Popen([club.program, "credit", club.file, "m1", "1"], stdout=subprocess.DEVNULL, stderr=subprocess.DEVNULL)
@@ -275,7 +279,7 @@ def test_killed_command_or_server(club, number):
 
 
 def test_server_that_ends_takes_its_door_along(club):
-    """And nothing else: a file beside it may be another club."""
+    """Nothing else is removed: a file next to it may be another club."""
     others = [Path(f"{club.file}-{ending}") for ending in ("wanted", "serving", "paused")]
     for it in others:
         it.write_text("another's\n")
@@ -287,7 +291,7 @@ def test_server_that_ends_takes_its_door_along(club):
 
 @pytest.mark.parametrize("bookings, count", [(0, 0), (300_000, 0), (300_000, 500)])
 def test_times(made, bookings, count):
-    """Without commands at 360 bookings, and with and without at 300,000 more of 1,000 other members."""
+    """Measures without commands at 360 bookings, then with and without them at 300,000 more bookings of 1,000 other members."""
     club = made.copied_to(made.file.with_name(f"at {bookings}"))
     if bookings:
         desk.add_past_bookings(club.file, bookings, ROOT)

@@ -1,13 +1,12 @@
 #!/usr/bin/env -S /usr/bin/python3 -B -m pytest -q -p no:cacheprovider
 """A running desk carries out only whole commands, once, whatever else comes through its door.
 
-The door meets commands, senders and servers that are cut, slow or foreign, and the server goes on. Wants root for some of it.
+The test sends truncated, slow and foreign commands, with such senders and servers, and the real server keeps running. Some of it needs root.
 
-Commands: cut at each byte, of 70,000 bytes, with a wrong count, with
-arguments that are no UTF-8, of no name, and of `serve`. Senders: gone before they are greeted, silent, or taking no answer. Servers: they don't
-greet or answer, are stopped for longer than a limit, or end before they greet. Then 50 commands at once, and root's command at another user's
-desk. Doors: a stale one of root's, one of a stranger, one behind a link, in a folder that a server can't write, and on a full disk. Root is
-wanted for other users and disks.
+Commands: cut at each byte, of 70,000 bytes, with a wrong count, with arguments that aren't UTF-8, without a name, and of `serve`. Senders: gone
+before the greeting, silent, or not taking an answer. Servers: they don't greet or answer, are stopped for longer than a limit, or end before
+they greet. Then 50 commands at once, and root's command at another user's desk. Doors: a stale one of root's, one of a stranger, one behind a
+link, in a folder that a server can't write, and on a full disk. Root is wanted for other users and disks.
 """
 
 import contextlib
@@ -29,7 +28,7 @@ pytestmark = [pytest.mark.faults, pytest.mark.needs("clubdesk"), pytest.mark.wan
 
 
 def command_bytes(*words, root="", count=None):
-    """The bytes of a command: how many words it has, the root that was read for it, and the words, with a zero byte after each."""
+    """Returns a command's bytes: its number of words, its root, and the words, with a zero byte after each."""
     pieces = [str(len(words) if count is None else count), root, *words]
     return b"".join(it.encode() + b"\0" for it in pieces)
 
@@ -71,7 +70,7 @@ def parts(data):
 
 
 def credited(club):
-    """The points that Amy was credited beyond those of the first club, by a look through the door."""
+    """Returns Amy's credits since the first club, as the door shows them."""
     return club.balance("amy-1") - 10_000
 
 
@@ -135,7 +134,7 @@ def test_a_silent_sender(club, serving, length):
 
 
 def test_a_sender_that_takes_no_answer(club):
-    """A sheet that no buffer of a socket holds: it is cut off after 200 milliseconds, whatever the patience, and has no end."""
+    """A sheet too large for any socket buffer is cut off after 200 milliseconds, whatever the patience, and has no end mark."""
     club.sql("""WITH n(i) AS (SELECT 1 UNION ALL SELECT i + 1 FROM n WHERE i < 10000)
         INSERT INTO bookings SELECT 'amy-1', 1000 + i, 'court-1', 10957, 8, 0, 0, 0, 0, 0 FROM n""")
     with club.served("--patience", "10") as server, visitor(club) as it:
@@ -151,7 +150,7 @@ def test_a_sender_that_takes_no_answer(club):
 
 
 def test_a_server_that_does_not_greet(club, serving):
-    """It is stopped for as long as a command waits, and carries nothing out when it goes on."""
+    """The server is stopped for as long as a command waits, and carries nothing out when it continues."""
     os.kill(serving.process.pid, signal.SIGSTOP)
     began = time.monotonic()
     assert club.command("credit", "amy", "1") == FAILED
@@ -163,7 +162,7 @@ def test_a_server_that_does_not_greet(club, serving):
 
 @contextlib.contextmanager
 def stopped(server):
-    """A server that is stopped, as a machine that sleeps, until the end of the block."""
+    """Stops a server until the end of the block, as if the machine slept."""
     os.kill(server.process.pid, signal.SIGSTOP)
     yield
     os.kill(server.process.pid, signal.SIGCONT)
@@ -171,7 +170,7 @@ def stopped(server):
 
 @pytest.mark.parametrize("length, wanted", [(len(WHOLE), (0, "done\n")), (len(WHOLE) - 1, (2, ""))])
 def test_a_server_that_is_stopped_while_a_command_comes(club, serving, length, wanted):
-    """It goes on once a limit of the command is long over; what came meanwhile, with its end, is read."""
+    """The server continues after the command's time limit; a command that arrived whole meanwhile is read."""
     with visitor(club) as it:
         with stopped(serving):
             it.sendall(WHOLE[:length])
@@ -197,7 +196,7 @@ def test_a_server_that_is_stopped_while_a_client_sends(club):
 
 @pytest.mark.parametrize("is_followed", [False, True], ids=["by nobody", "by another server"])
 def test_a_server_that_ends_before_it_greets(club, clubdesk, is_followed):
-    """Its command has sent nothing, and tries again: at the file, or at the door of the next server."""
+    """The command has sent nothing, and tries again at the file or at the next server's door."""
     with club.served() as server:
         os.kill(server.process.pid, signal.SIGSTOP)
         with subprocess.Popen([clubdesk, "credit", club.file, "amy", "1"], stdout=subprocess.PIPE, stderr=subprocess.PIPE, text=True) as command:
@@ -233,7 +232,7 @@ def test_what_a_server_may_send(club, greeting, reply, wanted):
 
 
 def test_a_server_that_closes_after_it_greeted(club):
-    """It read nothing of the command, or not all of it: so it can't carry it out, and the next one does."""
+    """The server read nothing or only part of the command, so it can't carry it out, and the next server does."""
     with socket.socket(socket.AF_UNIX) as door:
         door.bind(f"{club.file}-office")
         door.listen()
@@ -255,7 +254,7 @@ def test_a_server_that_closes_after_it_greeted(club):
 
 
 def test_fifty_at_once(club, serving, clubdesk):
-    """Each is carried out once. On a busy machine one may have no processor for the time that it has to send: then it tries again."""
+    """Each is carried out once. On a busy machine a command may get no processor during the time to send; then it tries again."""
     commands = [subprocess.Popen([clubdesk, "credit", club.file, "amy", "1"], stdout=subprocess.PIPE, stderr=subprocess.PIPE) for _ in range(50)]
     ended = [(*it.communicate(), it.returncode) for it in commands]
     assert ended == [(b"done\n", b"", 0)] * 50
@@ -264,7 +263,7 @@ def test_fifty_at_once(club, serving, clubdesk):
 
 @pytest.fixture
 def of_another(club):
-    """The club, in a folder of another user."""
+    """The club in another user's folder."""
     for parent in club.file.parents:
         if parent.stat().st_mode & 0o5 != 0o5:
             parent.chmod(0o755)
@@ -284,7 +283,7 @@ def test_a_command_of_root(of_another):
 
 @needs_root
 def test_a_stale_door_of_root(of_another, clubdesk):
-    """A server that root ran was killed: the owner of the club gives commands, and serves, as before."""
+    """After root's server was killed, the club's owner can still give commands and serve."""
     with of_another.served() as server:
         server.kill()
     door = of_another.file.with_name("club-office")
@@ -316,7 +315,8 @@ with socket.socket(socket.AF_UNIX) as door:
 
 @needs_root
 def test_a_door_of_a_stranger(club, clubdesk):
-    """In a folder that others may write to, a stranger listens at the door's name: it gets no command and no root, and no server takes its place."""
+    """In a folder that others can write to, a stranger listens at the door's name. The stranger gets no command and no root, and no server
+    replaces its socket."""
     for parent in club.file.parents:
         if parent.stat().st_mode & 0o5 != 0o5:
             parent.chmod(0o755)
@@ -360,7 +360,7 @@ def test_a_folder_that_cannot_be_written(of_another, clubdesk):
 
 @pytest.fixture
 def small_disk(tmp_path):
-    """The folder of a disk of eight megabytes."""
+    """A folder on a disk of eight megabytes."""
     disk = tmp_path / "disk"
     disk.mkdir()
     subprocess.run(["mount", "-t", "tmpfs", "-o", "size=8m", "none", disk], check=True)

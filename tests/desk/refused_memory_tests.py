@@ -1,14 +1,14 @@
 #!/usr/bin/env -S /usr/bin/python3 -B
 """Tests with each allocation refused in turn: each call is right, or out of memory without a change.
 
-The tests read and write the known passes in each form, open a store in each way, and give each command of the office. They make the
-known booking through `Desk::ask`, `Desk::run` and `answer`.
+The tests read and write the known passes in each form, open a store in each way, and give each command of the office. They make the known
+booking by `Desk::ask`, `Desk::run` and `answer`.
 
 It fails if a test isn't there, fails with ample memory, or allocates nothing. Tests that are missing or older than their sources are
 proved and built first.
 
-Name tests that pass each fault on, or compare what they get with out of memory and with the right answer: one that expects
-another fault fails if memory is refused instead.
+Name only tests that return each fault, or accept out of memory next to the right answer. A test that expects another fault fails if memory is
+refused instead.
   tests/desk/refused_memory_tests.py                                              the tests of the list below
   tests/desk/refused_memory_tests.py club_gate_tests                                         those of one crate
   tests/desk/refused_memory_tests.py club_gate_tests store::shown::shows_what_a_key_sees ..  any tests of a crate
@@ -29,7 +29,7 @@ from more_edits import crates_below
 
 OPENINGS = """store_in_memory empty_database tables_of_version_1 tables_without_the_index tables_of_version_2
               new_file file_of_version_1 file_without_the_index file_of_version_2"""
-# Of each crate its tests; those without another module are in `refused_memory`.
+# The tests of each crate; those without a module are in `refused_memory`.
 TESTS = {
     "pass_forms_tests": "known_pass known_pass_without_its_caveat example",
     "club_gate_tests": " ".join(["commands ask_in_v1 ask_in_v2 ask_in_json run_in_v1 run_in_v2 run_in_json",
@@ -61,8 +61,8 @@ def built(crate):
 
 
 def ends_without_memory(output):
-    """Returns whether a test that failed ended with out of memory: what it passed on, or what it got in place of another value, is that fault and
-    nothing beside it, in an `Err` or the like. One that names the fault elsewhere, as what it had expected, failed otherwise."""
+    """Returns whether a failed test ended with out of memory: the value that it returned, or got instead of another one, is that fault alone, in
+    an `Err` or the like. A test that mentions the fault elsewhere, such as in an expected value, failed for another reason."""
     def has_line(head):
         return any(re.fullmatch(head + FAULT, line) for line in output.splitlines())
 
@@ -70,12 +70,12 @@ def ends_without_memory(output):
 
 
 def refuse(crate, test, program):
-    """Runs a test with ample memory, and then with each of its allocations refused; how many there are."""
+    """Runs a test with ample memory, then with each allocation refused in turn; returns their number."""
     if f"{test}: test" not in subprocess.run([program, "--list"], capture_output=True, text=True, check=True).stdout.splitlines():
         sys.exit(f"{crate} has no test {test}")
 
     def run(**variables):
-        """The status and the output, in a folder of its own."""
+        """Returns the status and the output of a run in its own folder."""
         with tempfile.TemporaryDirectory(dir=ROOM.name) as folder:
             ran = subprocess.run([program, test], stdout=subprocess.PIPE, stderr=subprocess.STDOUT, text=True, errors="replace", timeout=60, check=False,
                                  env={**os.environ, "TMPDIR": folder, **variables})

@@ -1,9 +1,9 @@
 #!/usr/bin/env -S /usr/bin/python3 -B
-"""Compares the rows of the test crates with the scenarios: which facts a row states, and which of them no scenario states.
+"""Compares the rows of the test crates with the scenarios, and finds facts in rows that no scenario states.
 
 A fact is a question, the state of the club that its answer depends on, and the answer. READERS has a reader for each table whose rows scenarios
-can state. STAYS has the reason why other rows stay in Rust. The last line printed has the counts. The status is 1 if a row that a scenario can
-state is missing from the files.
+can state. STAYS has the reasons why other rows stay in the test crates. The last line printed has the counts. The status is 1 if a row that a
+scenario can state is missing from the files.
 
     tests/desk/scenarios_count.py             prints the missing rows, and the counts
     tests/desk/scenarios_count.py --leaves    also prints each table whose rows the files state, and how many of its rows stay
@@ -52,7 +52,7 @@ READERS = {
     "clubdesk_tests/commands": dict.fromkeys(("MEMBERS", "FACILITIES", "SLOTS_AND_SHEETS", "LOOKS", "KEYS", "PASSES_OF_KEYS"), rows.of_runs),
 }
 
-# Why the rows of a module stay where they are; what isn't read of a module above has a reason here, too.
+# Reasons why a module's rows stay where they are, also for the unread rows of a module above.
 STAYS = {
     "club_core_tests/caveats/values": "readers of values: names, days, moments, numbers",
     "club_core_tests/caveats/allowed": "more points than requests can spend, and calls of their own",

@@ -1,14 +1,14 @@
 #!/usr/bin/env -S /usr/bin/python3 -B -m pytest -q -p no:cacheprovider
 """Clients that dawdle are cut off in time, and clients that send too much lose no reply.
 
-The clients behind a slow one get their replies. The others send far more than a request before they read.
+The clients after a slow one get their replies. Other clients send far more than a request before they read.
 
 The server has a patience of two seconds. One client sends nothing, one begins its request, one sends a byte a second, one never reads its
 reply, and one stays after its request. Then come 1,000 requests with 1 to 100,000 bytes after them, and 1,000 heads of 100,000 bytes,
-half of them in two pieces. Then come 200 requests in three, four and six pieces each, by a length and by chunks, and 100 while the server
-is stopped and goes on.
+half of them in two pieces. Then come 200 requests in three, four and six pieces each, with a length and with chunks, and 100 while the server is
+stopped and continued.
 
-Clients send all before they read, as Python's do: one whose send fails gives up.
+Clients send everything before they read, as Python's do; a client whose send fails gives up.
 """
 
 import os
@@ -29,7 +29,7 @@ REQUEST = account().data
 
 @pytest.fixture
 def patient(club):
-    """A server for so many connections."""
+    """A server for a number of connections."""
     return lambda count: club.served("--patience", str(PATIENCE), count=count)
 
 
@@ -40,7 +40,7 @@ def connected(server):
 
 
 def replied(server, pieces, pause):
-    """The reply to pieces, which are sent with a pause between two, all before it is read."""
+    """Sends pieces with a pause after each, then reads the reply."""
     with connected(server) as client:
         for place, piece in enumerate(pieces):
             time.sleep(pause if place else 0)
@@ -49,14 +49,14 @@ def replied(server, pieces, pause):
 
 
 def cut(text, count):
-    """The text in so many pieces."""
+    """Splits the text into a number of pieces."""
     size = (len(text) + count - 1) // count
     return [text[place:place + size] for place in range(0, len(text), size)]
 
 
 @pytest.mark.parametrize("dawdle, least, most", [
     (b"", PATIENCE - 0.2, PATIENCE + 1), (REQUEST[:40], PATIENCE - 0.2, PATIENCE + 1),
-    # One that never reads, and one that stays behind its request: what that sends is waited for a fifth of a second.
+    # One client never reads, and one stays connected after its request: the server waits a fifth of a second for more bytes.
     (REQUEST, 0, 1), (REQUEST + b"x", 0, 1)], ids=["silent", "begins its request", "never reads", "stays"])
 def test_client_behind_one_that_dawdles(patient, dawdle, least, most):
     with patient(2) as server, connected(server) as client:
@@ -67,7 +67,7 @@ def test_client_behind_one_that_dawdles(patient, dawdle, least, most):
 
 
 def test_client_of_a_byte_a_second_is_cut_off(patient):
-    """It is cut off once the patience is over, though it is never silent for long."""
+    """The client is cut off once the patience is over, though it is never silent for long."""
     with patient(2) as server:
         with connected(server) as client:
             began = time.monotonic()
@@ -104,7 +104,7 @@ def test_requests_in_pieces(patient, count):
 
 
 def test_server_that_is_stopped_and_goes_on(patient):
-    """While it waits for each of 100 requests."""
+    """The server is stopped while it waits for each of 100 requests."""
     with patient(100) as server:
         for _ in range(100):
             with connected(server) as client:

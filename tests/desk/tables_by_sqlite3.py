@@ -1,10 +1,10 @@
 #!/usr/bin/env -S /usr/bin/python3 -B -m pytest -q -p no:cacheprovider
 """The file of `clubdesk` as SQLite's shell reads it, and the lists and corrections of docs/RUNNING.md.
 
-Files that hold no club, and rows out of their limits, are a fault of storage.
+Files without a club, and rows outside their limits, are a storage fault.
 
-With the columns, keys, references and limits of docs/TABLES.md. clubdesk shows changes by sqlite3 within them. A file that is refused stays as
-it was, byte for byte.
+The columns, keys, references and limits are those of docs/TABLES.md. clubdesk shows changes that sqlite3 makes within them. A file that is
+refused stays as it was, byte for byte.
 """
 
 import re
@@ -23,7 +23,7 @@ DAY = "2026-05-01"
 RUNNING = (desk.ROOT / "docs" / "RUNNING.md").read_text(encoding="utf-8")
 SCHEMA = re.search(r"^```sql\n(.*?)^```", (desk.ROOT / "docs" / "TABLES.md").read_text(encoding="utf-8"), re.MULTILINE | re.DOTALL)[1]
 TABLES = re.findall(r"^CREATE TABLE (\w+)", SCHEMA, re.MULTILINE)
-# Of a column of docs/TABLES.md: its table, its name, the least and the most.
+# A column of docs/TABLES.md: its table, its name, its least and greatest value.
 LIMITS = [(table, *limit) for table, columns in re.findall(r"^CREATE TABLE (\w+) \(\n(.*?)^\)", SCHEMA, re.MULTILINE | re.DOTALL)
           for limit in re.findall(r"CHECK \((\w+) BETWEEN (\d+) AND (\d+)\)", columns)]
 ROOT = "30313233343536373839616263646566"
@@ -36,7 +36,7 @@ NO_BOOKINGS = command(f"sheet {DAY}", printed=f"Day sheet {DAY}\nNo bookings.\n"
 
 
 def tells(taken, balance, opened, spent, quota=5, sheet=LINE_7 + "Total bookings 1, persons 3, charge 600\n", nine=True, room=False):
-    """What shows a club: three slots, the account, and the day sheet. `nine` and `room` say whether these slots are closed."""
+    """Shows a club by three slots, the account, and the day sheet. `nine` and `room` say whether these slots are closed."""
     rows = [shown(0, 9, nine), shown(taken), view(ROOM).serves(facility="room-1", day=DAY, hour=18, kind="room", price=601, places=1, taken=0, closed=room),
             ACCOUNT.serves(member="amy", balance=balance, quota=quota, open=opened, spent=spent)]
     return [*(it.under(AMY) for it in rows), command(f"sheet {DAY}", printed=f"Day sheet {DAY}\n{sheet}")]
@@ -57,7 +57,7 @@ def made(new_club):
 
 @pytest.fixture
 def club(made, tmp_path):
-    """A copy of that club's file without its log: the club lies in the one file."""
+    """Copies the club's file without its log: the whole club is in that file."""
     shutil.copy(made.file, tmp_path / "club")
     return Club(made.program, tmp_path / "club")
 
@@ -106,7 +106,7 @@ def test_sums_of_an_auditor(club):
 
 
 def statements(texts):
-    """The words and signs of each."""
+    """Returns the words and signs of each statement."""
     return {tuple(re.findall(r"\w+|[^\w\s]", it)) for it in texts}
 
 
@@ -120,7 +120,7 @@ def test_columns_keys_references_and_limits(club):
 
 
 def test_what_sqlite3_writes_is_told(club):
-    """Within the limits, beside the log that clubdesk left."""
+    """The rows are within the limits, also next to the log that clubdesk left."""
     club.does(f"sheet {DAY}")
     sql(club, """UPDATE members SET credited = credited + 5, quota = 99, used = used + 200; DELETE FROM slots;
         INSERT INTO slots VALUES ('room-1', 20574, 18, 1, 0), ('court-1', 20574, 9, 0, 0), ('court-1', 20574, 18, 0, 4);
@@ -135,17 +135,17 @@ def test_what_sqlite3_writes_is_told(club):
 
 
 def by_recipe(club, heading):
-    """What the shell prints for the block under this heading."""
+    """Returns the shell's output for the block under this heading."""
     return shell(club, given=re.search(rf"^### {heading}\n[^#]*?```sql\n(.*?)^```", RUNNING, re.MULTILINE | re.DOTALL)[1])
 
 
 def sound(club):
-    """The totals are as they are to be."""
+    """Checks the expected totals."""
     assert by_recipe(club, "Afterwards") + sql(club, "PRAGMA integrity_check") == "0\n0\n0\nok\n"
 
 
 def corrected(club, heading, again):
-    """The correction finds a row, and so many once more, if it changes nothing if it finds none."""
+    """The correction finds one row at first, and the given number when it runs again; with no row it changes nothing."""
     assert by_recipe(club, heading) == "1\n"
     sound(club)
     before = dump(club)
@@ -165,7 +165,7 @@ def test_lists(club):
 
 
 def test_corrections(club):
-    """The desk's answers are those of a club of which it has been so all the time."""
+    """The desk answers as for a club that always had this state."""
     corrected(club, "A credit that was too high", 1)
     corrected(club, "Another quota", 1)
     corrected(club, "A slot that is open again", 0)
@@ -208,7 +208,7 @@ def test_file_of_before_is_migrated(club, change):
 
 
 def refused(club):
-    """A sheet, or a request if the file is opened, meets a fault of storage; the file stays as it was, and so do its rows."""
+    """A sheet, or a request if the file opens, gets a storage fault; the file and its rows stay unchanged."""
     before = club.file.read_bytes(), dump(club)
     status, _, fault = club.command("sheet", DAY)
     if (status, fault) != (5, "storage failed\n"):
@@ -233,7 +233,7 @@ def test_command_that_is_refused_changes_nothing(club):
 
 @pytest.mark.parametrize("table, column, least, most", LIMITS, ids=map(" ".join, LIMITS))
 def test_limit(club, table, column, least, most):
-    """Each end is taken; the numbers beside them sqlite3 refuses, and if it doesn't look at limits the desk."""
+    """Both ends of a range are accepted. sqlite3 refuses the numbers beyond them, and the desk does if sqlite3 ignores checks."""
     sql(club, "INSERT INTO old_roots VALUES ('amy-1', zeroblob(16), 20000000)")
     kept = club.copied_to(club.file.with_name("kept"))
     for value in (int(least) - 1, int(least), int(most), int(most) + 1):
@@ -247,7 +247,7 @@ def test_limit(club, table, column, least, most):
             kept.copied_to(club.file)
 
 
-# What sqlite3 makes of a club by each line.
+# Lines by which sqlite3 changes a club.
 RENAMED = ("old_roots until", "members quota", "members used", "facilities price", "keys root", "slots closed", "slots taken", "bookings remains")
 SPOILED = [
     *(f"UPDATE desk SET version = {it}" for it in (9, 0, -1, 1, 3)), *(f"DROP TABLE {it}" for it in TABLES),

@@ -5,8 +5,8 @@ The rules are those of `tests/reference`. Each reply, command and day sheet is c
 finds planted faults of the rules.
 
 The year has narrowed passes and each command of the office. The clock of each server is set by tests/lib/set_clock.c, and the server turns it
-into the club's civil time by the zone's rule; the test does so by Python's zoneinfo. After a kill the client sends the request again, and a
-command is given again: the reply is the reference's, whether the first one was done or not.
+into the club's civil time by the zone's rule; the test does so by Python's zoneinfo. After a kill the request or command is sent again. The
+reply is the reference's, whether or not the first try was done.
 
     tests/desk/year.py [--seed N] [--days N] [--requests N] [--self-test]
 """
@@ -67,7 +67,7 @@ class Year(Both):
         self.hand_out(key)
 
     def hand_out(self, key):
-        """The whole pass of a key, and two that its holder narrowed, in whatever form."""
+        """A key's full pass, and two that its holder narrowed, in any form."""
         whole = passes.minted(self.roots[key][-1], b"key:" + key.encode())
         held = [whole, *(self.narrowed(whole) for _ in range(2))]
         self.passes.setdefault(key, []).extend(passes.text_of(it, self.draw.choice(("v1", "v2", "json"))) for it in held)
@@ -93,7 +93,7 @@ class Year(Both):
                 self.add_key(member)
 
     def work_of_office(self, day, moment):
-        """What the office does on a day."""
+        """Gives the office's commands of a day."""
         draw = self.draw
         if day % 30 == 0:
             for member in MEMBERS:
@@ -127,7 +127,8 @@ class Year(Both):
             self.give_and_kill(("add-key", f"k{self.next_key}", draw.choice(MEMBERS), draw.randbytes(16)))
 
     def give_and_kill(self, command):
-        """A command that is killed at some time. Given again it is done, or it was: either way the club then is the reference's."""
+        """A command that is killed at some time. When given again it is done, or was done before; either way the club then matches the
+        reference."""
         self.next_key += 1
         process = subprocess.Popen([self.desk, *map(str, self.words_of(command))], stdout=subprocess.DEVNULL, stderr=subprocess.DEVNULL)
         time.sleep(self.draw.random() * 0.03)
@@ -177,7 +178,7 @@ class Year(Both):
         return programs.Server(self.desk, self.file, count, "--zone", RULE, variables=variables)
 
     def served(self, instant, count):
-        """So many requests at a server whose clock shows this instant; every ninth server is killed in the middle of one."""
+        """Sends requests to a server whose clock shows this instant; every ninth server is killed during one."""
         moment = civil_minute(instant)
         kill_at = self.draw.randrange(count) if self.draw.randrange(KILLS_ONE_IN) == 0 else count
         asked = [self.request(moment) for _ in range(count)]
@@ -192,7 +193,7 @@ class Year(Both):
                     self.ask(server, data, moment)
 
     def cut_off(self, server, data):
-        """A request whose server is killed while it is under way, or a little later."""
+        """Sends a request whose server is killed during it or shortly after."""
         with socket.create_connection(("127.0.0.1", server.port), 30) as client:
             client.sendall(data)
             time.sleep(self.draw.choice((0, 0.0001, 0.0005, 0.002)))
@@ -200,7 +201,7 @@ class Year(Both):
         self.kills += 1
 
     def pass_day(self, day, requests):
-        """A day of the club: two or three servers, the office between them, and the day sheet."""
+        """Plays a day of the club: two or three servers, the office between them, and the day sheet."""
         draw = self.draw
         instants = sorted(NEW_YEAR + timedelta(days=day, minutes=draw.randrange(16 * 60)) for _ in range(draw.choice((2, 3))))
         if day in DAYS_OF_SUMMER_TIME:

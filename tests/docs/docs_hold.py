@@ -5,8 +5,8 @@ Holds README.md, CONTRIBUTING.md, docs/, and the README.md of each crate against
 - Each ```console block is run, the blocks of a page one after the other in a folder of its own, with bin/ on the path: a line
   that begins with `$ ` is a command, the lines after it are what it prints, on standard output or standard error. Empty lines
   and spaces at the end of a line don't count, and another port may stand for 8080.
-- What else holds stands at each test below.
-Programs are proved and built by bin/proved if they have to be.
+- Each test below says what else it checks.
+bin/proved proves and builds missing or stale programs.
   tests/docs/docs_hold.py                    every page
   tests/docs/docs_hold.py -k DESK            the pages whose names have this word
   tests/docs/docs_hold.py --no-commands ..   what wants no program of ours
@@ -39,12 +39,12 @@ def blocks(page, language):
 
 
 def prose(page):
-    """The page without its blocks."""
+    """Returns the page without its blocks."""
     return re.sub(r"^```.*?^```.*?\n", "", TEXTS[page], flags=re.MULTILINE | re.DOTALL)
 
 
 def ticked(text):
-    """What stands within backticks and has no space."""
+    """Returns the texts in backticks that have no space."""
     return sorted(set(re.findall(r"`([^` \n]+)`", text)))
 
 
@@ -56,7 +56,7 @@ def found(endings, pattern):
 
 
 def within(places, pattern):
-    """What a pattern finds in the text that ends each place."""
+    """Yields the matches of a pattern with their places."""
     return {(*place, name) for *place, text in places for name in re.findall(pattern, text, re.MULTILINE)}
 
 
@@ -74,7 +74,7 @@ CRATES = {crate for _, crate, _ in ITEMS}
 DEFINED = {it[1:] for it in ITEMS}
 CLAUSES = {it[1:] for it in CLAUSES}
 LIBRARIES = {word for line in Path("crates.txt").read_text(encoding="utf-8").splitlines() if line[:1] not in ("", "#") for word in line.replace(":", " ").split()}
-# Names of std that a crate's page has without its code having them.
+# Names of std that a crate's page uses but its code doesn't.
 OF_STD = {"test_kit": {"expect"}}
 
 
@@ -91,7 +91,7 @@ def test_quoted_lines_are_in_a_file(page):
 
 
 def anchors(page):
-    """As they are made of headings: lower case, spaces as dashes, and of the other signs only `-` and `_`."""
+    """Makes anchors from headings: lower case, dashes for spaces, and of the other signs only `-` and `_`."""
     text = re.sub(r"^```.*?^```.*?\n", "", Path(page).read_text(encoding="utf-8"), flags=re.MULTILINE | re.DOTALL)
     return {re.sub(r"[^a-z0-9 _-]", "", it.lower()).replace(" ", "-") for it in re.findall(r"^#+ (.*)", text, re.MULTILINE)}
 
@@ -138,8 +138,8 @@ def test_bare_names_of_a_crate(page):
 
 @each_page
 def test_definitions_are_in_their_files(page):
-    """Each name of a list of definitions (`Definitions: NAME, .. in FILE; NAME, .. in FILE`) is in its file. One without a folder is in the folder
-    named last; a folder of specs/ stands for its files."""
+    """Each name of a list of definitions (`Definitions: NAME, .. in FILE; NAME, .. in FILE`) is in its file. A file without a folder is in the
+    last named folder; a folder of specs/ stands for its files."""
     for line in re.findall(r"Definitions?: (`.*)", prose(page)):
         pieces, names, folder = line.split("`"), [], ""
         for before, piece in zip(pieces[::2], pieces[1::2]):
@@ -252,12 +252,12 @@ def test_logic_is_that_of_the_toolchain(page):
 
 
 def squeezed(text):
-    """Without carriage returns, spaces at the end of a line, and empty lines."""
+    """Removes carriage returns, spaces at the end of a line, and empty lines."""
     return [line.rstrip(" ") for line in text.replace("\r", "").split("\n") if line.rstrip(" ")]
 
 
 def script_of(text):
-    """The commands of a page as a script that prints each before it runs it. `$?` is that of the command before. After a command that ends in
+    """Turns a page's commands into a script that prints each before it runs it. `$?` is that of the command before. After a command that ends in
     `&` the script waits until something more was printed."""
     lines = ["trap 'kill $(jobs -p) 2>/dev/null' EXIT", 'again() { return "$1"; }']
     for command in re.findall(r"^\$ (.*)", text, re.MULTILINE):
@@ -269,7 +269,7 @@ def script_of(text):
 
 
 def free_port(number):
-    """One that nothing uses, nor used a moment ago."""
+    """Returns a port that nothing uses or has just used."""
     is_used = any(f":{number:04X} " in it.read_text() for it in (Path("/proc/net/tcp"), Path("/proc/net/tcp6")) if it.exists())
     return free_port(number + 1) if is_used else number
 
@@ -281,13 +281,13 @@ def test_commands(page, tmp_path):
     text = re.sub(r"(:|--port )8080", rf"\g<1>{port}", "\n".join(blocks(page, "console")))
     room, out = tmp_path / "room", tmp_path / "out"
     room.mkdir()
-    # A page's commands may be those of the repository's top.
+    # A page's commands may run at the top of the repository.
     for folder in ("bin", "deploy", "bindings"):
         (room / folder).symlink_to(desk.ROOT / folder)
     # Bodies of replies end without a line feed, which a terminal shows as a prompt after them.
     (tmp_path / ".curlrc").write_text('silent\nshow-error\nnoproxy = "*"\nwrite-out = "\\n"\n')
     for name, words in {"passtool": ["passtool", "--help"], "clubdesk": ["clubdesk", "--help"], "bin/library": ["library", tmp_path / "library"]}.items():
-        # It is built first, so that what its build prints isn't taken for what it prints, and its proof takes none of the page's time.
+        # The program is built first, so that the build's output isn't taken for the program's, and its proof doesn't use up the page's time.
         if name in text:
             subprocess.run([f"bin/{words[0]}", *words[1:]], check=True, stdout=subprocess.DEVNULL)
     with open(out, "wb") as printed:

@@ -7,7 +7,7 @@
 set -eu
 cd "$(dirname -- "$0")/../.."
 
-# by_first_line PATTERN: the files whose first line says that they are of this language.
+# by_first_line PATTERN: lists the files whose first line names this language.
 by_first_line() {
     find tests bin deploy -type f ! -path '*/out/*' -exec sh -c 'head -n 1 "$1" | grep -qE "$2" && echo "$1"' - {} "$1" \;
 }
@@ -15,7 +15,7 @@ by_first_line() {
 status=0
 # shellcheck disable=SC2046  # no name has a space
 shellcheck -x -P tests/lib $(by_first_line '^#!/bin/(ba)?sh') || status=1
-# A file of bats reads what bats sets, and a test ends at its first command that fails.
+# A bats file reads variables that bats sets, and a test ends at its first failing command.
 shellcheck -x -P tests/lib -e SC2154,SC2164 tests/*/*.bats || status=1
 # shellcheck disable=SC2046
 pyflakes3 $(by_first_line 'python3') $(find tests examples deploy bindings -name '*.py') || status=1

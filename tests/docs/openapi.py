@@ -4,9 +4,9 @@
 The replies are those of the table in tests/lib/kinds.py. docs/openapi.yaml obeys the schema of OpenAPI 3.0, and each of its examples is such
 a reply.
 
-The schema is that of Debian's openapi-specification. The scenes of the table are played, each request at a server of its own, so what a
-reply says of earlier ones comes from the file. Its bytes are those of the rules in Python; status, fields and body are those of the
-description and obey their schema. The faults and their statuses are those of docs/CLIENT.md's table.
+The schema is that of Debian's openapi-specification. The scenes of the table are played with a new server for each request, so a reply's facts
+about earlier requests come from the file. Its bytes are those of the rules in Python; status, fields and body are those of the description and
+obey their schema. The faults and their statuses are those of docs/CLIENT.md's table.
 """
 
 import json
@@ -32,7 +32,7 @@ RESOLVER = jsonschema.RefResolver.from_schema(DOCUMENT)
 
 
 def found(part):
-    """What a part is, or refers to."""
+    """Resolves a part that may be a reference."""
     return RESOLVER.resolve(part["$ref"])[1] if "$ref" in part else part
 
 
@@ -58,7 +58,7 @@ RESPONSES += [("other", 404, found(DOCUMENT["x-any-other-path"]))]
 
 
 def response_to(row, status):
-    """The response that describes what a row gets; its operation, too."""
+    """Returns the response that describes a row's reply, and its operation."""
     path, item = next((it for it in ITEMS if re.fullmatch(it[0], row.path)), ("", {}))
     method = row.method.lower()
     operation = item[method]["operationId"] if method in item else "other" if status == 404 else path
@@ -66,7 +66,7 @@ def response_to(row, status):
 
 
 def example_of(row, reply):
-    """The name of the example that a reply is, if it is one, of an operation; it is described, and so are its fields."""
+    """Returns the name of the operation's example that equals the reply, if any, after checking the reply and its fields."""
     operation, response = response_to(row, reply.status)
     described = {"Content-Type": ["application/json"], "Content-Length": [str(len(reply.body))], "Connection": ["close"]}
     described |= {name: found(field["schema"])["enum"] for name, field in response.get("headers", {}).items()}

@@ -1,9 +1,9 @@
 #!/usr/bin/env -S /usr/bin/python3 -B -m pytest -q -p no:cacheprovider
 """The server answers each request in the tables of docs/HANDING_ON.md and docs/CLIENT.md as the page says.
 
-Runs the commands of a page's console blocks, and asks each request of its tables under the pass and at the moment of the table's head. The
-commands in front of a section's first table make the club, without bookings; the section's requests, and the commands behind them, meet a
-copy. Blocks with a server of their own are left to tests/docs/docs_hold.py.
+Runs the commands of a page's console blocks, and sends each request of its tables under the pass and at the moment in the table's head. The
+commands before a section's first table make the club, without bookings; the section's requests and later commands use a copy.
+tests/docs/docs_hold.py runs the blocks with their own server.
 """
 
 import os

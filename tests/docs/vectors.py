@@ -2,8 +2,8 @@
 """`passtool` and the server agree with docs/vectors.json: passes, texts that are none, verdicts on caveats, replies to requests.
 
 Each pass in each form, texts that are read as the same pass, the verdict of each caveat on each request, each reply byte for byte.
-Commands of the office between requests print their lines. The signatures are computed once more by Python's standard library, and V1 and V2
-by pymacaroons, if it writes the pass as it is.
+Commands of the office between requests print their lines. Python's standard library computes the signatures again, and pymacaroons writes V1
+and V2 again where it keeps the pass unchanged.
 """
 
 import contextlib
@@ -26,7 +26,7 @@ THIRD = VECTORS["passes"][2]
 
 
 def each(vectors):
-    """A test for each vector, named by what it is."""
+    """Makes a test for each vector, with the vector's name."""
     names = [it if isinstance(it, str) else it.get("what") or it["caveat"] for it in vectors]
     return pytest.mark.parametrize("vector", vectors, ids=names)
 
@@ -44,7 +44,7 @@ def shown(data):
 
 
 def texts_of(vector):
-    """Location, identifier and caveats as words of a command line; None if one is no UTF-8."""
+    """Returns location, identifier and caveats as words of a command line, or None if one isn't UTF-8."""
     try:
         return [it.decode() for it in (bytes_of(vector, "location"), bytes_of(vector, "identifier"), *caveats_of(vector))]
     except UnicodeDecodeError:
@@ -57,7 +57,7 @@ OF_WORDS = [it for it in WITH_A_ROOT if texts_of(it) is not None]
 
 @each(WITH_A_ROOT)
 def test_signatures_by_the_standard_library(vector):
-    """The chain under the root."""
+    """Returns the chain of signatures under the root."""
     minted = passes.minted(bytes.fromhex(vector["root"]), bytes_of(vector, "identifier"))
     chain = [it.signature.hex() for it in itertools.accumulate(caveats_of(vector), passes.Pass.narrowed, initial=minted)]
     assert chain == vector["signatures"] and chain[-1] == vector["signature"]
@@ -65,7 +65,7 @@ def test_signatures_by_the_standard_library(vector):
 
 @each(WITH_A_ROOT)
 def test_texts_by_pymacaroons(vector):
-    """Of ASCII, and in V2 with a location."""
+    """pymacaroons keeps only ASCII passes, and in V2 only those with a location."""
     texts = texts_of(vector)
     if texts is None or not all(it.isascii() for it in texts) or not texts[1]:
         pytest.skip("pymacaroons counts letters, and wants an identifier")
@@ -116,7 +116,7 @@ def test_text_that_is_no_pass(passtool, vector):
 
 @pytest.fixture(scope="module")
 def made(clubdesk, tmp_path_factory):
-    """The club of the vectors, and amy's pass, the first that its commands print."""
+    """Makes the club of the vectors; returns amy's pass, the first that its commands print."""
     club = Club(clubdesk, tmp_path_factory.mktemp("made") / "club")
     printed = [club.does(command.removeprefix("clubdesk ").replace(" CLUB", "")) for command in VECTORS["club"]["commands"]]
     club.amy = next(it for it in printed if it != "done")
@@ -124,7 +124,7 @@ def made(clubdesk, tmp_path_factory):
 
 
 def verdict(passtool, club, amy, caveat, asked):
-    """Of the desk, on a pass with this caveat."""
+    """Returns the desk's reply under a pass with this caveat."""
     passed = passtool("narrow", "--any", "--", caveat, given=amy)[1].strip()
     body = f'{{"guests":{asked["guests"]}}}' if "guests" in asked else None
     reply = club.ask(Row(asked["method"], asked["path"], body, passed).data, asked["at"]).value

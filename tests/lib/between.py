@@ -1,4 +1,4 @@
-"""What stands between a client and the desk, and lets some of their requests fail: read by client_survives.py and page_books.py."""
+"""A proxy between a client and the desk that lets some requests fail. Used by client_survives.py and page_books.py."""
 
 import contextlib
 import re
@@ -8,14 +8,14 @@ import time
 
 import desk
 
-# Whether the desk carried the request out or not, the client has no whole reply of the desk's.
+# Whether or not the desk carried out the request, the client gets no complete reply from it.
 FAILURES = ["silent", "answer 502 <html>bad gateway</html>", "answer 504 <html>gateway timeout</html>", "answer 200 <html>a page</html>",
             'answer 500 {"error":"proxy"}', 'answer 503 {"fault":22,"text":"unavailable"}', "swallowed", "head-cut", "body-cut"]
 CUT_AT = {"swallowed": 0, "head-cut": 40, "body-cut": -5}  # of the desk's reply
 
 
 def request_from(client):
-    """A head, and its body of as many bytes as it asks for."""
+    """Reads a head and its body, by the length in the head."""
     with client.makefile("rb") as come:
         head = b"".join(iter(come.readline, b"\r\n")) + b"\r\n"
         length = re.search(rb"(?i)content-length: (\d+)", head)
@@ -23,8 +23,8 @@ def request_from(client):
 
 
 class Between:
-    """Passes connections on to the desk. `fates` says what becomes of the next ones whose request begins with a method, in order; `most`
-    is how many were here at once."""
+    """Passes connections on to the desk. `fates` says what happens to the next requests with a method, in order; `most` is the most connections
+    at once."""
 
     def __init__(self, desk_port):
         self.desk_port, self.fates = desk_port, {}

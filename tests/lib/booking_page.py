@@ -27,8 +27,8 @@ os.environ["PATH"] = f"/usr/sbin:/sbin:{os.environ['PATH']}"
 os.chdir(ROOM.name)
 ROOT = "00112233445566778899aabbccddeeff"
 draw = random.Random(20260501)
-# The club is in a zone of whole hours in which it is about noon now, so that today has hours before and after. Etc's names have the sign
-# turned round, as have POSIX's rules.
+# The club's zone has a whole-hour offset that makes it about noon now, so that today has both past and future hours. The names in Etc have the
+# opposite sign, like POSIX rules.
 AHEAD = 12 - datetime.now(timezone.utc).hour
 ZONE = f"Etc/GMT{-AHEAD:+d}" if AHEAD else "Etc/GMT"
 RULE = f"<{AHEAD:+03d}>{-AHEAD}" if AHEAD else "GMT0"
@@ -47,22 +47,22 @@ def day(count=0):
     return f"{(now() + timedelta(days=count)).date()}"
 
 
-# ---- The desk, the proxy, and what is between them
+# ---- The desk, the proxy, and the failing proxy between them
 
 
 class Server(desk.Server):
-    """clubdesk's server over the file `club`, which can be killed and started again at the same port."""
+    """clubdesk's server on the file `club`, which can be killed and started again at the same port."""
 
     start = desk.Server.__enter__
 
     def asked(self):
-        """Returns how often each method and path was asked, by the server's log."""
+        """Returns how often each method and path was requested, from the server's log."""
         return Counter(tuple(line.split()[1:3]) for line in self.log.read_text(encoding="utf-8").splitlines())
 
 
 def start_proxy(upstream, rate=5000, burst=5000):
-    """nginx by the stored configuration, at another port, before another desk, with the pages of the folder `www`. It has other limits of
-    requests, unless there is no `rate`: this script sends in a minute what a club sends in an hour."""
+    """Runs nginx with the stored configuration, at another port, in front of another desk, with the pages of the folder `www`. It has other
+    request limits, unless there is no `rate`: this script sends in a minute what a club sends in an hour."""
     front = desk.free_port()
     site = pathlib.Path(TOP, "deploy/nginx.conf").read_text()
     here = os.getcwd()
@@ -99,14 +99,14 @@ def stop_proxy(front):
 
 
 def printed(*words, given=None):
-    """Returns what a command prints, which has to end well."""
+    """Returns the output of a command, which must succeed."""
     status, text, fault = desk.command(*words, text=given)
     check(status == 0, words, fault)
     return text
 
 
 def refused(fault, *words, given=None, **variables):
-    """A command of the office is refused with a line, and prints nothing."""
+    """Checks that a command of the office is refused with a line, and prints nothing."""
     found = desk.command(*words, text=given, env={**os.environ, **variables})
     check(found[:2] == (1, "") and re.search(fault, found[2]), "what is refused", words, given, variables, found)
 
@@ -120,13 +120,13 @@ def narrowed(text, *lines):
 
 
 def fetched(front, path, *words):
-    """Returns what curl prints of a path behind the proxy."""
+    """Returns curl's output for a path behind the proxy."""
     return printed("curl", "-sS", "--noproxy", "*", "--cacert", "certificate.pem", "--resolve", f"desk.example.org:{front}:127.0.0.1", *words,
                    f"https://desk.example.org:{front}{path}")
 
 
 def rows(question, *values):
-    """Rows of the club, from a copy of the file as deploy/back_up makes it."""
+    """Returns rows of the club from a copy made by deploy/back_up."""
     pathlib.Path("copy").unlink(missing_ok=True)
     printed(f"{TOP}/deploy/back_up", "club", "copy")
     with desk.opened("copy") as club:
@@ -134,7 +134,7 @@ def rows(question, *values):
 
 
 def make_club():
-    """The club of all tests, and the passes of its keys."""
+    """Makes the club of all tests, and the passes of its keys."""
     passes = {}
     for name, quota in [("amy", 99), ("bob", 2), ("carol", 5), ("hall", 0)]:
         office("add-member", name, quota)
@@ -153,7 +153,7 @@ def make_club():
 
 
 def club_list(titles):
-    """The list of the club, whose facilities have these titles."""
+    """Makes the club's list, with these titles of facilities."""
     pathlib.Path("titles").write_text(titles)
     return printed("env", f"RULE={RULE}", "CLUB=Rowing & tennis", "TITLES=titles", f"{TOP}/deploy/club_json", "club", ZONE)
 
@@ -201,12 +201,12 @@ class BookingPage(Browser):
         check(found, *what, condition, self.run("return document.body.innerText"), self.driver.get_log("browser"))
 
     def visit(self, end, condition, *what):
-        """Opens the page with something behind its address, until something holds."""
+        """Opens the page with a suffix to its address, and waits for a condition."""
         self.open(self.address + end)
         self.when(condition, *what)
 
     def enter(self, text, ahead=None, keeps=None):
-        """A pass, which is kept or not by a button's words, and a day."""
+        """Enters a pass, keeps it or not by a button's text, and opens a day."""
         self.visit(f"#{text}", "isShown('day') && dayIsThere()", "the day of a pass")
         if keeps:
             self.press(keeps, "notices")
@@ -218,7 +218,7 @@ class BookingPage(Browser):
         self.when(f"shownDay() === '{wanted}' && dayIsThere()", "a day")
 
     def offer(self, facility, hour):
-        """Presses a slot, once the page has what it wants for it: the desk's answer, and the record."""
+        """Presses a slot once the page is ready for it, with the desk's answer and the record."""
         self.when(f"!cellAt('{facility}', {hour}).button.disabled", "a slot that can be pressed", facility, hour)
         self.run("cellAt(...arguments).button.click()", facility, hour)
 
@@ -229,14 +229,14 @@ class BookingPage(Browser):
         super().press(*keys)
 
     def book(self, facility, hour, guests=0):
-        """Books in the dialog, without waiting for what comes of it."""
+        """Books in the dialog, without waiting for the result."""
         self.offer(facility, hour)
         for _ in range(guests):
             self.press("One guest more")
         self.run("byName('dialog').querySelector('.main').click()")
 
     def comes(self, words, *what):
-        """Closes the dialog once it has these words."""
+        """Closes the dialog once it shows these words."""
         self.when(f"dialogText().includes({json.dumps(words)})", *what)
         self.press("Close")
 
@@ -251,18 +251,18 @@ class BookingPage(Browser):
         self.comes("came back", "a cancellation", *what)
 
     def booked_at(self, ahead, *what):
-        """A booking on another day, from whichever view."""
+        """Books on another day, from any view."""
         self.view("day")
         self.go(day(ahead))
         return self.booked(*what)
 
     def cancelled_at(self, entry, facility):
-        """The cancellation of what another browser booked, by the desk itself."""
+        """Cancels another browser's booking directly at the desk."""
         text = self.run("return state.text")
         fetched(self.front, f"/slots/{facility}/{entry['day']}/{entry['hour']:02}/bookings/{entry['number']}", "-X", "DELETE", "-H", f"Authorization: Bearer {text}")
 
     def cancelled_in_the_list(self, *what, asked="", words="came back"):
-        """The first booking to come; the dialog asks and answers in these words."""
+        """Cancels the first future booking; the dialog asks and answers in these words."""
         self.view("bookings")
         self.run("[...byName('to-come').querySelectorAll('.booked button, .listed button')].find((each) => each.textContent === 'Cancel').click()")
         check(asked in self.run("return dialogText()"), *what, self.run("return dialogText()"))
@@ -278,13 +278,13 @@ class BookingPage(Browser):
         self.run("byName(`to-${arguments[0]}`).click()", name)
 
     def requests(self):
-        """Returns the methods and addresses of requests to the network since the last call."""
+        """Returns the methods and addresses of network requests since the last call."""
         messages = [json.loads(entry["message"])["message"] for entry in self.driver.get_log("performance")]
         sent = [each["params"]["request"] for each in messages if each["method"] == "Network.requestWillBeSent"]
         return [(each["method"], each["url"]) for each in sent]
 
     def complaints(self):
-        """Returns the lines of the console but for replies that are refusals."""
+        """Returns the console's lines without those about refusals."""
         return [each["message"] for each in self.driver.get_log("browser") if "the server responded with a status" not in each["message"]
                 and "net::ERR_" not in each["message"]]
 
@@ -297,7 +297,7 @@ def amounts(key):
 
 
 def recorded(entries, key):
-    """The same of the page's record, as the desk or a list said it."""
+    """Returns the same from the page's record, from the desk or from a list."""
     found = {}
     for each in entries:
         if each["key"] != key or "fault" in (each["book"] or {}):
@@ -329,12 +329,12 @@ def curl(page, method, path, text, body=None):
 
 
 def unasked(server, before):
-    """Returns the requests at the desk since then beside looks."""
+    """Returns the requests at the desk since then, without GETs."""
     return {each: count for each, count in (server.asked() - before).items() if each[0] != "GET"}
 
 
 def cancel_by_office(server, entry, key, member):
-    """Changes the file as deploy/office does to cancel a booking with all of its points."""
+    """Changes the file in the way that deploy/office cancels a booking with its whole refund."""
     server.kill()
     with contextlib.closing(sqlite3.connect("club")) as club:
         club.executescript(f"""
@@ -352,7 +352,7 @@ def keep(name, picture):
 
 
 def page_date(text, year=False):
-    """A day as the page says it in English."""
+    """Formats a day as the page does in English."""
     its_day = datetime.strptime(text, "%Y-%m-%d")
     return f"{its_day:%A} {its_day.day} {its_day:%B}" + (f" {its_day.year}" if year else "")
 
@@ -369,7 +369,7 @@ def goes_to(engine, wanted):
 
 
 def engines():
-    """Firefox and WebKitGTK, one after the other, with what the steps below ask of the page."""
+    """Yields Firefox and WebKitGTK, with the functions that the steps below call in the page."""
     import page_engines
     for place, engine_of in enumerate((page_engines.Firefox, page_engines.WebKit)):
         with engine_of() as engine:

@@ -1,9 +1,9 @@
-"""The built programs and the reference beside each other: one club in a file, and the same in plain Python."""
+"""The built programs next to the reference: one club in a file, and the same club in plain Python."""
 
 import desk as programs
 from reference import caveats, club as rules, passes, wire
 
-# The kinds of the values of a command that aren't words or numbers as they are.
+# The kinds of command values that aren't plain words or numbers.
 KINDS_OF_VALUES = {"add-key": ("word", "word", "root"), "rotate-key": ("word", "root", "moment"), "close-slot": ("word", "day", "hour"),
                    "open-slot": ("word", "day", "hour")}
 
@@ -25,7 +25,7 @@ SPELLINGS = {"word": str, "root": bytes.hex, "moment": spelled_moment, "day": sp
 
 
 def finds_each_plant(run):
-    """Returns whether a run under each planted fault of the rules meets a difference."""
+    """Returns whether a run finds a difference under each planted fault of the rules."""
     missed = set(rules.PLANTS)
     for plant in rules.PLANTS:
         try:
@@ -38,7 +38,7 @@ def finds_each_plant(run):
 
 
 class Both:
-    """A club in a file, which the programs keep, and the same in the reference. What differs is an AssertionError."""
+    """A club in a file, kept by the programs, and the same club in the reference. A difference raises AssertionError."""
 
     def __init__(self, desk, file, plant=None):
         self.desk, self.file = desk, file
@@ -46,13 +46,13 @@ class Both:
         self.roots = {}  # of each key, all that it had
 
     def words_of(self, command):
-        """The words that give a command."""
+        """Returns the words of a command line."""
         name, *values = command
         kinds = KINDS_OF_VALUES.get(name, ("word",) * len(values))
         return [name, self.file, *(SPELLINGS[kind](value) for kind, value in zip(kinds, values))]
 
     def answer_of(self, command):
-        """The status, the output and the fault of a command, which the reference does."""
+        """Carries out a command in the reference; returns status, output and fault."""
         name, *values = command
         try:
             self.club.command(command)
@@ -65,18 +65,18 @@ class Both:
         return 0, passes.text_of(passes.minted(root, b"key:" + key.encode()), "v2").decode() + "\n", ""
 
     def give(self, command):
-        """A command to both, which answer alike."""
+        """Gives a command to both, and compares the answers."""
         found = programs.command(self.desk, *self.words_of(command))
         expect(f"order {command}", found, self.answer_of(command))
 
     def ask(self, server, data, moment):
-        """The bytes of a request to both, which reply alike; the reply."""
+        """Sends a request's bytes to both, compares the replies, and returns the reply."""
         found = programs.exchange(server.port, data)
         expect(data, found, wire.exchange(self.club, data, moment))
         return found
 
     def compare_rows(self):
-        """The rows and the totals of the file are those of the reference."""
+        """Compares the file's rows and totals with the reference."""
         club = self.club
         of_file = lambda names, table: {row[0]: row[1:] for row in programs.rows(self.file, f"SELECT {names} FROM {table}")}
         expect("members", of_file("name, credited, quota, used", "members"),
@@ -93,7 +93,7 @@ class Both:
                 if club.taken(slot) or slot in club.closed})
 
     def compare_sheet(self, day):
-        """The day sheet is that of the reference."""
+        """Compares the day sheet with the reference."""
         rows = self.club.sheet(day)
         lines = [f"{facility:<24} {hour:02d}:00 {key:<24} {number:9d} {persons:2d} {charge:6d}"
                  for facility, hour, key, number, persons, charge in rows]

@@ -1,4 +1,5 @@
-# Read by the scripts in the folders next to its own that hold what a machine does against what is wanted, after serving.sh. `checks` counts.
+# Checks for the scripts in the neighbouring folders, which compare a machine's behaviour with the expected one. Read it after serving.sh.
+# `checks` counts.
 checks=0
 trap 'exit 1' INT TERM HUP
 
@@ -15,7 +16,7 @@ $2
 $3"
 }
 
-# holds WHAT COMMAND..: it ends with status 0; what it prints is in `told`.
+# holds WHAT COMMAND..: the command must end with status 0; its output is in `told`.
 holds() {
     what=$1
     shift
@@ -23,7 +24,7 @@ holds() {
     "$@" >told 2>&1 || fail "$what: $(tail -n 30 told)"
 }
 
-# soon SECONDS WHAT COMMAND..: it ends with status 0 within these; what it prints last is in `told`.
+# soon SECONDS WHAT COMMAND..: the command must end with status 0 within these seconds; its last output is in `told`.
 soon() {
     tries=$(($1 * 10))
     what=$2
@@ -35,5 +36,5 @@ soon() {
     done
 }
 
-# unsound FILE: what of a club's totals is off.
+# unsound FILE: prints the faulty totals of a club.
 unsound() { sqlite3 "$1" "$(PYTHONPATH=$here/../lib /usr/bin/python3 -B -c 'import desk; print(desk.SUMS)')"; }

@@ -1,8 +1,8 @@
-"""The contracts that a page cites in its tables, as docs/PROMISES.md does, and the computing definitions below them.
+"""Reads the contracts that a page cites in its tables, such as docs/PROMISES.md, and the computing definitions below them.
 
 The second cell of a row has groups that end at `;`, each `NAME`, .. `:` `CLAUSE`, .. `by` `DEFINITION`, ..: functions of the section's crate,
 implementations of a trait (`Log for LogLines`), or types and traits; the labels of their clauses, or all of them; and the definitions of the
-crate, or of the one before `::`, that these cite. The first name's module or type is that of the names after it, unless they have one."""
+crate, or of the one before `::`, that these cite. The first name's module or type also applies to the later names that have none."""
 
 import re
 from dataclasses import dataclass
@@ -24,7 +24,7 @@ class Citation:
 
 
 def citations(text):
-    """The groups of the tables of a page in which a section is a crate's."""
+    """Yields the groups of a page's tables, where each section is about a crate."""
     crate = ""
     for number, line in enumerate(text.splitlines(), 1):
         if line.startswith("## "):
@@ -45,14 +45,14 @@ def citations(text):
 
 
 class Contracts:
-    """What the citations of a page rest on."""
+    """The definitions below the citations of a page."""
 
     def __init__(self, book):
         self.book = book
         self.unknown = []  # what a clause has that wasn't understood
 
     def below(self, citation):
-        """Each cited clause and definition, with what is below it; and below what types have for a ghost that is there."""
+        """Yields each cited clause and definition with the definitions below it, and with those below the ghosts' values in it."""
         above = None
         if citation.labels and not citation.names:
             self.unknown.append(f"no function of {' '.join(citation.labels)}")
@@ -94,7 +94,8 @@ class Contracts:
         return specs or [file.types[name] for file in self.files(crate) if name in file.types]
 
     def texts(self, crate, name, above, labels):
-        """(file, place, label, text) of each clause; of an implementation also what it has for the trait's ghosts. None for no such contract."""
+        """Returns (file, place, label, text) for each clause, and for an implementation also its values of the trait's ghosts, or None without
+        such a contract."""
         if " for " in name:
             return self.texts_of_implementation(crate, name)
         last = name.split("::")[-1]
@@ -108,7 +109,7 @@ class Contracts:
         return self.texts_of_ghosts(crate, last)
 
     def places(self, crate, function, above):
-        """Where a function of this name begins, in the module or the type `above` if there is one."""
+        """Returns where a function of this name begins, in the module or the type `above` if there is one."""
         found, owner = [], self.behind_alias(crate, above)
         for file in self.files(crate):
             for it in re.finditer(rf"{FUNCTION}{function}\b", file.text, re.MULTILINE):
@@ -124,7 +125,7 @@ class Contracts:
 
     @staticmethod
     def clauses(file, start):
-        """(label, text) of the clauses after a function's head."""
+        """Returns (label, text) of the clauses after a function's head."""
         inner = file.block_around(start)[0]
         body = file.text.find("\n    {\n" if inner else "\n{\n", start)
         following = re.compile(f"{FUNCTION}\\w", re.MULTILINE).search(file.text, file.text.find("(", start))
@@ -148,7 +149,7 @@ class Contracts:
         return found
 
     def texts_of_ghosts(self, crate, name):
-        """The type of a trait's ghost of this name, or what types have for it."""
+        """Returns the type of a trait's ghost of this name, or the types' values for it."""
         found = [(file, it.start(), name, it[1]) for file in self.files(crate)
                  for it in re.finditer(rf"\bghost {name}(?: =|:) \{{\s*(.*?)\s*\}}[;,]", file.text, re.DOTALL)]
         return found or None

@@ -1,6 +1,6 @@
 """A reader of specs/*.antt and of the clauses in src/*.rt: which definition cites which.
 
-It knows declarations, imports and what binds a variable, and proves nothing. A word that is neither bound nor imported nor built in is
+It knows declarations, imports and binders, and proves nothing. A word that is neither bound nor imported nor built in is
 kept in `Definition.unknown`, so that whoever reads by it sees what it didn't understand."""
 
 import re
@@ -10,7 +10,7 @@ from spec_files import CRATES, Definition, ROOT, Scope, SpecsFile, Walk, imports
 
 
 class CodeFile:
-    """A file of src/: its types, traits, and the clauses of its functions."""
+    """A file in src/: its types, traits, and the clauses of its functions."""
 
     def __init__(self, book, path):
         self.book, self.path = book, path
@@ -38,7 +38,7 @@ class CodeFile:
         return self.text.count("\n", 0, at) + 1
 
     def block_end(self, start):
-        """After the block, or the semicolon, that begins there."""
+        """Returns the place after the block or semicolon that begins there."""
         depth = 0
         for at in range(start, len(self.text)):
             sign = self.text[at]
@@ -62,10 +62,10 @@ class CodeFile:
         return best
 
     def scope_at(self, at):
-        """Imports of the file and of the block, types by their Rust names, and ghosts of the traits that bound parameters."""
+        """Returns the imports of the file and of the block, types by their Rust names, and ghosts of the traits that bound parameters."""
         head, block = self.block_around(at)
         scope = Scope(self.book, imports_in(self.text, "ghost use"))
-        # The block's own come last, and so count.
+        # The block's own imports come last, so they take precedence.
         inner = Scope(self.book, imports_in(block, "ghost use"))
         scope.names.update(inner.names)
         scope.aliases.update(inner.aliases)
@@ -92,7 +92,7 @@ class CodeFile:
         return {**dict.fromkeys(self.types), **dict.fromkeys(self.uses), **dict.fromkeys(constants)}
 
     def rust_type(self, name):
-        """The type of a Rust name, as this file sees it."""
+        """Returns the type of a Rust name in this file."""
         if name in self.types:
             return self.types[name]
         if name in self.uses:
@@ -101,7 +101,7 @@ class CodeFile:
         return self.book.constant(self, name)
 
     def clauses(self, name, owner=None):
-        """The clauses of a function, as (label, text, place), and where its head is."""
+        """Returns the clauses of a function, as (label, text, place), and the place of its head."""
         for found in re.finditer(rf"^ *(?:pub(?:\([a-z]+\))? )?(?:final )?(?:extern \"C\" )?fn {name}\b", self.text, re.MULTILINE):
             head = self.block_around(found.start())[0]
             if owner and not re.search(rf"\b{owner}\b", head.split(" for ")[-1]):
@@ -135,7 +135,7 @@ class CodeFile:
         return bounds
 
     def cited_by(self, at, text):
-        """The names that a clause cites, and those that weren't understood."""
+        """Returns the names that a clause cites, and unknown names."""
         scope = self.scope_at(at)
         bounds = self.generics_at(at)
         walk = Walk(scope)
@@ -178,7 +178,7 @@ def flat(text, before=()):
 
 
 class Book:
-    """All definitions of the repository."""
+    """All definitions in the repository."""
 
     def __init__(self):
         self.specs, self.code, self.libraries, self.ghosts = {}, {}, {}, {}
@@ -199,7 +199,7 @@ class Book:
                 self.resolve_type(file, it)
 
     def look(self, module, name):
-        """The definition of a name of a module."""
+        """Returns a module's definition of a name."""
         if module == "rust":
             crate, place, here = name.split("/")
             return self.code[f"{crate}/{place}"].rust_type(here)
@@ -222,7 +222,7 @@ class Book:
         return None
 
     def declared(self, module, name):
-        """A type of the code, one of its variants, or what is declared of it."""
+        """Returns a type of the code, one of its variants, or a declaration about it."""
         crate, _, place = module.partition(".specs.declared.")
         parts = place.split(".")
         start = next((at for at, part in enumerate(parts) if part[0].isupper()), len(parts))
@@ -249,7 +249,7 @@ class Book:
         return None
 
     def ghost(self, trait, name):
-        """A ghost of a trait, with what its type cites."""
+        """Returns a trait's ghost, with the definitions that its type cites."""
         key = (trait.module, name)
         if trait.path is None:
             return None
@@ -271,7 +271,7 @@ class Book:
         return it
 
     def standing_for(self, ghost):
-        """The ghosts of our own types: the type, its file, the value, and the definitions below that."""
+        """Yields the ghosts of our own types: the type, its file, the value, and the definitions below the value."""
         trait, name = ghost.name.split(".")
         for key, file in self.code.items():
             if key.split("/")[0].endswith("_tests") or key.split("/")[0] in ("test_kit", "club_bench"):
@@ -283,7 +283,7 @@ class Book:
                     yield found[1], file, value[1], closure(file.cited_by(found.start() + value.start(), value[1])[0])
 
     def resolve_type(self, file, it):
-        """The types of a type's fields, or the value that contracts see it as."""
+        """Returns the types of a type's fields, or its value in contracts."""
         if it.rust_kind == "trait":
             return
         model = re.search(rf"^impl(?:<[^>]*>)? Model for {it.name}\b[^{{]*\{{", file.text, re.MULTILINE)
@@ -312,7 +312,7 @@ def owner_of(it):
 
 
 def closure(cited):
-    """All definitions below these, each once."""
+    """Returns all definitions below these, without duplicates."""
     found, open_ = {}, list(cited)
     while open_:
         it = owner_of(open_.pop())

@@ -1,6 +1,6 @@
-"""The built programs, for tests that talk to a server: where they are, a server that ends with its block, one exchange, a command.
+"""The built programs, for tests that talk to a server: their paths, a server that ends with its block, an exchange, a command.
 
-The programs are those of the variables CLUBDESK and PASSTOOL. One without a variable is proved and built first, if that isn't done."""
+The programs are those of the variables CLUBDESK and PASSTOOL. Without a variable, a missing or stale program is proved and built first."""
 
 import contextlib
 import errno
@@ -19,14 +19,14 @@ from pathlib import Path
 
 TESTS = Path(__file__).resolve().parents[1]
 ROOT = TESTS.parent
-# Where files lie in memory, so that a sync costs nothing; None if there is no such folder.
+# A folder in memory, where a sync costs nothing, or None.
 IN_MEMORY = "/dev/shm" if os.access("/dev/shm", os.W_OK) else None
 ANOTHER = 65_534  # the user `nobody`
 AS_ANOTHER = ("setpriv", f"--reuid={ANOTHER}", f"--regid={ANOTHER}", "--clear-groups")
 
 
 def program(name):
-    """The path of a program itself, so that a signal meets it and no shell."""
+    """Returns the path of the program itself, so that a signal reaches it and not a shell."""
     given = os.environ.get(name.upper())
     if given:
         return given
@@ -35,7 +35,7 @@ def program(name):
 
 
 def library(name, folder):
-    """The path of a library of tests/lib, built, that is loaded before the C library."""
+    """Builds a library of tests/lib that is loaded before the C library; returns its path."""
     path = Path(folder, name)
     if not path.exists():
         subprocess.run(["cc", "-shared", "-fPIC", "-O1", "-o", path, TESTS / "lib" / f"{name}.c", "-ldl"], check=True)
@@ -43,8 +43,8 @@ def library(name, folder):
 
 
 def refused_in_turn(run, folder, step=1):
-    """What `run` gives if one allocation of its program is refused, each in turn, or each so many. It runs the program with variables, first
-    to count them."""
+    """What `run` gives with one allocation of its program refused, each in turn, or every Nth one. It first runs the program to count the
+    allocations, with variables."""
     counted, preload = Path(folder, "counted"), {"LD_PRELOAD": library("refused_memory", folder)}
     run(ALLOCATIONS_COUNTED=str(counted), **preload)
     with ThreadPoolExecutor(len(os.sched_getaffinity(0))) as pool:
@@ -52,7 +52,7 @@ def refused_in_turn(run, folder, step=1):
 
 
 def limit_files(size):
-    """Lets a file of this process have so many bytes; a write beyond them is a fault, and no signal."""
+    """Limits the bytes of a file of this process; a write beyond them is a fault, not a signal."""
     signal.signal(signal.SIGXFSZ, signal.SIG_IGN)
     resource.setrlimit(resource.RLIMIT_FSIZE, (size, size))
 
@@ -103,7 +103,7 @@ class Server:
         return exchange(self.port, data)
 
     def serves(self, *rows):
-        """The reply to each row of tests/lib/kinds.py is the one that it wants."""
+        """Compares the reply to each row of tests/lib/kinds.py with the expected one."""
         for row in rows:
             assert self.exchange(row.data) == row.wanted, row
 
@@ -123,7 +123,7 @@ class Reply:
 
 
 def free_port():
-    """A port that nobody listens at."""
+    """Returns a port where nobody listens."""
     with socket.create_server(("127.0.0.1", 0)) as probe:
         return probe.getsockname()[1]
 
@@ -137,13 +137,13 @@ def drip(client, data):
 
 
 def read(client):
-    """All that comes until the end."""
+    """Reads everything until the end."""
     with client.makefile("rb") as come:
         return come.read()
 
 
 def exchange(port, data, seconds=30):
-    """The bytes of the reply to bytes, after which the client says that no more come. None if the connection was lost."""
+    """Sends bytes, ends the input, and returns the reply's bytes, or None if the connection was lost."""
     try:
         with socket.create_connection(("127.0.0.1", port), seconds) as client:
             client.sendall(data)
@@ -156,7 +156,7 @@ def exchange(port, data, seconds=30):
 
 
 def command(desk, *words, text=None, **more):
-    """The status and the output of a command of `clubdesk`, and its line on standard error; `text` is its input."""
+    """Returns the status and the output of a command of `clubdesk`, and its line on standard error; `text` is its input."""
     done = subprocess.run([desk, *map(str, words)], capture_output=True, input=text, text=True, check=False, **more)
     return done.returncode, done.stdout, done.stderr
 
@@ -171,19 +171,19 @@ def copy(file, to):
 
 @contextlib.contextmanager
 def opened(file, **how):
-    """A database, whose changes are committed and which is closed at the end of the block."""
+    """Opens a database; commits its changes and closes it at the end of the block."""
     with contextlib.closing(sqlite3.connect(file, **how)) as database, database:
         yield database
 
 
 def rows(file, statement):
-    """The rows that a statement gives over a copy of the file."""
+    """Returns a statement's rows from a copy of the file."""
     copy(file, f"{file}.copy")
     with opened(f"{file}.copy") as database:
         return database.execute(statement).fetchall()
 
 
-# docs/TABLES.md, an auditor's sums: each row of a file that isn't sound.
+# An auditor's sums from docs/TABLES.md: returns each faulty row of a file.
 SUMS = """
 SELECT 'used', name FROM members WHERE used <> (SELECT total(charge - refund) FROM bookings JOIN keys ON keys.name = pass_key WHERE member = members.name)
 UNION ALL SELECT 'taken', facility || day || ' ' || hour FROM slots s WHERE taken <> (SELECT total(guests + 1) FROM bookings b WHERE cancelled = 0
@@ -195,12 +195,12 @@ UNION ALL SELECT 'integrity', integrity_check FROM pragma_integrity_check WHERE 
 
 
 def unsound(file):
-    """What of a file's totals is off."""
+    """Returns the faulty totals of a file."""
     return rows(file, SUMS)
 
 
 def add_past_bookings(file, count, root):
-    """Adds members x000 to x999, each with a key of its name, and so many bookings of theirs in `old-court`, two after another in a slot; the totals
+    """Adds members x000 to x999, each with a key of its name, and a number of bookings by them in `old-court`, two by two in a slot; the totals
     are the sums."""
     thousand = "WITH n(i) AS (SELECT 0 UNION ALL SELECT i + 1 FROM n WHERE i < 999)"
     with opened(file) as database:
@@ -216,7 +216,7 @@ def add_past_bookings(file, count, root):
 
 
 def paced(whole, step, what):
-    """So many things in steps, of which each tenth is printed."""
+    """Counts steps, and prints every tenth."""
     for done in range(0, whole, step):
         yield done
         if (done + step) * 10 // whole > done * 10 // whole:

@@ -23,7 +23,7 @@ def names_of(text):
 
 
 def options_of(text):
-    """Each long option, and the name of its value, if it takes one."""
+    """Returns each long option, and the name of its value, if it takes one."""
     lines = between(text, "Options") + between(text, "options")
     return {found[1]: found[2] for line in lines if (found := re.match(r" .*?--([a-z-]+)(?: <?([A-Z-]+))?", line))}
 

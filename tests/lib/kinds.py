@@ -1,7 +1,7 @@
-"""The table of all kinds of reply: what a club is asked, under which pass and when, and the bytes that it answers.
+"""The table of all kinds of reply: the requests to a club, with pass and moment, and the bytes of the replies.
 
-A scene is a list of steps over the club that COMMANDS make: a Row is a request to a server of its own, a Command one of the office, Sql
-what sqlite3 does to the file. Passes are those of tests/reference, which also spells the replies."""
+A scene is a list of steps on the club that COMMANDS make: a Row is a request to a separate server, a Command is the office's, and Sql is a
+change by sqlite3. Passes are those of tests/reference, which also spells the replies."""
 
 import itertools
 from dataclasses import dataclass, replace
@@ -18,7 +18,7 @@ def key_pass(name, root=ROOT):
 
 
 def text(it, *caveats, form="v2"):
-    """The text of a pass with further caveats."""
+    """Returns the text of a pass with further caveats."""
     for caveat in caveats:
         it = it.narrowed(caveat.encode())
     return passes.text_of(it, form).decode()
@@ -29,7 +29,7 @@ AMY, BOB, CY, DI = (key_pass(f"{name}-1") for name in ("amy", "bob", "cy", "di")
 
 @dataclass(frozen=True)
 class Row:
-    """A request and its reply. It has the bytes of `raw` if there are any; under no pass there is no field for one."""
+    """A request and its reply. It has the bytes of `raw` if there are any; without a pass there is no field for one."""
 
     method: str = ""
     path: str = ""
@@ -70,7 +70,7 @@ class Row:
 
 @dataclass(frozen=True)
 class Command:
-    """A command of clubdesk, what it prints, and its line on standard error if it is refused."""
+    """A command of clubdesk, its output, and its line on standard error if it is refused."""
 
     words: tuple
     printed: str = "done\n"
@@ -151,7 +151,7 @@ SCENES["what is not verified"] = [
         text(key_pass("zed-1")), CHANGED, text(passes.minted(bytes.fromhex(ROOT), b"amy-1")), text(key_pass("amy-1", ROOT + "00")))),
     command("revoke-key amy-1"), ACCOUNT.gets(10), ACCOUNT.under(CHANGED).gets(9)]
 
-# What amy is told in a club without others, in one where others do much, and in one where bob has a place in her slot.
+# Amy's replies in a club without others, in one where others do much, and in one where bob has a place in her slot.
 TOLD = [account(9400, 1), CANCEL]
 SCENES["others are absent"] = [BOOK, *TOLD]
 SCENES["others are busy"] = [
@@ -228,7 +228,7 @@ SCENES["methods that are none"] = [
     for path, allow, passed in (("/account", "GET", text(AMY)), (slot(), "GET", None), (slot() + "/bookings/7", "PUT, DELETE", text(AMY)))
     for method in ("GET", "HEAD", "POST", "PUT", "DELETE", "OPTIONS", "PATCH") if method not in allow]
 
-# What is refused of each action alike: before the desk looks at the pass, and for the pass.
+# Refusals that are the same for each action: before the desk looks at the pass, and because of the pass.
 ACTIONS = {"a view": view(), "a booking": book(7, THREE), "a cancellation": cancel(7), "an account": ACCOUNT}
 for name, row in ACTIONS.items():
     SCENES[f"{name} that is refused"] = [

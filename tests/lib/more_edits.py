@@ -1,8 +1,8 @@
 #!/usr/bin/env python3
 """Tries the edits of crates/NAME/must-fail/ and crates/NAME/more-edits.txt, and says how each is refused: see more_edits.sh.
 
-Most edits change the body of one function. What is proved of a function rests on its own body and the contracts of those that it calls, so
-one check tries edits of several functions. An edit is tried alone if its function has no verdict of its own then."""
+Most edits change the body of one function. A function's proof depends on its own body and the contracts of the functions that it calls, so one
+check can try edits of several functions. If a function then has no verdict of its own, its edit is tried alone."""
 import os
 import re
 import shutil
@@ -21,11 +21,11 @@ WORDS = ("false", "goal", "names", "test", "proved", "limit", "bad")
 SCENARIOS = "scenarios"
 # The crate and the name of the test that an edit fails, if no contract refuses it.
 TEST = re.compile(r"^test: (\w+) ([\w:]+)$", re.MULTILINE)
-# What rattle says of a goal for which it found values, in the line of the goal or in that of the answer that is missing.
+# rattle's message about a goal with a counterexample, in the goal's line or in that of the missing answer.
 FALSE = re.compile(r"the facts known there allow values at which this goal is false|may be false: the known facts allow")
-# What it says of a proof file that names what isn't there, and of what rests on that.
+# Its messages about a proof file with an unknown name, and about proofs that depend on it.
 NAMES = re.compile(r"has no field|is not in scope|has no `|was not admitted|no item `")
-# What goes on in the next line: the names that a record has are long.
+# Messages that continue in the next line, since a record's names are long.
 WRAPPED = re.compile(r"\n +(has no |is not in scope|was not admitted)")
 FAULT = re.compile(r"(?:note: )?(?:\./)?((?:src|specs|proofs)/\S+?):(\d+):\d+: (error: .*|it is not proved .*)")
 WANTED = re.compile(r"no proof: expected answers in (?:\./)?(\S+);")
@@ -34,23 +34,23 @@ HEAD = re.compile(r"(?:pub )?([^\s:]+) : ")
 FUNCTION = re.compile(r"(?P<indent> {4})?(?:pub(?:\([^)]*\))? )?(?:const )?(?:extern \"C\" )?fn (?P<name>\w+)")
 BLOCK = re.compile(r"(?:impl(?:<.*?>)? |(?:pub(?:\([^)]*\))? )?trait )(?:(?:\w+::)*(?P<trait>\w+)(?:<.*?>)? for )?(?:\w+::)*(?P<type>\w+)")
 AT_ONCE = 10  # edits that one check tries at most
-# What it says where it meets a limit of its own, and gives no verdict.
+# Its message when it meets its own limit, and gives no verdict.
 LIMIT = re.compile(r"antt ran out of (stack|the (steps|memory) that the check of one declaration may)|outgrew the memory limit|stopped at the step limit")
 
 
 class NoVerdict(Exception):
-    """The word for why nothing was tried, and a line that says so."""
+    """The word for a reason why nothing was tried, and its line."""
 
 
 class Edit(NamedTuple):
-    """A wrong body: its name, where it stands (a folder or a file of the crate), and its lines."""
+    """A mutant: its name, its place (a folder or a file of the crate), and its lines."""
     name: str
     place: str
     text: str
 
 
 def edits_of(crate):
-    """The edits of a crate: each file of its folder, and each part of its file that begins with `edit: NAME`."""
+    """Reads the edits of a crate: each file of its folder, and each part of its file that begins with `edit: NAME`."""
     for path in sorted((crate / FOLDER).glob("*.edit")):
         yield Edit(path.stem, FOLDER, path.read_text(encoding="utf-8"))
     if (crate / FILE).exists():
@@ -60,7 +60,7 @@ def edits_of(crate):
 
 
 def changes_of(edit):
-    """(path, old text, new text) of each change that an edit makes."""
+    """Yields (path, old text, new text) for each change of an edit."""
     for word, rest in re.findall(r"^(file|old|new): ?(.*)", edit.text, re.MULTILINE):
         if word == "file":
             path = rest.strip()
@@ -71,7 +71,7 @@ def changes_of(edit):
 
 
 def edited_texts(crate, edit):
-    """The texts of the files that an edit changes, by their path in the crate, as `rt ci` applies it."""
+    """Returns the texts of the files that an edit changes, by their path in the crate, as `rt ci` applies it."""
     texts = {}
     for path, old, new in changes_of(edit):
         text = texts[path] if path in texts else (crate / path).read_text(encoding="utf-8")
@@ -104,7 +104,7 @@ def function_at(path, text, offset):
 
 
 def edited_function(crate, edit):
-    """The file and the one function in whose body an edit makes all its changes. None if there is no such function."""
+    """Returns the file and the function whose body contains all changes of an edit, or None."""
     found = set()
     for path, old, _ in changes_of(edit):
         text = (crate / path).read_text(encoding="utf-8")
@@ -115,7 +115,7 @@ def edited_function(crate, edit):
 
 
 def groups_of(crate, edits):
-    """The edits in groups: each edit of a group is of a function of its own, or alone."""
+    """Groups the edits: no two edits of a group are of the same function, and some are alone."""
     groups = []
     for edit in edits:
         place = edited_function(crate, edit)
@@ -127,7 +127,7 @@ def groups_of(crate, edits):
 
 
 def check(crate):
-    """The lines of a check of the crate, and whether it is proved."""
+    """Returns the lines of a check of the crate, and whether it is proved."""
     ran = subprocess.run(["rt", "check", "--jobs", "1"], cwd=crate, stdin=subprocess.DEVNULL, stdout=subprocess.PIPE,
                          stderr=subprocess.STDOUT, text=True, errors="replace", check=False)
     lines = WRAPPED.sub(r" \1", ran.stdout).split("\n")
@@ -140,14 +140,14 @@ def check(crate):
 
 
 def faults_in(lines):
-    """Each line that tells a fault: its file, its line there, whether it is an error, and whether a name is missing."""
+    """Yields the faults of a check: file, line, whether it is an error, and whether a name is missing."""
     for line in lines:
         if found := FAULT.match(line):
             yield line, found[1], int(found[2]), found[3].startswith("error"), bool(NAMES.search(found[3]))
 
 
 def without_answers(crate, lines):
-    """The texts of proof files without the declarations at which these lines find names that aren't there, by their path."""
+    """Returns the texts of proof files, by path, without the declarations where these lines report unknown names."""
     places = defaultdict(set)
     for _, path, number, _, is_name in faults_in(lines):
         if path.startswith("proofs/") and is_name:
@@ -172,14 +172,14 @@ def without_answers(crate, lines):
 
 
 def open_goal(lines, gone):
-    """The line of a goal that is open for another cause than a name that is gone: its answer is there, and fails; or no answer is
-    wanted from a proof file that lost some."""
+    """Returns the line of a goal that is open for a reason other than a lost name: its answer fails, or the proof file that lost answers has
+    none for it."""
     failing = {line for line, path, _, is_error, is_name in faults_in(lines) if path.startswith("proofs/") and is_error and not is_name}
     return next((line for line in lines if line in failing or (wanted := WANTED.search(line)) and wanted[1] not in gone), None)
 
 
 def lines_of(crate, path, function, lines):
-    """The lines of a check that are of this function. A method may stand in another file than its type, by whose module rt knows it."""
+    """Returns a check's lines about this function. A method may be in another file than its type, and rt names it by the type's module."""
     words, first, last = function
     before, own = (r"(\w+/)*", words[-2:]) if words[-2:][0][0].isupper() else ("", words)
     proofs, head = re.compile(f"proofs/{before}{'/'.join(own)}/"), re.compile(f"fn {crate.name}::{before.replace('/', '::')}{'::'.join(own)}:")
@@ -188,7 +188,7 @@ def lines_of(crate, path, function, lines):
 
 
 class Trial:
-    """A crate of the copy, which is as it was between two tries."""
+    """A crate in the copy, restored between two tries."""
 
     def __init__(self, crate):
         self.crate = crate
@@ -205,7 +205,7 @@ class Trial:
         self.was = {}
 
     def verdicts(self, group):
-        """(edit, how it is refused, a line that says why) of each edit of a group."""
+        """Yields (edit, how it is refused, a line that says why) for each edit of a group."""
         told = self.told_together(group) if len(group) > 1 else {}
         for edit in group.values():
             try:
@@ -218,7 +218,7 @@ class Trial:
             yield edit, word, line
 
     def tested(self, edit, crate, test):
-        """Returns whether a test fails on an edit that no contract refuses, and its line. The tests run before any proof of theirs."""
+        """Returns whether a test fails on an edit that no contract refuses, and its line. The tests run before they are proved."""
         self.restore()
         self.put(edited_texts(self.crate, edit))
         front, words = f"test {test} ...", ["--test", "--", test]
@@ -232,7 +232,7 @@ class Trial:
         return ("proved" if line.endswith((" ok", " lines")) else "test"), line
 
     def told_together(self, group):
-        """What one check with all edits of a group tells of each function: a goal that is false or open, and no name that is missing."""
+        """Returns the verdicts of one check with all edits of a group: for each function, a false or open goal without a missing name."""
         for edit in group.values():
             with suppress(NoVerdict):
                 self.put(edited_texts(self.crate, edit))
@@ -257,7 +257,7 @@ class Trial:
         return told
 
     def verdict(self, edit):
-        """How an edit is refused, tried alone, and a line that says why."""
+        """Returns how an edit is refused when tried alone, and a line that says why."""
         texts = edited_texts(self.crate, edit)
         if not texts:
             raise NoVerdict("bad", "it changes nothing")
@@ -270,7 +270,7 @@ class Trial:
             if (path in texts or path.startswith("src/")) and is_error and is_name:
                 raise NoVerdict("bad", line)
         gone = set()
-        # Answers that rest on one that went may lose their names next.
+        # Answers that depend on a removed one may lose their names next.
         for _ in range(4):
             if false := next(filter(FALSE.search, lines), None):
                 return "false", false
@@ -295,7 +295,7 @@ def link_or_copy(source, target):
 
 
 def crates_below(names):
-    """The crates that these use, and those that they use in turn, by crates.txt."""
+    """Returns the crates that these depend on, directly or not, from crates.txt."""
     uses = {name: used.split() for name, used in re.findall(r"^(\w+)[^:#\n]*:([^#\n]*)", (ROOT / "crates.txt").read_text(encoding="utf-8"), re.MULTILINE)}
     below, left = set(), list(names)
     while left:
@@ -318,7 +318,7 @@ def take_libraries(copy, names):
 
 
 def try_crate(crate, wanted, counts):
-    """Tries the edits of a crate of the copy; if some are wanted, these alone."""
+    """Tries the edits of a crate in the copy, or only the requested ones."""
     if not check(crate)[1]:
         sys.exit(f"{crate.name}: not proved as it is")
     trial = Trial(crate)

@@ -42,7 +42,7 @@ def written(form, it):
 
 
 def amys(form, *caveats):
-    """A pass of Amy's with these caveats, under some signature."""
+    """Makes a pass of Amy's with these caveats, under some signature."""
     return written(form, Pass(b"", b"key:amy-1", [it if isinstance(it, bytes) else it.encode() for it in caveats], bytes(32)))
 
 
@@ -50,20 +50,20 @@ def amys(form, *caveats):
 
 
 def tool(*words, given):
-    """The status, and what is printed: the output, or if there is a fault its line."""
+    """Returns the status, and the output or the fault's line."""
     status, printed, fault = desk.command(TOOL, *words, text=given)
     return status, fault if status else printed
 
 
 def narrowed_by_tool(text, lines):
-    """The narrowed pass, or the line of its fault."""
+    """Returns the narrowed pass, or the line of its fault."""
     status, output = tool("narrow", *lines, given=text)
     check(status in (0, 3), "passtool narrow", text, lines, output)
     return output.removesuffix("\n")
 
 
 def reading_by_tool(text):
-    """The number of the fault, or what the page should show: its facts and the texts of its caveats."""
+    """Returns the fault's number, or the facts and caveats that the page should show."""
     status, output = tool("show", given=text.strip(" \t\r\n"))
     if status == 3:
         return int(output[len("fault ")])
@@ -83,7 +83,7 @@ def is_understood_by_tool(caveat):
 
 # ---- The browser
 
-# Functions for the calls below. They work the page's own fields and read its elements, as a person would.
+# Functions for the calls below. They use the page's own fields and read its elements, like a person.
 HELPERS = """
 const byId = (id) => document.getElementById(id);
 const changed = (field) => field.dispatchEvent(new Event("input", { bubbles: true }));
@@ -179,7 +179,7 @@ def drawn_line(choice):
 
 
 def fields_of(*lines):
-    """The fields of the page that make lines: names with values."""
+    """Returns the page's fields that make these lines, as names with values."""
     found = []
     for line in lines:
         name, _, value = re.split(" (=|<=|<) ", line)
@@ -204,7 +204,7 @@ def drawn_pass():
 
 
 def drawn_spelling(form, drawn):
-    """A text of the pass that a reader takes, mostly not the writer's."""
+    """Draws a text of the pass that a reader accepts, mostly not the writer's."""
     text = written(form, drawn)
     if form == "json":
         names = json.loads(text)

@@ -5,7 +5,7 @@ import json
 from office_room import HOME, NOON, begun, done, everything, office, same
 
 DAY = "2026-05-01"
-# The line of an order in the book.
+# Returns the line of a command in the book.
 LINE = r"20\d\d-\d\d-\d\dT\d\d:\d\d:\d\d [a-z]+ [0-9] [ -~]+"
 AT = ["--at", NOON]
 YES = ["--yes", *AT]
@@ -13,7 +13,7 @@ COPIES, BOOK, TURN = HOME / "back-ups", HOME / "club-book", HOME / "club-orders"
 
 
 def refused(words, status, line, by="anna", given="", keeps=True):
-    """The office refuses these words, with a line on standard error, and the club keeps its rows; what it prints."""
+    """Checks that the office refuses these words with a line on standard error and that the club keeps its rows; returns the output."""
     before = everything() if keeps else None
     found, out, errors = office(*words, by=by, given=given)
     same(f"office {' '.join(words)}: refused", (found, line in errors), (status, True))
@@ -45,12 +45,12 @@ def account(server, text):
 
 
 def book_lines(*words):
-    """The lines of the book, without their moments."""
+    """Returns the lines of the book without their moments."""
     return [line.split(" ", 1)[1] for line in lines("log", *words)]
 
 
 def changed_meanwhile(words, shown, change):
-    """Nothing is done if the club has changed between the question and its answer."""
+    """Checks that nothing is done if the club changed between the question and the answer."""
     with begun(*words, *AT) as command:
         same("what is shown", command.stdout.readline(), f"{shown}\n")
         change()

@@ -1,8 +1,8 @@
-"""What the tests of the office share: a machine of their own, a manager of services, clerks, requests, and what a club's file has to be.
+"""Fixtures of the office's tests: a separate machine, a manager of services, clerks, requests, and checks of a club's file.
 
-A script that imports it is run once more in that machine (tests/lib/office_room.sh). A service is a server that is started again a second after each
-end, as deploy/clubdesk.service says it (Restart=always, RestartSec=1). Its process is named in the room's folder `services`, by which the
-room's systemctl ends it.
+A script that imports it is run again in that machine (tests/lib/office_room.sh). A service is a server that is restarted a second after each
+end, as deploy/clubdesk@.service says (Restart=always, RestartSec=1). Its process is named in the room's folder `services`, which the room's
+systemctl uses to end it.
 """
 
 import contextlib
@@ -31,7 +31,7 @@ checks = 0
 
 
 def same(what, found, wanted):
-    """Notes a check; what is found has to be what is wanted."""
+    """Records a check; the found value must be the wanted one."""
     global checks
     checks += 1
     if found != wanted:
@@ -45,7 +45,7 @@ def leave():
 
 
 def run_as(user, *line, given=None, folder=None):
-    """Runs a command as a user, in its home; its status, output and errors."""
+    """Runs a command as a user, in its home; returns status, output and errors."""
     return command("runuser", "-u", user, "--", *line, text=given, cwd=folder or f"/home/{user}")
 
 
@@ -54,19 +54,19 @@ def office(*words, by="anna", given="", club="club"):
 
 
 def done(*words, by="anna", given=""):
-    """A command of the office that has to end with status 0; what it prints."""
+    """Runs a command of the office that must end with status 0; returns its output."""
     status, out, errors = office(*words, by=by, given=given)
     same(f"office {' '.join(words)}: status", (status, errors if status else ""), (0, ""))
     return out
 
 
 def desk(command, *words):
-    """clubdesk itself at the club, as the desk's user: its status and its output."""
+    """Runs clubdesk itself on the club as the desk's user; returns its status and output."""
     return run_as("clubdesk", "clubdesk", command, CLUB, *words, folder="/")[:2]
 
 
 class Service:
-    """A server that a manager starts again a second after each end."""
+    """A server that a manager restarts a second after each end."""
 
     def __init__(self, port=0, at=NOON, club="club"):
         self.port, self.is_wanted, self.starts = port or free_port(), True, 0
@@ -100,7 +100,7 @@ class Service:
         self.named.unlink()
 
     def answer(self, text, method, path, body=None):
-        """The status and the body of the reply under a pass, which is asked for until it comes, and comes whole."""
+        """Repeats a request under a pass until a complete reply comes; returns its status and body."""
         for _ in range(200):
             with contextlib.closing(http.client.HTTPConnection("127.0.0.1", self.port, timeout=30)) as client:
                 with contextlib.suppress(OSError, http.client.HTTPException):
@@ -114,13 +114,13 @@ class Service:
 
 
 def begun(*words):
-    """A command of the office that goes on, in a session of its own."""
+    """Starts a command of the office in its own session."""
     return subprocess.Popen(["runuser", "-u", "anna", "--", "office", "club", *words], stdin=subprocess.PIPE, stdout=subprocess.PIPE, stderr=subprocess.PIPE,
                             text=True, cwd="/home/anna", start_new_session=True)
 
 
 def kill(command, chance=None):
-    """Kills a process with all that it started, of which sudo gives some a session of their own, or by chance one of them; waits for its end."""
+    """Kills a process and all its children, some of which sudo puts into their own sessions, or only a random one of them; waits for its end."""
     with contextlib.suppress(psutil.NoSuchProcess):
         first = psutil.Process(command.pid)
         found = [first, *first.children(recursive=True)]
@@ -137,7 +137,7 @@ def killed_after(seconds, words, chance=None):
 
 
 def copied():
-    """A copy of the club as it is, opened."""
+    """Opens a copy of the current club."""
     copy = ROOM / "copied"
     for _ in range(5):
         copy.unlink(missing_ok=True)
@@ -153,12 +153,12 @@ def rows(sql):
 
 
 def whole(what):
-    """No total of the club is off."""
+    """Checks that all totals of the club are right."""
     same(f"the totals after {what}", rows(SUMS), [])
 
 
 def everything():
-    """All rows of the club."""
+    """Returns all rows of the club."""
     with copied() as database:
         return list(database.iterdump())
 
@@ -169,5 +169,5 @@ def configure(**more):
 
 
 def mode(file):
-    """A file's owner and its mode."""
+    """Returns a file's owner and mode."""
     return f"{file.owner()} {file.stat().st_mode:o}"

@@ -1,4 +1,4 @@
-"""A browser for the scripts that drive the pages, and what they look at in both: contrasts, targets, names for screen readers.
+"""A browser for the scripts that drive the pages, with checks for both pages: contrasts, targets, names for screen readers.
 
 Read by page_narrows.py and page_books.py. Wants Debian's chromium, chromium-driver and python3-selenium."""
 import base64
@@ -18,7 +18,7 @@ def check(holds, *what):
 
 
 class Browser:
-    """A chromium in which names lead nowhere but as the rules say; a script may run before the page's own."""
+    """A chromium that resolves names only by the rules; a script may run before the page's own."""
 
     helpers = ""  # functions for the scripts that `run` and `each` run
     batch = 25  # how many items go to the page in one call
@@ -45,7 +45,7 @@ class Browser:
         return self.driver.execute_cdp_cmd(name, words)
 
     def open(self, address):
-        # By way of another page, so that an address with another end behind # is loaded anew.
+        # Opens another page first, so that an address that differs only after # is loaded again.
         self.driver.get("about:blank")
         self.driver.get(address)
 
@@ -53,7 +53,7 @@ class Browser:
         return self.driver.execute_script(self.helpers + script, *words)
 
     def each(self, function, items):
-        """What the helper returns of each item."""
+        """Returns the helper's results for each item."""
         script = self.helpers + f"""
             const [items, done] = arguments;
             (async () => {{
@@ -86,7 +86,7 @@ class Browser:
         check(across <= width, "sideways scrolling", width, across, *what)
 
     def is_legible(self, *what):
-        """How many texts are seen, each with a contrast of at least 4.5; targets are large."""
+        """Returns the number of visible texts, each with a contrast of at least 4.5; targets must be large."""
         count, faint = self.run(CONTRASTS)
         check(not faint, "faint texts", *what, *faint)
         small = self.run(SMALL_TARGETS)
@@ -94,8 +94,8 @@ class Browser:
         return count
 
     def is_named(self, roles, live, *what):
-        """What can have the focus, or has one of these roles, has a name for a screen reader, which hears of changes in some elements; the
-        nodes of the page."""
+        """Checks that focusable elements, and those with these roles, have names for screen readers, and that some elements announce changes.
+        Returns the page's nodes."""
         tree = [node for node in self.command("Accessibility.getFullAXTree")["nodes"] if not node["ignored"]]
         for node in tree:
             properties = {each["name"]: each["value"].get("value") for each in node.get("properties", [])}
@@ -106,24 +106,24 @@ class Browser:
         return tree
 
     def is_audited(self, *what):
-        """What axe-core's rules look for in a page's elements, beside names, contrasts and targets."""
+        """Checks axe-core's rules for a page's elements, other than names, contrasts and targets."""
         found = self.run(AUDIT)
         check(not found, "what an audit finds", *what, *found)
 
     def cuts_nothing_off(self, width, *what):
-        """No word is beyond the edge, and nothing scrolls sideways but what is made to."""
+        """Checks that no word is beyond the edge, and that only the intended elements scroll sideways."""
         across = self.run("return document.documentElement.scrollWidth")
         check(across <= width, "sideways scrolling", *what, across)
         cut = self.run(CUT_OFF)
         check(not cut, "words that are cut off", *what, *cut)
 
     def breaks_no_word(self, *what):
-        """No word goes on in the next line, as one does whose place is too narrow. Words of ten letters and more may."""
+        """Checks that no word is broken across lines because its place is too narrow. Words of ten letters and more may be."""
         broken = self.run(BROKEN_WORDS)
         check(not broken, "words that are broken", *what, *broken)
 
     def focus_is_seen(self, *what):
-        """But for the focus in a date, of which the browser marks a part."""
+        """Except for the focus in a date, where the browser marks a part."""
         outline = self.run("""const style = getComputedStyle(document.activeElement);
             return document.activeElement.type === "date" || [style.outlineStyle, style.outlineWidth];""")
         check(outline in (True, ["solid", "3px"]), "a focus that can't be seen", *what, self.focused(), outline)
@@ -139,13 +139,13 @@ class Browser:
         return self.command("Page.captureScreenshot")["data"]
 
     def picture(self, top=0, height=None):
-        """A PNG in base64: of the whole page, or of a stripe of it."""
+        """Returns a PNG in base64 of the whole page, or of a stripe of it."""
         width, whole = self.run("const { offsetWidth, offsetHeight } = document.documentElement; return [offsetWidth, offsetHeight];")
         clip = {"x": 0, "y": top, "width": width, "height": height or whole, "scale": 1}
         return self.command("Page.captureScreenshot", captureBeyondViewport=True, clip=clip)["data"]
 
     def sent_nothing(self, page):
-        """Nothing was loaded beside the page, and the console has no complaint."""
+        """Checks that only the page was loaded, and that the console has no errors."""
         check(self.run("return performance.getEntriesByType('resource').length") == 0, "the page loads something")
         messages = [json.loads(entry["message"])["message"] for entry in self.driver.get_log("performance")]
         asked = [each["params"]["request"]["url"] for each in messages if each["method"] == "Network.requestWillBeSent"]
@@ -156,7 +156,8 @@ class Browser:
 
 
 def policy_holds(page, more, calls, *links):
-    """Nothing runs but the page's one script and one style, by their hashes, and nothing else can come from anywhere; it makes none of some calls."""
+    """Checks that only the page's one script and style run, by their hashes, that nothing else can be loaded, and that the script avoids some
+    calls."""
     text = page.read_text(encoding="utf-8")
     policy = re.search('http-equiv="Content-Security-Policy" content="([^"]*)"', text)[1]
     rules = dict(rule.strip().split(" ", 1) for rule in policy.split(";"))

@@ -1,5 +1,5 @@
-"""Drives three browsers alike: chromium, Debian's firefox-esr by its Marionette, and WebKitGTK's MiniBrowser by its driver, which wants a
-display.
+"""Drives three browsers in the same way: chromium, Debian's firefox-esr through Marionette, and WebKitGTK's MiniBrowser through its driver,
+which needs a display.
 
 Read by page_narrows.py and page_books.py. Wants Debian's chromium-driver, firefox-esr, webkit2gtk-driver, xvfb and python3-selenium."""
 import base64
@@ -28,7 +28,7 @@ WIDTH, HEIGHT = 400, 820
 
 
 class Engine:
-    """One way to drive each browser: open an address, run a script in the page, press a button."""
+    """The common interface of the browsers: open an address, run a script in the page, press a button."""
 
     helpers = ""  # functions for the scripts
     name = host = ""
@@ -43,7 +43,7 @@ class Engine:
         return self.run(self.helpers + script, *words)
 
     def when(self, condition, *what, limit=40):
-        """Waits until something holds in the page."""
+        """Waits until a condition holds in the page."""
         end = time.monotonic() + limit
         while not self.get(f"return Boolean({condition})"):
             check(time.monotonic() < end, self.name, *what, condition, self.run("return document.body.innerText"))
@@ -71,7 +71,7 @@ class Engine:
 
 
 class Chromium(Engine):
-    """Chromium as page_browser.py starts it, of a telephone's width."""
+    """Chromium as page_browser.py starts it, as wide as a telephone."""
 
     name, host = "chromium", "desk.example.org"
 
@@ -100,7 +100,7 @@ class Chromium(Engine):
 
 
 class Firefox(Engine):
-    """Firefox without a window. The page's own names are looked up in the machine itself."""
+    """Firefox without a window. The page's own names resolve to this machine."""
 
     name, host = "Firefox", "desk.example.org"
 
@@ -155,7 +155,7 @@ class Firefox(Engine):
         self.command("WebDriver:Navigate", url=address)
 
     def run(self, script, *words):
-        """A script beside the page's, which sees the page's functions and not its constants."""
+        """A script in the page, which sees the page's functions but not its constants."""
         return self.command("WebDriver:ExecuteScript", script=script, args=list(words), sandbox=None)["value"]
 
     def found(self, path):
@@ -177,7 +177,7 @@ class Firefox(Engine):
 
 
 class WebKit(Engine):
-    """WebKitGTK's small browser on a display of its own. It knows the machine's names alone."""
+    """WebKitGTK's small browser on a display of its own. It resolves only this machine's names."""
 
     name, host = "WebKit", "localhost"
 

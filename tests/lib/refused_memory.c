@@ -1,7 +1,6 @@
-// Refuses the allocation whose number the variable REFUSED_ALLOCATION tells, counted from 1. A program that ends by itself writes how
-// many allocations it made into the file whose path the variable ALLOCATIONS_COUNTED tells, if any. Where the variable CALLS_TOLD tells
-// the path of a file, it gets a line for each call that ends a commit or sends a reply: `sync` or `send`, and how many allocations came
-// before. Loaded before the C library.
+// Refuses the allocation whose number is in the variable REFUSED_ALLOCATION, counted from 1. A program that ends by itself writes its number of
+// allocations to the file named by the variable ALLOCATIONS_COUNTED, if set. If the variable CALLS_TOLD names a file, it gets a line for each
+// call that ends a commit or sends a reply: `sync` or `send`, and the number of allocations before it. Loaded before the C library.
 #define _GNU_SOURCE
 #include <dlfcn.h>
 #include <errno.h>
@@ -40,7 +39,7 @@ void *realloc(void *old, size_t size) {
     return refuses() ? NULL : next(old, size);
 }
 
-// Writes a word and how many allocations were made into the file that a variable tells, without an allocation.
+// Writes a word and the number of allocations to the file that a variable names, without an allocation.
 static void tell(const char *variable, int how, const char *word) {
     const char *path = getenv(variable);
     if (!path) return;

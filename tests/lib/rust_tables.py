@@ -1,5 +1,5 @@
-"""The constants and tables of Rust source, as values: what a test's `static` has in its rows. It reads literals, tuples, arrays, structs, calls of
-variants, references and sums, and the names that a file has or brings in by `use`."""
+"""Reads the constants and tables of Rust source as values: the rows of a test's `static` has in its rows. It reads literals, tuples, arrays,
+structs, calls of variants, references and sums, and the names that a file has or brings in by `use`."""
 
 import re
 from dataclasses import dataclass
@@ -14,12 +14,12 @@ BOUNDS = {"u8::MAX": 2**8 - 1, "u16::MAX": 2**16 - 1, "u32::MAX": 2**32 - 1, "u6
 
 
 class NotRead(Exception):
-    """An expression that isn't made of what this reads."""
+    """An expression that this reader doesn't support."""
 
 
 @dataclass(frozen=True)
 class Node:
-    """A variant or a struct: its last name or two, its values, and a struct's fields."""
+    """A variant or a struct: the last one or two names of its path, its values, and a struct's fields."""
 
     name: str
     values: tuple = ()
@@ -35,7 +35,7 @@ class Node:
 
 
 def unescaped(text):
-    """The value of a string's text: a backslash at a line's end takes the spaces after it away."""
+    """Returns a string's value: a backslash at a line's end removes the spaces after it."""
     text = re.sub(r"\\\n\s*", "", text)
     simple = {"n": "\n", "r": "\r", "t": "\t", "0": "\0", '"': '"', "'": "'", "\\": "\\"}
     return re.sub(r"\\(?:x([0-9a-f]{2})|u\{([0-9a-f]+)\}|(.))", lambda it: chr(int(it[1] or it[2], 16)) if it[1] or it[2] else simple[it[3]], text)
@@ -77,7 +77,7 @@ class Expression:
         return value
 
     def called(self):
-        """A value, or what a call of one of its methods returns."""
+        """Reads a value, or a call of one of its methods."""
         value = self.one()
         while self.peek() == ".":
             self.take()
@@ -169,7 +169,7 @@ USE = re.compile(r"^\s*(?:pub(?:\([a-z]+\))? )?use ([^;]+);", re.MULTILINE)
 
 
 class File:
-    """A file of a crate, with what it defines."""
+    """A file of a crate, with its definitions."""
 
     def __init__(self, path):
         self.path = path
@@ -224,7 +224,7 @@ class File:
         return Node(short(name))
 
     def statics(self):
-        """The names of the tables."""
+        """Returns the names of the tables."""
         return re.findall(r"^(?:pub(?:\([a-z]+\))? )?static (\w+):", self.text, re.MULTILINE)
 
 
@@ -256,12 +256,12 @@ def file_at(path):
 
 
 def beside(file, module):
-    """The file of a module that a file declares."""
+    """Returns the file of a module that a file declares."""
     return (file.path.parent if file.path.stem == "lib" else file.path.with_suffix("")) / f"{module}.rt"
 
 
 def home_of(file, path):
-    """The file of a module's path, as a file of a crate cites it; None if it is of no crate here."""
+    """Returns the file of a module's path as a crate's file cites it, or None for another crate's."""
     first, *rest = path or [""]
     if first == "crate":
         top = CRATES / file.crate / "src"

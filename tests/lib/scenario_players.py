@@ -23,7 +23,7 @@ AS_VERSION_1 = "DROP TABLE old_roots; DROP INDEX IF EXISTS bookings_by_key; UPDA
 
 
 class Difference(AssertionError):
-    """A line of a scenario that gets another answer than it states."""
+    """A line of a scenario whose answer differs from the stated one."""
 
     def __init__(self, place, wanted, found):
         super().__init__(f"{place}: wanted {wanted}\n{' ' * len(str(place))}  found  {found}")

@@ -46,7 +46,7 @@ def view(slot, kind, price, places, taken, closed):
 
 
 def command_of(it):
-    """The words of a command, as the rules take them."""
+    """Returns the words of a command as the rules take them."""
     name, values = last(it.name), it.values
     return {"AddMember": lambda: ("add-member", *values), "Credit": lambda: ("credit", *values),
             "Debit": lambda: ("debit", *values), "SetQuota": lambda: ("set-quota", *values),
@@ -69,14 +69,14 @@ def fixture():
 
 
 class Differs(Exception):
-    """A row whose answer differs from that of the rules."""
+    """A row whose answer differs from the rules' answer."""
 
 
 DECISIONS = ("no pass", "holder", "caveats", "decision")
 
 
 def whole(club, data, moment, wanted, kinds):
-    """The facts of an exchange whose reply has these bytes."""
+    """Returns the facts of an exchange whose reply has these bytes."""
     found = facts.exchange_facts(club, data, moment)
     reply = next(it.asked[0] for it in found if it.kind == "reply")
     if reply.encode() != wanted:
@@ -88,7 +88,7 @@ def whole(club, data, moment, wanted, kinds):
 
 
 def club_of_files():
-    """The club of the runs over files: a closed slot, a booked one, and a member with the most points."""
+    """Makes the club of the runs over files: a closed slot, a booked one, and a member with the most points."""
     club = rules.Club()
     for words in (("add-member", "amy", 5), ("credit", "amy", 10_000), ("add-facility", "court-1", "court", 4, 200, 8, 22), ("add-key", "amy-1", "amy", ROOT),
                   ("add-member", "bea", 5), ("close-slot", "court-1", 20574, 19)):
@@ -99,7 +99,7 @@ def club_of_files():
 
 
 def of_runs(value):
-    """Rows of a command's words and what its run prints, each over that club."""
+    """Reads rows of a command's words and its output, each on that club."""
     return [run_facts(club_of_files(), it) for it in value]
 
 

@@ -1,8 +1,8 @@
-"""The tests of tests/ as programs, for tests/run and tests/conftest.py: their marks, the packages that they want, and a run with all that it starts.
+"""The tests in tests/ as programs, for tests/run and tests/conftest.py: their marks, the packages that they need, and their runs.
 
-A test is a program with a list `pytestmark`. In a script that pytest doesn't read the list is a comment. tests/pytest.ini has the marks. A group's
-mark with words is a run of its own with these words, and may name other needs and packages. The first run has the program's name. One of `quick`
-is NAME-quick, another is named after its first word, as hostile-self-test."""
+A test is a program with a list `pytestmark`. In a script that pytest doesn't read the list is a comment. tests/pytest.ini has the marks. A
+group's mark with words is a separate run with these words, and may name other needs and packages. The first run has the program's name. One of
+`quick` is NAME-quick, another run is named after its first word, such as hostile-self-test."""
 
 import ast
 import configparser
@@ -30,7 +30,7 @@ SECONDS = 3600  # that a run may take, where its marks say nothing else
 SECONDS_OF_QUICK = 600
 SECONDS_TO_CLEAR_UP = 30
 SECONDS_TO_INSTALL = 360  # to download what is missing
-# Where a program lies once it is built. `rt ci` leaves those of the first two.
+# The path of a program once it is built. `rt ci` leaves those of the first two.
 BUILT = {
     "clubdesk": ["crates/clubdesk/out/clubdesk"],
     "passtool": ["crates/passtool/out/passtool"],
@@ -39,11 +39,11 @@ BUILT = {
 
 
 class Fault(Exception):
-    """Why nothing can be run."""
+    """Reports why nothing can be run."""
 
 
 def groups():
-    """The groups of tests/pytest.ini, each with what it holds."""
+    """Returns the groups of tests/pytest.ini with their descriptions."""
     ini = configparser.ConfigParser()
     ini.read(ROOT / "tests" / "pytest.ini", encoding="utf-8")
     lines = (it.partition(": group: ") for it in ini["pytest"]["markers"].splitlines())
@@ -55,7 +55,7 @@ GROUPS = groups()
 
 @dataclass
 class Test:
-    """A program with its words, as some groups run it."""
+    """A program with its words, as run by some groups."""
 
     name: str
     path: Path
@@ -75,7 +75,7 @@ class Test:
 
 @functools.cache
 def head_of(path):
-    """The comment or docstring at the head of a program, and its marks: each a name with what it is given."""
+    """Returns the comment or docstring at a program's head, and its marks, each a name with arguments."""
     text = path.read_text(encoding="utf-8")
     listed = re.search(r"^(?:# )?(pytestmark = \[(?:[^\]]*\n)*?.*\])$", text, re.MULTILINE)
     marks = []
@@ -91,7 +91,7 @@ def head_of(path):
 
 
 def shown_by(head):
-    """The first paragraph of a head, which says what the test shows, with the items of a list where it ends in a colon."""
+    """Returns a head's first paragraph, which says what the test shows, with the items of a list if it ends in a colon."""
     paragraph = re.match(r"(?:(?!- |  ).+\n?)+", head)[0]
     if paragraph.rstrip().endswith(":"):
         items = re.match(r"(?:(?:- |  ).*\n?)*", head[len(paragraph):])[0]
@@ -124,7 +124,7 @@ def tests_of(path):
 
 
 def programs():
-    """The programs of tests/ and its folders that are tests, by their paths."""
+    """Returns the test programs in tests/ and its folders, by path."""
     found = [*(ROOT / "tests").iterdir(), *(ROOT / "tests").glob("[a-z]*/*.*")]
     return [it for it in sorted(found) if it.suffix in (".bats", ".py", ".sh") and head_of(it)[1]]
 
@@ -135,7 +135,7 @@ def every_test():
 
 @functools.cache
 def planted_tests():
-    """Each test once for each fault that is planted for it."""
+    """Returns each test once for each of its planted faults."""
     return [replace(it, name=name, plant=name) for it in every_test() for name in planted.plants_of(it.name)]
 
 
@@ -143,7 +143,7 @@ def planted_tests():
 
 
 def missing(packages):
-    """Those of Debian's packages that aren't installed; all of them where nothing says so."""
+    """Returns the Debian packages that aren't installed, or all of them if nothing can tell."""
     if not packages or not shutil.which("dpkg-query"):
         return list(packages)
     found = subprocess.run(["dpkg-query", "-Wf", "${Package} ${db:Status-Status}\n", *packages], capture_output=True, text=True, check=False).stdout
@@ -151,8 +151,8 @@ def missing(packages):
 
 
 def prepare(packages):
-    """Installs those that are missing, if root runs this and there are apt-get and a network, within some minutes. Tests that install some wait for
-    one another."""
+    """Installs the missing packages within some minutes, if root runs this and there are apt-get and a network. Tests that install packages wait
+    for one another."""
     OUT.mkdir(parents=True, exist_ok=True)
     (OUT / "apt.conf").write_text('DPkg::Lock::Timeout "600";\nAcquire::Retries "1";\nAcquire::http::Timeout "20";\n', encoding="utf-8")
     if os.geteuid() != 0 or not shutil.which("apt-get"):
@@ -161,7 +161,7 @@ def prepare(packages):
     with open(OUT / "apt.log", "wb") as log:
 
         def apt(*words, limit=None):
-            """Returns whether apt-get does it, in time if it has a limit: it is ended only while it downloads."""
+            """Returns whether apt-get succeeds, in time if there is a limit: it is ended only while it downloads."""
             with suppress(subprocess.TimeoutExpired):
                 seconds = limit and max(1, min(limit, ends - time.monotonic()))
                 return subprocess.run(["apt-get", "-o", "DPkg::Lock::Timeout=120", *words], stdin=subprocess.DEVNULL, stdout=log, stderr=log, check=False,
@@ -171,7 +171,7 @@ def prepare(packages):
         lacking = missing(packages)
         if not lacking or not apt("update", limit=120):
             return
-        # One that isn't to be had keeps none of the others away.
+        # An unavailable package doesn't stop the others.
         for some in (lacking, *([it] for it in lacking)):
             install = ["install", "-y", "--no-install-recommends", *some]
             if missing(some) and time.monotonic() < ends and apt(*install, "--download-only", limit=SECONDS_TO_INSTALL):
@@ -182,7 +182,7 @@ def prepare(packages):
 
 
 def processes():
-    """Each process: its parent, its session, and when it began."""
+    """Returns each process with its parent, its session, and its start."""
     found = {}
     for stat in Path("/proc").glob("[0-9]*/stat"):
         with suppress(OSError):
@@ -192,7 +192,7 @@ def processes():
 
 
 def begun_by(leader):
-    """The processes of a leader's session, and those that they began in others, each with its beginning."""
+    """Returns the processes of a leader's session, and their children in other sessions, each with its start."""
     every = processes()
     found = {it for it, (_, session, _) in every.items() if session == leader}
     while more := {it for it, (parent, _, _) in every.items() if parent in found} - found:
@@ -201,7 +201,7 @@ def begun_by(leader):
 
 
 def end(process):
-    """Ends a process with all that it began, and lets it clear up before."""
+    """Ends a process and its children, after giving it time to clean up."""
     begun = begun_by(process.pid)
     with suppress(ProcessLookupError):
         os.killpg(process.pid, signal.SIGTERM)
@@ -213,7 +213,7 @@ def end(process):
 
 
 def lacks(test, is_built):
-    """Why a test can't be run here, or nothing. With `is_built` no program is built for it."""
+    """Returns why a test can't be run here, or nothing. With `is_built` no program is built for it."""
     if "root" in test.marks and os.geteuid() != 0:
         return "needs root"
     packages = missing(test.packages)
@@ -224,7 +224,7 @@ def lacks(test, is_built):
 
 
 def status_of(test, output, root, variables, seconds):
-    """Runs a test in a session of its own, which ends with it."""
+    """Runs a test in its own session, which ends with it."""
     environment = {**os.environ, "APT_CONFIG": str(OUT / "apt.conf"), "DEBIAN_FRONTEND": "noninteractive", "PYTHONDONTWRITEBYTECODE": "1", **variables}
     with subprocess.Popen([root / test.path.relative_to(ROOT), *test.words], cwd=root, stdin=subprocess.DEVNULL, stdout=output, stderr=output,
                           env=environment, start_new_session=True) as process:
@@ -239,7 +239,7 @@ def status_of(test, output, root, variables, seconds):
 
 
 def status_with_fault(test, output, seconds):
-    """The same with its fault in a copy of the tree: 0 if the test fails for it."""
+    """Runs a test with its fault in a copy of the tree; returns 0 if the test fails because of it."""
     with tempfile.TemporaryDirectory() as folder:
         variables = planted.plant(test.plant, Path(folder))
         shorter = replace(test, words=list(planted.PLANTS[test.plant][4:]) or test.words)
@@ -249,7 +249,7 @@ def status_with_fault(test, output, seconds):
 
 
 def run(test, is_built=False, has_timer=False):
-    """Runs a test, with its output in out/tests/NAME.log, and returns its result. Where another timer ends it, it gets no limit here."""
+    """Runs a test, with its output in out/tests/NAME.log, and returns its result. If another timer ends the test, it has no limit here."""
     OUT.mkdir(parents=True, exist_ok=True)
     begun, log = time.monotonic(), OUT / f"{test.name}.log"
     seconds = None if has_timer else test.seconds

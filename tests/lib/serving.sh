@@ -2,13 +2,13 @@
 here=${BATS_TEST_DIRNAME:-$(CDPATH='' cd -P -- "$(dirname -- "$0")" && pwd)}
 
 # The programs are those of the variables CLUBDESK and PASSTOOL. One without a variable is proved and built first, if that isn't
-# done. Then it is run itself, so that a signal meets the server.
+# done. The program itself is run, so that a signal reaches the server.
 desk=${CLUBDESK-}
 tool=${PASSTOOL-}
 [ -n "$desk" ] || { "$here/../../bin/clubdesk" --help >/dev/null && desk=$here/../../crates/clubdesk/out/clubdesk; } || exit 2
 [ -n "$tool" ] || { "$here/../../bin/passtool" --help >/dev/null && tool=$here/../../crates/passtool/out/passtool; } || exit 2
 
-# Bats has a folder for each test, and traps of its own.
+# Bats has a folder for each test, and its own traps.
 [ -z "${BATS_TEST_DIRNAME-}" ] || return 0
 
 work=$(mktemp -d)
@@ -21,8 +21,8 @@ trap leave EXIT
 cd "$work" || exit 2
 mkfifo listening
 
-# serve FILE COUNT MOMENT [WORD..]: starts a server, with further options, which listens at $port once this is done (tests/lib/desk.py).
-# `fault` has the reason if there is none, FILE.log what it writes on standard error. `finish` waits for its end.
+# serve FILE COUNT MOMENT [WORD..]: starts a server, with further options, which listens at $port when this returns (tests/lib/desk.py).
+# `fault` has the reason if it fails, and FILE.log its standard error. `finish` waits for its end.
 serve() {
     /usr/bin/python3 -B "$here/../lib/desk.py" "$desk" "$@" >listening 2>fault &
     server=$!
@@ -34,7 +34,7 @@ finish() {
     server=
 }
 
-# copy FILE TO: a database, with the log that belongs to it.
+# copy FILE TO: copies a database with its log.
 copy() {
     rm -f "$2" "$2-wal"
     cp "$1" "$2"

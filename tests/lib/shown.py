@@ -1,4 +1,4 @@
-"""Which definitions the vectors show: the reference in Python (tests/reference), run over docs/vectors.json.
+"""Finds the definitions that the vectors show, by running the reference in Python (tests/reference) on docs/vectors.json.
 
 `WRITTEN` names, for each function of the reference, the definitions that it is a second writing of. A definition is shown `all` if the
 vectors run each line of those functions, `part` if some, `none` if no line; lines of planted faults don't count."""
@@ -144,7 +144,7 @@ def check_passes(vectors):
         expect(vector["what"], passes.read(vector["text"].encode()), pass_of(vectors["passes"][2]))
 
 
-# A line of passtool's has its own numbers of faults: the words after them say which of the desk's it is.
+# passtool numbers its faults differently: the words after the number tell which of the desk's faults it is.
 FAULTS = {"too long": passes.TOO_LONG, "malformed": passes.MALFORMED, "third-party caveat": passes.THIRD_PARTY, "too many caveats": passes.TOO_MANY}
 
 
@@ -230,7 +230,7 @@ def check_all():
 
 
 def lines_run():
-    """The lines of the reference that the vectors run, as (file, first line of the code, its name, line)."""
+    """Returns the lines of the reference that the vectors run, as (file, first line of the code, its name, line)."""
     found = set()
 
     def trace(frame, event, _value):
@@ -281,7 +281,7 @@ def lines_of_functions():
 
 
 def marks():
-    """Of each definition, as (crate, file, name), how far the vectors show it: all, part or none."""
+    """Returns how far the vectors show each definition (crate, file, name): all, part or none."""
     run, functions = lines_run(), lines_of_functions()
     found = {}
     for names, listed in WRITTEN.items():

@@ -15,9 +15,9 @@ BUILT_IN = set("""
     : = | → ← × Type Unit Bool tt refl record data if then else let in do where of by pub abbrev unfoldable opaque module ⊥ ⊤ ¬ ∥ ∥₁ _ λ ↔ ≡
     now old new entry result self Self true false fields
 """.split())
-# Where it is listed what computes another definition.
+# The page that lists which functions compute a definition.
 COMPUTED = ROOT / "docs" / "COMPUTED.md"
-# The kinds of what specs/ defines.
+# The kinds of definitions in specs/.
 OF_SPECS = ("definition", "record", "data")
 # Constructors of std that a pattern may have.
 PATTERNS = {"[]", "∷", "Some", "None", "Ok", "Err", "true", "false", "zero", "suc", "tt", "now", "ready", "inl", "inr"}
@@ -72,7 +72,7 @@ class Definition:
 
 
 def without_comments(text, sign):
-    """The text with spaces for comments, so that lines and columns stay."""
+    """Replaces comments with spaces, so that lines and columns stay."""
     return re.sub(rf'("(?:\\.|[^"\\\n])*")|{sign}[^\n]*', lambda m: m[1] or " " * len(m[0]), text)
 
 
@@ -81,7 +81,7 @@ def indent_of(line):
 
 
 def names_of(path, lead=""):
-    """The names of an import's path, as (module, name). A list in it has names, paths and further lists."""
+    """Returns the names of an import's path, as (module, name). A list in it has names, paths and further lists."""
     head, brace, inner = path.partition("{")
     if not brace:
         module, _, name = (lead + path).rpartition(".")
@@ -121,7 +121,7 @@ def imports_in(text, word):
 
 
 class Scope:
-    """The names of a text: imported, and of the module's own."""
+    """Returns the names in a text: imported ones, and the module's own."""
 
     def __init__(self, book, imports):
         self.book = book
@@ -135,7 +135,7 @@ class Scope:
                 self.names.setdefault(sign, (module, name))
 
     def find(self, word):
-        """The definition of a word, which may have an alias before it or fields after it."""
+        """Returns the definition of a word, which may have an alias before it or fields after it."""
         head, _, rest = word.partition(".")
         if word in self.names:
             return self.book.look(*self.names[word])
@@ -151,7 +151,7 @@ class Scope:
 
 
 class Walk:
-    """The words of an expression that no binder binds."""
+    """Returns the unbound words of an expression."""
 
     def __init__(self, scope, bound=()):
         self.scope = scope
@@ -171,7 +171,8 @@ class Walk:
             self.unknown.append(word)
 
     def pattern(self, tokens):
-        """The left side of an equation: what is no constructor is a variable. The first word in brackets is applied, so it's no variable."""
+        """On the left side of an equation, a word that isn't a constructor is a variable. The first word in brackets is applied, so it isn't a
+        variable."""
         for at, token in enumerate(tokens):
             if token in "(){},;_":
                 continue
@@ -250,7 +251,7 @@ def tokens_of(text):
 
 
 def top_level(tokens, sign):
-    """Where the sign stands outside of all brackets, else None."""
+    """Returns the place of the sign outside all brackets, or None."""
     depth = 0
     for at, token in enumerate(tokens):
         depth += (token in "({") - (token in ")}")
@@ -278,7 +279,7 @@ class SpecsFile:
 
     @cached_property
     def head(self):
-        """The comment at the file's head, as one line."""
+        """Returns the comment at the file's head as one line."""
         lines = []
         for line in self.raw.splitlines():
             if not line.startswith("-- "):
@@ -349,7 +350,7 @@ class SpecsFile:
         if it.kind in ("record", "data"):
             self.resolve_record(it)
             return
-        # Several equations: each begins in the first column of the block.
+        # Several equations each begin in the first column of the block.
         pieces, piece = [], []
         for line in it.text.splitlines():
             if piece and line.strip() and indent_of(line) == it.indent and not line.lstrip().startswith("}"):
