@@ -38,8 +38,8 @@ pub data AskOther (arguments : List Text) : Type 0 where
   server_asked : (file : Text) (service : Service) → AskFor arguments file (Serve service) → AskOther arguments
 
 module _ {Store : Type 0} (Clean : Store → Type 0) (Represents : Store → Club → List Club → Type 0) (Given : Option Timestamp → Type 0) where
-  -- A command with these arguments. Either they are read as without a server, with this root if they leave it to the input, and the command is carried out. Or
-  -- they or the root are refused, and nothing is done.
+  -- A command with these arguments. Either they are read as in a run without a server, and the command is carried out. It takes this root if they leave the
+  -- root to the input. Or they or the root are refused, and nothing is done.
   pub data DoesArguments (root : Text) (arguments : List Text) (answer : Result (List ℕ) Fault) (old new : Store) : Type 0 where
     task_done : (file : Text) (task : Task) → AskFor arguments file (Office task) → Does Clean Represents Given task answer old new
         → DoesArguments root arguments answer old new

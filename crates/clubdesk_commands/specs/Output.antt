@@ -44,6 +44,6 @@ IsWorkFault (Arguments error) = ⊥
 IsWorkFault BadValue = ⊥
 IsWorkFault fault = Unit {0}
 
--- The end of work: it never ends with a fault of the arguments, and nothing was written before a fault, except before these two.
+-- The end of work. It never ends with a fault of the arguments. Nothing was written before a fault, except before `ClockOutOfRange` and `InputOutput`.
 abbrev pub EndsWork : Type 0 → Result Unit Fault → Type 0
 EndsWork Unwritten result = IfErr result (λ fault. IsWorkFault fault × ((fault ≡ ClockOutOfRange) ⊎ (fault ≡ InputOutput) ⊎ Unwritten))

@@ -51,7 +51,7 @@ pub const CY: PassTexts = PassTexts {
         IK2zIECytmH0lE\",\"v\":2}",
 };
 
-/// The signatures of these passes, and of that of `bob-2`.
+/// The signatures of these passes, and of the pass of `bob-2`.
 pub const AMY_1_SIGNATURE: [u8; 32] = *b"\
     \x0e\xc5\x3e\xbc\xc5\x69\xab\x71\x31\xe7\xf0\x50\x93\xa0\xf9\x55\
     \x7e\x93\x8a\x60\xb4\x21\xf0\xa4\xec\x39\xfa\x9e\xfe\xd3\x20\x99";
