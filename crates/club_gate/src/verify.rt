@@ -124,8 +124,8 @@ impl<S: ClubStore> Desk<S> {
     }
 
     /// Returns the verdict on a request with a pass whose signer is this key. If a caveat refuses
-    /// the request, it has read no sums, except the member's use and the key's spending if a caveat
-    /// depends on them.
+    /// the request, the call reads no sums except the member's use and the key's spending, and
+    /// these only if a caveat depends on them.
     fn verdict_under<'a, F: FieldSource<'a> + Drop>(
         &mut self,
         key: &KeyRow,
