@@ -1,23 +1,22 @@
 #!/usr/bin/env -S /usr/bin/python3 -B
 """Finds names defined twice, lines past their limits, unused files, misspelt words and foreign English.
 
-It also finds functions, files and crates past their limits, numbers without units, and other versions. English counts in what a change
-adds.
+It also finds functions, files and crates past their limits, numbers without units, and other versions. English is checked only in added lines.
 
 Prints each slip with its place; the status is 1 if there is one.
 - A name is defined by two specs modules, of one crate or of two, and TWINS doesn't say that both mean the same.
 - A line is too long: code, comments and clauses past 100 columns, imports, specs and proofs past 160.
-- A limit of CONTRIBUTING is passed: a function's body of 40 lines, a file of code of 800, a proof of 400, a crate of 100 functions.
+- A limit of CONTRIBUTING is exceeded: a function's body of 40 lines, a file of code of 800, a proof of 400, a crate of 100 functions.
 - A public docstring has a number without a unit (a guess: it looks for a unit's word in the text).
-- The newest heading of CHANGELOG.md has another version than the code.
+- The newest heading of CHANGELOG.md has a version that differs from the code's.
 - A module of specs or proofs is imported nowhere, a file of code has no `mod`, or no page names a script.
-- No proof uses a name that its crate's proofs/Common passes on.
+- No proof uses a name that its crate's proofs/Common re-exports.
 - The old text of an edit isn't in its file, or is in it twice; or a crate has two edits of one name.
 - The bytes that a planted fault changes are no longer in its file.
 - A word of the pages or of web/ is known neither to aspell nor to tests/lib/words.txt.
 - A line that the change adds has a pattern of tests/lib/prose.py, such as a sentence of more than 30 words.
 - The subject of one of its commits has no area, or more than 60 letters.
-The change is what this clone has beyond the branch that it follows.
+The change is everything that this clone has beyond its upstream branch.
   tests/lint.py                  every crate, the pages, and the change
   tests/lint.py club_core ..     these crates, and what the change adds to them
   tests/lint.py --since COMMIT   the same for the lines and commits since a commit
@@ -52,7 +51,7 @@ TWINS = {
 }
 UNITS = re.compile("byte|bit|character|letter|digit|column|line|caveat|pass|place|person|guest|booking|point|day|hour|minute|second|moment|year|name|fault"
                    "|status|connection|port|version|row|request|key|field|case|number|memory|count|length", re.IGNORECASE)
-# What begins with a literal, or with a field that is one, may be longer, so that a known pass can be searched for whole; an attribute can't be
+# A line that begins with a literal, or with a field's literal, may be longer, so that a known pass can be searched for; an attribute can't be
 # broken.
 LITERAL = r' *([a-z_]+: )?b?"'
 FN = re.compile(r"( *)(?:pub(?:\([a-z]+\))? )?(?:const )?(?:extern \"C\" )?fn (\w*)")
@@ -66,7 +65,7 @@ FILES = texts_below("crates", ".rt", ".antt")
 
 
 def of_crate(crate, part, ending):
-    """The files below a folder of a crate."""
+    """Returns the files below a folder of a crate."""
     return {it: text for it, text in FILES.items() if it.parts[1:3] == (crate, part) and it.suffix == ending}
 
 
@@ -115,7 +114,7 @@ def too_large(crate):
 
 
 def without_unit(crate):
-    """A number in the sentences of a docstring above a public item wants a unit."""
+    """A number in the docstring of a public item needs a unit."""
     for file, whole in of_crate(crate, "src", ".rt").items():
         for found in re.finditer(r"^((?: */// .*\n)+)(?: *#\[.*\n)* *pub ", whole, re.MULTILINE):
             text = " ".join(re.findall(r"/// (.*)", found[1]))
@@ -129,7 +128,7 @@ MOD = re.compile(r"^(?:pub )?mod (\S+)$", re.MULTILINE)
 
 
 def unused_modules(crate, part):
-    """Modules that no other file cites, and files that the list of their folder doesn't have: Lib.antt, or the file of the folder's name."""
+    """Yields modules that no other file cites, and files that their folder's list lacks: Lib.antt, or the file with the folder's name."""
     top = Path("crates", crate, part)
     for file, text in of_crate(crate, part, ".antt").items():
         above = top / "Lib.antt" if file.parent == top else file.parent.with_suffix(".antt")
@@ -145,7 +144,7 @@ def unused_modules(crate, part):
 
 
 def unused_names(crate):
-    """Names that proofs/Common.antt passes on, and that no proof takes from there."""
+    """Yields names that proofs/Common.antt re-exports and no proof imports from it."""
     common = Path("crates", crate, "proofs", "Common.antt")
     taken = "".join(names + ", " for text in of_crate(crate, "proofs", ".antt").values()
                     for names in re.findall(rf"^use Rattle\.{crate}\.proofs\.Common\.\{{(.*)\}}$", spelled_out(text), re.MULTILINE))
@@ -174,7 +173,7 @@ def stale_edits(crate):
 
 
 def stale_plants():
-    """Faults of tests/planted.py that can't be planted, since their file no longer has the bytes. Those of built programs aren't looked at."""
+    """Yields faults of tests/planted.py that can't be planted, since their file no longer has the bytes. It skips faults of built programs."""
     for name, (file, old, *_) in planted.PLANTS.items():
         if file not in planted.PROGRAMS and old.encode() not in Path(file).read_bytes():
             yield f"a planted fault doesn't apply: {name}: {file} has no {old}"

@@ -82,7 +82,7 @@ def edited_texts(crate, edit):
 
 
 def function_at(path, text, offset):
-    """The function in whose body a place of a file is: its words in a path, and its first and last line. None outside of bodies."""
+    """Returns the function whose body contains a place in a file: its words in a path, and its first and last line. None outside of bodies."""
     lines = text.split("\n")
     place = text.count("\n", 0, offset)
     first = next((it for it in range(place, -1, -1) if FUNCTION.match(lines[it])), None)
@@ -307,8 +307,8 @@ def crates_below(names):
 
 
 def take_libraries(copy, names):
-    """The libraries that are built here serve in the copy: rt takes one for built while its sources are the same. No check writes to
-    those below the crates that are tried, so they are linked."""
+    """The libraries that are built here serve in the copy: rt takes one for built while its sources are the same. No check writes to the crates
+    below the tried ones, so they are linked."""
     below = crates_below(names) - set(names)
     for crates, parts, copies in ((below, ("rlib",), link_or_copy), (names, ("rlib", "incremental"), shutil.copy2)):
         for crate in crates:

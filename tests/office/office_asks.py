@@ -3,8 +3,9 @@
 
 It runs at a terminal, and what each task changed is compared. Wants root, for a machine of its own (tests/lib/office_room.sh).
 
-The clerk knows no command, and uses the menu alone. Names, days and hours are written as people write them, also in commands. If two
-members fit, or something is odd, the office asks. Refusals, lists and usage are in German, too. Ctrl-C in each question changes nothing. Without a terminal a part of a name is none.
+The clerk knows no command, and uses the menu alone. Names, days and hours are written in the ways that people use, also in commands. If two
+members fit, or something is odd, the office asks. Refusals, lists and usage are in German, too. Ctrl-C in each question changes nothing. Without
+a terminal a part of a name isn't accepted.
 """
 # pytestmark = [mark.package, mark.root, mark.needs("clubdesk passtool"),
 #     mark.wants("sudo sqlite3 openssl util-linux bsdutils iproute2 systemd qrencode python3-psutil python3-pexpect")]
@@ -27,7 +28,7 @@ ENTER = ""
 
 
 class Terminal:
-    """office at a terminal of 80 columns, in a language."""
+    """The office at a terminal of 80 columns, in a language."""
 
     def __init__(self, *words, language="C.UTF-8"):
         line = ["-u", "anna", "--", "env", f"LANG={language}", "TERM=dumb", "office", *words]
@@ -60,7 +61,7 @@ class Terminal:
 
 
 def task(called, *pairs, language="C.UTF-8", begin="Task: ", end="Enter for"):
-    """A task of the menu, by its name, and the end of the menu."""
+    """Runs a task of the menu by its name, then ends the menu."""
     terminal = Terminal("club", language=language)
     terminal.answers((begin, called), *pairs, (end, ENTER), (begin, ENTER))
     same(f"{called}: the status of the menu", terminal.ends(), 0)
@@ -206,7 +207,7 @@ def season_start():
 
 
 def what_is_odd():
-    """A day that is over or far, and points above ten times the usual, are asked about, in the menu and in words."""
+    """The office asks about a day that is over or far ahead, and about points above ten times the usual, in the menu and in commands."""
     before = everything()
     for words, text in ((["close", "-1", "10", "court-1"], "is past"), (["close", "+100", "10", "court-1"], "100 days ahead"),
                         (["close", f"{TODAY - datetime.timedelta(7)}..{TODAY}", "10", "court-1", "--why", "x"], "is past"),
@@ -219,7 +220,7 @@ def what_is_odd():
 
 
 def words_of_commands():
-    """The same readers serve the words of commands at a terminal; without one a part of a name is no name."""
+    """Commands at a terminal accept the same input; without a terminal a part of a name isn't accepted."""
     terminal = Terminal("club", "credit", "bäck kar", "10")
     terminal.answers(("Number", "1"), ("Go on", "y"))
     same("two that fit", (terminal.ends(), rows("SELECT credited FROM members WHERE name = 'baecker-karin'")), (0, [(4760,)]))
@@ -276,7 +277,7 @@ def interrupted():
 
 
 def previews():
-    """No line of a preview is longer than 80 columns, with names as long as names are."""
+    """No line of a preview is longer than 80 columns, even with the longest names."""
     long = "a" * 20 + "-xyz"
     for words in (f"add-member {long} 9", f"credit {long} 1000000", f"add-facility {long} court 50 9999 0 24"):
         done(*words.split())

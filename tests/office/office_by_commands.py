@@ -1,9 +1,9 @@
 #!/usr/bin/env -S /usr/bin/python3 -B
 """Corrections by commands leave the server alone; killed at each step and given again, they are done once.
 
-Each is killed before and after each program that it runs, and while its output isn't taken. Then the same order is given again: the club is
-as one order makes it, and the book has both. A command that outlives its order holds the next one up. The rows of a copy of before each, and
-what `undo` puts back, are compared. Wants root, for a machine of its own (tests/lib/office_room.sh).
+Each is killed before and after each program that it runs, and while its output isn't taken. Then the same command is given again: the club is as
+after one command, and the book has both. A clubdesk command that outlives its correction holds up the next one. The rows of the copy before each
+correction, and those that `undo` puts back, are compared. Wants root, for a machine of its own (tests/lib/office_room.sh).
 
   tests/office/office_by_commands.py [debit|times]    debit: debits alone; times: how long a tournament takes, and a client beside it waits
 """
@@ -28,7 +28,7 @@ sys.path[:0] = [str(Path(__file__).resolve().parents[1] / it) for it in ("lib", 
 from office_checks import book_lines, lines, refused
 from office_room import HOME, ROOM, Service, begun, configure, done, kill, leave, office, rows, same, whole
 
-# The server's clock shows what the office's does.
+# The server's clock and the office's show the same time.
 TODAY = datetime.date.today()
 PASSES = {}
 PROGRAMS = {"clubdesk": Path("/usr/bin/clubdesk"), "back_up": Path("/usr/lib/clubdesk/back_up"), "systemctl": Path("/usr/bin/systemctl")}
@@ -46,7 +46,7 @@ read -r at how <{ROOM}/stop
 
 
 def put_stoppers():
-    """The programs that an order runs are counted from now on, and can be stopped."""
+    """Counts the programs that a command runs from now on, and can stop them."""
     ROOM.chmod(0o777)
     stop_at("0 never")
     for name, path in PROGRAMS.items():
@@ -56,7 +56,7 @@ def put_stoppers():
 
 
 def stop_at(point):
-    """The call of this number is stopped, before it or after it."""
+    """Stops before or after the Nth call."""
     for file, text in (("calls", "0"), ("stop", point)):
         (ROOM / file).write_text(f"{text}\n", encoding="ascii")
         (ROOM / file).chmod(0o666)
@@ -69,7 +69,7 @@ def calls():
 
 
 def stopped(point, words):
-    """Gives an order that stops at a point."""
+    """Gives a command that stops at a point."""
     stop_at(point)
     command = begun(*words)
     while command.poll() is None and not (ROOM / "stopped").exists():
@@ -84,7 +84,7 @@ def killed(point, words):
 
 
 def killed_at_its_output(words):
-    """Kills an order whose output nobody takes, so that nobody sees its end."""
+    """Kills a command whose output nobody reads, so that nobody sees its end."""
     stop_at("0 never")
     reader, writer = os.pipe()
     os.set_blocking(writer, False)
@@ -105,7 +105,7 @@ def killed_at_its_output(words):
 
 
 class Correction:
-    """A correction, at another place each time: what it needs, its words, and what a statement finds once it is done."""
+    """A correction at a new place each time: its preparation, its words, and the rows that a statement finds once it is done."""
 
     def __init__(self):
         self.number = 0
@@ -123,7 +123,7 @@ class Quota(Correction):
 
 
 class Undoing(Correction):
-    """An undo of what one command does."""
+    """An undo of one command's change."""
 
     sql = "SELECT quota FROM members WHERE name = 'amy'"
 
@@ -145,7 +145,7 @@ class Reopening(Correction):
 
 
 class Prices(Correction):
-    """A price, with the places and hours that the facility has."""
+    """A price, with the facility's existing places and hours."""
 
     sql = "SELECT * FROM facilities WHERE name = 'court-1'"
 
@@ -154,7 +154,7 @@ class Prices(Correction):
 
 
 class Debit(Correction):
-    """Points that two commands take back."""
+    """Points that take two commands to take back."""
 
     sql = "SELECT credited FROM members WHERE name = 'zoe'"
 
@@ -164,7 +164,7 @@ class Debit(Correction):
 
 
 class OfBookings(Correction):
-    """A correction at a day of its own, with bookings of zoe at ten and at eleven, one of them with a guest."""
+    """A correction on its own day, with zoe's bookings at ten and at eleven, one of them with a guest."""
 
     bookings = 2
 
@@ -211,7 +211,7 @@ class Closing(OfBookings):
 
 
 class Leaving(Correction):
-    """A member with two keys. One is revoked, and each has a booking to come."""
+    """A member with two keys. One key is revoked, and each has a future booking."""
 
     def made(self):
         member = f"m{self.number}"
@@ -232,7 +232,7 @@ class Leaving(Correction):
 
 
 def killed_and_given_again(correction, programs):
-    """A correction is done, and again after it was killed at each point."""
+    """Does a correction, then kills it at each point and gives it again."""
     words, wanted = correction.next()
     command, before = words[0], rows(correction.sql)
     stop_at("0 never")
@@ -254,14 +254,14 @@ def killed_and_given_again(correction, programs):
 
 
 def rows_of_copy(command, sql):
-    """Returns the rows that a statement finds in the newest copy of before a correction."""
+    """Returns the rows that a statement finds in the newest copy from before a correction."""
     newest = max((HOME / "club-before").glob(f"*-{command}*"), key=lambda it: it.stat().st_mtime_ns)
     with contextlib.closing(sqlite3.connect(f"file:{newest}?immutable=1", uri=True)) as db:
         return db.execute(sql).fetchall()
 
 
 def outlives_its_order(correction, programs):
-    """A command of an order that is killed alone goes on. The next order waits for its end, and finds what it did."""
+    """If only the correction is killed, its clubdesk command continues. The next correction waits for its end, and finds its result."""
     words, wanted = correction.next()
     order = stopped(f"{programs} late", [*words, "--yes"])
     for it in psutil.Process(order.pid).children(recursive=True):
@@ -277,7 +277,7 @@ def outlives_its_order(correction, programs):
 
 
 def credited_meanwhile(correction):
-    """A debit isn't gone on with once the member was credited otherwise; given once more, it begins anew."""
+    """An interrupted debit isn't continued after the member's credit has changed; given again, it starts from the beginning."""
     words, _ = correction.next()
     killed("3 before", [*words, "--yes"])
     done("credit", "zoe", "7")
@@ -288,7 +288,7 @@ def credited_meanwhile(correction):
 
 
 def late(point, words, path):
-    """Gives an order that stops at a point until a booking of amy is made; its status and what it prints."""
+    """Gives a command that stops at a point until amy has booked; returns its status and output."""
     order = stopped(f"{point} late", words)
     same(path, server.answer(PASSES["amy"], "PUT", path, '{"guests":0}')[0], 200)
     out, errors = order.communicate()
@@ -296,7 +296,7 @@ def late(point, words, path):
 
 
 def booked_meanwhile(closing):
-    """A slot that is booked right before it is closed is named. With --yes that booking is cancelled as well, and one undo takes all back."""
+    """A slot that is booked just before it is closed is named. With --yes that booking is cancelled too, and one undo reverts everything."""
     words, wanted = closing.next()
     before = rows(closing.sql)
     path = f"/slots/court-4/{closing.day}/10/bookings/1"
@@ -314,7 +314,7 @@ def booked_meanwhile(closing):
 
 
 def booked_out_of_hours(prices):
-    """A booking that is made right before its hour is left out stays, and is named."""
+    """A booking made just before its hour is removed from the opening hours stays, and is named."""
     words, wanted = prices.next()
     words[-1] = "--hours=10-20"
     day = str(TODAY + datetime.timedelta(50))
@@ -344,7 +344,7 @@ def make_club():
 
 
 def tournament():
-    """Four courts are closed for a day with 60 bookings, beside a client. Prints how long all took, and the longest wait for a reply."""
+    """Closes four courts for a day with 60 bookings, next to a client. Prints the total time, and the longest wait for a reply."""
     day, taken = str(TODAY + datetime.timedelta(30)), 0
     for court in range(1, 5):
         for hour in range(8, 22):

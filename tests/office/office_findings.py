@@ -1,4 +1,4 @@
-"""A part of office_holds.py: what a hostile clerk, a full memory or disk, and a silent journal do."""
+"""A part of office_holds.py: a hostile clerk, full memory, a full disk, and a silent journal."""
 
 import contextlib
 import json
@@ -20,7 +20,7 @@ from office_room import CLUB, HOME, NOON, ROOM, begun, done, kill, office, rows,
 
 
 def journal_that_is_silent():
-    """A program that has its socket and takes nothing holds no order: the line goes into the file."""
+    """If a program holds the journal's socket and reads nothing, no command waits: its line goes into the file."""
     entry = Path("/run/systemd/journal/socket")
     entry.parent.mkdir(parents=True, exist_ok=True)
     with socket.socket(socket.AF_UNIX, socket.SOCK_DGRAM) as silent, socket.socket(socket.AF_UNIX, socket.SOCK_DGRAM) as sender:
@@ -41,7 +41,7 @@ def journal_that_is_silent():
 
 
 def copies_of_one_second():
-    """Corrections of one second keep a copy each."""
+    """Corrections within one second keep a copy each."""
     before = len(list((HOME / "club-before").glob("*-debit*")))
     with ThreadPoolExecutor(6) as pool:
         for _ in range(6):
@@ -53,14 +53,15 @@ def copies_of_one_second():
 
 
 def moments_to_come():
-    """A correction at a moment to come would take for over what is to come."""
+    """A correction at a future moment would treat future bookings as over."""
     for words in (["new-year"], ["set-facility", "court-1", "--hours", "8-9"], ["cancel", "amy-1", "--all"], ["restore", "2026-01-01T000000Z"]):
         refused([*words, "--yes", "--at", "2099-12-31T00:00"], 1, "refused: --at 2099-12-31T00:00 is to come: it is 20")
     same("in the book", book_lines()[-1], "anna 1 restore 2026-01-01T000000Z --at 2099-12-31T00:00")
 
 
 def lines_that_are_forged():
-    """Letters that end a line, to a terminal or a reader of lines, are escaped. So are bytes that are no UTF-8. Orders that aren't confirmed have a line."""
+    """Characters that end a line for a terminal or a line reader are escaped, as are bytes that aren't UTF-8. Unconfirmed commands have a
+    line."""
     before = len(book_lines())
     forged = f"{NOON}:00 ben 0 credit amy 13"
     for end in ("\n", "\r", "\x0b", "\x0c", "\x1c", "\x85", "\x9b2J", "\u2028", "\u2029", "\u202e"):
@@ -83,7 +84,7 @@ def lines_that_are_forged():
 
 
 def orders_that_cannot_be_read():
-    """The rest of a line that a power cut left isn't wiped: it is a line with a question mark."""
+    """Half a line that a power cut left isn't erased: it gets a line with a question mark."""
     for left in (b"\0" * 40, b"2026-04-20T12:00:00 b", b'{"moment"', b"2026-04-20T12:00:00 ben 0 credit amy 9\n2026"):
         TURN.write_bytes(left)
         done("credit", "amy", "1")
@@ -97,7 +98,7 @@ def orders_that_cannot_be_read():
 
 
 def programs_of_a_clerk():
-    """The desk's side takes no program and no folder from a clerk, even where sudo hands the clerk's environment on."""
+    """The desk's side takes no program or folder from a clerk, even if sudo passes on the clerk's environment."""
     home, lax = Path("/home/anna"), Path("/etc/sudoers.d/zz-lax")
     (home / "bin").mkdir()
     (home / "conf").mkdir()
@@ -128,7 +129,7 @@ def programs_of_a_clerk():
 
 
 def inner_words():
-    """Words that the desk's side takes from the clerk's side alone are tested as well before anything is done."""
+    """Words that only the clerk's side sends are also checked by the desk's side before anything is done."""
     line = "sudo -n -u clubdesk /usr/bin/office --desk club import-row zed 1 5 zed-1".split()
     for given in ("", "00", "g" * 64, f"{'0' * 64} x", "0" * 63):
         same(f"the roots {given}", run_as("anna", *line, given=given)[0], 3)
@@ -136,7 +137,7 @@ def inner_words():
 
 
 def desk_side(command):
-    """The processes of the desk's user that a command has begun, once one of them has its turn and asks clubdesk."""
+    """Returns the desk user's processes of a command, once one of them has its turn and calls clubdesk."""
     user = pwd.getpwnam("clubdesk").pw_uid
     for _ in range(400):
         with contextlib.suppress(psutil.NoSuchProcess):
@@ -149,7 +150,7 @@ def desk_side(command):
 
 @contextlib.contextmanager
 def slow_clubdesk():
-    """clubdesk, before whose credit and new key two seconds go by. It notes the folder of its user's own files, as other programs take it."""
+    """A clubdesk that waits two seconds before a credit or a new key. It records the home folder, as other programs see it."""
     program, whole_one, home = Path("/usr/bin/clubdesk"), ROOM / "clubdesk-whole", ROOM / "home-of-clubdesk"
     shutil.copy2(program, whole_one)
     program.unlink()
@@ -164,7 +165,7 @@ def slow_clubdesk():
 
 
 def terminals_that_stop():
-    """Ctrl-Z and a terminal's end don't stop an order that has its turn."""
+    """Ctrl-Z or a closed terminal doesn't stop a command that has its turn."""
     with slow_clubdesk():
         for number in (signal.SIGTSTP, signal.SIGHUP, signal.SIGTTOU):
             command = begun("credit", "amy", "3")
@@ -181,7 +182,7 @@ def terminals_that_stop():
 
 
 def terminals_that_take_nothing():
-    """A standard error that takes nothing, as a terminal after Ctrl-S or a pipe that is full, holds no turn."""
+    """A blocked standard error, such as a terminal after Ctrl-S or a full pipe, doesn't hold up a turn."""
     taken, full = os.pipe()
     os.set_blocking(full, False)
     with contextlib.suppress(BlockingIOError):
@@ -202,7 +203,7 @@ def terminals_that_take_nothing():
 
 
 def folder_of_a_clerk():
-    """The desk's side takes its own user's folder, even where sudo hands the clerk's on: a mailer does what a file there says."""
+    """The desk's side uses its own user's home folder, even if sudo passes on the clerk's: a mailer obeys a file there."""
     lax = Path("/etc/sudoers.d/zz-lax")
     lax.write_text('Defaults env_keep += "HOME"\n')
     lax.chmod(0o440)
@@ -213,7 +214,7 @@ def folder_of_a_clerk():
 
 
 def file_that_came_since():
-    """A file that got the pass's name while its key was made stays, and the pass has another name."""
+    """A file that got the pass's name while its key was made stays, and the pass gets another name."""
     with slow_clubdesk():
         command = begun("add-key", "amy-8", "amy", "--to", "amy-8")
         desk_side(command)
@@ -238,7 +239,7 @@ def file_that_came_since():
 
 
 def page_that_came_since():
-    """A file that came to the name of the board's page while a browser printed it stays, and isn't said to be the page."""
+    """A file that got the name of the board's page while a browser printed it stays, and isn't reported as the page."""
     browser, kept = Path("/usr/bin/chromium"), Path("/usr/bin/chromium-kept")
     if browser.exists():
         browser.rename(kept)
@@ -252,7 +253,7 @@ def page_that_came_since():
 
 
 def clubs_beside():
-    """A club whose file has a name that the office gives to a file of its own stays as it is, and the other is refused."""
+    """A club whose file has the name of an office file stays unchanged, and the other club is refused."""
     for ending in ("before", "book", "metrics", "new", "office", "offsite", "orders", "people.csv", "reasons", "seasons", "undo", "until-2026-12-31", "wal"):
         file, configuration = HOME / f"other-{ending}", Path(f"/etc/clubdesk/other-{ending}.conf")
         file.write_bytes(b"another club")
@@ -274,7 +275,7 @@ def clubs_beside():
 
 
 def memory_that_is_full():
-    """Copies are made beside the club where memory has no room, and those of killed commands go with the next one."""
+    """Without room in memory, copies are made next to the club. The next command removes the copies of killed ones."""
     memory, user = Path("/dev/shm"), pwd.getpwnam("clubdesk")
     subprocess.run(["mount", "-o", "remount,size=200k", memory], check=True)
     (memory / "rest").write_bytes(bytes(190_000))
@@ -309,7 +310,7 @@ def memory_that_is_full():
 
 
 def disk_that_is_full():
-    """An order that has no room is done or not, and says which; a correction changes nothing. With room again all goes on."""
+    """Without disk space a command is either done or not, and says which; a correction changes nothing. With space again everything works."""
     def credited():
         return rows("SELECT credited FROM members WHERE name = 'amy'")[0][0]
 
@@ -329,7 +330,7 @@ def disk_that_is_full():
 
 
 def titles_of_the_page():
-    """club.json has each title as it is written, or the line is refused by its number."""
+    """club.json has each title unchanged, or the line is refused by its number."""
     def made(text):
         titles = ROOM / "titles"
         titles.write_bytes(text)

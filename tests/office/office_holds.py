@@ -1,14 +1,14 @@
 #!/usr/bin/env -S /usr/bin/python3 -B
 """`office` as clerks use it: commands, lists, corrections, restores, and what a hostile clerk may try.
 
-Each is compared with the desk. So are what it refuses, passes and the book. Wants root, for a machine of its own (tests/lib/office_room.sh).
+Each is compared with the desk. So are its refusals, passes and the book. Wants root, for a machine of its own (tests/lib/office_room.sh).
 
-The office's wrapper, deploy/office, as clerks use it who are not root: by the sudoers lines of deploy/office.sudoers, beside a server
-that a small manager of services runs. Its parts are:
-- office_orders.py: commands, looks and lists against the desk's replies; passes and their files; the book, in a file and in the journal;
-- office_corrections.py: corrections against show-account, the sheet and the totals; a copy in the club's place, also of a damaged file;
+Runs deploy/office as clerks without root do: by the lines of deploy/office.sudoers, next to a server that a small service manager runs. Its
+parts are:
+- office_orders.py: commands and lists compared with the desk's replies; passes and their files; the book, in a file and in the journal;
+- office_corrections.py: corrections compared with show-account, the sheet and the totals; restores, also over a damaged file;
 - office_season.py: a season's points, closures, letters, persons, undo, and files of old years;
-- office_findings.py: forged lines, another's programs, a stopped terminal, a silent journal, a full memory or disk.
+- office_findings.py: forged lines, a clerk's own programs, a stopped terminal, a silent journal, full memory or disk.
 Wants root, for a machine of its own (tests/lib/office_room.sh).
   tests/office/office_holds.py [findings|season]    findings: what others may do, alone; season: a season's club, alone
 """

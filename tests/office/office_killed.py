@@ -3,10 +3,10 @@
 
 They are killed beside a running desk, and no total is off. Wants root, for a machine of its own (tests/lib/office_room.sh).
 
-- 100 commands and corrections are killed while four clients use the desk. Each reply is right, and the desk goes on.
+- 100 commands and corrections are killed while four clients use the desk. Each reply is right, and the desk keeps running.
 - An import of twelve members is killed before and after each of its commands, and 40 times at random. Nobody is credited twice, and
   each pass that it leaves opens its account.
-- A restore is killed 25 times. The club is that of before or that of the copy.
+- A restore is killed 25 times. The club is the old one or the copy's.
 - Copies elsewhere, and a restore of one, are killed at random. Each copy with a name there is whole and tested.
 - Points for all, bookings for members who call, and undos are killed at random and given again. Each member is credited once, each slot
   booked once, each correction undone whole.
@@ -43,7 +43,7 @@ YES = ["--yes", "--at", NOON]
 
 
 def books_and_cancels(server, place, text, is_over):
-    """A client at a court of its own, which books and cancels, each twice. Each reply has to be the one that it reckons: how many were, and the others."""
+    """A client at its own court, which books and cancels, each twice. Counts the replies that match its expectation, and returns the others."""
     wrong = []
     for number in itertools.count(1):
         if is_over.wait(0.05):
@@ -57,7 +57,7 @@ def books_and_cancels(server, place, text, is_over):
 
 
 def seconds_of(*words):
-    """How long a command of the office takes that isn't killed."""
+    """Returns the time that an uninterrupted office command takes."""
     start = time.monotonic()
     done(*words)
     return time.monotonic() - start
@@ -101,7 +101,7 @@ def commands_beside_the_desk():
 
 
 def left():
-    """What the office works with, and removes."""
+    """The temporary files of the office, which it must remove."""
     return [it for folder in (Path("/dev/shm"), HOME) for it in folder.glob(".office-*")]
 
 
@@ -116,7 +116,7 @@ def command_of(attempt):
 
 
 def hold_book(commands):
-    """The credits and debits of the club are those that the book has with status 0, and of those with a question mark some."""
+    """The club's credits and debits are those with status 0 in the book, and some of those with a question mark."""
     book = [line.split() for line in done("log", "zoe").splitlines()]
     book = [(status, command, words) for _, _, status, command, *words in book if command in ("credit", "debit")]
     sums, counts = {0}, Counter(status for status, _, _ in book)
@@ -131,7 +131,7 @@ def hold_book(commands):
 
 
 def restores():
-    """A restore, killed at random: the club is that of before or that of the copy, whole."""
+    """A restore, killed at random: the club is the old one or the copy's, whole."""
     copies, night = HOME / "back-ups", "2026-04-19T030000Z"
     configure(BACK_UPS=copies)
     run_as("clubdesk", "mkdir", "-m", "700", copies, folder="/")
@@ -163,7 +163,7 @@ def restores():
 
 
 def season_points():
-    """Points for all, killed and given again: each member has them once, however often."""
+    """Points for all, killed and given again: each member gets them once, however often."""
     for number in range(1, 21):
         done("add-member", f"player-{number}", "5")
     before = dict(rows("SELECT name, credited FROM members WHERE quota > 0"))
@@ -180,7 +180,7 @@ def season_points():
 
 
 def bookings_for_callers():
-    """A booking for a member who calls, killed and given again, is one; of two hours each is."""
+    """A booking for a member who calls, killed and given again, is made once; of two hours, each is booked once."""
     done("add-member", "caller", "99")
     done("credit", "caller", "10000")
     server = Service()
@@ -198,7 +198,7 @@ def bookings_for_callers():
 
 
 def undos():
-    """An undo, killed: the club of the correction or that of before it."""
+    """An undo, killed: the club is that after the correction or that before it."""
     for attempt in range(min(given.kills, 10)):
         before = everything()
         done("close", f"2026-08-{attempt + 1:02d}", "10-12", "room-1", "--yes")
@@ -212,7 +212,7 @@ def undos():
 
 
 def copies_elsewhere():
-    """Copies to another disk, killed: each that has a name is whole and in the list of what was tested; then the last change is there."""
+    """Copies to another disk, killed: each named copy is whole and in the list of tested ones; then the last change arrives."""
     place = ROOM / "away"
     place.mkdir(exist_ok=True)
     subprocess.run(["mount", "-t", "tmpfs", "-o", "mode=777", "tmpfs", place], check=True)
@@ -257,7 +257,7 @@ def copy_rows(path):
         return [it for it in db.iterdump() if "INSERT" in it]
 
 
-# Name, quota and points of each member, and the name that the office makes of it.
+# Name, quota and points of each member, and the name that the office makes from it.
 MEMBERS = [
     ("Amy Müller", 5, 10000, "amy-mueller"), ("Bob", 3, 5000, "bob"), ("Çelik, Ayşe", 2, 0, "celik-ayse"), ("Ole Sørensen", 9, 700, "ole-soerensen"),
     ("Zoë", 1, 1, "zoe"), ("Łukasz Wójcik", 4, 20, "lukasz-wojcik"), ("Jean-Luc d'Arc", 6, 60, "jean-luc-d-arc"),
@@ -294,7 +294,7 @@ def fresh_club():
 
 
 def count_commands(stop="0 never"):
-    """Commands are counted from now on, and the one of a number is stopped before it or after it."""
+    """Counts commands from now on, and stops before or after the Nth."""
     for file, text in (("orders", "0"), ("kill", stop)):
         (ROOM / file).write_text(f"{text}\n")
         (ROOM / file).chmod(0o666)
@@ -302,7 +302,7 @@ def count_commands(stop="0 never"):
 
 
 def import_stopped(*at):
-    """An import that is killed before or after one of its commands; its status."""
+    """Runs an import that is killed before or after one of its commands; returns its status."""
     count_commands(*at)
     command = begun("import", "members.csv", "--yes")
     while command.poll() is None and not (ROOM / "killed").exists():
@@ -312,7 +312,7 @@ def import_stopped(*at):
 
 
 def imported(what, members):
-    """Each member once, with its points once, its key, and a pass that shows its account."""
+    """Checks that each member exists once, was credited once, and has a key and a pass that shows its account."""
     found = rows("SELECT name, credited, quota, used FROM members ORDER BY rowid")
     same(f"{what}: the members", sorted(found), sorted((name, points, quota, 0) for _, quota, points, name in members))
     keys = rows("SELECT member, name, hex(root) FROM keys ORDER BY rowid")
@@ -357,7 +357,7 @@ def imports():
 
 
 def refused_lists():
-    """Lists that are refused as they are, before anything is done."""
+    """Lists that are refused before anything is done."""
     fresh_club()
     same("no list", office("import", "members.csv", "--yes")[0], 7)
     for what, lines, status in (

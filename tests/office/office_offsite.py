@@ -3,10 +3,11 @@
 
 The copies go by ssh or into a mounted folder, and are tested there. Wants root, for a machine of its own (tests/lib/office_room.sh).
 
-- Nothing is sent without a change. Copies are kept by the rule in Python. `copies` lists them, and `restore` takes one.
-- A host that is down, a cut transfer, a full disk there and a folder that isn't mounted are said and tried again, and health fails.
-- deploy/check_health asks by the public name, and reads the certificate's days. deploy/metrics counts requests and orders.
-- `clubdesk-setup --from` brings back the club, persons, a season's points, old years and clerks. A repeated lost booking is booked anew.
+- Nothing is sent without a change. The kept copies follow the rule in Python. `copies` lists them, and `restore` takes one.
+- A host that is down, a cut transfer, a full disk there and an unmounted folder are reported and retried, and health fails.
+- deploy/check_health uses the public name, and checks the certificate's days. deploy/metrics counts requests and orders.
+- `clubdesk-setup --from` brings back the club, persons, a season's points, old years and clerks. A lost booking is booked again when it is
+repeated.
 """
 # pytestmark = [mark.package, mark.faults, mark.root, mark.needs("clubdesk passtool"),
 #     mark.wants("sudo sqlite3 openssl util-linux bsdutils iproute2 systemd python3-psutil openssh-server openssh-client curl")]
@@ -33,7 +34,7 @@ from pathlib import Path
 
 import psutil
 
-# The room has a network of its own, so that its ports are nobody's.
+# The room has its own network, so that nobody else uses its ports.
 os.environ.setdefault("room_net", "yes")
 
 sys.path[:0] = [str(Path(__file__).resolve().parents[1] / it) for it in ("lib", "")]
@@ -54,7 +55,7 @@ def configure(**more):
 
 
 class Sshd:
-    """ssh's own server for the user carl, whose home is on another disk."""
+    """An ssh server for the user carl, whose home is on another disk."""
 
     def __init__(self):
         subprocess.run(["mount", "-t", "tmpfs", "-o", "size=40m", "tmpfs", AWAY.parent], check=True)
@@ -110,12 +111,12 @@ def soon(seconds, holds):
 
 
 def copies():
-    """The names of the copies in the place, the oldest first."""
+    """Returns the names of the copies at the place, oldest first."""
     return sorted(it.name for it in FOLDER.iterdir() if MINUTE.fullmatch(it.name)) if FOLDER.exists() else []
 
 
 def once():
-    """One look of copy_offsite: its status, output and errors."""
+    """Runs copy_offsite once; returns its status, output and errors."""
     return run_as("clubdesk", "/usr/lib/clubdesk/copy_offsite", "club", "--once", folder="/")
 
 
@@ -159,7 +160,7 @@ def make_club():
 
 
 def within_a_minute(keeper):
-    """A booking is in a copy there within a minute; nothing is sent without a change."""
+    """A booking is in a copy at the place within a minute; nothing is sent without a change."""
     soon(30, copies)
     for number in range(1, 4):
         before, begun = copies(), time.monotonic()
@@ -178,7 +179,7 @@ def within_a_minute(keeper):
 
 
 def beside():
-    """The archive beside the newest copy: configuration, persons, reasons, points of a season, clerks; no more than that."""
+    """The archive next to the newest copy has the configuration, persons, reasons, season points and clerks, and nothing else."""
     given = '{"name": "Amy Möller", "mail": "amy@example.org", "telephone": "+49 1"}'
     line = "sudo -n -u clubdesk /usr/bin/office --desk club set-person amy".split()
     same("a person", run_as("anna", *line, given=given)[0], 0)
@@ -214,7 +215,7 @@ def listed():
 
 
 def restored_from_there():
-    """A copy that is there alone is put in the club's place."""
+    """Restores a copy that is only at the place."""
     wanted, name = rows_of(FOLDER / copies()[-1]), copies()[-1]
     same("a booking after it", book(15, 15)[0], 200)
     done("debit", "amy", "7", "--yes")
@@ -233,7 +234,7 @@ def restored_from_there():
 
 
 def host_down(sshd, keeper):
-    """A host that is down is said once, tried again, and health fails; what was booked meanwhile is there once it is up."""
+    """A host that is down is reported once and retried, and health fails; bookings made meanwhile arrive once it is up."""
     health(0)
     sshd.stop()
     book(20)
@@ -257,7 +258,7 @@ def host_down(sshd, keeper):
 
 
 def health(status, **more):
-    """check_health with the place, and with the site if there is one: its status has to be this one; what it says."""
+    """Runs check_health with the place, and the site if there is one; checks its status and returns its output."""
     line = ["env", *(f"{key}={value}" for key, value in {"CURL_CA_BUNDLE": f"{ROOM}/site.pem", **more}.items()), "/usr/lib/clubdesk/check_health", CLUB,
             str(server.port), "", "", "elsewhere:clubs/club"]
     found, out, errors = run_as("clubdesk", *line, folder="/")
@@ -278,7 +279,7 @@ def nobody_looks(keeper):
 
 
 def kept_by_rule():
-    """Of copies of each minute those are kept that the rule in Python says."""
+    """Of copies made each minute, the place keeps those of the rule in Python."""
     chance, now, made = random.Random(7), datetime.datetime.now(datetime.timezone.utc), set(copies())
     for back in range(0, 420):
         for _ in range(chance.choice((0, 1, 3)) if back < 20 else chance.choice((0, 0, 0, 1))):
@@ -324,7 +325,7 @@ def kept_by_rule():
 
 
 def torn():
-    """A transfer that is cut, or changed on its way, gets no name."""
+    """A transfer that is cut or changed on its way gets no name."""
     ssh = Path("/usr/bin/ssh")
     whole_one = ROOM / "ssh-whole"
     shutil.copy2(ssh, whole_one)
@@ -343,7 +344,7 @@ def torn():
 
 
 def full_there():
-    """A full disk there takes no copy, leaves no half one, and is said."""
+    """A full disk at the place takes no copy, keeps no half one, and is reported."""
     before = copies()
     with open(AWAY / "fill", "wb", buffering=0) as fill, contextlib.suppress(OSError):
         while True:
@@ -359,7 +360,7 @@ def full_there():
 
 
 def mounted():
-    """A folder of another disk; one that isn't mounted is refused, as it would be lost with the club."""
+    """A folder on another disk. An unmounted one is refused, since it would be lost with the club."""
     place = Path("/var/lib/nas")
     place.mkdir()
     configure(OFFSITE=place)
@@ -404,7 +405,7 @@ class Site(http.server.BaseHTTPRequestHandler):
 
 @contextlib.contextmanager
 def site_for(days):
-    """The site, with a certificate that is good for some days."""
+    """The site with a certificate that is valid for some days."""
     key, certificate = ROOM / "site.key", ROOM / "site.pem"
     run("openssl", "req", "-x509", "-newkey", "ec", "-pkeyopt", "ec_paramgen_curve:P-256", "-nodes", "-days", str(days), "-subj", f"/CN={SITE}",
         "-addext", f"subjectAltName=DNS:{SITE}", "-keyout", key, "-out", certificate)
@@ -440,7 +441,7 @@ def public_name():
 
 
 def counted():
-    """deploy/metrics counts each line of the log once, and each order; what it writes is the text format."""
+    """deploy/metrics counts each line of the log and each command once, and writes the text format."""
     folder, journal = ROOM / "metrics", ROOM / "journalctl"
     folder.mkdir()
     shutil.chown(folder, "clubdesk")
@@ -492,7 +493,7 @@ echo "-- cursor: $(wc -l <{lines})"
 
 
 def brought_back():
-    """All that was on the machine is lost; the club serves again, and a repeated booking that was lost is booked anew."""
+    """Everything on the machine is lost. The club serves again, and a lost booking is booked again when it is repeated."""
     same("an old year", run_as("clubdesk", "/usr/lib/clubdesk/back_up", CLUB, HOME / "club-until-2025-12-31", folder="/")[0], 0)
     (CONF / "club.health").write_text("pass")
     run("chown", "root:clubdesk", CONF / "club.health")
@@ -534,7 +535,7 @@ def brought_back():
 
 
 def hostile_archive():
-    """An archive with other names than a club's leaves nothing elsewhere."""
+    """An archive with names that aren't a club's writes nothing elsewhere."""
     newest = copies()[-1]
     kept = (FOLDER / f"{newest}.tar").read_bytes()
     made = io.BytesIO()

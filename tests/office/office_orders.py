@@ -1,4 +1,4 @@
-"""A part of office_holds.py: the configuration, clubdesk's own commands, passes, lists, and the book of orders."""
+"""A part of office_holds.py: the configuration, clubdesk's own commands, passes, lists, and the book."""
 
 import fcntl
 import os
@@ -31,7 +31,7 @@ def before_there_is_a_club():
 
 
 def as_nobody_else():
-    """A clerk gives office's commands and nothing else, and reads no file of the desk's; nor does the desk's user end other services."""
+    """A clerk can give only the office's commands, and can't read the desk's files; the desk's user can't end other services."""
     for user, line in (
         ("anna", "sudo -n -u clubdesk id"),
         ("anna", "sudo -n -u clubdesk /usr/bin/office club members"),
@@ -64,7 +64,7 @@ def commands_and_looks():
 
 
 def passes():
-    """Roots are drawn, read or words; a pass has a file of its own, or none."""
+    """A root is drawn, read, or an argument; a pass gets its own file, or none."""
     same("a pass in a file", done("add-key", "amy-1", "amy", "--to", "amy-1"), "")
     text = run_as("anna", "cat", "amy-1")[1]
     same("its mode", run_as("anna", "stat", "-c", "%a %U", "amy-1")[1], "600 anna\n")
@@ -124,7 +124,7 @@ def lists(server, amy, bob):
 
 
 def takes_turns():
-    """One command at a time: another one waits, and is done then."""
+    """Only one command runs at a time: another one waits, and is done after it."""
     def balance():
         return rows("SELECT credited - used FROM members WHERE name = 'amy'")[0][0]
 
@@ -163,7 +163,7 @@ def in_the_book():
 
 
 def in_the_journal():
-    """The same by systemd's journal, into which only the desk's user writes lines that count."""
+    """The same with systemd's journal, where only lines of the desk's user count."""
     journal = subprocess.Popen(["/lib/systemd/systemd-journald"], stdout=subprocess.DEVNULL, stderr=subprocess.DEVNULL)
     entry = Path("/run/systemd/journal/socket")
     for _ in range(100):

@@ -13,7 +13,7 @@ from office_room import CLUB, HOME, ROOM, Service, configure, desk, done, everyt
 
 
 def make_season_club():
-    """Another club of the machine, with members of a list, and its server at today's clock."""
+    """Another club on the machine, with members from a list, and a server with today's clock."""
     today = datetime.date.today()
     for file in HOME.glob("club*"):
         shutil.rmtree(file) if file.is_dir() else file.unlink()
@@ -39,7 +39,7 @@ def make_season_club():
 
 
 def lists_as_they_are_written():
-    """A list with tabs, a byte-order mark, in UTF-16, or with columns of other names, is read as it is meant, which is said first."""
+    """A list with tabs, a byte-order mark, in UTF-16, or with other column names is read as intended, and the office first prints how."""
     for called, data, words, read in (
         ("tabs.csv", "name\tquota\tpoints\nTab Ulator\t1\t5\n".encode(), [], "read as UTF-8 with tab between the columns: name = name, quota = quota, points = points"),
         ("mark.csv", "\ufeffname,quota,points\nBörte Mark,1,5\n".encode(), [], "read as UTF-8 with , between the columns: name = name, quota = quota, points = points"),
@@ -58,7 +58,7 @@ def lists_as_they_are_written():
 
 
 def for_callers(server, day):
-    """A booking and a cancellation for a member who calls are requests at the desk, under its rules."""
+    """Bookings and cancellations for a member who calls are requests at the desk, under its rules."""
     shown = done("book", "moeller-kaethe", "court-1", str(day), "18", "1")
     same("a booking", shown, f"booked court-1 {day} 18:00 for moeller-kaethe, 2 persons, 400 points: moeller-kaethe-office 1\n")
     same("the key of the office", rows("SELECT member, revoked FROM keys WHERE name = 'moeller-kaethe-office'"), [("moeller-kaethe", 0)])
@@ -83,7 +83,7 @@ def for_callers(server, day):
 
 
 def for_hours(day):
-    """Of several hours each is an order, a look or a booking. Orders are listed first; the sum is said, and what isn't done."""
+    """Each of several hours is a separate command, listing or booking. Commands are listed first; the sum is printed, and the hours not done."""
     def closed():
         return [hour for hour, in rows("SELECT hour FROM slots WHERE facility = 'boat-1' AND closed = 1 ORDER BY hour")]
 
@@ -119,7 +119,7 @@ def for_hours(day):
 
 
 def in_use_of_persons(server, lines_of, day):
-    """Names as they are written are in lists, and whom to tell after a correction; none is in the book, the log or a copy."""
+    """Full names are in lists and among the persons to tell after a correction, but not in the book, the log or a copy."""
     same("members", lines("members", "--csv")[1:], [
         'moeller-kaethe,800,5,1,2,"Möller, Käthe"', 'oez-ali,1000,5,0,2,"Öz, =Ali"', 'ray-bob,1000,5,0,1,"Ray, Bob"'])
     same("the file", mode(HOME / "club-people.csv"), "clubdesk 100600")
@@ -174,7 +174,7 @@ def undone(server, day):
 
 
 def season(pages, day):
-    """Points for all are given once under a name, each week's hours are closed with a reason, a lost pass is replaced."""
+    """Points for all are given once under a name, weekly hours are closed with a reason, and a lost pass is replaced."""
     count = len(rows("SELECT name FROM members WHERE quota > 0"))
     done("set-quota", "oez-ali", "9", "--yes")
     copy = [it for it in lines("copies", "--csv") if "-set-quota" in it][-1].split(",")[0]
@@ -250,7 +250,7 @@ def letters_and_records(day):
 
 
 def spare_passes(lines_of):
-    """Each member's spare passes, by an import that is given again, are the second half of the member's letter."""
+    """A repeated import makes each member's spare passes, which are the second half of the member's letter."""
     configure(**lines_of, SPARES=2)
     run_as("anna", "sh", "-c", "head -n 3 season.csv >spares.csv")
     done("import", "spares.csv", "--quota", "5", "--points", "1000", "--passes", "season", "--yes")
@@ -267,7 +267,7 @@ def spare_passes(lines_of):
 
 
 def old_years(server):
-    """An old year's file has lists, and nothing else; the board's page reads it too."""
+    """An old year's file allows only lists; the board's page reads it too."""
     with_past = HOME / "club"
     year = datetime.date.today().year
     server.stop()

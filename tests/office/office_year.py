@@ -4,7 +4,7 @@
 It follows a year of 1,500 requests, and the server answers the same before and after. Wants root, for a machine of its own
 (tests/lib/office_room.sh).
 
-A part of the club's bookings is cancelled, past and to come. The old file is kept byte for byte. Balances, what each key has spent, keys,
+Some of the club's bookings are cancelled, past and future ones. The old file is kept byte for byte. Balances, what each key has spent, keys,
 facilities and slots to come are the same by sums. The server answers the same requests with the same bytes. Each
 other command of a season works after it, and the old year is copied elsewhere.
   tests/office/office_year.py [REQUESTS]
@@ -48,14 +48,14 @@ def make_club():
 
 
 def days():
-    """Moments of the year, each with the days that are booked then: some of them are to come at its end."""
+    """Moments of the year, each with the days that are booked then; some are still in the future at its end."""
     return [(f"2025-{month:02d}-{day:02d}T07:30", f"2025-{month:02d}-{day + 3:02d}") for month in range(1, 13) for day in (2, 12, 22)] + [
         ("2025-12-31T10:00", "2025-12-31"), ("2025-12-31T10:00", "2026-01-04"), ("2025-12-31T10:01", "2026-02-20")
     ]
 
 
 def live_a_year(texts):
-    """Bookings and cancellations of random keys at random slots, and closed slots; whatever is refused is refused."""
+    """Makes bookings and cancellations of random keys at random slots, and closes slots; refusals are ignored."""
     asked, numbers, made = days(), dict.fromkeys(texts, 0), 0
     for place, (moment, on) in enumerate(asked):
         server = Service(at=moment)
@@ -74,7 +74,8 @@ def live_a_year(texts):
 
 
 def requests(texts):
-    """Requests of every kind about what is to come, with repeats of what was booked and cancelled there. The last is under a narrowed pass."""
+    """Sends requests of every kind about future slots, with repeats of bookings and cancellations there. The last request is under a narrowed
+    pass."""
     asked = [(text, "GET", "/account") for text in texts.values()]
     for on in ("2025-12-31", "2026-01-04", "2026-02-20"):
         asked += [(texts["amy-1"], "GET", f"/slots/{facility}/{on}/{hour:02d}") for facility in FACILITIES for hour in range(24)]
@@ -119,7 +120,7 @@ def sum_of(path):
 
 
 def put_back():
-    """The club is once more the file of before."""
+    """Puts the earlier file back."""
     for it in (CLUB, HOME / "club-wal"):
         it.unlink(missing_ok=True)
     subprocess.run(["cp", "-p", original, CLUB], check=True)
@@ -130,7 +131,7 @@ def kept_files():
 
 
 def goes_on():
-    """A season's commands work after a new year, which isn't undone; its old file goes elsewhere."""
+    """A season's commands work after a new year, which can't be undone; its old file is copied elsewhere."""
     place, pages = ROOM / "away", ROOM / "pages"
     for folder in (place, pages):
         subprocess.run(["install", "-d", "-o", "clubdesk", folder], check=True)
@@ -206,7 +207,7 @@ same_sums(", once more", "keys", "older roots", "facilities")
 
 goes_on()
 
-# Killed: the old club, or the new one; and then done.
+# After a kill there is the old club or the new one; then the new year is done.
 outcomes = {"old": 0, "new": 0}
 for attempt in range(min(count // 60, 25)):
     put_back()

@@ -1,8 +1,8 @@
 #!/usr/bin/env -S /usr/bin/python3 -B
 """`office` makes spare keys for lending, as many as the configuration says, once each.
 
-An import, `add-member` and the menu's new member make them, under the configuration's names. A letter has their passes as a second half. A spare key
-pays with its member's points, counts for itself, and reaches no booking of its member's. Wants root, for a machine of its own
+An import, `add-member` and the menu's new member make them, under the configuration's names. A letter has their passes as a second half. A spare
+key pays with its member's points, has its own count, and can't reach its member's bookings. Wants root, for a machine of its own
 (tests/lib/office_room.sh).
 """
 # pytestmark = [mark.package, mark.root, mark.needs("clubdesk passtool"),

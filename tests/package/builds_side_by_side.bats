@@ -3,9 +3,9 @@
 #
 # It goes by the sources' checksum, and two calls build once.
 #
-# Over four small crates and a stub of rt, which writes down when it begins and ends. Libraries are built side by side, as many as
+# It uses four small crates and a stub of rt, which records its beginnings and ends. Libraries are built side by side, as many as
 # PROVED_AT_ONCE says, each after those below it. An edit in the course of a build builds again. A build that is stopped ends each rt and
-# leaves no rooms. A program that was there half or was killed doesn't count either. A failure is shown, with status 125.
+# leaves no rooms. A half-written program, or one whose build was killed, doesn't count either. A failure is shown, with status 125.
 # pytestmark = [mark.package, mark.wants("bats")]
 
 # A clone that was built.
@@ -43,7 +43,7 @@ RT
     [ "$(grep -c '^top: [a-z]* is proved ([0-9]* s), [0-3] left$' said)" = 4 ]
 }
 
-# built COUNT: the program runs, and rt is called for so many crates.
+# built COUNT: the program runs, and rt was called for COUNT crates.
 built() {
     : >calls
     [ "$(clone/bin/proved top a 'b c' 2>said)" = 'runs a b c' ]
@@ -57,9 +57,9 @@ edit() {
     echo more >>"clone/crates/$1/src/lib.rt"
     : >calls
 }
-# most: how many rt ran at once.
+# most: prints the most rt processes at once.
 most() { awk '/begin/ { n++ } /end/ { n-- } n > m { m = n } END { print m }' calls; }
-# wait_for LINE: until rt has written this line.
+# wait_for LINE: waits until rt has written this line.
 wait_for() {
     for _ in $(seq 100); do ! grep -qx "$1" calls || return 0; sleep 0.1; done
     return 1

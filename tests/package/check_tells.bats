@@ -1,7 +1,8 @@
 #!/usr/bin/env bats
 # `bin/check` runs `rt ci` and `tests/run quick`, and names what failed.
 #
-# So does .ci/run. They go on if `rt ci` fails, sum the counts, count a part that breaks or never ends, and refuse arguments and a path without rt.
+# So does .ci/run. They continue if `rt ci` fails, sum the counts, count a part that breaks or never ends, and refuse arguments and a path
+# without rt.
 #
 # They run with stubs of rt and tests/run.
 # pytestmark = [mark.quick, mark.wants("bats")]

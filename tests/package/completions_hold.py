@@ -1,8 +1,8 @@
 #!/usr/bin/env -S /usr/bin/python3 -B -m pytest -q -p no:cacheprovider
 """bash, zsh and fish complete the commands, options and values of `--help`, and nothing else.
 
-In real shells, with what bin/completions makes, against `--help` of both programs and of office: for each command those words that begin
-so, its options, the values of its options, files for FILE; of office, which has a club before its command, the clubs that are configured.
+Compares bin/completions in real shells with `--help` of both programs and of office. Each command offers its words with the typed prefix, its
+options and their values, and files for FILE; office has a club before its command, and offers the configured clubs.
 """
 
 import os
@@ -24,14 +24,14 @@ CLUBS = {"rowing", "tennis"}
 
 
 class Shell:
-    """What a shell offers after words, by the file of completions that it has read."""
+    """Returns a shell's offers after words, from the file of completions."""
 
     def __init__(self, name, folder):
         self.name, self.folder = name, folder
 
 
 class Bash(Shell):
-    """The function that the file defines, called as readline does."""
+    """Calls the function that the file defines, as readline does."""
 
     def offers(self, *words):
         script = (f'source "{self.folder}/{self.name}.bash"; COMP_WORDS=("$@"); COMP_CWORD=$(($# - 1)); '
@@ -47,7 +47,7 @@ class Fish(Shell):
 
 
 class Zsh(Shell):
-    """An interactive shell at a terminal of its own; a tab writes what would be offered into a file."""
+    """An interactive shell at its own terminal; a tab writes the offers to a file."""
 
     def __init__(self, name, folder):
         super().__init__(name, folder)
@@ -82,7 +82,7 @@ print READY
 
 
 def longs(found):
-    """Without the short ones, which some shells offer beside the long ones."""
+    """Drops short options, which some shells offer in addition to the long ones."""
     return {it for it in found if it.startswith("--")}
 
 
@@ -96,7 +96,7 @@ def names(found):
 
 
 def hold_command(shell, before, text, files):
-    """What is offered after these words is what the help of their command shows."""
+    """Compares the offers after these words with the help of their command."""
     options, words = options_of(text), words_of(text)
     assert longs(shell.offers(*before, "--")) == {f"--{it}" for it in options}, before
     for option, value in options.items():

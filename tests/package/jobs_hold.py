@@ -1,6 +1,6 @@
-"""What is kept of copies, each day of three years, against the rule in Python: jobs_hold.py OLD_COPIES FOLDER, run by jobs_hold.sh.
+"""Compares the kept copies, on each day of three years, with the rule in Python: jobs_hold.py OLD_COPIES FOLDER, run by jobs_hold.sh.
 
-Each day has a copy, or none, or two; then those go that are too old."""
+Each day has no copy, one or two; then the old ones are removed."""
 
 import datetime
 import os

@@ -1,12 +1,12 @@
 #!/bin/sh
 # The timers' jobs work: copies, the sheet in four zones, health, mail and reports.
 #
-# Copies are those of a running club, and the test looks at which of them are kept.
+# The test copies a running club, and checks which copies are kept.
 #
-# Copies are made of a running club and of what is none, killed, and made two at once. The kept copies, on each day of three years, are
-# those of the rule in Python. Checks are made of a desk that is well, and of faults.
+# It copies a running club and a file that isn't one, kills a copying, and runs two at once. The kept copies, on each day of three years, are
+# those of the rule in Python. Health is checked for a desk that is well, and with faults.
 #
-# By hand and without systemd, with a mailer of the test's own. A job that is killed leaves nothing that the next one takes for its own.
+# The jobs are run by hand without systemd, with the test's own mailer. A killed job leaves nothing that confuses the next one.
 # pytestmark = [mark.package, mark.needs("clubdesk passtool"), mark.wants("curl sqlite3 openssl procps")]
 set -eu
 . "$(dirname -- "$0")/../lib/serving.sh"
@@ -16,7 +16,7 @@ SENDMAIL=$work/mailer
 export CLUBDESK SENDMAIL
 . "$here/../lib/checks.sh"
 
-# ends WHAT STATUS COMMAND..: the command's status; what it prints is in `told` and `said`.
+# ends WHAT STATUS COMMAND..: checks the command's status; its outputs are in `told` and `said`.
 ends() {
     what=$1
     wanted=$2
@@ -55,7 +55,7 @@ chmod +x refuses
 ends 'a copy that clubdesk refuses' 1 env CLUBDESK="$work/refuses" "$deploy/keep_copies" club copies
 grep -q "clubdesk can't open the copy" said || fail "it doesn't say so: $(cat said)"
 same 'what is left of them' "$old $name" "$(find copies -mindepth 1 -printf '%f\n' | sort | xargs)"
-# Killed while it works; the next one clears up. Two at once take turns.
+# It is killed while it works; the next run cleans up. Two at once take turns.
 printf '#!/bin/sh\ntouch waits\nexec sleep 30\n' >waits.sh
 chmod +x waits.sh
 CLUBDESK=$work/waits.sh "$deploy/keep_copies" club copies >told 2>said &
@@ -77,7 +77,7 @@ same 'the copies after all that' '3 0' "$(find copies -mindepth 1 ! -name '.*' |
 ends 'a day that is none' 2 "$deploy/old_copies" copies tomorrow
 ends 'no folder' 1 "$deploy/old_copies" nowhere 2026-05-01
 
-# Each day of three years a copy, or none, or two; then those go that are too old. What is left is what the rule says, each day.
+# On each day of three years there is no copy, one or two, then the old ones are removed. The rest must match the rule each day.
 mkdir years
 /usr/bin/python3 "$here/jobs_hold.py" "$deploy/old_copies" years
 checks=$((checks + 1100))
@@ -136,7 +136,7 @@ grep -q '^Day sheet' mailed || fail 'a sheet that could not be mailed is not tri
 
 # ---- Reports of failures.
 mkdir configured marks path
-# The journal is behind at first.
+# The journal lags at first.
 printf '#!/bin/sh\necho "journal of $*"\n[ ! -e %s/asked ] || echo "Failed with result"\ntouch %s/asked\n' "$work" "$work" >path/journalctl
 chmod +x path/journalctl
 report() { PATH=$work/path:$PATH CONFIGURATION=$work/configured MARKS=$work/marks "$deploy/report_failure" "$@"; }

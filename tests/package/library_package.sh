@@ -6,7 +6,7 @@
 # lintian complains nowhere. Debian is made by debootstrap with a C compiler, pkg-config and Python, and is entered by chroot without a network.
 # The packages are installed by dpkg. The programs are the examples that libclubpass-dev and python3-clubpass bring: at most 30 lines in C, also
 # linked statically, and at most ten in Python. The wheel is unpacked and imported without any package. After the packages are removed nothing
-# of them is left. Wants root, and Debian's mirror for the fresh Debian. DEBIAN=FOLDER names one that is there already; the test takes a copy.
+# of them is left. Needs root, and Debian's mirror for the fresh Debian. DEBIAN=FOLDER names an existing Debian; the test copies it.
 # pytestmark = [mark.package, mark.root, mark.needs("passtool pass_c"),
 #     mark.wants("debootstrap lintian dpkg-dev xz-utils util-linux python3-build python3-setuptools python3-wheel")]
 # shellcheck disable=SC2016 # a shell of the fresh Debian reads what is quoted

@@ -1,13 +1,12 @@
 #!/bin/sh
 # Three commands set a club up on a fresh Debian, behind caddy; after its loss another machine serves it again.
 #
-# The club is served within five minutes. Its machine is lost with its disk, and the club serves again on another one within ten. Wants
+# The club is served within five minutes. Its machine is lost with its disk, and within ten minutes the club serves again on another one. Wants
 # root.
 #
 # Debian is made by debootstrap and booted by systemd-nspawn, without a network but loopback. The clerk uses the menu alone. The lines of
 # docs/RUNNING.md under "Copies elsewhere" and "The machine is gone" are given. A third Debian's ssh takes the copies while a client books. At
-# most a minute of bookings is lost, and each is booked anew by its repeat. DEBIAN=FOLDER names a Debian that is there already, as for
-# package_lives.sh.
+# most a minute of bookings is lost, and each is booked again by its repeat. DEBIAN=FOLDER names an existing Debian, as for package_lives.sh.
 # pytestmark = [mark.package, mark.root, mark.needs("clubdesk passtool"),
 #     mark.wants("debootstrap systemd-container dpkg-dev xz-utils util-linux python3-pexpect openssl")]
 # shellcheck disable=SC2016 # a shell of the fresh Debian reads what is quoted
@@ -17,7 +16,7 @@ holder=
 ssh_server=
 client=
 
-# ---- Machines. They share a network that has loopback alone: what listens on one is heard by each.
+# ---- Machines. They share a network with only loopback: each can reach the servers of the others.
 boot() { start "$1" --network-namespace-path="/proc/$holder/ns/net"; }
 end_of() {
     [ -n "$1" ] || return 0
@@ -53,7 +52,7 @@ offline elsewhere sh -c 'apt-get install openssh-server sqlite3 && useradd --cre
 there=$work/elsewhere/home/backup-of-clubs
 install -d -m 700 -o "$(stat -c %u "$there")" -g "$(stat -c %g "$there")" "$there/.ssh"
 mkdir -p elsewhere/run/sshd
-# trust FILE: the machine elsewhere takes this key of ssh.
+# trust FILE: lets the machine elsewhere accept this ssh key.
 trust() {
     cat "$1" >>"$there/.ssh/authorized_keys"
     chown "$(stat -c %u:%g "$there")" "$there/.ssh/authorized_keys"
@@ -69,7 +68,7 @@ dpkg-deb -x "packages/$deb" unpacked
 lines_for_root unpacked/usr/share/doc/clubdesk/docs/RUNNING.md
 sed -i 's/backup@elsewhere.example/backup-of-clubs@elsewhere.example/' running
 
-# ---- Three commands. The site's name leads to this machine alone. So caddy's certificate is its own authority's.
+# ---- Three commands. The site's name leads to this machine alone. So caddy uses its own certificate authority.
 # by_name METHOD PATH [BODY]: a request by the public name, under the pass in the file `pass` of the machine's root.
 by_name() {
     inside sh -c 'curl -sS --max-time 20 --cacert /root/ca.pem -X "$1" ${3:+-d "$3"} -H "Authorization: Bearer $(cat /root/pass)" -w " %{http_code}" "https://desk.example.org/$2"' sh "$@"
@@ -95,7 +94,7 @@ gives 'the second command' <<LINES
 $set_up
 LINES
 holds 'nothing is left to do' sh -c '! grep -q "Left to do" told'
-# The third one, by whoever reads nothing but the menu.
+# The third command, by a clerk who reads only the menu.
 cat >menu.py <<'MENU'
 import sys
 import pexpect
@@ -123,7 +122,7 @@ took=$(($(date +%s) - began))
 checks=$((checks + 1))
 echo "the first booking, $took seconds after the first command"
 
-# Behind caddy: the pages with their policies, and what isn't the desk's business. As behind nginx.
+# Behind caddy: the pages with their policies, and requests that don't reach the desk. As behind nginx.
 head_of() { inside curl -sS --max-time 20 --cacert /root/ca.pem -o /dev/null -D - "$@" | tr -d '\r' | tr "[:upper:]" "[:lower:]"; }
 for page in book.html pass.html demo.html worker.js app.webmanifest; do
     same "the page $page" "$(sha256sum <"$top/web/$page")" "$(inside curl -sS --cacert /root/ca.pem "https://desk.example.org/$page" | sha256sum)"
@@ -217,7 +216,7 @@ rm -rf "$work/first/var" "$work/first/etc"
 acknowledged=$(wc -l <acknowledged)
 [ "$acknowledged" -gt 30 ] || fail "the client booked little: $acknowledged"
 
-# ---- Another machine. Root's own key is known elsewhere.
+# ---- Another machine. The place accepts root's own key.
 boot second
 began=$(date +%s)
 inside sh -c 'mkdir -p -m 700 /root/.ssh'
@@ -240,7 +239,7 @@ took=$(($(date +%s) - began))
 [ "$took" -lt 600 ] || fail "the club was back after $took seconds"
 checks=$((checks + 1))
 
-# Bookings of up to a minute before the loss are there; each of the others is booked anew by its repeat.
+# Bookings from more than a minute before the loss are there; each of the others is booked again by its repeat.
 inside sh -c 'rm -f /root/looked; /usr/lib/clubdesk/back_up /var/lib/clubdesk/club /root/looked' >told
 inside sqlite3 /root/looked 'SELECT number FROM bookings WHERE cancelled = 0' | sort >numbers
 lost=0
@@ -259,7 +258,7 @@ same 'the health pass' '640 root clubdesk' "$(inside stat -c '%a %U %G' /etc/clu
 same 'the timers' 'clubdesk-back-up@club.timer clubdesk-health@club.timer clubdesk-sheet@club.timer' \
     "$(inside systemctl list-units --plain --no-legend --state=active 'clubdesk-*.timer' | cut -d ' ' -f 1 | sort | xargs)"
 
-# The place takes copies of the new machine, once its key is known there; health said so until then.
+# The place takes copies from the new machine once it knows the key; until then health fails.
 blocks 'Copies elsewhere' | grep -v OFFSITE= >lines
 sed '/accept-new/,$d' lines | gives 'Copies elsewhere, on the new machine'
 grep '^ssh-ed25519' told >key

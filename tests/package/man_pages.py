@@ -1,8 +1,8 @@
 #!/usr/bin/env -S /usr/bin/python3 -B -m pytest -q -p no:cacheprovider
 """The manual pages are clean to `mandoc`, and have the commands, options and statuses of `--help`.
 
-They have no others. That of office is only held against `mandoc` here, and against its `--help` by tests/office/office_holds.py. It refers to
-the pages of sudo, which has to be there.
+They have no others. The page of office is only checked with `mandoc` here, and against its `--help` by tests/office/office_holds.py. It refers
+to sudo's pages, so sudo must be installed.
 """
 
 import re
@@ -19,7 +19,7 @@ MAN = desk.ROOT / "man"
 
 
 def by_help(program):
-    """Each command, with it each of its words, options and their values, and each status."""
+    """Returns each command with its words, options and values, and each status."""
     top, found = printed(program, "--help"), {"help command"}
     for command in names_of(top):
         text = printed(program, "help", command) if command != "help" else ""
@@ -29,12 +29,12 @@ def by_help(program):
 
 
 def listed(page, heading, item):
-    """What the items of a list of the page have after its first words."""
+    """Returns the text of the items in a list of the page, without its first words."""
     return re.findall(rf"^\.It {item}(.*)", re.search(rf"^{heading}\n(.*?)^\.El", page, re.MULTILINE | re.DOTALL)[1], re.MULTILINE)
 
 
 def by_page(page):
-    """The same of a page's lists of commands and statuses."""
+    """Returns the same from a page's lists of commands and statuses."""
     found = {f"status {it}" for it in listed(page, r"\.Sh EXIT STATUS", "(?=[0-9])")}
     for command, *words in map(str.split, listed(page, "The commands are:", "Cm ")):
         found |= {command, *(f"{command} {'-' * (it[0] == '-')}{it}" for it in words if re.fullmatch("-.*|[A-Z]+|command", it))}
@@ -52,6 +52,6 @@ def test_page_has_what_the_help_shows(name):
 
 
 def test_mandoc_has_nothing_to_say():
-    """In the pages' folder, where they find one another. That the machine's own index of pages is old is nothing that these have to mend."""
+    """mandoc runs in the pages' folder, where they find one another. An outdated index of pages on the machine isn't a fault of these pages."""
     said = subprocess.run(["mandoc", "-T", "lint", "clubdesk.1", "passtool.1", "office.1"], cwd=MAN, capture_output=True, text=True, check=False)
     assert not [it for it in (said.stdout + said.stderr).splitlines() if "outdated mandoc.db" not in it]

@@ -1,4 +1,4 @@
-"""A client in the fresh Debian, which books and cancels until /root/enough is there, and asks again while no desk answers:
+"""A client in the fresh Debian, which books and cancels until /root/enough exists, and retries while no desk answers:
 client DAY, with the field of its pass in /root/field. Run by package_lives.sh."""
 import json
 import os

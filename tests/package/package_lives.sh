@@ -2,12 +2,12 @@
 # `bin/package` makes the same bytes twice, and lintian has no complaint; the package's life in a fresh Debian.
 #
 # Debian is made by debootstrap and booted by systemd-nspawn, with its own systemd and without a network but loopback. The lines for root of
-# docs/RUNNING.md are given there, from the installation to the restore: the desk behind nginx with TLS, its timers and what they call, a
-# second club in another zone, mail, a machine that boots anew. A clerk without root has her first week: import, who booked, sheet, wrong
-# credit, price, tournament, rain, lost pass, leaving member, restore. The package is upgraded while a client books, upgraded to one whose program
-# opens no club, removed, installed again, and purged: no acknowledged booking is lost, and the clubs' files stay. At the end the archive for
-# other systems, below /usr/local. Wants root, and Debian's mirror for the fresh Debian. DEBIAN=FOLDER names one that is there already, made
-# by `debootstrap --variant=minbase --include=systemd,systemd-sysv bookworm FOLDER`. The test takes a copy.
+# docs/RUNNING.md are run there, from the installation to the restore: the desk behind nginx with TLS, its timers and what they call, a second
+# club in another zone, mail, a machine that boots again. A clerk without root has her first week: import, who booked, sheet, wrong credit,
+# price, tournament, rain, lost pass, leaving member, restore. The package is upgraded while a client books, upgraded to one whose program opens
+# no club, removed, installed again, and purged: no acknowledged booking is lost, and the clubs' files stay. At the end the archive for other
+# systems, below /usr/local. Wants root, and Debian's mirror for the fresh Debian. DEBIAN=FOLDER names an existing Debian, made by
+# `debootstrap --variant=minbase --include=systemd,systemd-sysv bookworm FOLDER`. The test takes a copy.
 # pytestmark = [mark.package, mark.root, mark.needs("clubdesk passtool"),
 #     mark.wants("debootstrap systemd-container lintian dpkg-dev xz-utils util-linux")]
 # shellcheck disable=SC2016 # a shell of the fresh Debian reads what is quoted
@@ -36,14 +36,14 @@ leave_all() {
 }
 trap leave_all EXIT
 
-# ---- The package: the same bytes, whoever makes it, when and how.
+# ---- The package has the same bytes, whoever makes it, and whenever and however.
 holds 'bin/package' "$top/bin/package" first
 (umask 077 && cd / && LC_ALL=C.UTF-8 TZ=Asia/Tokyo HOME=/nonexistent "$top/bin/package" "$work/second" >"$work/told")
 for file in first/*; do same "$file, again" "$(sha256sum <"$file")" "$(sha256sum <"second/${file##*/}")"; done
 same 'what is made' "SHA256SUMS clubdesk-$version-amd64.tar.xz clubdesk_${version}_amd64.deb" "$(cd first && echo *)"
 (cd first && sha256sum --quiet -c SHA256SUMS)
 deb=clubdesk_${version}_amd64.deb
-# Root may run lintian, which else advises against it.
+# Lets root run lintian, which otherwise warns.
 holds lintian lintian --allow-root --fail-on error,warning --tag-display-limit 0 "first/$deb"
 same 'what lintian says' '' "$(cat told)"
 dpkg-deb -x "first/$deb" unpacked
@@ -104,7 +104,7 @@ for unit in "$root"/usr/lib/systemd/system/clubdesk*@.*; do
     same "systemd-analyze of $unit" '' "$said"
 done
 
-# Before there is a club its desk makes none.
+# Without a club, the desk doesn't create one.
 gives 'A club, configured' <<'LINES'
 cp /usr/share/doc/clubdesk/examples/club.conf /etc/clubdesk/club.conf
 systemctl start clubdesk@club && exit 1
@@ -166,7 +166,7 @@ blocks 'Is it well?' | gives 'Is it well?'
 soon 10 'what the check says' health_says ', and reads its file'
 same 'the pass of the check' '640 root clubdesk' "$(inside stat -c '%a %U %G' /etc/clubdesk/club.health)"
 
-# ---- Another club, half a day away, with mail: what is mailed goes to a file. Nobody has asked for it in the first.
+# ---- Another club, half a day away, with mail, which goes to a file. Nobody has asked for it in the first.
 mkdir -p "$root/usr/sbin"
 printf '#!/bin/sh\n{ echo "== $*"; cat; } >>/var/mail/sent\n' >"$root/usr/sbin/sendmail"
 chmod 755 "$root/usr/sbin/sendmail"
@@ -199,7 +199,7 @@ same 'the mailed sheet' "== -i -t
 To: cox@example.org
 Subject: rowing: day sheet $today
 Day sheet $today" "$(inside grep -E '^(==|To|Subject|Day|Total)' /var/mail/sent)"
-# What fails is mailed, once: a back-up of a file that is no club any more. Nobody hears of what isn't configured.
+# A failure is mailed once: a back-up of a file that isn't a club any more. Nothing is mailed without configuration.
 gives 'a club that is broken' <<'LINES'
 : >/var/mail/sent
 echo broken >/var/lib/clubdesk/broken
@@ -221,13 +221,13 @@ systemctl reset-failed
 rm -r /etc/clubdesk/broken.conf /etc/clubdesk/silent.conf /var/lib/clubdesk/broken /var/backups/clubdesk/broken /var/backups/clubdesk/silent
 LINES
 
-# ---- A clerk without root, by sudo: a club of hers, from its file to a correction, which ends the server, and systemd starts it again.
+# ---- A clerk without root, by sudo: her club, from its file to a correction that stops the server, which systemd restarts.
 blocks 'The clerks' | gives 'The clerks'
 gives 'a club of hers' <<'LINES'
 useradd --create-home carl
 printf 'FILE=/var/lib/clubdesk/tennis\nZONE=UTC0\nPORT=8083\n' >/etc/clubdesk/tennis.conf
 LINES
-# office USER WORD..: at home, as that user.
+# office USER WORD..: runs office as that user, at home.
 office() {
     user=$1
     shift
@@ -241,7 +241,7 @@ for words in 'add-member eve 5' 'credit eve 1000' 'add-facility court-1 court 4 
     # shellcheck disable=SC2086 # a command's words
     holds "$words" office anna $words
 done
-# The server has the file once a request under a pass has needed it.
+# Once a request under a pass is answered, the server has the file open.
 account() { inside sh -c 'curl -sS -H "Authorization: Bearer $(cat /home/anna/eve-1)" http://127.0.0.1:8083/account'; }
 same 'the account before it' '{"member":"eve","balance":1000,"quota":5,"open":0,"spent":0}' "$(account)"
 before=$(inside systemctl show --value -p MainPID clubdesk@tennis)
@@ -253,7 +253,7 @@ office anna log >told
 [ "$(grep -c anna told)" -ge 6 ] || fail "the book: $(cat told)"
 if office carl credit eve 1000 >told 2>&1; then fail 'a credit by somebody who is no clerk'; fi
 
-# Her first week: what a club's office does, by nobody but her.
+# Her first week: she does all the work of a club's office.
 week=$(date -u -d '+3 days' +%F)
 # asks PASS METHOD PATH [BODY]: a request to her desk, once it is there again, under a pass in a file of hers.
 asks() {
@@ -364,7 +364,7 @@ same 'what was acknowledged' "$acknowledged" "$(inside sqlite3 /root/looked 'SEL
 same 'the totals' '' "$(unsound "$root/root/looked")"
 grep -q '^tries [1-9]' client.log || fail 'the upgrades interrupted nobody: they restarted nothing'
 
-# ---- Removed: the desks end, what describes them and their files stay. Installed again: it goes on.
+# ---- Removal: the desks end; their configuration and files stay. After a new installation they continue.
 holds 'the removal' inside apt-get remove clubdesk
 same 'desks after it' '' "$(inside systemctl list-units --plain --no-legend --state=active 'clubdesk*')"
 same 'programs after it' '' "$(inside sh -c 'ls -d /usr/bin/clubdesk /usr/bin/passtool /usr/lib/clubdesk /usr/share/clubdesk 2>/dev/null || :')"
@@ -374,7 +374,7 @@ holds 'the installation after it' inside apt-get install "/root/$deb"
 holds 'a start after it' inside systemctl start clubdesk@club
 books 'the desk after it'
 
-# ---- Purged: the clubs, their back-ups and their user stay, and nothing else of the package.
+# ---- Purge: only the clubs, their back-ups and their user stay.
 inside apt-get purge clubdesk >told 2>&1 || fail "purge: $(tail told)"
 grep -q '/var/lib/clubdesk stays' told || fail "purge doesn't say what stays: $(tail told)"
 same 'what is left of it' '/var/backups/clubdesk

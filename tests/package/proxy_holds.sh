@@ -5,8 +5,8 @@
 #
 # These are the sections "A club", "The pages", "A certificate", "TLS" and "Several clubs". Certbot gets a certificate by nginx's site of the
 # challenges, from an authority of the test's own (Let's Encrypt's pebble). It renews it, and then the site has the new one. Then come the
-# desk's replies and the pages behind nginx with TLS, a slow client, and two clubs at one proxy. Nothing else is answered at the port of the
-# challenges. The limit of requests holds, with its sentence.
+# desk's replies and the pages behind nginx with TLS, a slow client, and two clubs at one proxy. The challenges' port answers nothing else. The
+# limit of requests holds, with its sentence.
 # pytestmark = [mark.package, mark.root, mark.needs("clubdesk passtool"),
 #     mark.wants("sudo sqlite3 openssl util-linux bsdutils iproute2 systemd curl nginx-light certbot pebble qrencode tzdata")]
 set -eu
@@ -34,11 +34,11 @@ for folder in /var/log /var/www /run; do
     if [ "$folder" = /run ]; then mount -t tmpfs tmpfs "$folder"; else over "$folder"; fi
 done
 mkdir -p /var/log/nginx /run/sudo
-# No name is asked for outside.
+# No name is resolved outside.
 sed -i 's/^hosts:.*/hosts: files/' /etc/nsswitch.conf
 echo '127.0.0.1 localhost desk.example.org rowing.example.org' >/etc/hosts
 
-# A systemctl that knows the page's words: a reload of nginx, and a club that is enabled, which is served by its configuration.
+# A systemctl stub for the page's commands: it reloads nginx, and serves a club that is enabled, by its configuration.
 cat >"$room/systemctl" <<SYSTEMCTL
 #!/bin/sh
 case "\$*" in
@@ -63,9 +63,9 @@ by_page() {
     echo "$1: $(wc -l <"$room/lines") lines run"
 }
 
-# ---- The first club, as the page makes it, with a member.
+# ---- The first club, made as on the page, with a member.
 by_page 'A club'
-# In a folder for each club, since both have an amy whose spare passes are written there.
+# Each club has its own folder, since both have an amy whose spare passes are written there.
 member_of() (
     mkdir "$1-clerk"
     cd "$1-clerk"
@@ -78,7 +78,7 @@ member_of club court-1 >told
 cp club-pass "$room/page/amy-1"
 systemctl enable --now clubdesk@club
 direct=http://127.0.0.1:8080 site=https://desk.example.org slot=slots/court-1/2026-05-01/18
-# asks BASE METHOD PATH PASS [BODY]: the reply to a request, its status after it.
+# asks BASE METHOD PATH PASS [BODY]: prints the reply to a request, then its status.
 asks() { curl -sS --noproxy '*' --max-time 20 -w ' %{http_code}' -X "$2" -H "Authorization: Bearer $4" ${5:+-d "$5"} "$1/$3"; }
 pass=$(cat club-pass)
 soon 10 'the desk' is_heard $direct/
@@ -98,7 +98,7 @@ if club_json Europe/Berlin >told 2>&1; then fail "a zone that isn't the server's
 same 'why it is refused' 1 "$(grep -c 'one of them is another zone' told)"
 cp configured /etc/clubdesk/club.conf
 
-# ---- A certificate, and the site that has it.
+# ---- A certificate, and the site that uses it.
 nginx
 mkdir "$room/authority"
 mkdir -p /etc/letsencrypt
@@ -161,7 +161,7 @@ done
 same '/' "302 $site/book.html" "$(curl -o told -w '%{http_code} %{redirect_url}' $site/)"
 same "a pass of the other club" '{"fault":9,"text":"not verified"}' "$(seen rowing desk account)"
 
-# ---- The desk's own reply to what changes nothing is the proxy's.
+# ---- For requests that change nothing, the proxy returns the desk's own reply.
 same 'a booking behind TLS' '{"booking":"amy-1/8","charge":3,"left":1} 200' "$(asks $site PUT $slot/bookings/8 "$pass" '{"guests":2}')"
 by_both() { same "$1 $2 through the proxy" "$(asks $direct "$@")" "$(asks $site "$@")"; }
 for guests in 2 1; do by_both PUT $slot/bookings/8 "$pass" "{\"guests\":$guests}"; done
@@ -174,7 +174,7 @@ same 'the health check' '{"member":"amy","balance":1000,"quota":99,"open":0,"spe
 same 'a health pass books nothing' '{"fault":12,"text":"caveat denies","caveat":1} 403' "$(asks $site PUT $slot/bookings/9 "$health" '{"guests":0}')"
 same 'no TLS' 400 "$(curl -o told -w '%{http_code}' http://127.0.0.1:443/account)"
 
-# A client that sends half of a request holds up nobody: the proxy waits for it, and not the desk.
+# A client that sends half a request holds up nobody: the proxy waits for it, not the desk.
 {
     printf 'PUT /%s/bookings/9 HTTP/1.1\r\nHost: desk.example.org\r\nContent-Length: 12\r\n' $slot
     sleep 6
@@ -186,10 +186,9 @@ by_both GET account "$pass"
 [ $((($(date +%s%N) - begun) / 1000000)) -lt 3000 ] || fail 'a slow client holds up the others'
 wait "$slow" || :
 
-# ---- The limits. Of a pass 1,000 at once pass, and then there is a sentence, while another pass has its replies, and so has the same one
-# a second later. Of an address twice as many.
-# flood NAME COUNT [WORD..]: so many requests at once, with words for curl, for a file, which is sooner there than a reply of the desk. How
-# many passed and were limited, which are all.
+# ---- The limits. Under one pass 1,000 requests at once get through; later ones get the message. Another pass still gets replies, and so does
+# the same one a second later. One address may send twice as many. flood NAME COUNT [WORD..]: so many requests at once, with words for curl, for
+# a file, which is sooner there than a reply of the desk. Prints how many got through and how many were limited; together these are all.
 flood() {
     name=$1 count=$2
     shift 2

@@ -31,7 +31,7 @@ SUM = {"passes": "passed", "fails": "failed: no", "skips": "skipped: not here", 
 
 @pytest.fixture
 def tree(tmp_path):
-    """The runner with these tests."""
+    """Makes a runner with these tests."""
     lib = tmp_path / "tests" / "lib"
     lib.mkdir(parents=True)
     (tmp_path / "tests" / "desk").mkdir()
@@ -49,7 +49,7 @@ def tree(tmp_path):
 
 
 def run(tree, *words, **variables):
-    """The status of tests/run, and of each test its result with the reason. No package is installed."""
+    """Returns the status of tests/run, and each test's result with the reason. No package is installed."""
     without = {name: value for name, value in os.environ.items() if name not in ("CLUBDESK", "PASSTOOL")}
     path = tree / "path"
     path.mkdir(exist_ok=True)

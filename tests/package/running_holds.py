@@ -1,4 +1,4 @@
-"""Each call that strace saw is one that a unit allows: running_holds.py UNIT TRACE, run by running_holds.sh."""
+"""Checks that a unit allows each call that strace saw: running_holds.py UNIT TRACE, run by running_holds.sh."""
 import re
 import subprocess
 import sys

@@ -1,7 +1,7 @@
 #!/bin/sh
 # The claims of docs/RUNNING.md hold of installations, units, copies and a full disk.
 #
-# Installations are whole or not at all, and units forbid no call of the desk.
+# Installations are complete or undone, and units forbid no call of the desk.
 #
 # The units are tried by systemd's own tools. Wants root.
 # pytestmark = [mark.pages, mark.package, mark.root, mark.needs("clubdesk passtool"),
@@ -25,7 +25,7 @@ leave_all() {
 }
 trap leave_all EXIT
 
-# asks METHOD PATH [BODY]: the reply to a request at $port under the pass in the file `pass`, its status after it.
+# asks METHOD PATH [BODY]: prints the reply to a request at $port under the pass in the file `pass`, then its status.
 asks() {
     curl -sS --max-time 20 --noproxy '*' -w ' %{http_code}\n' -X "$1" -H "Authorization: Bearer $(cat pass)" ${3:+-d "$3"} "http://127.0.0.1:$port/$2"
 }
@@ -63,7 +63,7 @@ refused() {
 }
 echo old >local/bin/clubdesk
 chmod 755 "$work" local
-# Another user may not see the repository, so the script is copied; it looks at the folder first.
+# Another user may be unable to read the repository, so the script is copied; it checks the folder first.
 cp "$top/bin/install" installing
 refused 'no leave to write' runuser -u nobody -- sh "$work/installing" "$work/local"
 refused 'no folder to make' runuser -u nobody -- sh "$work/installing" "$work/other"
@@ -76,7 +76,7 @@ if sh -c "ulimit -f 1000; '$top/bin/install' local" >told 2>&1; then fail 'it in
 [ ! -e local ] || fail 'a refused installation left its folders'
 "$top/bin/install" local >told
 
-# ---- The units: those that start something are whole, keep to themselves, and name what there is.
+# ---- The units: those that start something are complete and confined, and name existing files.
 mkdir units
 for file in "$top"/deploy/*.service "$top"/deploy/*.timer; do
     sed "s,/usr/bin/clubdesk,$PWD/local/bin/clubdesk,; s,/usr/lib/clubdesk/,$top/deploy/,; s,/etc/clubdesk/,$PWD/," "$file" >"units/${file##*/}"
@@ -94,8 +94,8 @@ for file in units/*; do
     checks=$((checks + 1))
 done
 
-# Its command, with the variables of the example but another port, for another user, with its mask, under strace: a club that isn't there
-# is made, a request is answered, and each call is one that the unit allows. Before it, the unit looks whether the club is there.
+# Runs its command under strace, with the example's variables except the port, as another user and with its mask. A missing club is created, a
+# request is answered, and the unit allows each call. Before the command, the unit checks that the club exists.
 # shellcheck source=/dev/null disable=SC2034 # its line has the variables of the configuration
 command=$(. ./club.conf; PORT=0; eval "echo $(sed -n 's/^ExecStart=//p' "$unit")" | sed 's/--count 1000000/--count 2/')
 mkdir -m 700 state
@@ -114,7 +114,7 @@ holds 'its calls' /usr/bin/python3 "$here/running_holds.py" "$unit" state/calls
 same "a zone's rule" CET-1CEST,M3.5.0,M10.5.0/3 "$(tail -n 1 /usr/share/zoneinfo/Europe/Berlin)"
 grep -qxF "ZONE=$(tail -n 1 /usr/share/zoneinfo/Europe/Berlin)" club.conf || fail 'the example has another zone'
 
-# ---- Copies while the club is written to: 900 bookings, each cancelled, in the course of which the desk copies its log into its file.
+# ---- Copies during writes: 900 bookings, each cancelled. Meanwhile the desk copies its log into its file.
 make_club club
 serve club 100000 2026-04-20T12:00
 awk -v pass="$(cat pass)" -v port="$port" 'BEGIN { for (i = 1; i <= 900; i++) for (put = 1; put >= 0; put--) {
@@ -129,7 +129,7 @@ while [ ! -e answered.all ] && [ "$copies" -lt 500 ]; do
     copies=$((copies + 1))
     holds "copy $copies" "$top/deploy/back_up" club "copy.$copies"
     [ ! -e "copy.$copies-wal" ] || fail "copy $copies has a log"
-    # The bookings are the first ones, all but the last of them cancelled, and the totals are their sums.
+    # The bookings are the first ones, all but the last are cancelled, and the totals match.
     same "the bookings of copy $copies" 1 \
         "$(sqlite3 "copy.$copies" 'SELECT count(*) = coalesce(max(number), 0) AND total(cancelled = 0) <= 1 FROM bookings')"
     same "the totals of copy $copies" '' "$(unsound "copy.$copies")"
@@ -141,7 +141,7 @@ wait "$client" || { kill -0 "$server" || echo 'the server is gone' >&2; cat faul
 same 'a sheet meanwhile' 'Day sheet 2026-05-01' "$("$desk" sheet club 2026-05-01 2>&1 | head -n 1)"
 rm copy.*
 
-# ---- Restored: the same bytes, and what came after the copy is gone.
+# ---- A restore gives the same bytes, without the changes after the copy.
 first=slots/court-1/2026-06-01/10 second=slots/court-1/2026-06-01/11
 asks PUT $first/bookings/1001 '{"guests":4}' >told
 shown() { for path in account $first $second slots/court-1/2026-05-02/01; do asks GET "$path"; done; }
@@ -150,7 +150,7 @@ shown >wanted
 same 'a copy' 'backed up, with 901 bookings' "$(cat told)"
 asks PUT $second/bookings/1002 '{"guests":4}' >told
 stop
-# The same, if the desk copies its log into its file between the copies of the two.
+# The same, if the desk copies its log into its file between the two copies.
 copy club racing
 mkdir path
 cat >path/cp <<CP
@@ -181,7 +181,7 @@ printf broken >bad
 if "$top/deploy/back_up" bad copy.bad >told 2>said; then fail 'a broken file is copied'; fi
 [ ! -e copy.bad ] || fail 'a copy of a broken file is left'
 
-# ---- A full disk: nothing is booked, and what changes nothing is answered. Once there is room, all goes on.
+# ---- A full disk: nothing is booked, but requests that change nothing are answered. Once there is space, everything works again.
 disk=$work/disk
 mkdir "$disk"
 mount -t tmpfs -o size=700k tmpfs "$disk" || { disk=; fail 'no small disk could be made'; }
@@ -198,7 +198,7 @@ same 'a full disk' '{"fault":22,"text":"unavailable"} 503' "$(cat told)"
 same 'the account' "{\"member\":\"amy\",\"balance\":$((10001 - number)),\"quota\":99,\"open\":$((number - 1)),\"spent\":$((number - 1))} 200" \
     "$(asks GET account)"
 same 'a booking' '{"fault":22,"text":"unavailable"} 503' "$(asks PUT slots/court-1/2026-05-04/10/bookings/99 '{"guests":0}')"
-# A copy isn't tried again and again there, and says so in a line.
+# A copy isn't retried there, and prints a line.
 begun=$(date +%s)
 if "$top/deploy/back_up" "$disk/club" "$disk/copy" >told 2>said; then fail 'a full disk takes a copy'; fi
 same 'the lines of a refused copy' 1 "$(wc -l <said)"

@@ -1,10 +1,10 @@
 #!/usr/bin/env -S /usr/bin/python3 -B
 """A club set up by the questions of `deploy/clubdesk-setup`, with repeats, stops and refusals.
 
-It looks at modes and owners, repeats and stops at each step, and the way to a first booking. Wants root (tests/lib/office_room.sh).
+It checks modes and owners, repeats and stops at each step, and the path to a first booking. Wants root (tests/lib/office_room.sh).
 
-There are five questions. Given again, also after a stop at each step, the setup changes nothing that is there. The clerk whom it made
-goes on from its end to a member's first booking, with nginx's site in front if nginx is there.
+There are five questions. When run again, also after a stop at each step, the setup changes no existing file. After it, the new clerk goes on to
+a member's first booking, through nginx's site if nginx is installed.
 """
 # pytestmark = [mark.package, mark.root, mark.needs("clubdesk passtool"),
 #     mark.wants("sudo sqlite3 openssl util-linux bsdutils iproute2 systemd python3-psutil python3-pexpect nginx-light")]
@@ -33,7 +33,7 @@ def set_up(*words, line=SETUP):
 
 
 def everything():
-    """Each file that the setup makes, with its digest, mode and owner. The club itself by its rows."""
+    """Returns each file that the setup makes, with its digest, mode and owner, and the club's rows."""
     found = {}
     for top in (CONF, Path("/var/www"), Path("/etc/nginx/sites-available"), Path("/etc/nginx/sites-enabled")):
         for it in sorted(top.rglob("*")):
@@ -54,7 +54,7 @@ def refused():
 
 
 def by_questions():
-    """The five questions at a terminal; one that is answered wrongly is asked again."""
+    """The five questions at a terminal; a wrong answer is asked for again."""
     it = pexpect.spawn("clubdesk-setup", encoding="utf-8", timeout=120, cwd="/")
     for question, answer in (("called", "TC Übersee"), ("address", "desk"), ("is no address.*address", "desk.example.org"), ("zone", "Europe/Berlin"),
                              ("clerk", "doris"), ("mailed", "it@example.org")):
@@ -80,7 +80,7 @@ def made():
 
 
 def again_and_again():
-    """Nothing that is there changes; what a stop left out is made."""
+    """Existing files stay unchanged; a run after a stop makes the missing ones."""
     before = everything()
     status, out, _ = set_up()
     same("again", (status, "made" in out, everything() == before), (0, False, True))
