@@ -46,7 +46,7 @@ impl Requests {
         })
     }
 
-    /// The requests of this kind.
+    /// Returns the requests of this kind.
     pub(crate) fn of(&self, wish: Wish) -> &[Sent] {
         match wish {
             Wish::Booking => &self.bookings,
