@@ -1,7 +1,7 @@
-"""A fault for each test, on which it has to fail: read by `tests/run --planted`.
+"""A fault for each test that must make it fail: read by `tests/run --planted`.
 
-A fault is one change of bytes in a copy of a built program or of a file of the repository, or a shell script in place of a program, in which
-$PROGRAM stands for it. The log of the failed test has some words, so that one that fails for another reason isn't taken for it."""
+A fault is one change of bytes in a copy of a built program or of a repository file. Or it is a shell script in place of a program, where
+$PROGRAM stands for the program. The failed test's log must have some words, so that a failure for another reason doesn't count."""
 
 import os
 import shutil
@@ -14,7 +14,7 @@ import desk
 
 PROGRAMS = ("clubdesk", "passtool")
 BY_HAND = "#!/bin/sh\n"
-# test: file, bytes, what stands for them, words of the log; the words of a test that has a shorter run. A test with several faults has a
+# test: file, bytes, their replacement, words of the log, and the arguments of a test that has a shorter run. A test with several faults has a
 # line for each, TEST:FAULT.
 PLANTS = {
     "beside": ("tests/peers/beside_go/desk.go", '"left":', '"lost":', "booking: the replies differ", "10", "1", "100"),
@@ -153,12 +153,12 @@ PLANTS = {
 
 
 def plants_of(test):
-    """The names of a test's faults."""
+    """Returns the names of a test's faults."""
     return [it for it in PLANTS if it.partition(":")[0] == test]
 
 
 def copied_tree(folder):
-    """The files of the repository as they are, without what is built."""
+    """Yields the repository's files, without built ones."""
     names = subprocess.run(["git", "-C", desk.ROOT, "ls-files", "-co", "--exclude-standard", "-z"], check=True, capture_output=True, text=True).stdout
     for name in filter(None, names.split("\0")):
         if (desk.ROOT / name).is_file():
@@ -179,7 +179,7 @@ def spoil(path, old, new):
 
 
 def plant(name, folder):
-    """Makes a copy of the tree with the fault of a test; the variables that name its programs."""
+    """Makes a copy of the tree with a test's fault; returns the variables that name its programs."""
     file, old, new = PLANTS[name][:3]
     folder.chmod(0o755)  # for tests with other users
     copied_tree(folder)
@@ -204,5 +204,5 @@ def plant(name, folder):
 
 
 def is_found(name, status, log):
-    """Returns whether a test failed for its fault."""
+    """Returns whether a test failed because of its fault."""
     return status not in (0, 77) and PLANTS[name][3] in log

@@ -1,13 +1,13 @@
 #!/usr/bin/env python3
 """What the gate costs: seconds of processor for the proof, the tests and the edits of each crate.
 
-Runs `rt ci` in a scratch clone of HEAD, and adds up the seconds of the compiler's processes: those of the crate's proof (with a program's
-builds), of its tests' proof and build, and of its must-fail edits. Last come the sums, the wall time, and the gate's own last line. The
-status is the gate's.
+Runs `rt ci` in a scratch clone of HEAD, and adds up the seconds of the compiler's processes for each crate's proof (with a program's builds),
+for its tests' proof and build, and for its must-fail edits. Last come the sums, the wall time, and the gate's own last line. The status is the
+gate's.
   tests/times.py                 the whole gate
   tests/times.py club_core ..    `rt ci club_core ..`: these crates, and those below them
-Times are read from /proc once a second, so a process counts up to a second less than it took; running the programs and tests
-isn't counted. Seconds vary by a quarter with what else the machine does.
+Times are read from /proc once a second, so a process may count up to a second less than it took. Running the programs and tests isn't counted.
+Seconds vary by a quarter with the machine's other work.
 """
 # pytestmark = [mark.proofs, mark.alone, mark.timeout(36000)]
 
@@ -27,26 +27,26 @@ TICKS = os.sysconf("SC_CLK_TCK")
 
 
 def process(pid):
-    """The parent of a process, its start, and its ticks: of itself, and of the children that it waited for."""
+    """Returns a process's parent, start and ticks: its own, and those of children that it waited for."""
     fields = Path(f"/proc/{pid}/stat").read_text(encoding="utf-8", errors="replace").rpartition(")")[2].split()
     return int(fields[1]), fields[19], sum(map(int, fields[11:15]))
 
 
 def task(pid, work):
-    """The crate and the kind of work of a process that compiles below a folder; else None."""
+    """Returns the crate and the kind of work of a process that compiles below a folder, or None."""
     words = Path(f"/proc/{pid}/cmdline").read_text(encoding="utf-8", errors="replace").split("\0")
     if os.path.basename(words[0]) != "rattle" or words[1:2] not in (["build"], ["check"]) or "--crate-name" not in words:
         return None
     folder = os.readlink(f"/proc/{pid}/cwd")
     if not folder.startswith(f"{work}/"):
         return None
-    # an edit is checked in a room of its own
+    # an edit is checked in its own folder
     is_edit = re.search(r"/rt-edit-[^/]*(/|$)", folder)
     return words[words.index("--crate-name") + 1], "edits" if is_edit else "tests" if "--test" in words else "proof"
 
 
 def sample(spent, work):
-    """Notes the ticks of each compiling process, with those of its children, under the process that no other one began."""
+    """Records the ticks of each compiling process and its children, under the topmost process."""
     found, totals = {}, Counter()
     for pid in filter(str.isdigit, os.listdir("/proc")):
         try:
@@ -62,9 +62,9 @@ def sample(spent, work):
 
 
 def run_gate(work, names):
-    """The status of the gate, and the ticks of each compiling process."""
+    """Returns the gate's status, and the ticks of each compiling process."""
     spent = Counter()
-    # The rooms of edits lie below the scratch folder too, so that other runs on the machine aren't counted.
+    # The edits' folders are below the scratch folder too, so that other runs on the machine aren't counted.
     with open(work / "log", "wb") as log, subprocess.Popen(["rt", "ci", *names], cwd=work / "clone", stdin=subprocess.DEVNULL, stdout=log, stderr=log,
                                                           env={**os.environ, "TMPDIR": str(work / "rooms")}, start_new_session=True) as gate:
         try:

@@ -1,4 +1,4 @@
-"""A part of page_books.py: days, bookings and cancellations, what a pass leaves out, refusals, and the ways to a slot."""
+"""A part of page_books.py: days, bookings and cancellations, the limits of a pass, refusals, and the ways to a slot."""
 
 import json
 import pathlib
@@ -50,7 +50,7 @@ def books_and_cancels(page, passes):
     page.view("account")
     page.when("byName('account-facts').innerText.includes('999,698')", "the account")
     check("0 of 99" in page.run("return byName('account-facts').innerText"), "the account")
-    # The pass is kept: another visit needs no link, and forgets it if the member says so.
+    # The pass is kept: another visit needs no link, and the member can forget the pass.
     page.visit("", "isShown('day') && dayIsThere()", "another visit")
     page.view("account")
     check("The pass is kept in this browser." in page.run("return shownText('account')"), "where the pass is")
@@ -59,7 +59,7 @@ def books_and_cancels(page, passes):
     page.when("isShown('welcome')", "a forgotten pass")
     page.visit("", "isShown('welcome')", "a forgotten pass, at the next visit")
     check("Cancelled" in page.run("return byName('other-part').hidden ? '' : byName('others').textContent"), "its record stays")
-    # By paste, for the tab.
+    # Pastes a pass, for this tab only.
     page.run("byName('given').value = `https://desk.example.org/book.html#${arguments[0]}\\n`; byName('use').click()", passes["amy-1"])
     page.when("isShown('day') && dayIsThere()", "a pasted pass")
     page.driver.refresh()
@@ -72,7 +72,7 @@ def books_and_cancels(page, passes):
 
 
 def day_says_what_is(page, passes):
-    """Each state of a slot; the days that can be chosen."""
+    """Shows each state of a slot, and the days that can be chosen."""
     office("close-slot", "court-2", day(3), "10")
     page.enter(passes["bob-1"], 3)
     words = {place: page.run("return cellAt(...arguments).button.innerText.replace(/\\s+/g, ' ')", *place) for place in [("court-2", 10), ("court-2", 11)]}
@@ -85,7 +85,7 @@ def day_says_what_is(page, passes):
     page.run("look()")
     page.when("cellAt('court-2', 12).button.innerText === 'Full'", "a full slot")
     curl(page, "DELETE", f"/slots/court-2/{day(3)}/12/bookings/{number}", other)
-    # Today: what has begun is over, by the club's clock, and is not asked for.
+    # Today: slots that have begun are over, by the club's clock, and aren't requested.
     page.requests()
     page.go(day(0))
     hour = now().hour
@@ -113,8 +113,8 @@ def day_says_what_is(page, passes):
 
 
 def says_why_it_is_closed(page, passes, server):
-    """Why the office closed a slot: in the day, its detail, beside a booking that it cancelled for it, and where a booking meets it. Only the
-    desk knows whether it is closed."""
+    """The reason for a closed slot is shown in the day, in its detail, next to a booking that it cancelled, and when a booking meets it. Only
+    the desk knows whether it is closed."""
     good, wanted = pathlib.Path("www/club.json").read_text(), day(25)
     number = (datetime.strptime(wanted, "%Y-%m-%d") - datetime(1970, 1, 1)).days
     page.enter(passes["lists-1"], 25)
@@ -155,7 +155,7 @@ def says_why_it_is_closed(page, passes, server):
 
 
 def looks_six_at_a_time(page, passes, between):
-    """The day's requests: six at once at most, and those of the facility that a narrow screen shows first; how far it is is shown."""
+    """The day's requests: at most six at once, first those of the facility that a narrow screen shows; the progress is shown."""
     page.sees(360, "light", 740)
     page.enter(passes["bob-2"], 4)
     page.run("pressIn(byName('facility-choice'), 'Double scull')")
@@ -175,7 +175,7 @@ def looks_six_at_a_time(page, passes, between):
 
 
 def swipes(page, passes):
-    """On a narrow screen one facility is shown: that which is chosen by its name, or swiped to."""
+    """A narrow screen shows one facility, chosen by its name or by a swipe."""
     page.sees(360, "light", 740)
     page.command("Emulation.setTouchEmulationEnabled", enabled=True)
     page.enter(passes["bob-2"], 4)
@@ -220,7 +220,7 @@ def swipes(page, passes):
 
 
 def looks_again(page, passes):
-    """A page that is looked at again after a while asks for its day again; one that was away for a moment doesn't."""
+    """A page that is shown again after a while requests its day again; after only a moment it doesn't."""
     page.enter(passes["bob-2"], 4)
     own = page.driver.current_window_handle
 
@@ -243,7 +243,7 @@ def looks_again(page, passes):
     page.when("seen.length === 4 && dayIsThere() && cellAt('court-3', 14).button.innerText === 'Full'", "what changed while it was away")
     asked = Counter(address for _, address in page.requests() if "/slots/" in address)
     check(len(asked) == CELLS and set(asked.values()) == {1}, "each slot once", len(asked), Counter(asked.values()))
-    # So it does if another view was looked at meanwhile.
+    # It does so too if another view was shown meanwhile.
     curl(page, "DELETE", f"/slots/court-3/{day(4)}/14/bookings/{number}", passes["other"])
     page.view("bookings")
     page.run("lookedAt -= 16000")
@@ -262,7 +262,7 @@ return [...document.querySelectorAll("*")].filter((each) => [null, "::before", "
 
 
 def moves_little(page, passes):
-    """Nothing moves for whoever asks the system for less of it."""
+    """Nothing moves if the system is set to reduced motion."""
     page.enter(passes["bob-2"], 4)
     page.offer("court-1", 10)
     for wanted in ("no-preference", "reduce"):
@@ -303,7 +303,7 @@ def leaves_out_what_the_pass_denies(page, passes):
     page.enter(narrowed(whole, "actions = book,cancel"), 5)
     check(page.run("return cellAt('court-1', 15).button.innerText") == "Book", "a pass that doesn't look books")
     page.booked("court-1", 15)
-    # No button that the pass is known to refuse, and where the page can't know it the desk decides.
+    # The page has no button that the pass would refuse; where it can't know, the desk decides.
     page.enter(narrowed(whole, "spend <= 0"), 5)
     check(page.run("return cellAt('court-1', 16).button.disabled && cellAt('court-1', 16).button.innerText.includes('Too many points for your pass')"),
           "no points, and no button", page.run("return cellAt('court-1', 16).button.innerText"))
@@ -323,7 +323,7 @@ def leaves_out_what_the_pass_denies(page, passes):
 
 
 def refusals_say_what_to_do(page, passes, between):
-    """Those that a member meets, by the desk; the others as somebody in between would send them; each in both languages."""
+    """The desk sends the refusals that a member can meet, and a proxy sends the others, each in both languages."""
     page.enter(passes["bob-1"], 6)
     page.booked("court-1", 9)
     page.booked("court-1", 10)
@@ -334,7 +334,7 @@ def refusals_say_what_to_do(page, passes, between):
     page.comes("came back", "a cancellation")
     page.book("room-1", 11)
     page.comes("enough points", "fault 20")
-    # A slot that fills, or is closed, between the look and the press.
+    # A slot fills, or is closed, between the look and the press.
     curl(page, "PUT", f"/slots/court-3/{day(6)}/12/bookings/77", passes["other"], '{"guests":1}')
     page.book("court-3", 12)
     page.comes("Not enough places are free any more", "fault 18")
@@ -343,7 +343,7 @@ def refusals_say_what_to_do(page, passes, between):
     page.book("court-3", 13)
     page.comes("The office closed this slot", "fault 17")
     page.when("cellAt('court-3', 13).button.innerText === 'Closed'", "a slot that was looked at again")
-    # A number that the key used already: another one is taken by itself.
+    # If the key already used a number, the page picks another one.
     used = 123456789
     curl(page, "PUT", f"/slots/court-2/{day(6)}/12/bookings/{used}", passes["amy-1"], '{"guests":1}')
     curl(page, "DELETE", f"/slots/court-2/{day(6)}/12/bookings/{used}", passes["amy-1"])
@@ -363,13 +363,13 @@ def refusals_say_what_to_do(page, passes, between):
                 sentences.setdefault(text, []).append((language, fault))
         page.run("useWords(WORDS, 'en')")
     check(all(len({fault for _, fault in of}) == 1 for of in sentences.values()), "two faults with one sentence", sentences)
-    # Refusals of the pass: the day says it once.
+    # The day shows a refusal of the pass only once.
     for fault, status, words in [(9, 401, "doesn't know this pass"), (10, 403, "ended this pass"), (4, 401, "didn't arrive")]:
         between.fates["GET"] = [f'answer {status} {{"fault":{fault},"text":"x"}}'] * 200
         page.run("showDay()")
         page.when(f"shownText('day-fault').includes(\"{words}\")", "a refused pass", fault)
         between.fates.clear()
-    # In place of a reply, if the desk is away, busy or slow.
+    # The page's messages if the desk is away, busy or slow.
     page.enter(passes["amy-1"])
     for hour, status, body, words in [(15, 502, "<html>", "isn't available just now (502)"), (16, 504, "<html>", "is taking too long to answer (504)"),
                                       (17, 503, '{"fault":22,"text":"unavailable"}', "is busy just now (503)")]:
@@ -444,7 +444,7 @@ def goes_by_keyboard(page, passes):
 
 
 def finds_a_time(page, passes):
-    """A week of a kind at some hours, the next free time, the last facility; hours that are over are folded away."""
+    """Finds a week of a kind at some hours, and the next free time; remembers the last facility; folds past hours away."""
     page.sees(360, "light", 740)
     page.enter(passes["amy-phone"], 36)
     for name, _, kind, places, *_ in FACILITIES:
@@ -478,7 +478,7 @@ def finds_a_time(page, passes):
     entry = page.entries()[-1]
     page.click("to-find")
     page.when("dayIsThere()", "the day again")
-    # The last facility and hours are remembered, past hours folded away.
+    # The last facility and hours are remembered, and past hours are folded away.
     page.visit("", "isShown('welcome') || isShown('day')", "another visit")
     page.enter(passes["amy-phone"])
     check(page.run("return document.querySelector('.chip[aria-pressed=true]').dataset.facility") == "court-2", "the last facility")

@@ -13,7 +13,7 @@ from page_browser import Browser, check
 
 
 def rotations(passes, front, between):
-    """A rotated key: the old pass is refused, an open booking goes on under the new one."""
+    """A rotated key: the old pass is refused, and an open booking continues under the new one."""
     with BookingPage(front) as page:
         page.enter(passes["amy-son"], 12)
         between.fates["PUT"] = ["swallowed"] + ["silent"] * 100
@@ -26,7 +26,7 @@ def rotations(passes, front, between):
         check("It isn't known whether this is booked" in page.run("return byName('to-come').innerText"), "a booking of which nothing is known")
         page.visit(f"#{new}", "isShown('day') && state.entries.every((each) => unfinished(each) === null && each.stopped === undefined)", "the new pass")
         check(same_record(page, "amy-son") == 1, "one booking")
-        # A pass of another key waits for its own.
+        # A booking of another key waits for its own pass.
         between.fates["PUT"] = ["silent"] * 100
         page.go(day(12))
         page.book("court-1", 10)
@@ -42,7 +42,7 @@ def rotations(passes, front, between):
 
 
 def devices(passes, front, server):
-    """The record to another browser by text, by QR code and from the office. Number and slot of a booking are known."""
+    """Takes the record to another browser by text, by QR code and from the office. Adds a booking by its known number and slot."""
     with BookingPage(front) as page:
         page.enter(passes["amy-phone"], 13)
         for hour in (9, 10, 11):
@@ -111,7 +111,7 @@ def cancelled_by_the_office(passes, front, server):
 
 
 def at_hand(passes, server):
-    """The page opens without a network, with the list, and goes on once it is there; a worker that is missing or old harms nothing."""
+    """The page opens without a network, with the list, and continues once there is one; a missing or old worker does no harm."""
     front = start_proxy(server.port)
     with BookingPage(front) as page:
         page.enter(passes["hand-1"], 34, "Keep it")
@@ -126,7 +126,7 @@ def at_hand(passes, server):
         base = page.address.rsplit("/", 1)[0]
         manifest = page.command("Page.getAppManifest")
         check(manifest["url"].endswith("/app.webmanifest") and not manifest["errors"] and json.loads(manifest["data"])["display"] == "standalone", "the manifest", manifest)
-        # A browser that takes this test's own certificate calls the page insecure, and that alone.
+        # A browser that accepts this test's certificate complains only that the page is insecure.
         wrong = [each["errorId"] for each in page.command("Page.getInstallabilityErrors")["installabilityErrors"]]
         check(set(wrong) <= {"not-from-secure-origin"}, "a page for the home screen", wrong)
         check(kept == sorted(f"{base}/{name}" for name in ("book.html", "pass.html", "club.json", "app.webmanifest")), "what the worker keeps", kept)
@@ -143,7 +143,7 @@ def at_hand(passes, server):
         run_proxy(front)
         page.command("Network.emulateNetworkConditions", offline=False, latency=0, downloadThroughput=-1, uploadThroughput=-1)
         page.visit("", "isShown('day') && dayIsThere()", "online again")
-        # A new page is seen at once, though the worker is the old one; then the worker is a new one, which keeps the new page alone.
+        # A new page is seen at once despite the old worker; then a new worker keeps only the new page.
         whole = pathlib.Path("www/book.html").read_text()
         pathlib.Path("www/book.html").write_text(whole.replace("</body>", "<p id='newer'></p></body>"))
         page.visit("", "isShown('day') && byName('newer') !== null", "a new page beside an old worker")
@@ -178,7 +178,8 @@ def at_hand(passes, server):
 
 
 def tells_what_is_missing(passes, front):
-    """The desk's count beside the list: a booking that was cancelled elsewhere, one that isn't listed; a reminder to take the list along."""
+    """The desk's count next to the list shows a booking cancelled elsewhere, and an unlisted one; the page reminds the member to save the
+    list."""
     key = "counts-1"
     asks = "globalThis.persistAsked = 0; navigator.storage.persist = async () => { persistAsked += 1; return true; }; navigator.storage.persisted = async () => false;"
     with BookingPage(front, before=asks) as page:
@@ -200,7 +201,7 @@ def tells_what_is_missing(passes, front):
         check(not page.run("return isShown('list-remind')"), "no reminder after the list was taken along")
         gone = first[1]
         curl(page, "DELETE", f"/slots/court-2/{day(35)}/10/bookings/{gone['number']}", passes[key])
-        # So that its slot is as full as before, and only the count tells.
+        # Its slot is as full as before, so that only the count shows the change.
         curl(page, "PUT", f"/slots/court-2/{day(35)}/10/bookings/5", passes["other"], '{"guests":1}')
         page.view("day")
         page.view("bookings")
@@ -255,7 +256,7 @@ def does_more_with_bookings(page, passes, between):
     page.press("Book for 200 points")
     page.comes("Booked.", "a week later")
     later = page.entries()[-1]
-    # Another hour, more guests: first the new one, then the old one's cancellation, as it says.
+    # Changes to another hour or more guests: books the new one first, then cancels the old one.
     more("Change")
     page.run("byName('change-hour').value = '12'; byName('change-guests').value = '1'")
     page.press("Look up")
@@ -267,7 +268,7 @@ def does_more_with_bookings(page, passes, between):
     check([found[entry["number"]][-2:], sorted(rest[:4] for rest in found.values() if not rest[-2])]
           == [(1, 200), [("court-2", day(20), 12, 1), ("court-2", day(27), 10, 0)]], "the file after a change", found)
     moved = next(each for each in page.entries() if each["hour"] == 12 and each["day"] == day(20))
-    # A new one that can't be booked leaves the old one.
+    # If the new one can't be booked, the old one stays.
     number = draw.randrange(1, 10**9)
     curl(page, "PUT", f"/slots/court-2/{day(20)}/13/bookings/{number}", passes["other"], '{"guests":3}')
     page.view("bookings")
@@ -278,7 +279,7 @@ def does_more_with_bookings(page, passes, between):
     page.press("Book the new one for 400 points, cancel the old one")
     page.comes("Not changed: you still have the old booking.", "a change that isn't one")
     check(not amounts("more-1")[moved["number"]][-2], "the old booking stays")
-    # The old one can't be cancelled any more: she has both, and is told so.
+    # If the old one can't be cancelled any more, she has both, and the page says so.
     between.fates["DELETE"] = ['answer 409 {"fault":21,"text":"slot has begun"}']
     more("Change", moved["number"])
     page.run("byName('change-hour').value = '15'; byName('change-guests').value = '0'")
@@ -302,7 +303,7 @@ def does_more_with_bookings(page, passes, between):
 
 
 def letters(passes):
-    """The office's letter: its link and its QR code are the pass's, and nothing else is taken."""
+    """The office's letter: its link and QR code hold the pass, and it accepts nothing but a pass."""
     address, letter = "https://desk.example.org", f"{TOP}/deploy/letter"
     link = f"{address}/book.html#{passes['amy-1']}"
     for words in ("en", "de"):

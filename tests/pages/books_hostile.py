@@ -1,4 +1,4 @@
-"""A part of page_books.py: links, lists, kept values and replies that anybody may have made, and odd passes and clubs."""
+"""A part of page_books.py: links, lists, stored values and replies that anybody may have made, and odd passes and clubs."""
 
 import json
 import pathlib
@@ -9,7 +9,8 @@ from page_browser import check
 
 
 def lists_send_nothing(page, passes, server):
-    """A list that was linked or pasted is no work: what it names is looked up, and sent by a press that names slot and points alone."""
+    """A linked or pasted list sends nothing by itself: the page looks up its bookings, and sends one only by a press that names slot and
+    points."""
     key, ahead = "lists-1", 30
     page.enter(passes[key], ahead, "Keep it")
     own = page.booked("court-1", 9)
@@ -43,7 +44,7 @@ def lists_send_nothing(page, passes, server):
     page.view("day")
     check("Yours, 1 person" in page.run("return cellAt('court-1', 9).button.innerText"), "its slot is hers")
     check("4 of 4 free" in page.run("return cellAt('court-1', 10).button.innerText"), "a slot that only a list names")
-    # The press that names slot and points sends what the list names, once.
+    # The press that names slot and points sends the listed booking once.
     page.view("bookings")
     page.run("""[...byName('to-come').children].find((each) => /Number 10(?![0-9])/.test(each.innerText)).querySelector('button').click()""")
     page.when("dialogText().includes('Book for 300 points')", "the press")
@@ -72,7 +73,7 @@ request.onsuccess = () => {
 
 
 def odd_fragments(passes, own):
-    """Hand-made ends of an address, 100 and more: of passes, lists and screens, cut, doubled, escaped, and of nothing at all."""
+    """More than 100 hand-made fragments of an address: passes, lists and screens, cut, doubled, escaped, and empty."""
     amy, other = passes["amy-1"], passes["other"]
     line = f"{own['number']}+court-1+{own['day']}+{own['hour']:02}"
     ends = ["record=", "record", "record=;", "record=lists-1", "record=Lists", f"record=lists-1;{line}", f"record=lists-1;{line}+cancel", f"record=lists-1;{line}+guests+0",
@@ -95,7 +96,7 @@ def odd_fragments(passes, own):
 
 
 def nothing_by_itself(page, passes, between, server):
-    """No fragment, message, stored value or reply that isn't the desk's sends a PUT or a DELETE, or changes what is kept, without a press."""
+    """Without a press, no fragment, message, stored value or foreign reply sends a PUT or a DELETE, or changes stored data."""
     page.enter(passes["lists-1"], 31, "Keep it")
     own = page.booked("court-1", 9)
     page.visit("", "isShown('day') && dayIsThere() && allAnswered(1)", "a member's page")
@@ -131,7 +132,7 @@ def nothing_by_itself(page, passes, between, server):
         for (const name of ["online", "offline", "focus", "visibilitychange", "pageshow"]) { window.dispatchEvent(new Event(name)); document.dispatchEvent(new Event(name)); }""")
     time.sleep(1)
     unchanged("a message")
-    # Replies that aren't the desk's, to what is looked at.
+    # Foreign replies to requests that only look.
     for place, reply in enumerate(['200 {"booking":"lists-1/8","charge":0,"left":0}', '200 [{"key":"lists-1","number":8,"book":null}]', "200 <html>", "200 null", '409 {"fault":13,"text":"x"}',
                                    '404 {"fault":15,"text":"x"}', '401 {"fault":9,"text":"x"}', '403 {"fault":10,"text":"x"}', '200 {"fault":9}', "302 x", "204 ", "500 {}", '503 {"fault":22}',
                                    '200 {"member":"amy","balance":-1,"quota":0,"open":0,"spent":0}', '200 {"member":"<b>","balance":5,"quota":5,"open":0,"spent":0}']):
@@ -149,7 +150,7 @@ def nothing_by_itself(page, passes, between, server):
         time.sleep(0.3)
         unchanged("a club's list", text)
     pathlib.Path("www/club.json").write_text(good)
-    # Values that no page kept: they are neither sent nor thrown away.
+    # Stored values that no page wrote are neither sent nor deleted.
     odd_values = ["", "null", "7", "[]", "{}", "x", "[null]", '[{"text":7,"name":"x"}]', '[{"text":"x","name":"x"}]', '[{"text":"x","name":""}]', json.dumps([{"text": passes["amy-1"], "name": "a  b"}])]
     names = ["passes", "pass", "screen", "language", "loans", "spares", "search", "last", "taken lists-1"]
     for value in odd_values:
@@ -176,7 +177,7 @@ def nothing_by_itself(page, passes, between, server):
 
 
 def keeps_each_pass(page, passes):
-    """A link replaces no kept pass, and a screen keeps its own; passes have names, and are chosen."""
+    """A link never replaces a kept pass, and a screen keeps its own; passes have names and can be chosen."""
     texts = "JSON.parse(localStorage.passes ?? '[]').map((each) => each.text)"
     page.enter(passes["amy-1"], keeps="Keep it")
     page.enter(narrowed(passes["bob-1"], "kind = court"))
@@ -205,7 +206,7 @@ def keeps_each_pass(page, passes):
     page.visit("#screen", "document.querySelectorAll('#screen td.free').length > 50", "the screen again")
     check(page.run("return shownText('notices')") == "", "it asks once", page.run("return shownText('notices')"))
     page.visit("", "isShown('day') && state.key === 'amy-1'", "her own pass is still there")
-    # One that the desk refuses leads to another one.
+    # A pass that the desk refuses leads to another one.
     page.visit(f"#{printed(TOOL, 'mint', '--root', ROOT, '--id', 'key:amy-1').strip()}", "shownText('day-fault').includes(\"doesn't know this pass\")", "a refused pass")
     page.press("Enter another pass", "day-fault")
     page.when("isShown('welcome') && document.activeElement === byName('given')", "another one is entered")
@@ -235,13 +236,13 @@ def odd_passes(page, passes):
         check(page.run("return document.activeElement === byName('given') && byName('given').getAttribute('aria-invalid') === 'true'"), "where it is")
         page.visit(f"#{text}", f"shownText('given-fault').includes(\"{words}\")", "an odd pass in a link", text)
         check("#" not in page.driver.current_url, "its address is cleaned")
-    # A pass in each form is a pass.
+    # The page accepts a pass in each form.
     for form in ("v1", "v2", "json"):
         text = printed(TOOL, "convert", "--form", form, given=whole)
         page.run("byName('given').value = arguments[0]; byName('use').click()", f"  {text}")
         page.when("isShown('day') && dayIsThere()", "a pass in", form)
         page.run("forgetPass()")
-    # A pass that the desk doesn't know, one that has an unknown limit, one that names no key.
+    # Passes that the desk doesn't know, with an unknown limit, or without a key's name.
     for identifier in ("key:amy-1", "amy"):
         text = printed(TOOL, "mint", "--root", ROOT, "--id", identifier).strip()
         page.visit(f"#{text}", "shownText('day-fault').includes(\"doesn't know this pass\")", "a pass that the desk refuses", text)

@@ -14,7 +14,8 @@ from page_browser import Browser, check, policy_holds
 
 
 def lends(passes, front, between):
-    """A member lends a part: by a spare pass, which counts for itself, or else by her own; who gets the link books with it, and no more."""
+    """A member lends a part by a spare pass, which counts separately, or otherwise by her own; the receiver can book with it, and nothing
+    more."""
     def choose(page, group, value):
         page.run("const it = [...byName(arguments[0]).querySelectorAll('input')].find((each) => each.value === arguments[1]);"
                  "it.checked = true; it.dispatchEvent(new Event('input', { bubbles: true }));", group, value)
@@ -135,8 +136,8 @@ def lends(passes, front, between):
 
 
 def tries_the_club(address):
-    """Tries the club from a folder, in each browser. A booking is changed, booked again, handed on and marked in the day. The list is beside the
-    desk's count, one comes by a link, and a reminder is there. A loan has its code, and its holder reads what it opens."""
+    """Tries the club from a folder, in each browser. A booking is changed, repeated, shared and marked in the day. The list is compared with the
+    desk's count, a list comes by a link, and there is a reminder. A loan has a QR code, and its holder sees what it allows."""
     import page_engines
     for engine_of in (page_engines.Chromium, page_engines.Firefox, page_engines.WebKit):
         with engine_of() as engine:
@@ -204,7 +205,7 @@ def tries_the_club(address):
             print(f"{engine.name} {engine.version} tries the club from a folder: changes, books again, invites, compares and adds a list, lends, and books what was lent")
 
 
-# The spare pass of a loan, its key, its lines, and its sentence; how many loans are kept.
+# Returns a loan's spare pass, its key, its lines and its sentence, and the number of kept loans.
 MADE = """
 const { text } = splitGiven(byName("lend-address").value.split("#")[1]);
 const pass = readPass(text);
@@ -213,7 +214,7 @@ return [keyName(pass), pass.caveats.map(characters), byName("lend-made-says").te
 
 
 def made(page):
-    """Presses twice to lend: what was made, or what the page says."""
+    """Presses twice to lend; returns the loan, or the page's message."""
     page.run("byName('lend-made').hidden = true; byName('lend-make').click(); byName('lend-make').click()")
     page.driver.execute_async_script(HELPERS + "settled(() => !isMaking).then(arguments[0])")
     return page.run(MADE) if page.run("return isShown('lend-made')") else page.run("return shownText('lend-news')")
@@ -231,8 +232,9 @@ def text_of(page, script):
 
 
 def lends_what_the_pass_opens(address):
-    """Lends at the club to try. A loan takes a spare pass that the desk takes and that is the member's, or the page says before that there is none.
-    A pass with limits offers no more than it opens. A second press makes no second loan. Without the club's list a booking offers what it can do."""
+    """Lends at the club to try. A loan uses a spare pass of the member that the desk accepts, or the page first says that there is none.
+    A pass with limits offers no more than it allows. A second press makes no second loan. Without the club's list a booking still offers its
+    possible actions."""
     def opens(page, end=""):
         opens_lend(page, address + end)
 
@@ -241,7 +243,7 @@ def lends_what_the_pass_opens(address):
         opens(page)
         key, _, says, count = made(page)
         check(key == "anna-lend-1" and "limits of your own pass" not in says and count == 1, "one loan of two presses", key, says, count)
-        # One that the office replaced, and another member's.
+        # A spare pass that the office replaced, and another member's.
         renewed = text_of(page, "return writePass({ ...readPass(await passToTry('anna-lend-1')), signature: new Uint8Array(32) })")
         theirs = text_of(page, "return passToTry('others')")
         for spares, wanted in [([renewed, theirs], None), ([renewed], None), ([renewed, theirs, text_of(page, "return passToTry('anna-lend-2')")], "anna-lend-2")]:
@@ -250,7 +252,7 @@ def lends_what_the_pass_opens(address):
             which = page.run("return shownText('lend-which')")
             check((wanted is None) == ("None of your spare passes can be used." in which and "can cancel them" in which), "which spare pass is taken", wanted, which)
             check(made(page)[0] == (wanted or "anna-1"), "the pass that is lent", wanted)
-        # The same where it turns out after the press alone.
+        # The same, if this turns out only after the press.
         page.run("localStorage.removeItem('demo loans'); localStorage['demo spares'] = JSON.stringify([arguments[0]])", renewed)
         opens(page)
         page.run("unfit.clear(); showChosen()")
@@ -267,7 +269,7 @@ def lends_what_the_pass_opens(address):
             check(values[0] == how and (points is None or len(values[1]) == 2 and values[2] == points), "what it offers", lines, values)
             key, found, says, _ = made(page)
             check(key == "anna-1" and found[:len(lines)] == lines and says.endswith("The limits of your own pass apply too."), "a part of that pass", key, found, says)
-        # The week as a pass that only looks has it, and one that has too few points; the limit that leaves out a day.
+        # Shows the week under a pass that only looks, one with too few points, and a limit that excludes a day.
         for line, words, count in (("actions = view", "Free: Court", 0), ("spend <= 100", "Too many points for your pass", 0), ("spend <= 300", "Free: Court", 14)):
             opens(page, "#" + text_of(page, f"return writePass(await narrowed(readPass(await passToTry('anna-1')), ['kind = court', '{line}']))"))
             page.run("byName('to-day').click(); byName('to-find').click(); changeSearch({ kind: 'court', from: 19, to: 21 }); showFind(daysLater(clubMoment().slice(0, 10), 11))")
@@ -297,13 +299,13 @@ def lends_what_the_pass_opens(address):
     print("a loan takes a spare pass that the desk takes, offers no more than the pass opens, and is made once")
 
 
-# A store of the browser that takes nothing more.
+# A browser storage that is full.
 FULL = "Storage.prototype.setItem = () => { throw new DOMException('full', 'QuotaExceededError'); };"
 
 
 def says_what_it_keeps(address):
-    """A loan in a full store is known until the page is left. A holder's points are the desk's number where the pass shows it.
-    A time that is looked for under a pass that has ended says so."""
+    """A loan in a full store is known until the page is left. A holder's points are the desk's number if the pass shows it.
+    A search under an ended pass says so."""
     with Browser() as page:
         page.helpers = HELPERS
         opens_lend(page, address)
@@ -337,12 +339,12 @@ def says_what_it_keeps(address):
     print("a full store, so many passes, and whose number the holder's points are: the page says it")
 
 
-# Passes of the club to try that differ in a limit.
+# Passes of the trial club that differ in a limit.
 MANY = "return Promise.all(Array.from({ length: 22 }, async (_, count) => writePass(await narrowed(readPass(await passToTry('anna-1')), [`spend <= ${9000 + count}`]))))"
 
 
 def keeps_so_many(address):
-    """The 21st pass and the 21st spare pass aren't kept: the page says the limit, and one takes the place of one that is removed by a press."""
+    """The 21st pass and the 21st spare pass aren't kept: the page states the limit, and each can replace one that the member removes."""
     with Browser() as page:
         page.helpers = HELPERS
         opens_lend(page, address)
@@ -387,7 +389,7 @@ def keeps_so_many(address):
 
 
 def club_to_try():
-    """web/demo.html from a folder: books, cancels and lends over a desk in the page, and loads and sends nothing."""
+    """web/demo.html, opened from a folder, books, cancels and lends with a desk in the page, and loads and sends nothing."""
     shutil.copy(f"{TOP}/web/demo.html", "demo.html")
     policy_holds(pathlib.Path("demo.html"), {"trusted-types": "'none'"}, "new Function|sendBeacon", "pass.html")
     address = pathlib.Path("demo.html").absolute().as_uri()
@@ -412,7 +414,7 @@ def club_to_try():
     lends_what_the_pass_opens(address)
     says_what_it_keeps(address)
     tries_the_club(address)
-    # The page of a club that is opened from a folder says what it is, and leads there.
+    # A club's page that is opened from a folder says so, and links to the demo.
     shutil.copy(f"{TOP}/web/book.html", "book.html")
     with Browser() as page:
         page.open(pathlib.Path("book.html").absolute().as_uri())
@@ -425,8 +427,8 @@ def club_to_try():
 
 
 def lends_in_a_minute(passes, server):
-    """A member who got a letter lends her son courts until Friday, 600 points; he books on another telephone from what she sent. Each press comes
-    a second after what was pressed before, and all of it takes less than a minute. In each pair of browsers."""
+    """A member who got a letter lends her son courts until Friday, 600 points; he books on another telephone from what she sent. Each press
+    comes a second after the last one, and everything takes less than a minute. Runs in each pair of browsers."""
     import page_engines
     kinds = [page_engines.Chromium, page_engines.Firefox, page_engines.WebKit]
     for place, (hers, his) in enumerate(zip(kinds, kinds[1:] + kinds[:1])):

@@ -13,7 +13,8 @@ from page_browser import check
 
 
 def looks_right(passes, front):
-    """Pictures; no sideways scrolling from 320 pixels to a wall; contrasts, targets and names, in each view, language and scheme."""
+    """Takes pictures. Checks for sideways scrolling from 320 pixels to a wall screen, and contrasts, targets and names, in each view, language
+    and colour scheme."""
     texts = 0
     for language in ("en-US", "de-DE"):
         with BookingPage(front, language=language) as page:
@@ -145,7 +146,7 @@ def hall_screen(passes, front, server):
 
 
 def shows_the_club(page, passes):
-    """Whom to ask, imprint, privacy, a logo, a sentence for a facility; odd ones count as missing; an ended pass says whom to ask."""
+    """Shows contact, imprint, privacy, a logo, and a sentence for a facility; odd values count as missing; an ended pass shows the contact."""
     good = pathlib.Path("www/club.json").read_text()
     more = {"contact": "Tel. 030 1234", "imprint": "https://club.example/imprint", "privacy": "javascript:alert(1)", "logo": "data:image/svg+xml;base64,PHN2ZyB4bWxucz0iaHR0cDovL3d3dy53My5vcmcvMjAwMC9zdmciLz4="}
     club = {**json.loads(good), **more}
@@ -192,7 +193,7 @@ def shows_the_club(page, passes):
 
 
 def large_letters(passes, front):
-    """Twice the browser's letters at 360 pixels, and what an audit looks for, in each view."""
+    """Checks double letter size at 360 pixels, and an accessibility audit, in each view."""
     for language in ("en-US", "de-DE"):
         with BookingPage(front, language=language, letters=32) as page:
             page.sees(360, "light", 740)
@@ -213,7 +214,7 @@ def large_letters(passes, front):
     print("with twice the letters at 360 pixels nothing is cut off and no word is broken; an audit finds nothing")
 
 
-# The week that is found may scroll sideways in its own place.
+# The week of a search may scroll sideways in its own area.
 TOO_WIDE = """
 return [...document.querySelectorAll("button.slot, .slot span, .slot small")].filter((each) => each.offsetParent !== null
   && (each.scrollWidth > each.clientWidth + 1 && each.tagName === "BUTTON" || each.getBoundingClientRect().right > each.closest(".slot").getBoundingClientRect().right + 1
@@ -222,8 +223,8 @@ return [...document.querySelectorAll("button.slot, .slot span, .slot small")].fi
 
 
 def other_engines(passes, server):
-    """The main ways in Firefox and WebKitGTK: looking, booking, cancelling, lending, finding, several passes, what a pass leaves out, without
-    a network, and another visit."""
+    """The main tasks in Firefox and WebKitGTK: looking, booking, cancelling, lending, finding, several passes, a pass's limits, no network, and
+    another visit."""
     for place, engine in engines():
         front, key, wanted = start_proxy(server.port), f"engine-{place}", day(50)
         address = f"https://{engine.host}:{front}/book.html"
@@ -276,7 +277,7 @@ def other_engines(passes, server):
         engine.when("shown('dialog').includes('400 points came back')", "a cancellation")
         keep(f"{engine.name}-cancelled.png", base64.b64encode(engine.picture()))
         engine.press("Close", "dialog")
-        # The lent part, beside her own pass.
+        # The lent part, next to her own pass.
         engine.open(lent)
         engine.when(f"{DAY_THERE} && shown('pass-says').includes('0 of 600 points')", "what was lent")
         engine.press("Keep it", "notices")

@@ -1,7 +1,7 @@
 #!/bin/sh
 # The pages are those that `bin/pages` makes of web/src, and the modules pass their tests.
 #
-# These are the tests of web/tests, by Node's runner.
+# The modules' tests are in web/tests, for Node's runner.
 #
 # pytestmark = [mark.browser, mark.quick, mark.wants("nodejs")]
 set -eu

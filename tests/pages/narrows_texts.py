@@ -56,7 +56,7 @@ SHORT = '"i":"keyid",' + S64 + "}"
 
 
 def faulty_texts():
-    """Texts that are no pass the desk takes: the number of the fault, and words of what the page says is wrong."""
+    """Texts that aren't passes for the desk, with the fault's number, and words of the page's explanation."""
     v1, v2, known = passes.v1_bytes(README_PASS), passes.v2_bytes(KEYID), written("v2", KEYID)
     third_v1 = v1.replace(packet(b"cid", b"test = caveat"), packet(b"cid", b"a") + packet(b"vid", b"b") + packet(b"cl", b""))
     third_v2 = field(2, b"a") + field(4, b"") + b"\0"
@@ -110,7 +110,7 @@ def faulty_texts():
         (with_member('"l":"a","l64":"YQ"'), 2, "l and l64 are both there"), (with_member('"l64":"_"'), 2, "Its l64 breaks off"),
         (with_member('"s":"0123456789abcdef0123456789abcdef"'), 2, "s and s64 are both there"),
         (with_member('"c":[{"i":"a","v64":"_w","x":1}]'), 2, "Caveat 1 has the name “x”"), (with_member('"__proto__":1'), 2, "“__proto__”"),
-        # third parties' caveats, too many of them, too long
+        # third-party caveats, too many caveats, too long texts
         (unpadded(third_v1), 3, "Its caveat 1"), (many(0, third_v2), 3, "Its caveat 1"),
         (unpadded(b"\2" + field(2, b"a") + b"\0" + field(1, b"") + third_v2 + b"\0" + field(6, KEYID.signature)), 3, "Its caveat 1"),
         (with_member('"c":[{"i":"a"},{"i":"a","v":"b"}]'), 3, "Its caveat 2"), (with_member('"c":[{"i":"a","v64":"_w"}]'), 3, "Its caveat 1"),
@@ -124,7 +124,7 @@ def faulty_texts():
 
 
 def readable_texts():
-    """Texts at the edge of what is read."""
+    """Texts at the limits of the reader."""
     v2, known = passes.v2_bytes(KEYID), written("v2", KEYID)
     return [
         *(it["text"] for it in VECTORS["also read as the third pass"]), known, f" \n{known}\n ", written("v1", KEYID), written("json", KEYID),
@@ -139,8 +139,8 @@ def readable_texts():
 
 
 def compare_reading(text, answer):
-    """The page reads a text as passtool does. Returns the number of the fault or 0."""
-    # The one difference: it leaves out spaces round a text, but for the length.
+    """Checks that the page reads a text as passtool does. Returns the number of the fault or 0."""
+    # The only difference is that it drops spaces around a text, except for the length.
     cut = text.removesuffix("\n")
     wanted = 1 if len(cut.encode()) > 8192 else reading_by_tool(cut)
     if isinstance(wanted, int):
@@ -159,7 +159,7 @@ def answers_faulty_texts(page):
     for (text, fault, words), answer in zip(rows, answers):
         check(compare_reading(text, answer) == fault, "another fault", text, fault, answer)
         check(words in answer["fault"][1], "the page doesn't say what is wrong", text, words, answer)
-    # A known text that is cut anywhere. Nothing at all is no fault.
+    # A known text that is cut anywhere. An empty text isn't a fault.
     for form, it in [("v1", README_PASS), ("v2", KEYID), ("json", README_PASS)]:
         whole = written(form, it)
         cuts = [whole[:length] for length in range(1, len(whole))]
@@ -197,7 +197,7 @@ def bytes_of(text):
 
 
 def with_third_party(text):
-    """With a third party's field where one could stand, which makes a caveat theirs, if there is one."""
+    """Adds a third-party field where one is possible, which makes an existing caveat a third party's."""
     if text.startswith("{"):
         return re.sub(r'\{"i', draw.choice(['{"v":"","i', '{"l64":"_w","i']), text, count=1)
     data = bytes_of(text)
@@ -228,7 +228,7 @@ def reads_spoiled_texts(page):
           f"{counts[3]} have third-party caveats")
 
 
-# More than the vectors have: what isn't quite a caveat, and values at their ends.
+# Adds cases to the vectors: near misses of caveats, and values at their limits.
 NEAR_MISSES = [
     " ", "kind", "kind =", "kind = ", "kind=court", "kind  = court", "kind = court ", " kind = court", "kind = courts", "kind = court\n", "kind = court,boat",
     "kınd = court", "facility = ,", "facility = a,", "facility = ,a", "facility = a, b", "facility = a,,b", "facility = A", "facility = a_b", "facility = é",
@@ -269,13 +269,13 @@ def understands_as_passtool(page):
     check(len(limits) == len(texts), "limits that aren't shown", len(limits))
     understood = 0
     for text, limit in zip(texts, limits):
-        # No word of a command can hold a zero byte.
+        # An argument can't hold a zero byte.
         wanted = "\0" not in text and is_understood_by_tool(text)
         check(limit["understood"] == wanted, "understood otherwise", repr(text), wanted, limit)
         check(wanted or "isn't understood" in limit["words"], "a limit that isn't understood", limit)
         understood += wanted
     check(understood < len(texts) < understood * 5, "texts of both kinds", understood)
-    # Bytes that are no text.
+    # Bytes that aren't text.
     odd = [b"\xff", b"kind = court\xa0", b"kind = caf\xe9", b"\xef\xbb\xbfkind = court"]
     for limit in page.each("read", [amys("v2", *odd)])[0]["limits"]:
         check(not limit["understood"], "bytes that are no text", limit)

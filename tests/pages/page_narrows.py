@@ -70,7 +70,7 @@ SENTENCES = {
     "actions = view,cancel,account": "Only to look at slots, cancel bookings or look at the account.",
     "shoe = red": "The desk doesn't understand this limit, so it refuses the pass.",
 }
-# Lines that fields make, also those that somebody spells in another way.
+# The lines that fields make, also from other spellings.
 CHOSEN = [
     ("facility = court-1,court-2,room-1", [("facility", " court-1 , court-2;room-1 ")]), ("weekday = sat,sun", [("weekday", ["sun", "sat"])]),
     ("actions = view,book,account", [("actions", ["account", "view", "book"])]), ("guests <= 49", [("guests", " 49 ")]),
@@ -79,7 +79,7 @@ CHOSEN = [
         "days = 2026-05-01..2026-05-01", "weekday = mon,tue,wed,thu,fri,sat,sun", "hours = 18-20", "hours = 00-24", "until < 2026-05-01T18:00",
         "guests <= 0", "spend <= 600", "spend <= 999999999")),
 ]
-# Of these the page says what it wants, and adds nothing.
+# For these the page explains the required input, and adds nothing.
 WRONG = {
     "facility": ["Court-1", "court 1 -", "a b c d e f g h i", "é"], "until": ["1999-12-31T23:59", "2026-05-01T18:00:30"],
     "guests": ["50", "-1", "two", "01", "1.5"], "spend": ["1000000000", "1,000", "1e3", "-5"], "days-first": ["2026-05-01"], "days-last": ["2026-05-01"],
@@ -105,7 +105,7 @@ def choices_say_what_they_add(page):
         made, wrong, marked = page.run("return shownOf(arguments[0])", choice)
         check("A choice isn't right yet" in answer.get("fault", ""), "a wrong choice", fields, answer)
         check(wrong and marked and not made, "a wrong choice and its words", fields, made, wrong, marked)
-        # It is taken back as soon as the field is empty again.
+        # The message disappears as soon as the field is empty again.
         page.run("for (const name of arguments[0]) choose(name, '');", names)
         _, wrong, marked = page.run("return shownOf(arguments[0])", choice)
         check(not wrong and not marked, "an emptied choice", fields, wrong)
@@ -117,7 +117,7 @@ def choices_say_what_they_add(page):
 
 
 def half_a_date_is_no_date(page):
-    """A date that is half entered has no value; it isn't taken for an empty one."""
+    """A half-entered date has no value, but isn't taken for an empty one."""
     page.visit(AMY)
     page.run("byId('days-first').focus()")
     page.press("05", Keys.TAB)
@@ -163,7 +163,7 @@ def goes_by_keyboard(page):
         page.press(*keys)
 
     def enter(stop, *keys):
-        """A date is entered part by part; its picker is the last stop of it."""
+        """A date is entered part by part; its picker is the last stop."""
         check(page.focused() == stop, "a stop", stop, page.focused())
         page.press(*keys, Keys.TAB)
         while page.focused() == stop:
@@ -200,7 +200,7 @@ def goes_by_keyboard(page):
 
 
 def pasted(page, wanted):
-    """The clipboard's text, pasted as the pass."""
+    """Pastes the clipboard's text as the pass."""
     page.run("byId('given').value = ''; byId('given').focus();")
     ActionChains(page.driver).key_down(Keys.CONTROL).send_keys("v").key_up(Keys.CONTROL).perform()
     value = page.run("return byId('given').value")
@@ -215,7 +215,7 @@ def hands_on(page):
         wanted = narrowed_by_tool(text, ["guests <= 1"])
         address = answer["address"]
         check(address.startswith(PAGE.as_uri() + "#"), "an address", address)
-        # On a click the address is copied; it opens the page with the pass, and may be entered as one.
+        # A click copies the address; it opens the page with the pass, and can be entered as a pass.
         page.click("copy-address")
         page.pause()
         pasted(page, address)
@@ -223,11 +223,11 @@ def hands_on(page):
         page.open(address)
         check(page.run("return byId('given').value") == wanted, "an address that is opened", address)
         check(len(page.run("return limitsOf(byId('given-pass'))")) == 3, "limits of an address", address)
-    # The same page goes to another pass.
+    # The same page switches to another pass.
     page.run("location.hash = '#' + arguments[0]", AMY)
     page.pause()
     check(page.run("return byId('given').value") == AMY, "another pass behind #")
-    # A later choice or entry takes back a result.
+    # A later choice or entry removes a result.
     for then, word in (("choose('guests', arguments[0])", "2"), ("enter(arguments[0])", AMY[:-1])):
         page.narrow(AMY, ("guests", "1"))
         page.run(then, word)
@@ -239,7 +239,7 @@ def hands_on(page):
 
 
 def shares():
-    """Also if the clipboard refuses."""
+    """Copying works even if the clipboard refuses."""
     with NarrowingPage(before="""navigator.share = async (what) => { globalThis.shared = what; };
             navigator.clipboard.writeText = async () => { throw new Error(); };""") as page:
         page.visit()
@@ -262,7 +262,7 @@ class Folder(http.server.SimpleHTTPRequestHandler):
 
 @contextlib.contextmanager
 def served(folder):
-    """The port of a server that has the files of a folder."""
+    """Starts a server with a folder's files; returns its port."""
     Folder.asked.clear()
     server = http.server.ThreadingHTTPServer(("127.0.0.1", 0), functools.partial(Folder, directory=folder))
     threading.Thread(target=server.serve_forever, daemon=True).start()
@@ -299,7 +299,7 @@ def of_a_club(engine, address):
 
 
 def narrows_and_hands_on(engine, address):
-    """Passes that are read and narrowed as by passtool; the result's addresses, its QR code, and what the page says."""
+    """Reads and narrows passes as passtool does; checks the result's addresses, its QR code, and the page's words."""
     base = address.rsplit("/", 1)[0]
     engine.open(address)
     for text, fault, words in faulty_texts()[::7]:
@@ -311,7 +311,7 @@ def narrows_and_hands_on(engine, address):
         engine.when("!byId('result').hidden || byId('narrow-fault').textContent !== ''", "a result", text, lines)
         found = engine.get("return byId('narrowed').value")
         check(found == narrowed_by_tool(text, lines), engine.name, "it narrows otherwise", text, lines, found)
-    # By hand: a pass, one choice, the button.
+    # Works by hand: a pass, one choice, the button.
     engine.open(f"{address}#{AMY}")
     engine.tap("//button[@id='narrow']")
     engine.when("byId('narrow-fault').textContent === 'Choose at least one limit.'", "no choice")
@@ -333,7 +333,7 @@ def narrows_and_hands_on(engine, address):
 
 
 def other_engines():
-    """The main ways in each browser, with a club's list beside the page. The page asks the server for that list alone."""
+    """The main tasks in each browser, with a club's list next to the page. The page requests only that list from the server."""
     folder = pathlib.Path(ROOM.name, "club")
     folder.mkdir()
     shutil.copy(PAGE, folder)
@@ -350,7 +350,7 @@ def other_engines():
 
 
 def only_shows_where_it_cannot_sign():
-    """Over http from a name that isn't this machine's, browsers don't sign. All that is asked of the server is the page."""
+    """Over http from a name that isn't this machine's, browsers don't sign. Only the page is requested from the server."""
     with served(PAGE.parent) as port, NarrowingPage(rules="MAP club.example 127.0.0.1, MAP * ~NOTFOUND") as page:
         address = f"http://club.example:{port}/pass.html"
         page.open(f"{address}#{AMY}")
@@ -374,7 +374,7 @@ def named_for_screen_readers(page):
 
 
 def looks_right(page):
-    """Pictures; no sideways scrolling on a phone; contrasts; names. With all that can be in the page."""
+    """Takes pictures of the full page, and checks for sideways scrolling on a phone, contrasts and names."""
     everything = Pass(b"club-desk", b"key:amy-1", [b"shoe = red" + b"x" * 300, b"facility = " + b",".join([b"a" * 24] * 8)], bytes(range(32)))
     page.visit()
     choices = fields_of("kind = court", "facility = " + ",".join(["b" * 24] * 8), *NINE_LINES[2:])
@@ -394,7 +394,7 @@ def looks_right(page):
     for width, scheme in itertools.product((390, 1200), ("light", "dark")):
         page.sees(width, scheme)
         keep(f"pass-{width}-{scheme}.png", page.picture())
-    # Choices and a result side by side, as README shows them.
+    # Shows choices and a result side by side, as in README.
     page.sees(390, "light")
     page.run("document.activeElement.blur()")
     tops = page.run("return ['kind', 'result'].map((id) => byId(id).getBoundingClientRect().top + scrollY - 12)")
@@ -403,7 +403,7 @@ def looks_right(page):
 
 
 def large_letters():
-    """Twice the browser's letters at 360 pixels, with everything that the page can show, in both languages."""
+    """Checks double letter size at 360 pixels, with everything that the page can show, in both languages."""
     for language in ("en-US", "de-DE"):
         with NarrowingPage(letters=32, language=language) as page:
             page.sees(360, "light", 740)

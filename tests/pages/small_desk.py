@@ -45,7 +45,7 @@ def club_of():
 
 
 def as_given():
-    """The same club for the small desk."""
+    """Makes the same club for the small desk."""
     return {"members": {member: {"credited": points, "quota": quota} for member, (quota, points) in MEMBERS.items()},
             "facilities": {name.lower(): dict(zip(("kind", "places", "price", "opens", "shuts"), rest)) for name, *rest in FACILITIES},
             "keys": {key: {"member": OWNERS[key], "root": root.hex(), "revoked": False} for key, root in ROOTS.items()},
@@ -57,7 +57,7 @@ def key_drawn(draw):
 
 
 def text_drawn(draw, key):
-    """A pass of a key, mostly whole or narrowed, in each form; some of no key, under another root, or cut."""
+    """Draws a key's pass, mostly full or narrowed, in each form; some have no key, another root, or are cut."""
     caveats = [line.encode() for line in draw.choices(LINES, k=draw.choice([0] * 9 + [1, 1, 2]))]
     root = ROOTS.get(key, b"x" * 16) if draw.random() < 0.97 else b"y" * 16
     text = passes.text_of(passes.minted(root, f"key:{key}".encode(), b"", caveats), draw.choice(["v1", "v2", "v2", "json"]))
@@ -65,7 +65,7 @@ def text_drawn(draw, key):
 
 
 def asked_drawn(draw, before):
-    """A key and its request: a new one, or one of before in full or in part."""
+    """Draws a key and its request: a new one, or an earlier one, fully or partly repeated."""
     key = key_drawn(draw)
     action = draw.choice(["view", "book", "book", "book", "cancel", "cancel", "cancel", "account"])
     if before and action in ("book", "cancel") and draw.random() < 0.7:

@@ -1,18 +1,19 @@
 #!/usr/bin/env -S /usr/bin/python3 -B
 """The server beside the same desk in C, Go and Python, over SQLite's library: same replies, and their times.
 
-Times are taken over 100 and 100,000 bookings, for a member with 10,000 of its own and for one with none. The desks are beside_c/desk.c, which is its own server, beside_go of net/http and database/sql, and beside_flask.py of Flask under gunicorn
-with one worker. They have the same file, transactions and pragmas, and the statements of crates/club_tables, and read the same rows for an
-answer. The replies of C are the same bytes; those of Go and of Flask have the same status line, body and fields, in another order, and
-gunicorn adds Date and Server. A plain server in C, which reads once and writes 133 bytes, is beside them.
+Times are taken over 100 and 100,000 bookings, for a member with 10,000 of its own and for one with none. The desks are beside_c/desk.c, which is
+its own server; beside_go, with net/http and database/sql; and beside_flask.py, with Flask under gunicorn and one worker. They use the same file,
+transactions and pragmas, the statements of crates/club_tables, and read the same rows for an answer. C's replies are the same bytes. Those of Go
+and Flask have the same status line, body and fields, in another order, and gunicorn adds Date and Server. A plain server in C, which reads once
+and writes 133 bytes, is measured too.
 
-Prints for a booking, its repeat, an account, a slot, a refused pass and a forged one the medians in microseconds, from before the client
-connects to the end of the reply, and clubdesk's ratios; the ratios that are asked for; and the calls of the system that a request costs:
-those of 101 requests less those of one, over 100, by strace. One client asks the servers by turns; it has a processor, and they another,
-if there are two.
+Prints the medians in microseconds for a booking, its repeat, an account, a slot, a refused pass and a forged one, from before the client
+connects to the end of the reply, with clubdesk's ratios. Then it prints the ratios that have goals. The system calls of a request are those of
+101 requests less those of one, over 100, by strace. One client asks the servers in turn; it has one processor and they have another, if there
+are two.
 
 Each desk is run as DESK FILE MOMENT < STATEMENTS: the moment in minutes since 1970; a statement a line. It prints the line of ours, and serves
-until it is stopped. It reads a key's older root only if the key's own doesn't sign, as ours does.
+until it is stopped. It reads a key's older root only if the key's own root didn't sign the pass, like ours.
 
   tests/peers/beside.py [--desks c,go,flask] [COUNT [ROUNDS [ROWS ..]]]      COUNT requests of each kind in a round; without: 500 7 100 100000
 """
@@ -51,13 +52,13 @@ def day_text(offset):
 
 
 def slot_path(number):
-    """A slot of its own for each number: 48 courts, 9 days of April from the 21st on, 24 hours."""
+    """A separate slot for each number: 48 courts, 9 days of April from the 21st on, 24 hours."""
     court, rest = divmod(number, 9 * 24)
     return f"/slots/court-{3 + court}/{day_text(rest // 24)}/{rest % 24:02}"
 
 
 class Asker:
-    """The requests under some keys, of which each asks in turn. Numbers and slots go up from round to round."""
+    """The requests under some keys, which take turns. Numbers and slots go up from round to round."""
 
     def __init__(self, keys, first_number, first_slot):
         self.keys, self.first_number, self.slot, self.asked = keys, first_number, first_slot, 0
@@ -91,7 +92,7 @@ class Asker:
 
 
 def make_file(clubdesk, path, rows, has_big):
-    """A club with 50 courts and so many bookings of the past; then also a member with 10,000 of its own, and one with none."""
+    """Makes a club with 50 courts and a number of past bookings; then also a member with 10,000 bookings, and one with none."""
     subprocess.run([clubdesk, "add-member", path, "x", "1"], check=True, stdout=subprocess.DEVNULL)
     numbers = "WITH n(i) AS (SELECT 1 UNION ALL SELECT i + 1 FROM n WHERE i < {})".format
     statements = [f"{numbers(50)} INSERT INTO facilities SELECT 'court-' || i, 'court', 50, 1, 0, 24 FROM n"]
@@ -121,7 +122,7 @@ def built_in_go():
     return os.path.abspath("desk_in_go")
 
 
-# Each desk beside ours: how it is built, and the words that run it.
+# The other desks: how each is built, and its command line.
 DESKS = {
     "c": lambda: [built("desk", "-lsqlite3", "-lnettle")],
     "go": lambda: [built_in_go()],
@@ -130,14 +131,14 @@ DESKS = {
 
 
 def write_statements():
-    """The texts of ours that the desks prepare, one a line."""
+    """Returns our SQL texts that the desks prepare, one per line."""
     source = (desk.ROOT / "crates" / "club_tables" / "src" / "texts.rt").read_text(encoding="utf-8")
     texts = dict(re.findall(r'const (\w+): &str = "(.*?)";', source, re.DOTALL))
     Path("statements").write_text("".join(re.sub(r"\\\n *", "", texts[name]) + "\n" for name in STATEMENTS), encoding="utf-8")
 
 
 class Beside(desk.Server):
-    """A server that isn't ours, by a command of its own."""
+    """Another server, with its own command."""
 
     killed_by = signal.SIGTERM
 
@@ -147,7 +148,7 @@ class Beside(desk.Server):
 
 
 def ask(server, requests):
-    """How long each request took, and the replies."""
+    """Returns the time of each request, and the replies."""
     Path("requests").write_bytes(b"".join(b"%d\n%b" % (len(it), it) for it in requests))
     words = [*on(PROCESSORS[-1]), "./client", str(server.port), "requests", "replies"]
     told = subprocess.run(words, check=True, capture_output=True, text=True).stdout
@@ -155,13 +156,13 @@ def ask(server, requests):
 
 
 def in_order(replies):
-    """The replies with the lines of each head in order, without those that a server adds of its own."""
+    """Returns the replies with sorted head lines, without the lines that only that server adds."""
     parts = [it.partition(b"\r\n\r\n") for it in re.split(rb"(?=HTTP/1\.1 \d{3} )", replies)[1:]]
     return [(sorted(it for it in head.split(b"\r\n") if not it.startswith((b"Date: ", b"Server: "))), body) for head, _, body in parts]
 
 
 def compare(kind, replies):
-    """Holds the replies of each desk to ours; how many they are."""
+    """Compares each desk's replies with ours; returns their number."""
     ours, others = replies[OURS], {name: its for name, its in replies.items() if name not in (OURS, PLAIN)}
     for name, its in others.items():
         if its != ours and (name == "c" or in_order(its) != in_order(ours)):
@@ -170,7 +171,7 @@ def compare(kind, replies):
 
 
 def measure(clubdesk, path, askers, count, rounds, desks):
-    """The medians of each round, of each asker, kind and server; and how many replies were compared."""
+    """Returns each round's medians by asker, kind and server, and the number of compared replies."""
     for name in (OURS, *desks):
         desk.copy(path, name)
     found = {title: {kind: defaultdict(list) for kind in KINDS} for title in askers}
@@ -195,7 +196,7 @@ def measure(clubdesk, path, askers, count, rounds, desks):
 
 
 def ratio(times, others):
-    """The median ratio of rounds that lie side by side."""
+    """Returns the median ratio of neighbouring rounds."""
     return statistics.median(ours / its for ours, its in zip(times, others, strict=True))
 
 
@@ -207,7 +208,7 @@ def show(title, found):
 
 
 def show_ratios(size, found, big, new):
-    """The ratios that are asked for, over the last file."""
+    """Prints the ratios that have goals, for the last file."""
     rows = [(f"booking under a slack limit, {BIG_ROWS} own over none", big["booking"][OURS], new["booking"][OURS], 1.2)]
     if "c" in found["repeat"]:
         rows.append(("repeat, clubdesk over C", found["repeat"][OURS], found["repeat"]["c"], 1.0))
@@ -217,7 +218,7 @@ def show_ratios(size, found, big, new):
 
 
 def calls(clubdesk, requests):
-    """How often a server makes each call of the system for these requests."""
+    """Counts a server's system calls for these requests."""
     with desk.Server(clubdesk, "traced", len(requests), "--at", NOON, by=["strace", "-c", "-o", "counts"]) as server:
         ask(server, requests)
     lines = map(str.split, Path("counts").read_text(encoding="utf-8").splitlines())

@@ -2,10 +2,9 @@
 """1,000 passes, narrowed by Python's standard library, pymacaroons, Go's macaroon.v2 and Node.js, are those that `passtool` makes.
 
 They are drawn by a fixed seed and narrowed by the programs of examples/: Python's standard library and Node.js in V2, pymacaroons and Go's
-macaroon.v2 in V1, V2 and JSON. V1 and V2 are compared byte for byte. JSON may be spelled in more than one way, and pymacaroons writes an
-empty location in V2, which passtool leaves out. These are compared as passtool writes them again. In V1 pymacaroons counts the letters of a
-location and of an identifier, not their bytes. So there it gets the passes alone in which both are ASCII, as those of the desk are. Each
-narrowed pass is signed under its root.
+macaroon.v2 in V1, V2 and JSON. V1 and V2 are compared byte for byte. JSON has several spellings, and pymacaroons writes an empty location in V2,
+which passtool omits. For these, passtool rewrites the text before the comparison. In V1 pymacaroons counts the letters of a location and an
+identifier, not their bytes. So it gets only passes with ASCII in both, like the desk's. Each narrowed pass is signed under its root.
 """
 # pytestmark = [mark.programs, mark.needs("passtool"), mark.wants("python3-pymacaroons nodejs golang-go golang-gopkg-macaroon.v2-dev")]
 
@@ -40,12 +39,12 @@ draw = random.Random(20260501)
 
 
 def line_of(words, given=""):
-    """What a program prints in a line or more."""
+    """Returns a program's output of one or more lines."""
     return subprocess.run(words, input=given, capture_output=True, check=True, text=True).stdout.removesuffix("\n")
 
 
 def any_text(least, most):
-    """Characters of one to four bytes in UTF-8, also line feeds, quotes and backslashes."""
+    """Characters of one to four bytes in UTF-8, with line feeds, quotes and backslashes."""
     odd = lambda: draw.choice('\n"\\/<>&äß€�\U0001f3be') if draw.random() < 0.5 else chr(draw.randint(0xa0, 0xd7ff))
     return "".join(odd() if draw.random() < 0.2 else chr(draw.randint(1, 127)) for _ in range(draw.randint(least, most)))
 
@@ -55,7 +54,7 @@ def caveats(most):
 
 
 class Pass:
-    """A pass in each form, and its root."""
+    """Draws a pass in each form, and its root."""
 
     def __init__(self):
         self.root = draw.randbytes(draw.randint(1, 64)).hex()

@@ -1,13 +1,13 @@
 #!/usr/bin/env -S /usr/bin/python3 -B
 """The library of passes beside libmacaroons and pymacaroons: times to read and verify a pass.
 
-The pass has three caveats, and the time runs from its text on.
+The pass has three caveats, and the time starts with its text.
 
-In C the library reads each form, and Debian's libmacaroons V1 alone. In Python the module reads each form, and so does pymacaroons. Both other
-libraries are given the three caveats; the module tries them against an ask in a line of its own. Prints the medians of the processor's
-microseconds, over rounds in which each has its turn, and the ratios.
+In C the library reads each form, and Debian's libmacaroons only V1. In Python the module reads each form, and so does pymacaroons. The other two
+libraries get the three caveats; the module tests them against a request in a separate line. Prints the medians of the processor's microseconds
+over rounds of all libraries, and the ratios.
 
-The library is the one that the loader takes for this processor.
+The library is the one that the loader chooses for this processor.
 
   tests/peers/passes_beside.py [ROUNDS [COUNT]]      COUNT passes of each kind in a round; without: 11 2000
 """
@@ -82,7 +82,7 @@ def main():
         subprocess.run([desk.ROOT / "bin" / "library", room], check=True, stdout=subprocess.DEVNULL)
         subprocess.run(["gcc", "-O2", "-D_GNU_SOURCE", "-std=c11", "-o", f"{room}/beside", desk.TESTS / "peers" / "passes_beside.c", f"-I{room}/include",
                         f"-L{room}/lib", "-lclubpass", "-lmacaroons"], check=True)
-        # The loader reads the variable as a program begins, and takes the library for this processor.
+        # The loader reads the variable when a program starts, and chooses the library for this processor.
         found = dict(os.environ, LD_LIBRARY_PATH=f"{room}/lib")
         return subprocess.run([sys.executable, "-B", __file__, rounds, count, room], check=False, env=found).returncode
 

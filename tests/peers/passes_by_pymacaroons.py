@@ -91,7 +91,7 @@ class World(hostile.World):
         return [self.draw.choice(NOT_UNDERSTOOD) if self.draw.random() < 0.02 else self.caveat().decode() for _ in range(count)]
 
     def narrowed(self, text, form, by_pymacaroons):
-        """The pass with more caveats, and the refusal that it gets if something else was done to it, too."""
+        """Returns the pass with more caveats, and its expected refusal if it was also spoiled."""
         more = self.caveats()
         if not by_pymacaroons:
             return passtool("narrow", "--any", "--", *more, given=text) if more else text, None
@@ -118,7 +118,7 @@ class World(hostile.World):
         return write(macaroon, form)[:-1], 6
 
     def ask_under(self, server, form, by_pymacaroons):
-        """The number of a refusal, 0 if the request is served. One that is none is refused before its pass is looked at."""
+        """Returns a refusal's number, or 0 if the request is served. A malformed request is refused before its pass is read."""
         key, method, path, body = self.target()
         text, spoil = self.narrowed(self.texts[key, form], form, by_pymacaroons)
         data = b"%s %s HTTP/1.1\r\nHost: club\r\nAuthorization: Bearer %s\r\nContent-Length: %d\r\n\r\n%s" % (

@@ -4,9 +4,8 @@
 # It is called on its happy path, at its limits and into each fault.
 #
 # tests/peers/passes_from_c.c is built over the shared library and over the static one, by gcc and by clang. The header is also read as C99 and as C++.
-# The program runs as it is, under valgrind, with AddressSanitizer and UndefinedBehaviorSanitizer, and in eight threads, also under helgrind.
-# Each input ends before a page that can't be touched. Every allocation is refused in its turn: the call says that memory ran out, and the object
-# is empty.
+# The program runs plainly, under valgrind, with AddressSanitizer and UndefinedBehaviorSanitizer, and in eight threads, also under helgrind.
+# Each input ends before an inaccessible page. Every allocation is refused in turn: the call returns out of memory, and the object is empty.
 # pytestmark = [mark.programs, mark.needs("pass_c"), mark.wants("gcc g++ clang libc6-dev pkg-config valgrind")]
 set -eu
 here=$(CDPATH='' cd -P -- "$(dirname -- "$0")" && pwd)
@@ -53,7 +52,7 @@ same 'names of the shared library' "$(grep -o 'clubpass_[a-z_]*(' "$here/../../i
 same 'names of the static library' "$(nm -D --defined-only library/lib/libclubpass.so.0 | sed -n 's/.* T \([a-z_]*\)@.*/\1/p' | sort -u)" \
     "$(nm -g --defined-only library/lib/libclubpass.a | sed -n 's/.* [A-Z] //p' | sort -u)"
 
-# ---- Each allocation is refused in its turn. Where it is the program's own, for a line of its input, it tells fewer lines.
+# ---- Each allocation is refused in its turn. If the allocation is the program's own, for a line of its input, it prints fewer lines.
 holds 'tell is built' gcc -g -O1 -o tell "$here/passes_from_c/tell.c" -I "$here/../../include" library/lib/libclubpass.a
 holds 'what refuses is built' gcc -shared -fPIC -O1 -o refused_memory "$here/../lib/refused_memory.c" -ldl
 cat >lines <<'LINES'

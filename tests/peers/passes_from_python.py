@@ -1,7 +1,7 @@
 #!/usr/bin/env -S /usr/bin/python3 -B
 """The library of passes says of 100,000 drawn and spoiled texts what `passtool` says, called from Python.
 
-They are drawn by a seed: passes of any bytes in each form, with up to 64 caveats. Some are spoiled: bytes of the text, or of what it
+The texts come from a seed: passes of any bytes in each form, with up to 64 caveats. Some are spoiled: bytes of the text, or of what it
 encodes, are changed, put in, taken out or doubled. Others are cut off, in another alphabet of base64, or have odd names in JSON. Each goes to
 one command of passtool and to the same calls of the library: `show` and every part, `convert`, `narrow`, `verify`. The test compares the output,
 the fault's number, and whether the pass is signed. Caveats are lines of the language or nearly so: the library knows those that `narrow` without
@@ -33,7 +33,7 @@ NUMBERS = {"TooLong": 1, "Malformed": 2, "ThirdParty": 3, "TooMany": 4}
 
 
 class Draws:
-    """A text and its root, and what is asked of it, by a seed."""
+    """Draws a text, its root, and the command for it."""
 
     def __init__(self, clubpass, seed):
         self.clubpass, self.draw = clubpass, random.Random(seed)
@@ -145,7 +145,7 @@ def line(name, data):
 
 
 def by_library(clubpass, text, words):
-    """Status, standard output and line of a fault, as passtool gives them."""
+    """Returns passtool's status, standard output and fault line."""
     command = words[0]
     if command == "narrow" and "--any" not in words:
         for number, caveat in enumerate(words[2:], 1):

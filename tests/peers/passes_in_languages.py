@@ -50,7 +50,7 @@ def spelled(data):
 
 
 def told(vector, form):
-    """The line that each program tells of a pass."""
+    """Returns the line that each program must print for a pass."""
     parts = [spelled(bytes_of(vector, "location")), spelled(bytes_of(vector, "identifier")), ",".join(map(spelled, caveats_of(vector))) or "-"]
     texts = [vector[it].encode().hex() for it in FORMS]
     again = passes.chain(bytes.fromhex(vector.get("root", "00")), bytes_of(vector, "identifier"), caveats_of(vector))
@@ -58,7 +58,7 @@ def told(vector, form):
 
 
 def lines():
-    """Each line that a program is given, with the line that it has to tell."""
+    """Yields each input line of a program, with the line that it must print."""
     for vector in VECTORS["passes"]:
         for form in FORMS:
             if form in vector:
@@ -71,7 +71,7 @@ def lines():
 
 
 def words_of(request):
-    """Action, kind, moment, facility, day, hour, guests, and points owed and spent, as an ask has them."""
+    """Returns a request's action, kind, moment, facility, day, hour, guests, and points owed and spent."""
     commands = (it.split() for it in VECTORS["club"]["commands"])
     facilities = {name: (kind, int(price)) for _, command, _, name, kind, _, price, *_ in (it for it in commands if it[1] == "add-facility")}
     words = request["path"].strip("/").split("/")
@@ -85,7 +85,7 @@ def words_of(request):
 
 
 def narrowed(*caveats):
-    """A text with these caveats, by the reference."""
+    """Returns a text with these caveats, made by the reference."""
     made = passes.minted(b"root", b"key:a-1")
     for caveat in caveats:
         made = made.narrowed(caveat.encode())
@@ -111,7 +111,7 @@ def verdicts():
 
 @pytest.fixture(scope="session")
 def library(tmp_path_factory):
-    """The folder of the library, which is installed for each language by its variables."""
+    """The folder of the library, with the variables that each language needs."""
     room = tmp_path_factory.mktemp("clubpass")
     subprocess.run([desk.ROOT / "bin" / "library", room], check=True, stdout=subprocess.DEVNULL)
     os.environ.update(PKG_CONFIG_PATH=f"{room}/lib/pkgconfig", LD_LIBRARY_PATH=f"{room}/lib", PYTHONPATH=f"{room}/lib/python3",
@@ -224,13 +224,13 @@ def test_faults_from_python(clubpass):
 
 
 def test_types_of_the_module():
-    """The module has types for whoever checks a program against it."""
+    """The module has type annotations for type checkers."""
     checked = subprocess.run(["/usr/bin/mypy", "--strict", "--cache-dir=/dev/null", BINDINGS / "python" / "clubpass"], capture_output=True, text=True)
     assert checked.returncode == 0, checked.stdout
 
 
 def test_objects_of_dropped_passes(clubpass):
-    """A pass that lives is untouched by those that are dropped and made beside it, also in eight threads."""
+    """A live pass is unaffected when others are dropped and made, even in eight threads."""
     with pytest.raises(TypeError):
         clubpass.Pass()
 
@@ -254,7 +254,7 @@ draw = random.Random(20260501)
 
 
 def drawn():
-    """Root, identifier, location and caveats of ASCII, as all of these libraries take them."""
+    """Draws root, identifier, location and caveats in ASCII, which all these libraries accept."""
     line = lambda least: "".join(chr(draw.randint(33, 126)) for _ in range(draw.randint(least, 40)))
     return draw.randbytes(draw.randint(1, 64)), line(1), line(1), [line(1) for _ in range(draw.randint(0, 8))]
 
@@ -283,7 +283,7 @@ def test_pymacaroons_both_ways(clubpass):
 
 
 class Libmacaroons:
-    """The calls of Debian's libmacaroons that are wanted here, by ctypes. It reads and writes V1 alone."""
+    """The needed calls of Debian's libmacaroons, through ctypes. It reads and writes only V1."""
 
     def __init__(self):
         self.c = ctypes.CDLL("libmacaroons.so.0")
@@ -293,7 +293,7 @@ class Libmacaroons:
         self.fault = ctypes.c_int()
 
     def call(self, name, *arguments):
-        """A call of bytes with their lengths, and of addresses."""
+        """Calls a function with bytes and their lengths, and with addresses."""
         passed = []
         for it in arguments:
             passed += [it, ctypes.c_size_t(len(it))] if isinstance(it, bytes) else [ctypes.c_void_p(it)]

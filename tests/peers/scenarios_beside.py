@@ -4,7 +4,7 @@
 They know views, bookings and accounts, under passes in V2 with four kinds of caveats.
 
 A scenario is played up to the first line that they don't know, such as a cancellation. `clubdesk` carries out commands and listings, over the
-same file. The desk in C writes the same bytes as ours. The desk in Go writes the lines of a head in another order, and is left out if Go is
+same file. The desk in C writes the same bytes as ours. The desk in Go writes the lines of a head in another order, and is skipped if Go is
 missing.
 
     tests/peers/scenarios_beside.py [FILE ..]
@@ -59,7 +59,7 @@ def known(scenario):
 
 
 class Server(programs.Server):
-    """A server that isn't ours, with its own command line."""
+    """Another server, with its own command line."""
 
     killed_by = signal.SIGTERM
 

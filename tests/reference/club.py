@@ -1,4 +1,4 @@
-"""The club and its rules: what a request under a pass gets, and what a command of the office does (docs/DESK.md)."""
+"""The club and its rules: the reply to a request under a pass, and the effect of an office command (docs/DESK.md)."""
 
 import re
 from dataclasses import dataclass, replace
@@ -10,7 +10,7 @@ DAY_MINUTES = 1440
 AHEAD_MINUTES = 86_400
 MOST_POINTS = 999_999_999
 
-# Planted faults, for a test of the tests: with one of them the rules are wrong in one place.
+# Planted faults, to test the tests: each makes one rule wrong.
 PLANTS = ("until_takes_its_minute", "cancels_without_a_refund", "counts_cancelled_as_open", "repeats_with_places_of_now",
           "spends_of_the_member", "rounds_refunds_up", "older_root_for_ever", "quota_by_key")
 
@@ -50,7 +50,7 @@ class Booking:
 
 @dataclass
 class Served:
-    """A reply with status 200: its body's names and values, in their order."""
+    """A reply with status 200: the names and values of its body, in order."""
 
     body: dict
 
@@ -62,7 +62,7 @@ class Refused:
 
 
 class CommandRefused(Exception):
-    """A command of the office that is refused, by its word."""
+    """A refused command of the office, with the word of the refusal."""
 
 
 @dataclass
@@ -109,13 +109,13 @@ class Club:
         return self.taken_in.get(slot, 0)
 
     def most_taken(self, facility):
-        """The persons of the fullest slot of a facility, of whatever day."""
+        """Returns the persons of a facility's fullest slot on any day."""
         return max((persons for slot, persons in self.taken_in.items() if slot[0] == facility), default=0)
 
     # ---- a request under a pass
 
     def ask(self, text, request, moment):
-        """The reply to a request whose pass is this text."""
+        """Returns the reply to a request with this text as pass."""
         try:
             given = passes.read(text)
         except passes.NoPass as fault:
@@ -289,7 +289,7 @@ class Club:
             self.mark_cancelled(booking, booking.charge)
 
     def sheet(self, day):
-        """The rows of a day sheet: facility, hour, key, number, persons and charge."""
+        """Returns the rows of a day sheet: facility, hour, key, number, persons and charge."""
         return sorted((it.slot[0], it.slot[2], key, number, it.guests + 1, it.charge)
                       for key, rows in self.bookings.items() for number, it in rows.items()
                       if it.slot[1] == day and not it.is_cancelled)

@@ -25,7 +25,7 @@ TOO_LONG, MALFORMED, THIRD_PARTY, TOO_MANY = 5, 6, 7, 8
 
 
 class Malformed(Exception):
-    """The bytes spell no pass."""
+    """The bytes don't encode a pass."""
 
 
 @dataclass
@@ -59,7 +59,7 @@ def minted(root, identifier, location=b"club-desk", caveats=()):
     return Pass(location, identifier, list(caveats), chain(root, identifier, caveats))
 
 
-# A pass as it is read: each caveat is its identifier, and whether it is a third party's.
+# A parsed pass: each caveat is its identifier, and whether it is a third party's.
 @dataclass
 class WidePass:
     location: bytes
@@ -79,13 +79,13 @@ class WidePass:
 
 
 class Packets:
-    """The packets of V1, taken one by one."""
+    """V1's packets, read one by one."""
 
     def __init__(self, data):
         self.data, self.at = data, 0
 
     def peek(self, key):
-        """The data of the next packet and its end, if it has this key."""
+        """Returns the next packet's data and end, if it has this key."""
         digits = self.data[self.at:self.at + 4]
         if not re.fullmatch(rb"[0-9a-f]{4}", digits):
             raise Malformed
@@ -141,7 +141,7 @@ END, LOCATION, IDENTIFIER, VERIFIER, SIGNATURE = 0, 1, 2, 4, 6
 
 
 class Fields:
-    """The fields of V2, taken one by one."""
+    """V2's fields, read one by one."""
 
     def __init__(self, data):
         self.data, self.at = data, 0
@@ -153,7 +153,7 @@ class Fields:
         return self.data[self.at - 1]
 
     def number(self):
-        """A number in its shortest spelling."""
+        """Reads a number in its shortest encoding."""
         value = shift = 0
         while True:
             byte = self.byte()
@@ -228,7 +228,7 @@ def v2_bytes(it):
 
 
 def whole_number(text):
-    """A number without a fraction, as serde_json reads it: only one that 64 bits without a sign hold is a whole number here."""
+    """Reads a number without a fraction as serde_json does: only a number that fits unsigned 64 bits counts as a whole number."""
     number = finite(text)
     return int(text) if not text.startswith("-") and int(text) < 2**64 else number
 
@@ -245,7 +245,7 @@ def refused_constant(text):
 
 
 def depth(text):
-    """How deep arrays and objects lie in one another, in JSON."""
+    """Returns the nesting depth of arrays and objects in JSON."""
     deepest = level = 0
     for sign in re.sub(r'"(?:\\.|[^"\\])*"', "", text):
         level += (sign in "[{") - (sign in "]}")
@@ -262,7 +262,7 @@ def has_lone_surrogate(value):
 
 
 def json_value(data):
-    """The value that bytes are to serde_json; of equal names the last counts. Raises one of NO_JSON for other bytes."""
+    """Returns serde_json's value of the bytes; of equal names the last counts. Raises one of NO_JSON for other bytes."""
     seen = []
 
     def pairs(found):
@@ -270,7 +270,7 @@ def json_value(data):
         return dict(found)
 
     value = json.loads(data.decode(), object_pairs_hook=pairs, parse_int=whole_number, parse_float=finite, parse_constant=refused_constant)
-    # a value that a later one of its name replaces was read too
+    # a value is checked even if a later one with the same name replaces it
     everything = [value, *(it for pair in seen for it in pair)]
     if any(map(has_lone_surrogate, everything)) or depth(data.decode()) > DEEPEST:
         raise ValueError("no JSON of serde_json")
@@ -342,7 +342,7 @@ def to_base64(data):
 
 
 def from_base64(text):
-    """Either alphabet, one in a text; without padding or with exactly the right one; trailing bits are zero."""
+    """Decodes either alphabet, but only one in a text, without padding or with the right padding; trailing bits must be zero."""
     letters = text.rstrip(b"=")
     padding = len(text) - len(letters)
     if not re.fullmatch(rb"[A-Za-z0-9_-]*|[A-Za-z0-9/+]*", letters) or len(letters) % 4 == 1 or padding not in (0, -len(letters) % 4):
@@ -376,7 +376,7 @@ def read_wide(text):
 
 
 def read(text):
-    """The pass that a text spells. Raises NoPass with the fault that comes first."""
+    """Returns the pass that a text encodes. Raises NoPass with the fault that comes first."""
     if len(text) > MOST_BYTES:
         raise NoPass(TOO_LONG)
     try:

@@ -1,4 +1,4 @@
-"""Requests and replies as bytes (docs/DESK.md): what bytes ask for, and the bytes of a reply."""
+"""Requests and replies as bytes (docs/DESK.md): parses a request, and writes a reply."""
 
 import json
 import re
@@ -36,7 +36,7 @@ class NotDecoded(Exception):
 
 
 def split(data):
-    """The method, target, fields and body that bytes begin with. The input ends with them."""
+    """Parses the method, target, fields and body at the beginning of bytes. The input ends after them."""
     end = data.find(b"\r\n\r\n", 0, MOST_HEAD)
     if end < 0:
         raise NotDecoded(1)
@@ -69,7 +69,7 @@ def body_of(method, fields, rest):
 
 
 def guests_in(body):
-    """The guests that the body of a PUT names."""
+    """Returns the guests in the body of a PUT."""
     try:
         value = json_value(body)
     except NO_JSON as fault:
@@ -81,7 +81,7 @@ def guests_in(body):
 
 
 def decoded(data):
-    """The text of the pass and the request that bytes ask for."""
+    """Returns the text of the pass, and the request, that bytes encode."""
     method, target, fields, body = split(data)
     guests = guests_in(body) if method == b"PUT" else 0
     if target == "/account":
@@ -98,7 +98,7 @@ def decoded(data):
 
 
 def slot_request(method, target, guests):
-    """What a method asks for at a slot's path, if it is one of the path's, and the path's methods."""
+    """Returns a method's request at a slot's path, if the path has the method, and the path's methods."""
     parts = PATH.fullmatch(target)
     day, hour = (day_of(parts[2]), hour_of(parts[3])) if parts else (None, None)
     if day is None or hour is None:
@@ -115,7 +115,7 @@ def compact(body):
 
 
 def bytes_with(status, body, methods=None):
-    """The bytes of a reply with this body."""
+    """Returns the bytes of a reply with this body."""
     lines = [f"HTTP/1.1 {status} {PHRASES[status]}", "Content-Type: application/json", f"Content-Length: {len(body)}"]
     if status == 401:
         lines.append("WWW-Authenticate: Bearer")
@@ -135,7 +135,7 @@ def reply_bytes(reply, methods=None):
 
 
 def exchange(club, data, moment):
-    """The bytes of the reply to bytes of which these are all, at a club that takes the change."""
+    """Returns the bytes of the reply to a complete input, and applies the change to the club."""
     try:
         text, request = decoded(data)
     except NotDecoded as refusal:

@@ -1,6 +1,5 @@
-// Asks a desk requests one after the other, each over a connection of its own, and prints how many
-// microseconds each took, from before it connects to the end of the reply. The replies go to a file,
-// one behind the other.
+// Sends requests to a desk one after the other, each over its own connection, and prints each one's microseconds, from before it connects to the
+// end of the reply. The replies go to a file, one after the other.
 //   client PORT REQUESTS REPLIES      REQUESTS: for each its length in a line, then its bytes
 #include <arpa/inet.h>
 #include <stdio.h>

@@ -1,7 +1,6 @@
-// A desk over SQLite's C library, to hold clubdesk's times against: the same file, statements and
+// A desk over SQLite's C library, to compare clubdesk's times with: the same file, statements and
 // replies, one connection after the other. It reads what an answer needs and no more: the key, then
-// the signature, and only then other rows. Of caveats it knows those that beside.py writes: guests,
-// until, spend, actions.
+// the signature, and only then other rows. It knows only the caveats that beside.py writes: guests, until, spend, actions.
 //   desk FILE MOMENT < STATEMENTS      as beside.py says of each desk
 //   desk                               for each connection it reads once, writes 133 bytes and closes
 #include <arpa/inet.h>
@@ -97,7 +96,7 @@ struct pass {
     uint8_t signature[SIGNATURE];
 };
 
-// Takes a field of a type from what is left. The end of a section, type 0, has no bytes.
+// Takes a field of a type from the rest. The end of a section, type 0, has no bytes.
 static bool take(struct bytes *rest, uint8_t type, struct bytes *field) {
     const uint8_t *at = rest->at, *end = at + rest->len;
     size_t length = 0;
@@ -136,7 +135,7 @@ static void sign(const uint8_t *key, size_t key_len, struct bytes text, uint8_t 
     hmac_sha256_digest(&hmac, SIGNATURE, to);
 }
 
-// Keys that were derived, as clubdesk keeps them: the last 64 by their names, each beside its root.
+// Derived keys, kept as in clubdesk: the last 64 by name, each with its root.
 struct kept { char key[NAME]; struct root root; uint8_t derived[SIGNATURE]; uint64_t used; };
 static struct kept kept[64];
 
@@ -209,7 +208,7 @@ static int day_number(int year, int month, int day) {
     return (int)(timegm(&(struct tm){.tm_year = year - 1900, .tm_mon = month - 1, .tm_mday = day}) / 86400);
 }
 
-// Reads head and body; which of the desk's refusals comes isn't looked at beyond what is asked here.
+// Reads head and body; it produces only the refusals that the test requests.
 static bool read_request(char *bytes, struct request *it) {
     char method[8], path[96];
     int year, month, date;
@@ -276,7 +275,7 @@ static struct member member_of(const char *name) {
     return it;
 }
 
-// Whether a key has spent more than this. Its costs are summed only where what its member has used leaves that open.
+// Whether a key has spent more than this. Its costs are summed only if its member's used points don't decide.
 static bool has_spent_above(const struct row *row, int most) {
     return most < 0 || (member_of(row->member).used > most && spent_by(row->key) > most);
 }
@@ -309,7 +308,7 @@ static struct booking booking_of(const char *key, int number) {
     return it;
 }
 
-// The number of the first caveat that denies, or minus that of one that isn't understood; 0 for none.
+// Returns the number of the first caveat that denies, or minus the number of one that isn't understood, or 0.
 static int first_fault(const struct pass *pass, const struct request *request, const struct row *row, int owed) {
     static const char *const actions[] = {"view", "book", "account"};
     for (int n = 0; n < pass->count; n++) {

@@ -1,4 +1,4 @@
-// A desk by net/http and SQLite's C library, to hold clubdesk's times against: the same file,
+// A desk by net/http and SQLite's C library, to compare clubdesk's times with: the same file,
 // statements and replies as beside_c/desk.c.
 //
 //	desk FILE MOMENT < STATEMENTS      as beside.py says of each desk
@@ -60,7 +60,7 @@ func newDesk(path string, moment int) *desk {
 	return d
 }
 
-// isFound scans the row that a query gives, if there is one.
+// isFound scans a query's row, if there is one.
 func isFound(row *sql.Row, to ...any) bool {
 	err := row.Scan(to...)
 	if !errors.Is(err, sql.ErrNoRows) {
@@ -92,7 +92,7 @@ func (d *desk) spentBy(key string) (spent int) {
 	return spent
 }
 
-// hasSpentAbove sums a key's costs only where what its member has used leaves the answer open.
+// hasSpentAbove sums a key's costs only if its member's used points don't decide.
 func (d *desk) hasSpentAbove(key key, most int) bool {
 	_, _, used := d.memberOf(key.member)
 	return used > most && d.spentBy(key.name) > most
@@ -188,7 +188,7 @@ type key struct {
 	revoked      bool
 }
 
-// signer is the key that a pass names, if the pass is signed under a good root of it.
+// signer returns the key that a pass names, if a good root of the key signed it.
 func (d *desk) signer(p *macaroon.Macaroon) (it key, isSigned bool) {
 	name := strings.TrimPrefix(string(p.Id()), "key:")
 	if name == string(p.Id()) || !isFound(d.key.QueryRow(name), &it.name, &it.member, &it.root, &it.revoked) {
@@ -206,7 +206,7 @@ func (d *desk) signer(p *macaroon.Macaroon) (it key, isSigned bool) {
 	return it, err == nil
 }
 
-// firstFault is the fault of the first caveat that isn't understood or denies, and its number.
+// firstFault returns the fault and number of the first caveat that isn't understood or denies.
 func (d *desk) firstFault(p *macaroon.Macaroon, key key, it request, owed int) (fault, number int) {
 	for n, caveat := range p.Caveats() {
 		if allows, isUnderstood := d.allows(string(caveat.Id), key, it, owed); !isUnderstood {
@@ -218,7 +218,7 @@ func (d *desk) firstFault(p *macaroon.Macaroon, key key, it request, owed int) (
 	return 0, 0
 }
 
-// allows knows of caveats those that beside.py writes: guests, until, spend, actions.
+// allows knows only the caveats that beside.py writes: guests, until, spend, actions.
 func (d *desk) allows(text string, key key, it request, owed int) (allows, isUnderstood bool) {
 	words := append(strings.SplitN(text, " ", 3), "", "")
 	limit, err := strconv.Atoi(words[2])

@@ -1,11 +1,11 @@
 /*
- * A target of libFuzzer over the library of passes, for tests/peers/passes_fuzzed.sh. The first byte of an input names the kind of the rest: a text,
- * bytes that are put into base64, a caveat, or the bytes of an object. The target aborts if a call breaks its header. A text that is read must
- * be written and read again as the same pass. A narrowed pass must be signed under the root of its minting. A fault must leave what the header
- * says.
+ * A target of libFuzzer over the library of passes, for tests/peers/passes_fuzzed.sh. An input's first byte names the kind of the rest: a text,
+ * bytes to encode in base64, a caveat, or the bytes of an object. The target aborts if a call breaks its header. A text that is read must be
+ * written and read again as the same pass. A narrowed pass must be signed under the root of its minting. A fault must leave the state that the
+ * header says.
  *
- * The library's own code counts no branches, so the fuzzer is led by that of this file: by faults, forms, counts and lengths. Each text lies at
- * the end of a page, before one that can't be touched.
+ * The library's code counts no branches, so this file's branches guide the fuzzer: faults, forms, counts and lengths. Each text is at
+ * the end of a page, before an inaccessible one.
  */
 #include <clubpass.h>
 #include <stdio.h>
@@ -26,7 +26,7 @@ static uint8_t *end_of_page;
 static const uint8_t root[32] = "0123456789abcdef0123456789abcde";
 static volatile unsigned seen;
 
-/* The text, where a byte more can't be read. */
+/* Returns the text, placed so that no byte beyond it can be read. */
 static const uint8_t *at_the_edge(const uint8_t *text, size_t len) {
     if (!end_of_page) {
         size_t page = (size_t)sysconf(_SC_PAGESIZE), whole = 16 * page;
@@ -37,7 +37,7 @@ static const uint8_t *at_the_edge(const uint8_t *text, size_t len) {
     return memcpy(end_of_page - len, text, len);
 }
 
-/* Of a number, so that each gives a branch of its own. */
+/* Gives each value of a number its own branch. */
 static void tell(unsigned number) {
     switch (number) {
 #define CASE(n) case n: seen += n; break;
