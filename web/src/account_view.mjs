@@ -1,4 +1,4 @@
-// The account, the pass, and the record on its way from device to device.
+// The account, the pass, and the transfer of the record between devices.
 import { titleOf } from "./club.mjs";
 import { hourText, isDate } from "./dates.mjs";
 import { ask } from "./desk.mjs";
@@ -127,7 +127,7 @@ async function importText(text, place) {
   put(place, words, ...(read.key === state.key ? [] : [" ", say("import-other-key", { key: read.key })]));
 }
 
-// A record that came in a link is added once a person says so.
+// A record that came in a link is added only after the member agrees.
 export async function offerRecord(text, whenDone) {
   const read = readRecord(text, Date.now());
   if (state.store === null) return;
@@ -141,7 +141,7 @@ export async function offerRecord(text, whenDone) {
   whenDone();
 }
 
-// ---- A booking of which number and slot are known
+// ---- A booking with a known number and slot
 
 function fillFacilities() {
   const field = byName("lost-facility");
@@ -161,7 +161,7 @@ function lostFault(number, day) {
   return null;
 }
 
-// Whether the key used a number: a cancellation at a slot that no booking can have answers that, and changes nothing.
+// Returns whether the key used a number. A cancellation at a slot that no booking can have tells that, and changes nothing.
 async function isUsed(number) {
   const nowhere = { facility: "none-such", day: "2000-01-01", hour: 0 };
   if (denial("cancel", nowhere) > 0) return true; // the pass can't ask

@@ -1,4 +1,4 @@
-// What can be done with a booking besides cancelling it: into the calendar, invite somebody, the same a week later, change it.
+// Actions on a booking other than cancelling: add it to the calendar, invite somebody, repeat it a week later, change it.
 import { offerBooking, slotText } from "./booking_dialog.mjs";
 import { calendarText } from "./calendar.mjs";
 import { facilityOf, hoursOf, titleOf, whyClosed } from "./club.mjs";
@@ -45,7 +45,7 @@ function saveForCalendar(entry) {
   setTimeout(() => URL.revokeObjectURL(link.href), 60000);
 }
 
-// Day, hour and place; neither the number nor the pass.
+// The text has day, hour and place, but neither the number nor the pass.
 async function invite(entry) {
   const words = placeText() === "" ? "invite-text" : "invite-text-at";
   const text = say(words, { facility: titleOf(state.club, entry.facility), time: slotText(entry), club: placeText() });
@@ -58,7 +58,7 @@ async function invite(entry) {
   }
 }
 
-// The desk's word on a slot, or null where the pass doesn't show it; says what went wrong.
+// Returns the desk's reply about a slot, or null if the pass doesn't show it. Shows a fault to the member.
 async function lookedUp(slot, title) {
   try {
     const reply = denial("view", slot) > 0 ? null : await ask(state.text, "view", slot, 2);
@@ -119,7 +119,7 @@ function offerChange(entry, whenDone) {
   ], whenDone);
 }
 
-// Says what it costs and what comes back, and what happens where one of both fails, before anything is sent.
+// Before anything is sent, it shows the cost and the refund, and what happens if one of the two fails.
 async function confirmChange(entry, slot, guests, whenDone) {
   const title = say("change-title", { facility: titleOf(state.club, entry.facility) });
   const found = await lookedUp(slot, title);
@@ -139,7 +139,7 @@ async function confirmChange(entry, slot, guests, whenDone) {
   ], whenDone);
 }
 
-// What becomes of an entry, once the desk or a refusal of the pass decided.
+// Returns an entry's result, once the desk's reply or a refusal of the pass decides it.
 function decidedOf(entry) {
   return new Promise((done) => {
     state.sender.follow(entry, (now) => {

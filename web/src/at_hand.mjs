@@ -1,13 +1,13 @@
-// The page at hand: a worker keeps it for when there is no network. Without one, or where none can be, the page does all else.
+// Keeps the page for times without a network, by a worker. Without a worker everything else still works.
 
 let isAtHand = false;
 
-// Whether this page opens without a network.
+// Returns whether this page opens without a network.
 export function opensOffline() {
   return isAtHand;
 }
 
-// The policy of the page names the one script that may become a worker.
+// The page's policy allows only one script to be a worker.
 function workerAddress() {
   const policy = globalThis.trustedTypes?.createPolicy("worker", { createScriptURL: () => "worker.js" });
   return policy === undefined ? "worker.js" : policy.createScriptURL("");
@@ -21,6 +21,6 @@ export async function keepPage(whenKept) {
     isAtHand = true;
     whenKept();
   } catch {
-    // The page goes on without it, and says so under Account.
+    // The page works without it, and says so under Account.
   }
 }

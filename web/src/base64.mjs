@@ -1,4 +1,4 @@
-// Base64: read in either alphabet, one in a text, and written URL-safe without padding.
+// Base64. Reads either alphabet, but only one in a text, and writes URL-safe text without padding.
 import { characters, quoted } from "./bytes.mjs";
 import { malformed } from "./pass_faults.mjs";
 

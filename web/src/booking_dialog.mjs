@@ -1,4 +1,4 @@
-// Booking and cancelling: what it costs, one press, and what came of it.
+// Booking and cancelling: the cost, one press, and the result.
 import { facilityOf, titleOf, whyClosed } from "./club.mjs";
 import { hourText, startOf } from "./dates.mjs";
 import { closeDialog, isDialogOpen, openDialog } from "./dialog.mjs";
@@ -31,12 +31,12 @@ function closedText(slot) {
   return why === "" ? say("closed") : say("closed-why", { why });
 }
 
-// A note for a booking of a slot that was closed since. The desk closes no slot that is in use.
+// A note for a booking whose slot was closed later. The desk closes no slot in use, so the office cancelled the booking.
 export function closedOwn(slot) {
   return element("p", "note", element("strong", "", closedText(slot)), " ", say("closed-own"));
 }
 
-// Why a slot is closed, and whom to ask.
+// The reason why a slot is closed, and the contact.
 export function offerClosed(slot, whenDone) {
   const contact = state.club?.contact ?? "";
   openDialog(titleOf(state.club, slot.facility), [
@@ -46,7 +46,7 @@ export function offerClosed(slot, whenDone) {
   ], whenDone);
 }
 
-// How many guests may be brought: as many as places and the pass allow.
+// Returns the most guests that the places and the pass allow.
 function mostGuests(slot, view) {
   let most = view === null ? MOST_GUESTS : Math.min(MOST_GUESTS, view.places - view.taken - 1);
   while (most > 0 && isDenied(slot, view, most)) most -= 1;
@@ -55,7 +55,7 @@ function mostGuests(slot, view) {
 
 // ---- Booking
 
-// `view` is the desk's reply about the slot, or null where the pass doesn't show it.
+// `view` is the desk's reply about the slot, or null if the pass doesn't show it.
 export function offerBooking(slot, view, whenDone) {
   const own = ownAt(slot, view);
   const mine = own.length > 0 ? own : liveAt(slot);
@@ -124,7 +124,7 @@ function offerFirst(slot, view, title, isMeant, whenDone) {
   openDialog(title, [element("p", "slot-time", slotText(slot)), ...(about === "" ? [] : [element("p", "hint", about)]), places, stepper, facts, ...endNote(slot), outcome, element("div", "buttons", press)], whenDone);
 }
 
-// A pass that ends before the slot can't cancel it once it ended.
+// If a pass ends before the slot, it can't cancel the booking after its end.
 function endNote(slot) {
   const end = endOf(state.pass);
   if (end === null || end > startOf(slot)) return [];
@@ -147,7 +147,7 @@ function costFacts(view, guests) {
   return facts;
 }
 
-// Asks the desk for what a list names and no answer is known of, under its own number, with its guests.
+// Sends a listed booking without a known answer to the desk, with its own number and guests.
 export function offerListed(entry, view, whenDone) {
   const facts = element("dl", "cost", ...costFacts(view, entry.guests));
   const outcome = element("div", "outcome-box");
@@ -166,7 +166,7 @@ export function offerListed(entry, view, whenDone) {
   ], whenDone);
 }
 
-// Says after a second that no answer came yet, and after ten what that means. What it returns ends it.
+// After a second, says that no answer has come yet, and after ten explains it. Returns a function that stops this.
 function waitingWords(outcome) {
   const begun = Date.now();
   outcome.replaceChildren(element("p", "sending", say("sending")));
@@ -182,7 +182,7 @@ function waitingWords(outcome) {
   return () => clearInterval(timer);
 }
 
-// `book` writes the request down; `again` lets it be pressed once more, after a refusal; `done` takes away what was chosen.
+// `book` records the request; `again` enables the button again after a refusal; `done` removes the choices.
 async function sendBooking({ book, slot, view, outcome, press, whenDone, again, done }) {
   const end = waitingWords(outcome);
   try {
@@ -213,7 +213,7 @@ async function sendBooking({ book, slot, view, outcome, press, whenDone, again, 
   }
 }
 
-// The press closes the dialog from now on.
+// From now on a press closes the dialog.
 function finish(press) {
   const close = button("main wide-button", say("close"), closeDialog);
   const hadFocus = document.activeElement === press || document.activeElement === document.body;
@@ -280,7 +280,7 @@ function outcomeOfCancellation(entry) {
   return [element("p", "done", ...words), ...unsavedNote()];
 }
 
-// As "Fri 1 May, 18:00": the moment until which a cancellation gives back all.
+// Formats the last moment of a full refund, such as "Fri 1 May, 18:00".
 export function fullRefundUntil(entry) {
   const until = new Date(Date.parse(`${startOf(entry)}Z`) - 86400000).toISOString();
   return { day: dayText(until.slice(0, 10)), time: until.slice(11, 16) };

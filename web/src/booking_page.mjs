@@ -31,7 +31,7 @@ let storageTrouble = "";
 let linked = { kind: "none", text: "" }; // what came in the address that is no pass
 let others = null; // tells the other tabs that the record changed
 
-// ---- What is to be seen
+// ---- The display
 
 function show() {
   const isIn = isPassShown();
@@ -91,7 +91,7 @@ function go(wanted) {
   }
 }
 
-// After the record changed, here or in another tab. Where something was answered, the account is another one.
+// Called after the record changed, here or in another tab. If a request was answered, the account has changed too.
 async function refresh() {
   const open = openRequests();
   if (state.sender !== null) state.entries = await state.sender.entries();
@@ -112,7 +112,7 @@ function openRequests() {
 
 // ---- The pass
 
-// After the pass of before or another one is there.
+// Called once a pass is there, the earlier one or another.
 function begin() {
   view = "day";
   show();
@@ -120,7 +120,7 @@ function begin() {
   goOn();
 }
 
-// The account, and what is still to be sent.
+// Loads the account, and sends unfinished requests.
 function goOn() {
   showCells();
   lookAtAccount().then(() => { showPassSays(); showCells(); });
@@ -135,7 +135,7 @@ function reportTrouble(fault) {
 
 // ---- What is loaded
 
-// Loads the club's list, or leaves that of before: which words say what went wrong, "" where nothing did.
+// Loads the club's list, or keeps the old one. Returns the key of the fault's text, or "".
 async function fetchClub() {
   if (location.protocol === "file:" && !isToTry()) return "club-missing";
   try {
@@ -171,7 +171,7 @@ async function openStore() {
   }
 }
 
-// A pause of the sender, which ends early where the network comes back.
+// A pause of the sender, which ends early when the network returns.
 function pauseUntilOnline(milliseconds) {
   return Promise.race([paused(milliseconds), new Promise((done) => window.addEventListener("online", done, { once: true }))]);
 }

@@ -1,4 +1,4 @@
-// My bookings: what the record has of the pass's key, to come and past, and what can be done about each.
+// My bookings: the record's future and past bookings of the pass's key, with their actions.
 import { moreOf } from "./again.mjs";
 import { closedOwn, fullRefundUntil, offerCancellation, offerListed, slotText } from "./booking_dialog.mjs";
 import { titleOf } from "./club.mjs";
@@ -32,7 +32,7 @@ export function showBookings(whenDone) {
   put("bookings-count", ...(count > 0 ? [String(count)] : []));
 }
 
-// The desk's word on what the key spent says whether the list is whole.
+// The desk's count of the key's spent points tells whether the list is complete.
 let doubtful = new Set(); // bookings that may have been cancelled elsewhere
 
 function showComparison(own, moment) {
@@ -79,7 +79,7 @@ function stateText(entry) {
   return now === "listed" ? listedText(entry) : say("state-booked");
 }
 
-// What a list says, as what a list says.
+// Shows a list's claims as claims.
 function listedText({ guests, listed }) {
   if (listed.refund !== undefined) return say("listed-cancelled", { count: listed.refund });
   if (listed.cancel) return say("listed-cancelling");
@@ -111,7 +111,7 @@ function whatCanBeDone(entry, whenDone) {
   return [...words, ...(buttons.length > 0 ? [element("div", "buttons", ...buttons)] : [])];
 }
 
-// The points come from the desk, before anything is sent that costs some.
+// The points come from the desk before a request that costs points is sent.
 async function askAbout(entry, whenDone) {
   try {
     const reply = denial("view", entry) > 0 ? null : await ask(state.text, "view", entry, 2);
@@ -156,7 +156,7 @@ function noteSlot(name, { taken, closed }) {
 
 let lookRound = 0; // what an older one finds isn't shown
 
-// Looks whether the slots of what is booked still hold it.
+// Checks that the slots of bookings still hold them.
 export async function lookAfterBookings(whenDone) {
   const moment = clubMoment();
   if (moment === null || state.pass === null) return;

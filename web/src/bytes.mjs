@@ -4,7 +4,7 @@ export function bytesOf(text) {
   return new TextEncoder().encode(text);
 }
 
-// The text of bytes in UTF-8, or null where they are none.
+// Decodes bytes as UTF-8; returns null if they aren't valid.
 export function textOf(bytes) {
   try {
     return new TextDecoder("utf-8", { fatal: true, ignoreBOM: true }).decode(bytes);
@@ -13,7 +13,7 @@ export function textOf(bytes) {
   }
 }
 
-// A character for each byte: for patterns over bytes of any kind.
+// Returns a character for each byte, for patterns over arbitrary bytes.
 export function characters(bytes) {
   return Array.from(bytes, (byte) => String.fromCharCode(byte)).join("");
 }
@@ -22,7 +22,7 @@ export function joined(pieces) {
   return Uint8Array.from(pieces.flatMap((piece) => [...piece]));
 }
 
-// Bytes as they can be shown on one line, as `passtool show` does.
+// Formats bytes on one line, like `passtool show` does.
 export function shown(bytes) {
   return characters(bytes).replace(/[^ -~]|\\/g, (character) =>
     character === "\\" ? "\\\\" : "\\x" + character.charCodeAt(0).toString(16).padStart(2, "0"));

@@ -1,11 +1,12 @@
-// A booking for a calendar (RFC 5545), with a reminder. Its times are instants, so that no calendar needs the club's zone.
+// A booking for a calendar (RFC 5545), with a reminder. Its times are in UTC, so that no calendar needs the club's zone.
 import { bytesOf } from "./bytes.mjs";
 import { momentIn, startOf } from "./dates.mjs";
 
 const LONGEST_LINE = 75; // bytes
 const REMINDER = "-PT2H";
 
-// The instant, in milliseconds, at which a wall clock of the zone first shows a moment; where it is left out, that of the clock before.
+// Returns the instant, in milliseconds, when the zone's wall clock first shows a moment. For a skipped moment it uses the offset from before the
+// change.
 export function instantOf(zone, moment) {
   const wanted = Date.parse(`${moment}Z`);
   const lead = (instant) => Date.parse(`${momentIn(zone, instant)}Z`) - instant;
@@ -21,7 +22,7 @@ function escaped(text) {
   return text.replace(/[\\;,]/g, "\\$&").replace(/\r?\n/g, "\\n");
 }
 
-// A line in pieces of 75 bytes at most, none of which ends within a character.
+// Folds a line into pieces of at most 75 bytes, without splitting a character.
 function folded(line) {
   const pieces = [""];
   for (const letter of line) {

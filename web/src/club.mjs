@@ -1,4 +1,4 @@
-// What the page knows of the club: club.json, which deploy/club_json makes. The desk's replies tell neither its zone nor its hours.
+// The club's list, club.json, which deploy/club_json makes. The desk's replies have neither its zone nor its hours.
 import { isName, KINDS } from "./caveats.mjs";
 import { isDate, isZone } from "./dates.mjs";
 
@@ -25,7 +25,7 @@ function sentenceOr(value, otherwise = "") {
   return typeof value === "string" && value.length <= LONGEST_SENTENCE ? value : otherwise;
 }
 
-// An address that a press may lead to, or "".
+// Returns an address that is safe to link to, or "".
 function addressOr(value) {
   return typeof value === "string" && /^https:\/\/[^\s"'<>\\]{1,300}$/.test(value) ? value : "";
 }
@@ -34,8 +34,8 @@ function pictureOr(value) {
   return typeof value === "string" && value.length <= LONGEST_LOGO && /^data:image\/(?:png|jpeg|webp|svg\+xml);base64,[A-Za-z0-9+/=]+$/.test(value) ? value : "";
 }
 
-// Reads a club from JSON, or returns null. It needs a zone and facilities; the rest counts as missing where it isn't right: titles and
-// sentences, reasons of closed slots, whom to ask, imprint and privacy pages, logo.
+// Reads a club from JSON, or returns null. It needs a zone and facilities. Other invalid parts count as missing: titles and sentences, reasons
+// for closed slots, contact, imprint and privacy pages, logo.
 export function readClub(value) {
   if (typeof value !== "object" || value === null || !isZone(value.zone) || !Array.isArray(value.facilities)) return null;
   if (!value.facilities.every(isFacility)) return null;
@@ -56,12 +56,12 @@ export function titleOf(club, name) {
   return facilityOf(club, name)?.title ?? name;
 }
 
-// Why the office closed a slot, or "": whether it is closed only the desk knows.
+// Returns the office's reason for a closed slot, or "". Only the desk knows whether the slot is closed.
 export function whyClosed(club, { facility, day, hour }) {
   return club?.closures.find((each) => each.facility === facility && each.day === day && each.from <= hour && hour < each.until)?.why ?? "";
 }
 
-// The hours of a facility at which a slot begins.
+// Returns the hours when a facility's slots begin.
 export function hoursOf(facility) {
   return Array.from({ length: facility.shuts - facility.opens }, (_, place) => facility.opens + place);
 }

@@ -1,5 +1,5 @@
-// Days, hours and minutes of the club's wall clock. Days are texts YYYY-MM-DD, moments texts YYYY-MM-DDTHH:MM. UTC only counts them:
-// no time zone comes in but in `momentIn`.
+// Days, hours and minutes of the club's wall clock. Days are texts YYYY-MM-DD, moments texts YYYY-MM-DDTHH:MM. UTC is only used for counting:
+// time zones matter only in `momentIn`.
 
 export const WEEKDAYS = ["mon", "tue", "wed", "thu", "fri", "sat", "sun"];
 
@@ -42,7 +42,7 @@ function clockOf(zone) {
   return clocks.get(zone);
 }
 
-// The moment that a wall clock of the zone shows at an instant, which is in milliseconds.
+// Returns the moment on the zone's wall clock at an instant in milliseconds.
 export function momentIn(zone, instant) {
   const parts = clockOf(zone).formatToParts(instant);
   const value = Object.fromEntries(parts.map((each) => [each.type, each.value]));

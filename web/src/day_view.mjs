@@ -1,5 +1,5 @@
-// The day: facilities across, hours down. One request a slot, at most six at a time; on a narrow screen one facility is shown, and its
-// slots are asked for first.
+// The day: facilities across, hours down. Each slot takes a request, at most six at a time. A narrow screen shows one facility, and its slots
+// are requested first.
 import { facilityOf, hoursOf, titleOf, whyClosed } from "./club.mjs";
 import { offerBooking, offerClosed } from "./booking_dialog.mjs";
 import { firstDenial } from "./caveats.mjs";
@@ -76,7 +76,7 @@ export function showDay(wanted = day) {
   look();
 }
 
-// Today the hours that are over are folded away, unless something of hers is in them.
+// Today's past hours are folded away, unless the member has a booking in them.
 function foldEarlier() {
   const moment = clubMoment();
   let count = 0;
@@ -99,7 +99,7 @@ function dayFault(facilities) {
   return [say("no-facilities"), ...(number > 0 ? [" ", limitText(number)] : [])];
 }
 
-// The number of the first limit that alone denies each slot of the day, or 0.
+// Returns the number of the first limit that denies every slot of the day, or 0.
 function limitOfDay() {
   const slots = state.club.facilities.flatMap(slotsOf).map(withKind);
   const denies = (caveat) => slots.every((slot) => firstDenial({ caveats: [caveat] }, { action: "view", moment: clubMoment(), slot }) > 0);
@@ -165,7 +165,7 @@ function slotButton(slot) {
 
 // ---- Cells
 
-// What a cell is: its class, its words, a line below them, and whether it can be pressed.
+// Returns a cell's class, its text, a line below it, and whether it can be pressed.
 function looksOf({ slot, view, state: known }) {
   const moment = clubMoment();
   const mine = ownAt(slot, view);
@@ -211,7 +211,7 @@ export function showCells() {
   for (const cell of cells.values()) showCell(cell);
 }
 
-// What changed is drawn a few times a second, and not with each reply.
+// Changes are drawn a few times a second, not with each reply.
 const DRAWN_EVERY = 80; // milliseconds
 const changed = new Set();
 
@@ -251,7 +251,7 @@ function press(cell) {
 
 // ---- Looking
 
-// Asks for each slot of the day that the pass shows and that isn't over.
+// Requests each slot of the day that the pass shows and that isn't over.
 export async function look() {
   round += 1;
   const mine = round;
@@ -280,7 +280,7 @@ export async function look() {
   showLooked();
 }
 
-// The facility that a narrow screen shows comes first, also where it is chosen while the others are asked for.
+// The facility that a narrow screen shows comes first, even if it is chosen while others are being requested.
 function chosenFirst() {
   waiting.sort((a, b) => (b.slot.facility === chosen) - (a.slot.facility === chosen));
 }
@@ -314,7 +314,7 @@ async function lookAt(cell, mine) {
   if (mine === round) showSoon(cell);
 }
 
-// A refusal of one slot is that cell's; one of the pass is the whole day's.
+// A refusal of a slot is shown in its cell, and a refusal of the pass for the whole day.
 function refused(cell, reply) {
   cell.state = "denied";
   if (reply.fault === CAVEAT_DENIES || reply.fault > CAVEAT_DENIES) return;
@@ -324,7 +324,7 @@ function refused(cell, reply) {
   put("day-fault", element("span", "", refusalText(reply)), button("", say("enter-another"), enterAnother));
 }
 
-// Looks again where the page comes back after a while.
+// Loads again when the page is shown after a while.
 export function lookWhenBack() {
   if (day === null || state.club === null || state.pass === null) return;
   if (isFinding) return;
@@ -354,7 +354,7 @@ function chooseBeside(step) {
   if (chips[place] !== undefined) choose(chips[place].dataset.facility);
 }
 
-// The arrow keys go from slot to slot.
+// The arrow keys move between slots.
 const ARROWS = { ArrowLeft: [-1, 0], ArrowRight: [1, 0], ArrowUp: [0, -1], ArrowDown: [0, 1] };
 
 function moveFocus(event) {

@@ -1,5 +1,5 @@
-// A club to try: this page's requests are answered in the page itself, by a small desk, and nothing is sent. What it keeps has names of its
-// own, so that it meets no club's.
+// A trial club: a small desk in the page answers its requests, and nothing is sent. Its stored data has separate names, so that it can't clash
+// with a club's.
 import { daysLater, hourText, momentIn } from "./dates.mjs";
 import { withName } from "./place.mjs";
 import { writePass } from "./pass.mjs";
@@ -31,7 +31,7 @@ function momentNow() {
   return momentIn(ZONE, Date.now());
 }
 
-// Some hours are taken by others, the same ones at each start of a day.
+// Others have booked some hours, the same ones for each day.
 function othersBookings() {
   const today = momentNow().slice(0, 10);
   return Array.from({ length: OTHERS_ASK }, (_, place) => {
@@ -55,7 +55,7 @@ function keepBookings(bookings) {
   try {
     localStorage.setItem(KEPT, JSON.stringify(bookings));
   } catch {
-    // It is gone once the page is closed.
+    // It is lost when the page is closed.
   }
 }
 
@@ -97,7 +97,7 @@ function replyOf(status, body) {
   return new Response(JSON.stringify(body), { status, headers: { "Content-Type": "application/json", Date: new Date().toUTCString() } });
 }
 
-// Answers what the page asks of its origin.
+// Answers the page's requests to its origin.
 function answerHere(desk) {
   return async (path, options = {}) => {
     if (path === "club.json") return replyOf(200, CLUB);

@@ -7,7 +7,7 @@ const FIRST_PAUSE = 200;
 const LONGEST_PAUSE = 5000;
 const AT_ONCE = 6;
 
-// Of each kind of request its method, path and body.
+// Method, path and body of each kind of request.
 export const REQUESTS = {
   view: ({ facility, day, hour }) => ["GET", `/slots/${facility}/${day}/${hourText(hour)}`],
   book: ({ number, guests, ...slot }) => ["PUT", `${REQUESTS.view(slot)[1]}/bookings/${number}`, JSON.stringify({ guests })],
@@ -15,7 +15,7 @@ export const REQUESTS = {
   account: () => ["GET", "/account"],
 };
 
-// The moment of the server's clock, which the proxy puts into each reply, less this browser's, in milliseconds. Null until one came.
+// The server's clock, which the proxy puts into each reply, minus this browser's, in milliseconds. Null until one came.
 let clockLead = null;
 
 export function serverTime() {
@@ -31,7 +31,7 @@ export function noteClock(response) {
   if (!Number.isNaN(date)) clockLead = date + 500 - Date.now(); // the field has whole seconds
 }
 
-// Asks once. Throws NoReply where nothing came that is the desk's.
+// Asks once. Throws NoReply if no reply of the desk came.
 export async function exchange(pass, action, asked) {
   const [method, path, body] = REQUESTS[action](asked);
   const stop = new AbortController();
@@ -51,7 +51,7 @@ export async function exchange(pass, action, asked) {
   }
 }
 
-// How long to wait before the try of this number, from 1: drawn at random, twice as long at most each time.
+// Returns the random wait before a try, numbered from 1; the maximum doubles each time.
 export function pauseBefore(number, random = Math.random) {
   return random() * Math.min(FIRST_PAUSE * 2 ** (Math.max(1, number) - 1), LONGEST_PAUSE);
 }
@@ -62,7 +62,7 @@ export function paused(milliseconds) {
 
 const MOST_WAITS = 30;
 
-// Asks what changes nothing, again for so many tries, of which one that the proxy wants to come later is none. The last NoReply is thrown.
+// Sends a request that changes nothing, up to a number of tries. A try that the proxy postponed doesn't count. Throws the last NoReply.
 export async function ask(pass, action, asked, tries = 4, waits = MOST_WAITS) {
   try {
     return await exchange(pass, action, asked);
@@ -77,8 +77,8 @@ export async function ask(pass, action, asked, tries = 4, waits = MOST_WAITS) {
   }
 }
 
-// Does a task with each item, a few at once, until `goesOn` says that it isn't wanted any more. It takes them from the front of the list,
-// whose order may change meanwhile.
+// Runs a task for each item, a few at once, until `goesOn` says to stop. It takes items from the front of the list, whose order may change
+// meanwhile.
 export async function eachAtOnce(items, task, goesOn = () => true) {
   const work = async () => {
     while (items.length > 0 && goesOn()) await task(items.shift());

@@ -1,4 +1,4 @@
-// The one dialog of the page: what it asks comes to the front, and where it was opened from gets the focus back.
+// The page's only dialog. It opens in front, and at its end returns the focus to the element that opened it.
 import { button, byName, element } from "./elements.mjs";
 import { say } from "./words.mjs";
 
@@ -18,7 +18,7 @@ export function openDialog(title, content, whenClosed = () => {}) {
   heading.focus();
 }
 
-// The browser's own event comes later, when another one may be open: so all is done here.
+// The browser's own event comes later, when another dialog may be open, so everything is done here.
 export function closeDialog() {
   const whenClosed = closed;
   closed = null;
@@ -37,9 +37,9 @@ export function setUpDialog() {
     event.preventDefault();
     closeDialog();
   });
-  // Escape, twice, closes it without a question.
+  // A second Escape closes it without a question.
   dialog.addEventListener("close", () => { if (!dialog.open && closed !== null) closeDialog(); });
-  // So does a press beside it.
+  // A press outside it does the same.
   dialog.addEventListener("click", (event) => { if (event.target === dialog) closeDialog(); });
 }
 
@@ -48,7 +48,7 @@ export function tell(title, words) {
   return question(title, [words], say("close"), null);
 }
 
-// A question with two answers, or one; whether the first was given.
+// Asks a question with one or two answers; returns whether the first was given.
 export function question(title, words, yes, no) {
   return new Promise((done) => {
     let answer = false;

@@ -1,11 +1,11 @@
-// Elements of the page. Nothing is ever read as HTML.
+// Elements of the page. No text is ever parsed as HTML.
 import { say } from "./words.mjs";
 
 export function byName(id) {
   return document.getElementById(id);
 }
 
-// An element with words and other elements in it.
+// Makes an element with texts and other elements in it.
 export function element(name, className, ...content) {
   const made = document.createElement(name);
   if (className) made.className = className;
@@ -17,7 +17,7 @@ export function put(id, ...content) {
   byName(id).replaceChildren(...content);
 }
 
-// Puts cards into a list, each with a name. One that looks as before stays, with the focus that is in it, and so does what is opened in it.
+// Puts named cards into a list. An unchanged card stays, with its focus and its opened parts.
 export function putCards(id, cards) {
   const before = [...byName(id).children];
   const isSameList = before.length === cards.length && before.every((card, place) => card.dataset.name === cards[place].dataset.name);
@@ -38,7 +38,7 @@ export function button(className, words, press) {
   return made;
 }
 
-// Says the words of all elements that are in the page from its beginning.
+// Sets the texts of all elements that the page has from the beginning.
 export function sayAll(root = document) {
   for (const each of root.querySelectorAll("[data-say]")) each.textContent = say(each.dataset.say);
   for (const each of root.querySelectorAll("[data-label]")) each.setAttribute("aria-label", say(each.dataset.label));

@@ -1,4 +1,4 @@
-// Finding a time: the facilities of a kind, over a week, at some hours; and the next day on which one is free.
+// Finds a time: the facilities of a kind over a week at some hours, and the next day with a free one.
 import { offerBooking } from "./booking_dialog.mjs";
 import { KINDS } from "./caveats.mjs";
 import { hoursOf, titleOf } from "./club.mjs";
@@ -31,7 +31,7 @@ function kindsToFind() {
   return KINDS.filter((kind) => facilitiesOf(kind).some((facility) => hoursOf(facility).some((hour) => isToSee({ facility: facility.name, day: firstDay, hour }))));
 }
 
-// Whether a slot can still be booked, as far as the page knows, and the pass shows it.
+// Returns whether, as far as the page knows, a slot can still be booked and the pass shows it.
 function isToSee(slot) {
   const moment = clubMoment();
   return denial("view", slot) === 0 && !hasBegun(slot, moment) && !isTooFarAhead(slot, moment);
@@ -55,7 +55,7 @@ function isToBook(slot) {
   return hasRoom(slot) && !isDenied(slot, views.get(slotName(slot)), 0);
 }
 
-// To a pass that only looks, a slot with room is free too.
+// For a pass that only looks, a slot with room counts as free.
 function isFree(slot) {
   return isToBook(slot) || (hasRoom(slot) && denial("book", slot) > 0);
 }
@@ -83,7 +83,7 @@ export function showFind(day) {
   lookWeek();
 }
 
-// Without a search of before it begins at the hour of the last booking.
+// Without an earlier search it begins at the hour of the last booking.
 function hoursOfLast() {
   const hour = lastBooked()?.hour;
   return hour >= 0 && hour < 24 ? { from: hour, to: Math.min(hour + 2, 24) } : {};
@@ -185,7 +185,7 @@ async function lookWeek() {
   put("find-looked", refusal ?? say("looked", { time: clubTime() }));
 }
 
-// Goes day by day until one has something free, and shows the days from there.
+// Checks day by day until one has a free slot, and shows the days from there.
 async function findNext() {
   if (endedContent().length > 0) {
     put("find-news", say("pass-ended"));

@@ -6,19 +6,19 @@ import { malformed, part } from "./pass_faults.mjs";
 
 const SIGNATURE_LENGTH = 32; // bytes
 
-// Reads bytes from their front on.
+// Reads bytes from the front.
 class Reader {
   constructor(bytes) {
     this.bytes = bytes;
     this.place = 0;
   }
 
-  // The next byte, which is left there; undefined at the end.
+  // Returns the next byte without taking it; undefined at the end.
   peek() {
     return this.bytes[this.place];
   }
 
-  // `what` says, in a fault, in which part of the pass the bytes end too early.
+  // `what` names the part of the pass where the bytes end too early, for a fault.
   take(count, what, fault = "breaks-off") {
     if (count > this.bytes.length - this.place) malformed(fault, { part: what });
     this.place += count;
@@ -65,7 +65,7 @@ function expectedPacket(reader, key) {
   return packet.data;
 }
 
-// The length rules, so the data may hold any bytes.
+// Only the length counts, so the data may hold any bytes.
 function nextPacket(reader, what) {
   const digits = reader.take(4, what);
   if (!/^[0-9a-f]{4}$/.test(characters(digits))) malformed("other-length", { found: quoted(shown(digits)), part: what });
@@ -129,7 +129,7 @@ function field(reader, type, what) {
   return malformed("something-else", { part: what });
 }
 
-// The data, or null where a field of another type is there.
+// Returns the data, or null if the next field has another type.
 function optionalField(reader, type, what) {
   if (reader.peek() !== type) return null;
   reader.take(1, what);
@@ -141,7 +141,7 @@ function endSection(reader, what) {
   if (byte !== END_OF_SECTION) malformed("no-end", { part: what });
 }
 
-// Seven bits a byte, the lowest first, the top bit set on all but the last; only the shortest spelling is read.
+// Seven bits per byte, lowest first, with the top bit set on all but the last. Only the shortest encoding is accepted.
 function fieldLength(reader, what) {
   let length = 0;
   for (let shift = 0; shift <= 14; shift += 7) {

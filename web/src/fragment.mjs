@@ -1,5 +1,4 @@
-// What came after # of the page's address: a pass, a list of bookings, spare passes, or that this is the hall's screen, with its pass or
-// without.
+// The part of the page's address after #: a pass, a list of bookings, spare passes, or the mark of the hall's screen, with or without a pass.
 import { textOfFragment } from "./pass.mjs";
 import { recordOfFragment } from "./record.mjs";
 

@@ -1,4 +1,4 @@
-// The form in JSON. JSON.parse takes what the desk refuses (lone surrogates, 2.0 for 2, numbers beyond any, any depth), so texts are
+// The form in JSON. JSON.parse accepts texts that the desk refuses (lone surrogates, 2.0 for 2, numbers beyond any, any depth), so texts are
 // read here. A string is a string, an array an array, an object a Map, in which the last of equal names counts, and a number this:
 import { base64Of, bytesOfBase64 } from "./base64.mjs";
 import { bytesOf, quoted, shown, textOf } from "./bytes.mjs";
@@ -53,7 +53,7 @@ class JsonReader {
     return values;
   }
 
-  // What is between brackets, with commas between each two.
+  // Reads comma-separated items between brackets.
   items(close, depth, readItem) {
     if (depth > DEEPEST_JSON) this.refuse("json-depth", { most: DEEPEST_JSON });
     this.place += 1;
@@ -81,7 +81,7 @@ class JsonReader {
     return new JsonNumber(spelling);
   }
 
-  // No pass has these values, but a name that is there twice may have had one.
+  // No pass has these values, but an overwritten duplicate name may have had one.
   word() {
     const word = this.match(/true|false|null/y);
     if (word === null) this.refuse("json-none");
@@ -155,7 +155,7 @@ function member(object, name, named) {
   return optionalMember(object, name, named) ?? malformed("json-missing", { subject: named(name) });
 }
 
-// The bytes under the plain name, as a text, or under the `64` name, as base64; null where there are neither.
+// Returns the bytes of the plain name's text, or of the `64` name, name's base64, or null without either.
 function optionalMember(object, name, named) {
   const name64 = `${name}64`;
   if (object.has(name) && object.has(name64)) malformed("json-both", { subject: named(name), other: name64 });

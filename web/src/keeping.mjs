@@ -1,5 +1,5 @@
-// What the browser keeps beside the record: passes, for the page, the tab or for good, the screen's pass, and the language. A pass of a
-// link is kept with the page's place in the tab's history, and nowhere else until somebody says so.
+// The browser's stored data other than the record: passes (for the page, the tab, or permanently), the screen's pass, and the language. A pass
+// from a link is kept only with the page's entry in the tab's history, until the member decides to keep it.
 
 import { splitGiven } from "./pass.mjs";
 import { placeName } from "./place.mjs";
@@ -15,7 +15,7 @@ function storageOf(forGood) {
   return forGood ? globalThis.localStorage : globalThis.sessionStorage;
 }
 
-// Whether the browser kept it.
+// Returns whether the browser stored it.
 function keep(forGood, name, value) {
   try {
     storageOf(forGood).setItem(placeName(name), value);
@@ -41,7 +41,7 @@ function drop(forGood, name) {
   }
 }
 
-// A list that was kept as JSON, of which only what is right counts.
+// Reads a list stored as JSON, and drops invalid items.
 function keptList(name, isRight) {
   try {
     const list = JSON.parse(kept(true, name) ?? "[]");
@@ -51,7 +51,7 @@ function keptList(name, isRight) {
   }
 }
 
-// ---- Passes that are kept for good, each with a name, in the order of their use
+// ---- Permanently kept passes, each with a name, most recently used first
 
 export function plainName(text) {
   return text.replace(/\s+/g, " ").trim().slice(0, LONGEST_NAME);
@@ -66,12 +66,12 @@ export function keptPasses() {
   return keptList("passes", isKeptPass);
 }
 
-// Whether as many others are kept as can be.
+// Returns whether the limit of other kept passes is reached.
 export function isPassTooMany(text) {
   return keptPasses().filter((each) => each.text !== text).length >= MOST_PASSES;
 }
 
-// Adds a pass in front of the others, or gives it another name. No other one is taken away.
+// Adds a pass in front of the others, or renames it. Never removes another one.
 export function keepPass(text, name) {
   const others = keptPasses().filter((each) => each.text !== text);
   return !isPassTooMany(text) && keep(true, "passes", JSON.stringify([{ text, name }, ...others]));
@@ -100,16 +100,16 @@ export function passOfPage() {
   return typeof pass === "string" ? pass : null;
 }
 
-// Cleans the address, and holds a pass for as long as the page has its place in the tab.
+// Cleans the address, and keeps a pass as long as the tab's history has the page.
 export function holdPass(text, end = "") {
   try {
     history.replaceState(text === null ? null : { pass: text }, "", location.pathname + end);
   } catch {
-    // A page of a folder has an address that can't be changed.
+    // The address of a page opened from a folder can't be changed.
   }
 }
 
-// ---- Spare passes, and what was lent
+// ---- Spare passes and loans
 
 export function keptSpares() {
   return keptList("spares", (each) => typeof each === "string");
@@ -137,12 +137,12 @@ function isLoan(each) {
   return typeof each === "object" && each !== null && [each.given, each.says, each.spare].every((text) => typeof text === "string");
 }
 
-// Each with its pass as it was handed on, its sentence, and the spare pass that it is a part of, "" where it is of none.
+// A loan has the pass that was handed on, its sentence, and the spare pass that it is a part of, or "".
 export function keptLoans() {
   return [...loansOfPage, ...keptList("loans", isLoan)].map(({ given, says, spare }) => ({ given, says, spare, ...splitGiven(given) }));
 }
 
-// Adds a loan. One that the browser doesn't keep, or that is one too many, is known until the page is left.
+// Adds a loan. A loan that the browser can't store, or that exceeds the limit, is known until the page is left.
 export function keepLoan({ given, says, spare }) {
   const loan = { given, says, spare };
   const others = keptList("loans", isLoan);
@@ -158,7 +158,7 @@ export function dropLoan({ given }) {
 
 // ---- The rest
 
-// The numbers of bookings that were in a list which somebody took along, by the key.
+// By key, the numbers of the bookings in an exported list.
 export function takenAlong(key) {
   return new Set(keptList(`taken ${key}`, Number.isInteger));
 }
@@ -167,7 +167,7 @@ export function noteTakenAlong(key, numbers) {
   keep(true, `taken ${key}`, JSON.stringify(numbers.slice(-MOST_NOTED)));
 }
 
-// What was searched last, and the facility and hour of the last booking; both may be of another club by now.
+// The last search, and the facility and hour of the last booking; both may be from another club.
 export function keptSearch() {
   const [found] = keptList("search", (each) => typeof each === "object" && each !== null && typeof each.kind === "string"
     && Number.isInteger(each.from) && Number.isInteger(each.to) && each.from >= 0 && each.from < each.to && each.to <= 24);

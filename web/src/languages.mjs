@@ -1,9 +1,9 @@
-// Which language the page speaks: the first that the browser's user reads, until another is chosen.
+// The page's language: the browser user's first supported one, until another is chosen.
 /* global WORDS */
 import { byName, element } from "./elements.mjs";
 import { language, languageFor, languages, say, useWords } from "./words.mjs";
 
-// Says the page, by `sayPage`, in the language of before or the browser's, and offers the others. `keep` gets a language that is chosen.
+// Shows the page, by `sayPage`, in the language chosen earlier or the browser's, and offers the others. `keep` gets a language that is chosen.
 export function offerLanguages(sayPage, before = null, keep = () => {}) {
   useWords(WORDS, "en");
   const field = byName("language");

@@ -1,4 +1,4 @@
-// Lending a part of a pass: what, how, until when, for how many points; then the link to hand on.
+// Lends a part of a pass: asks what, how, until when and for how many points, then shows the link.
 import { titleOf } from "./club.mjs";
 import { KINDS, readCaveat } from "./caveats.mjs";
 import { daysLater, isDate } from "./dates.mjs";
@@ -25,7 +25,7 @@ const spentBy = new Map(); // what the keys of spare passes spent, by their text
 const unfit = new Set(); // spare passes that the desk refuses, or that are another member's, by their texts
 let isMaking = false;
 
-// The spare passes that a loan may take. Under a pass that doesn't show the account none is known to be of the same member.
+// Returns the spare passes for a loan. Without the account, the page can't tell which are the same member's.
 function sparesToLend() {
   if (denial("account") > 0) return [];
   return freeSpares(keptSpares(), keptLoans(), clubMoment()).filter(({ text }) => !unfit.has(text));
@@ -67,7 +67,7 @@ function valueOf(id) {
   return byName(id).querySelector("input:checked")?.value ?? "";
 }
 
-// What is chosen, or the key of the words that say what isn't right yet.
+// Returns the choices, or the key of the text about a missing or wrong one.
 function chosenLoan() {
   const what = valueOf("lend-what");
   const last = valueOf("lend-until") === "other" ? byName("lend-day").value : valueOf("lend-until");
@@ -81,7 +81,7 @@ function chosenLoan() {
   };
 }
 
-// The whole loan in a sentence, and that the limits of the pass that is narrowed apply, where it has some.
+// Describes the loan in a sentence, and mentions the limits of the narrowed pass, if it has any.
 function loanText({ name, kind, facility, isToLook, last, points }, isOfOwn) {
   const what = kind !== "" ? say(`kinds-${kind}`) : facility !== "" ? titleOf(state.club, facility) : say("lend-everything");
   const loan = say(isToLook ? "lend-says-look" : "lend-says-book", {
@@ -114,7 +114,7 @@ function whyOwn() {
 
 // ---- Making it
 
-// The account under a spare pass, or null where that is of no use: where the desk refuses it, or it is another member's.
+// Returns the account under a spare pass, or null if the desk refuses the pass or it is another member's.
 async function accountOfSpare(text, member) {
   const reply = await ask(text, "account", {}, 2);
   const isFit = reply.fault === undefined && reply.member === member;
@@ -122,8 +122,8 @@ async function accountOfSpare(text, member) {
   return isFit ? reply : null;
 }
 
-// Returns the pass to narrow and what its key spent: a free spare pass of the member's, else the pass that is used. Or the desk's refusal
-// of that one.
+// Returns the pass to narrow with its key's spent points: a free spare pass of the member, otherwise the pass in use. Or returns the desk's
+// refusal of the latter.
 async function basisOf() {
   const own = denial("account") > 0 ? null : await ask(state.text, "account", {}, 2);
   if (own?.fault !== undefined) return { refusal: own };
@@ -156,7 +156,7 @@ async function lend(event) {
   }
 }
 
-// Makes a loan, shows it, and returns the words for below. If no spare pass can be taken after all, it says so first and makes nothing.
+// Makes a loan, shows it, and returns the text to show below. If no spare pass can be used after all, it first says so and makes nothing.
 async function makeLoan(loan) {
   const wasOfOwn = sparesToLend().length === 0;
   const { pass, spent, spare, refusal } = loan.isToLook ? { pass: state.pass, spent: 0, spare: "" } : await basisOf();
@@ -230,14 +230,14 @@ function loanCard(loan) {
   const facts = [];
   if (isOver) facts.push(say("lend-over"));
   if (spent !== undefined && limit !== null) facts.push(say("lend-used", { spent: Math.max(0, spent - loan.spent), most: limit - loan.spent }));
-  // One that goes on stays: its spare pass is lent.
+  // A current loan stays: its spare pass is lent.
   const press = isOver ? button("", say("remove"), () => { dropLoan(loan); showLend(); })
     : button("", say("lend-again"), () => showMade(loan.given, loan.says));
   return element("li", isOver ? "card cancelled" : "card booked", element("p", "", loan.says), element("p", "hint", facts.join(" \u00b7 ")),
     element("div", "buttons", press));
 }
 
-// Asks under each lent spare pass what its key spent, and which of the others can be taken.
+// Asks the desk for the points spent under each lent spare pass, and which others can be used.
 async function lookAfterLoans() {
   const lent = sparesLent(keptLoans(), clubMoment());
   for (const text of lent) {
@@ -252,7 +252,7 @@ async function lookAfterLoans() {
 
 // ---- Spare passes
 
-// Spare passes that came in a link are kept once a person says so.
+// Spare passes from a link are kept only after the member agrees.
 export async function offerSpares(texts) {
   const passes = texts.map(passOrNull);
   if (passes.includes(null) || passes.some((pass) => keyName(pass) === null)) {
@@ -268,7 +268,7 @@ export async function offerSpares(texts) {
   showLend();
 }
 
-// Shows the spare passes that may be removed, where more came than can be kept. A lent one stays.
+// Shows removable spare passes if more came than can be kept. A lent one stays.
 function makeRoom(texts, names) {
   const free = freeSpares(keptSpares(), keptLoans(), clubMoment() ?? "").filter(({ text }) => !texts.includes(text));
   const items = free.map(({ text, pass }) => {
@@ -315,7 +315,7 @@ export function setUpLend() {
   byName("lend-share").addEventListener("click", shareLoan);
 }
 
-// What a narrowed pass opens, in short, for whoever holds it: what, until when, and how much of its points was booked.
+// Summarizes a narrowed pass for its holder: what it allows, until when, and how many of its points are booked.
 export function passSays(pass) {
   const parts = pass.caveats.map(shortText).filter((part) => part !== "");
   const limit = limitOf(pass);

@@ -1,4 +1,4 @@
-// Her list is in this browser alone: the browser is asked to keep it for good, and she is reminded to take it along.
+// The member's list is only in this browser. The page asks the browser to keep it permanently, and reminds the member to save it.
 import { byName, put } from "./elements.mjs";
 import { noteTakenAlong, takenAlong } from "./keeping.mjs";
 import { isLive } from "./record.mjs";

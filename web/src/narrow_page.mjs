@@ -1,4 +1,4 @@
-// The page that narrows a pass. It sends nothing, and loads nothing but the club's list, where a server has one.
+// The page that narrows a pass. It sends nothing, and loads only the club's list, if a server has one.
 import { bytesOf, shown } from "./bytes.mjs";
 import { readClub } from "./club.mjs";
 import { showClub } from "./club_view.mjs";
@@ -10,7 +10,7 @@ import { fact, faultContent, isAboutSlots, keyFacts, keyWarning, leavesOut, limi
 import { drawQr, qrWords } from "./qr_picture.mjs";
 import { say } from "./words.mjs";
 
-// ---- Choices: of each fieldset, by its id, the line that its fields make, "" where they are empty. In the order in which they are added.
+// ---- Choices: for each fieldset, by its id, the line that its fields make, or "" if they are empty, in the order of addition.
 
 const CHOICES = {
   kind: kindLine,
@@ -72,10 +72,10 @@ const choices = byName("choices");
 const narrowButton = byName("narrow");
 const result = byName("result");
 
-// The pass that was read from what is entered, or null.
+// The pass read from the entered text, or null.
 let pass = null;
 let club = null; // from club.json, where there is one
-// How often a result was taken back. Signing takes a moment, and what was entered or chosen meanwhile makes its result an old one.
+// Counts withdrawn results. Signing takes a moment, and input during it makes the result outdated.
 let round = 0;
 
 function addressOf(text) {
@@ -99,7 +99,7 @@ function readGiven() {
   if (pass !== null) put("given-pass", ...passContent(pass, pass.caveats.length));
 }
 
-// What a pass says: whose key, and each of its limits. Those after the first `old` ones are marked as new.
+// Shows a pass: its key's name, and each of its limits. Those after the first `old` ones are marked as new.
 function passContent(shownPass, old) {
   const { location, form } = shownPass;
   const where = location.length > 0 ? say("location-hint", { location: shown(location) }) : say("none");
@@ -111,7 +111,7 @@ function fieldsIn(id) {
   return [...byName(id).querySelectorAll("input, select")];
 }
 
-// The line that a fieldset makes: "" where it is empty, null where it is wrong.
+// Returns a fieldset's line, "" if it is empty, or null if it is wrong.
 function chosenLine(id, form) {
   if (fieldsIn(id).some((field) => field.validity.badInput)) return null; // a date that is half entered has no value
   const line = CHOICES[id](form);
@@ -123,7 +123,7 @@ function chosenLines() {
   return new Map(Object.keys(CHOICES).map((id) => [id, chosenLine(id, form)]));
 }
 
-// Shows below a fieldset what it adds. What is wrong comes when the person leaves it or narrows, not at the first key.
+// Shows below a fieldset what it adds. Faults are shown when the user leaves it or narrows, not at the first key.
 function showChoice(id) {
   const line = chosenLine(id, new FormData(choices));
   put(`${id}-made`, ...(line ? [sentenceOf(bytesOf(line)), element("code", "", line)] : []));
@@ -146,12 +146,12 @@ function showWrong(id, isWrong) {
 
 function leaveChoice(event) {
   const fieldset = event.target.closest("fieldset");
-  // The button says it too, and would move away from under a mouse.
+  // The button shows it too, and would move away from under a mouse.
   if (fieldset === null || fieldset.contains(event.relatedTarget) || event.relatedTarget === narrowButton) return;
   showWrong(fieldset.id, chosenLine(fieldset.id, new FormData(choices)) === null);
 }
 
-// What is to be done before the pass can be narrowed, and where; null where nothing is.
+// Returns the obstacle to narrowing and its place, or null.
 function obstacle(lines) {
   if (!canSign()) return { field: given, message: say("obstacle-sign") };
   if (pass === null) return { field: given, message: say("obstacle-pass") };
@@ -199,7 +199,7 @@ function showResult(narrower, text, old) {
   result.scrollIntoView();
 }
 
-// From a folder the address leads nowhere on another telephone.
+// An address in a folder doesn't work on another telephone.
 function showQr(address) {
   const isHere = location.protocol === "file:";
   const picture = isHere ? null : drawQr(address, say("lend-qr-label"));
@@ -213,7 +213,7 @@ function clearResult() {
   for (const id of ["narrow-fault", "outcome", "narrowed-message", "address-message", "book-address-message"]) put(id);
 }
 
-// What a person should know before handing this pass to somebody: titles with words.
+// Returns notes to read before handing on this pass: titles with texts.
 function notesOn(narrower) {
   const { caveats } = narrower;
   if (caveats.some((caveat) => sentenceOf(caveat) === null)) return [[say("note-refused-title"), say("note-refused")]];
@@ -278,7 +278,7 @@ function toggleFacility(name) {
   field.dispatchEvent(new Event("input", { bubbles: true }));
 }
 
-// Which facilities are chosen, also where somebody typed their names.
+// Marks the chosen facilities, also typed ones.
 function markFacilities() {
   const names = namesIn(byName("facility-names").value);
   for (const press of byName("club-facilities").querySelectorAll("button")) press.setAttribute("aria-pressed", String(names.includes(press.dataset.name)));
@@ -292,7 +292,7 @@ function fillHours() {
   byName("hours-to").append(...hours.slice(1).map((hour) => new Option(`${hour}:00`, hour)));
 }
 
-// Below each fieldset: what it adds, and what is wrong in it, which a screen reader says with its fields.
+// Below each fieldset: the line it adds, and its fault, which a screen reader reads with its fields.
 function addMessages(id) {
   const made = element("p", "made");
   made.id = `${id}-made`;
@@ -313,7 +313,7 @@ function takeFragment() {
   readGiven();
 }
 
-// Says everything, from the beginning or in another language. A result is made once more by whoever wants it.
+// Shows all texts, at the beginning or in another language. The user must make the result again.
 function sayPage() {
   sayAll();
   if (!canSign()) put("unsigned", element("strong", "", say("unsigned-title")), say("unsigned"));

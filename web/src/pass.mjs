@@ -1,6 +1,6 @@
 // A pass is a location, an identifier, caveats and a signature, all of them bytes, and the form that it is written in: v1, v2 or
-// json. A caveat is a line that narrows the pass. Each is signed under the signature before it, so whoever holds a pass can add one
-// without a secret, and nobody can take one off.
+// json. A caveat is a line that narrows the pass. Each is signed with the signature before it, so any holder of a pass can add one without a
+// secret, and nobody can remove one.
 import { bytesOfBase64 } from "./base64.mjs";
 import { bytesOf, characters } from "./bytes.mjs";
 import { NAME } from "./caveats.mjs";
@@ -49,7 +49,7 @@ function refuseManyCaveats(count, key) {
   if (count > MOST_CAVEATS) throw new Fault(TOO_MANY, key, { count, most: MOST_CAVEATS });
 }
 
-// The text as a field of a request can have it: JSON may have line breaks and letters outside ASCII, so it goes in V2 where that fits.
+// Returns the text for a request's field. JSON may have line breaks and letters outside ASCII, so it is sent as V2 if that fits.
 export function sentText(pass, text) {
   if (pass.form !== "json" || !text.trim().startsWith("{")) return text.trim();
   try {
@@ -59,19 +59,20 @@ export function sentText(pass, text) {
   }
 }
 
-// The name of the key that a pass is of, or null where its identifier names none.
+// Returns the name of a pass's key, or null if its identifier names none.
 export function keyName(pass) {
   const found = new RegExp(`^key:(${NAME})$`).exec(characters(pass.identifier));
   return found === null ? null : found[1];
 }
 
-// A text as it was pasted: it may have come with a line feed at its end, which isn't counted, or as an address with the pass after #.
+// Returns the pass in pasted text, which may have a final line feed, or be an address with the pass after #.
 export function pastedText(pasted) {
   const text = pasted.replace(/\n$/, "");
   return /^\s*(?:https?|file):\/\/[^#]*#/.test(text) ? textOfFragment(text.slice(text.indexOf("#"))) : text;
 }
 
-// A pass may come with what its key spent before it was lent: `PASS;spent=N`. That is told and not trusted: the desk decides.
+// A pass may come with the points that its key spent before the loan: `PASS;spent=N`. This number is only shown and not trusted: the desk
+// decides.
 export function withSpent(text, spent) {
   return spent > 0 ? `${text};spent=${spent}` : text;
 }
@@ -102,7 +103,7 @@ async function extended(signature, caveat) {
   return new Uint8Array(await crypto.subtle.sign("HMAC", key, caveat));
 }
 
-// The pass with these lines added in their order.
+// Returns the pass with these lines added in order.
 export async function narrowed(pass, lines) {
   refuseManyCaveats(pass.caveats.length + lines.length, "too-many-would");
   const added = lines.map(bytesOf);

@@ -1,4 +1,4 @@
-// Why a text is no pass that the desk takes, in the order in which it is looked for. A fault has a kind, and a sentence as the key of
+// The reasons why the desk refuses a text as a pass, in the order of the checks. A fault has a kind, and a sentence as the key of
 // the words' table with values; a value may itself be such a key.
 
 export const LONGEST_TEXT = 8192; // bytes
@@ -22,7 +22,7 @@ export function malformed(key, values) {
   throw new Fault(MALFORMED, key, values);
 }
 
-// What a sentence speaks of: the pass, a name of its JSON, a caveat, or a name of that.
+// The subject of a sentence: the pass, a name in its JSON, a caveat, or a name in that.
 export const IT = { key: "subject-it" };
 
 export function itsName(name) {
@@ -37,7 +37,7 @@ export function caveatName(number, name) {
   return { key: "subject-caveats", values: { number, name } };
 }
 
-// The part of a pass in which something is wrong.
+// The faulty part of a pass.
 export function part(name) {
   return { key: `part-${name}` };
 }

@@ -1,4 +1,4 @@
-// The passes of this browser: which one is used, which are kept, and how another one comes in.
+// The passes of this browser: the one in use, the kept ones, and new ones.
 import { button, byName, element, put } from "./elements.mjs";
 import { readFragment } from "./fragment.mjs";
 import { dropPass, holdPass, isPassTooMany, keepForTab, keepPass, keptPasses, MOST_PASSES, passOfPage, passOfTab, plainName } from "./keeping.mjs";
@@ -20,7 +20,7 @@ export function isPassShown() {
   return state.pass !== null && !isEntering;
 }
 
-// Takes a pass that was pasted, kept or in a link. Throws a Fault where it is none.
+// Uses a pass that was pasted, kept or in a link. Throws a Fault if it isn't a pass.
 function takePass(whole) {
   const { text, spent } = splitGiven(whole);
   const pass = readPass(text);
@@ -35,7 +35,7 @@ function takePass(whole) {
   keepTrouble = "";
 }
 
-// A name that no other pass has.
+// Returns a name that no other pass has.
 function freeName(name) {
   const taken = new Set([...keptPasses().map((each) => each.name), ...used.values()]);
   for (let count = 1; ; count += 1) {
@@ -50,7 +50,7 @@ function showFault(fault, text) {
   byName("given").setAttribute("aria-invalid", "true");
 }
 
-// Whether a text was a pass, which is then the one that is used.
+// Uses the pass in a text; returns whether there was one.
 function wasTaken(text) {
   try {
     takePass(text);
@@ -61,8 +61,8 @@ function wasTaken(text) {
   }
 }
 
-// What came in the address, which is cleaned at once; else the pass of this page, of this tab, or the one of this browser that was used last.
-// Returns what came that is no pass, with its kind and text: a list, or spare passes.
+// Uses the pass in the address, which is cleaned at once; otherwise the pass of this page or tab, or the one last used in this browser.
+// Returns the kind and text of anything else in the address: a list, or spare passes.
 export function findPass() {
   const { kind, text } = readFragment(location.hash);
   const held = passOfPage();
@@ -131,7 +131,7 @@ function useEntered(event) {
   page.begin();
 }
 
-// Keeps the pass that is used, beside the others.
+// Keeps the pass in use in addition to the others.
 export function keepThis(name = state.name) {
   state.isKept = keepPass(state.given, name);
   if (state.isKept) {
@@ -145,12 +145,12 @@ export function keepThis(name = state.name) {
   return state.isKept;
 }
 
-// Where the pass is, or why it couldn't be kept.
+// Says where the pass is kept, or why it couldn't be.
 export function keptText() {
   return say(state.isKept ? "pass-kept" : keepTrouble || "pass-not-kept", { count: MOST_PASSES });
 }
 
-// Forgets the pass that is used. Another one of this browser comes in its place.
+// Forgets the pass in use. Another pass of this browser replaces it.
 export function forgetPass() {
   used.delete(state.given);
   dropPass(state.given);
@@ -172,7 +172,7 @@ function loseState() {
   isEntering = false;
 }
 
-// Another tab kept or forgot a pass.
+// Called when another tab kept or forgot a pass.
 export function keptElsewhere() {
   const isThere = keptPasses().some((each) => each.text === state.given);
   if (state.isKept && !isThere) forgetPass();
@@ -198,14 +198,14 @@ export function passNotices() {
   return notices;
 }
 
-// The words for a pass that has ended: when, and what to do. None where it hasn't.
+// Returns the text for a pass that has ended: when, and what to do. None where it hasn't.
 export function endedContent() {
   const end = state.pass === null || state.club === null ? null : endOf(state.pass);
   if (end === null || end > clubMoment()) return [];
   return [element("strong", "", say("pass-ended")), " ", untilText(...end.split("T")), " ", say("pass-ended-ask"), " ", button("", say("enter-another"), enterAnother)];
 }
 
-// The passes to choose from, where there are several.
+// Shows the passes to choose from, if there are several.
 export function showChoice() {
   const names = new Map([...keptPasses().map((each) => [each.text, each.name]), ...used]);
   byName("who-part").hidden = !isPassShown() || names.size < 2;
@@ -223,7 +223,7 @@ export function setUpPasses(whatPageDoes) {
   byName("who").addEventListener("change", (event) => choosePass(event.target.value));
 }
 
-// The name of the pass, which a member may change where it is kept.
+// Shows the pass's name, which the member can change if the pass is kept.
 export function nameField() {
   const field = element("input", "");
   Object.assign(field, { id: "pass-name", value: state.name, maxLength: 40, autocomplete: "off" });

@@ -1,4 +1,4 @@
-// What is kept in a browser has names, which begin otherwise for a club to try.
+// The names of a browser's stored data have another prefix for a trial club.
 
 let beginning = "";
 

@@ -1,7 +1,7 @@
-// What a booking costs, and whether the pass is known to refuse it.
+// Returns a booking's cost, and whether the pass is known to refuse it.
 import { denial } from "./state.mjs";
 
-// `view` is the desk's word on the slot, or null where the pass doesn't show it.
+// `view` is the desk's reply about the slot, or null if the pass doesn't show it.
 export function owedFor(view, guests) {
   return view === null ? 0 : view.price * (guests + 1);
 }

@@ -1,6 +1,6 @@
-// QR codes (ISO/IEC 18004): a text's bytes as rows of dark and light modules, of error correction level L, which reads from a screen.
+// QR codes (ISO/IEC 18004): a text's bytes as rows of dark and light modules, with error correction level L, which is enough for a screen.
 
-// Of each version up to 25: codewords of error correction a block, and blocks, at level L.
+// For each version up to 25 at level L: error correction codewords per block, and blocks.
 const CORRECTION = [7, 10, 15, 20, 26, 18, 20, 24, 30, 18, 20, 24, 26, 30, 22, 24, 28, 30, 28, 28, 28, 28, 30, 30, 26];
 const BLOCKS = [1, 1, 1, 1, 1, 2, 2, 2, 2, 4, 4, 4, 4, 4, 6, 6, 6, 6, 7, 8, 8, 9, 9, 10, 12];
 const LARGEST_VERSION = 25;
@@ -26,7 +26,7 @@ function alignmentPlaces(version) {
   return [6, ...Array.from({ length: count - 1 }, (_, place) => last - (count - 2 - place) * step)];
 }
 
-// How many modules of a version carry bits.
+// Returns the number of a version's modules that carry bits.
 function carriers(version) {
   const alignments = alignmentPlaces(version).length;
   const patterns = version === 1 ? 0 : (25 * alignments - 10) * alignments - 55;
@@ -41,7 +41,7 @@ function dataLength(version) {
   return codewords(version) - CORRECTION[version - 1] * BLOCKS[version - 1];
 }
 
-// The shortest version that holds so many bytes, or null.
+// Returns the smallest version for a number of bytes, or null.
 function versionFor(count) {
   for (let version = 1; version <= LARGEST_VERSION; version += 1) {
     if (4 + (version < 10 ? 8 : 16) + 8 * count <= 8 * dataLength(version)) return version;
@@ -64,7 +64,7 @@ function dataOf(bytes, version) {
   return Array.from({ length: room / 8 }, (_, place) => parseInt(bits.slice(8 * place, 8 * place + 8).join(""), 2));
 }
 
-// The product of x less each power of 2 up to the degree, without its leading 1.
+// Returns the product of (x - 2^i) for each i below the degree, without its leading 1.
 function generator(degree) {
   let result = [...new Array(degree - 1).fill(0), 1];
   for (let exponent = 0; exponent < degree; exponent += 1) {
@@ -83,7 +83,7 @@ function remainder(data, divisor) {
   return rest;
 }
 
-// Data and error correction, block by block interleaved.
+// Interleaves the blocks' data and error correction.
 function withCorrection(data, version) {
   const count = BLOCKS[version - 1];
   const divisor = generator(CORRECTION[version - 1]);
@@ -118,7 +118,7 @@ class Code {
     this.fixed[y][x] = true;
   }
 
-  // A square of this reach round a place: dark by the distance from its middle.
+  // Draws a square around a place, dark by the distance from its centre.
   square(x, y, reach, isDark) {
     for (let dy = -reach; dy <= reach; dy += 1) {
       for (let dx = -reach; dx <= reach; dx += 1) this.fix(x + dx, y + dy, isDark(Math.max(Math.abs(dx), Math.abs(dy))));
@@ -142,7 +142,7 @@ class Code {
     if (this.version >= 7) this.drawVersion();
   }
 
-  // Level L and the mask, with their own correction, twice.
+  // Writes level L and the mask twice, with their own error correction.
   drawFormat(mask) {
     const value = 1 << 3 | mask;
     let rest = value;
@@ -169,7 +169,7 @@ class Code {
     }
   }
 
-  // In columns of two from the right, upwards and downwards by turns.
+  // Fills columns of two from the right, alternately upwards and downwards.
   drawData(words) {
     let place = 0;
     for (let right = this.size - 1; right >= 1; right -= 2) {
@@ -193,7 +193,7 @@ class Code {
     return copy;
   }
 
-  // How badly it reads: runs and squares of one colour, what looks like a finder, and too much of one colour.
+  // Returns the penalty: for runs and squares of one colour, finder-like patterns, and too much of one colour.
   penalty() {
     const lines = [...this.rows, ...this.rows.map((_, x) => this.rows.map((row) => row[x]))].map((line) => line.map(Number).join(""));
     let points = 0;
@@ -212,7 +212,7 @@ class Code {
   }
 }
 
-// The rows of the code of a text, or null where it is too long for one that a telephone reads from a screen.
+// Returns the rows of a text's code, or null if it is too long for a code that a telephone can read from a screen.
 export function qrRows(text) {
   const bytes = new TextEncoder().encode(text);
   const version = versionFor(bytes.length);

@@ -22,7 +22,7 @@ export function drawQr(text, label) {
   return picture;
 }
 
-// The key of the words below the picture of a link, which is null where the link is too long.
+// Returns the key of the text below a link's picture; the picture is null if the link is too long.
 export function qrWords(picture) {
   if (picture === null) return "lend-qr-none";
   return picture.viewBox.baseVal.width > DENSE ? "lend-qr-dense" : "lend-qr";

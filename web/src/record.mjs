@@ -1,14 +1,14 @@
-// The record of bookings: what was asked of the desk and what it answered, a booking an entry. An entry has
+// The record of bookings: the requests to the desk and its answers, with an entry for each booking. An entry has
 //   key, number, facility, day, hour: what the desk knows it by;
 //   guests: null where only number and slot are known;
 //   book: null while its PUT has no reply, else the reply; an empty object where somebody else has it;
 //   cancel: undefined, or null while its DELETE has no reply, else the reply;
 //   unsure: whether a request of its was sent and may have been carried out without a reply that came;
 //   asked: when the entry was made, in milliseconds;
-//   listed: of an entry that came in a list, what the list says: charge, left, refund, cancel. The desk said none of it to this browser,
-//     so such an entry is never sent by itself, and never counts as cancelled;
+// listed: of an entry that came in a list, what the list says: charge, left, refund, cancel. The desk hasn't confirmed any of it to this
+// browser, so such an entry is never sent automatically, and never counts as cancelled;
 //   saidCancelled: whether a list says that a booking of this browser's own was cancelled.
-// What this module returns are new entries; nothing is changed.
+// The functions of this module return new entries and change none.
 import { isName, NAME } from "./caveats.mjs";
 import { isDate, minutesOf, startOf } from "./dates.mjs";
 import { isOfPass, NUMBER_USED } from "./replies.mjs";
@@ -18,7 +18,7 @@ const FULL_REFUND_MINUTES = 1440;
 export const DAYS_AHEAD = 60;
 export const MOST_GUESTS = 49;
 
-// A number from 1 to the largest, each as likely as the others, that is in none of the entries.
+// Draws a number uniformly from 1 to the largest that no entry has.
 export function drawnNumber(used, random = (array) => crypto.getRandomValues(array)) {
   const limit = Math.floor(2 ** 32 / LARGEST_NUMBER) * LARGEST_NUMBER;
   for (;;) {
@@ -33,13 +33,13 @@ export function newBooking(key, number, slot, guests, asked) {
   return { key, number, facility, day, hour, guests, book: null, unsure: false, asked };
 }
 
-// What is to be sent of an entry: "book", "cancel" or null. A PUT without a reply goes before the DELETE.
+// Returns the request to send for an entry: "book", "cancel" or null. An unanswered PUT goes before the DELETE.
 export function unfinished(entry) {
   if (entry.book === null) return "book";
   return entry.cancel === null ? "cancel" : null;
 }
 
-// The entry with a reply to what was sent of it. A refusal of the pass leaves a request open that may have been carried out before.
+// Returns the entry with the reply to its request. After a refusal of the pass, a request that may have been carried out earlier stays open.
 export function answered(entry, action, reply) {
   if (reply.fault !== undefined && isOfPass(reply) && entry.unsure) return { ...entry, stopped: reply };
   const { stopped, saidCancelled, ...rest } = entry;
@@ -52,7 +52,7 @@ export function withCancellation(entry) {
   return { ...rest, cancel: null };
 }
 
-// "asked", "booked", "refused", "cancelling", "cancelled", or "listed" where only a list speaks of it.
+// "asked", "booked", "refused", "cancelling", "cancelled", or "listed" if only a list has it.
 export function stateOf(entry) {
   if (entry.book === null) return "asked";
   if (entry.book.fault !== undefined) return "refused";
@@ -60,23 +60,23 @@ export function stateOf(entry) {
   return entry.cancel === null ? "cancelling" : "cancelled";
 }
 
-// Whether it holds places, or may hold some.
+// Returns whether an entry holds places, or may hold some.
 export function isLive(entry) {
   return ["asked", "booked", "cancelling"].includes(stateOf(entry)) || (stateOf(entry) === "listed" && entry.listed.refund === undefined);
 }
 
-// Whether the desk may be asked once more for what a list names: it has its guests, and no reply.
+// Returns whether a listed entry can be sent to the desk: it has guests and no reply.
 export function canBeAsked(entry) {
   return stateOf(entry) === "listed" && entry.guests !== null && entry.listed.charge === undefined;
 }
 
-// A listed entry as a request of this browser's own, under the same number; `ofList` says that a list named it.
+// Turns a listed entry into this browser's own request, with the same number; `ofList` says that a list named it.
 export function withRequest(entry) {
   const { listed, notCancelled, stopped, ...rest } = entry;
   return { ...rest, book: null, unsure: true, ofList: true };
 }
 
-// Whether a value that the browser kept is an entry: what isn't one is neither shown nor sent.
+// Returns whether a stored value is an entry; anything else is neither shown nor sent.
 export function isEntry(value) {
   if (typeof value !== "object" || value === null) return false;
   const { key, number, facility, day, hour, guests, book, cancel, listed, asked } = value;
@@ -91,14 +91,15 @@ function isWithin(value, least, most) {
   return Number.isInteger(value) && value >= least && value <= most;
 }
 
-// The points that the desk took for an entry and keeps. A charge that only a list says counts as nothing, and so does what came back of it.
+// Returns the points that the desk charged for an entry and keeps. A charge or refund that only a list claims counts as 0.
 export function costOf(entry) {
   return entry.saidCancelled || entry.book?.charge === undefined ? 0 : entry.book.charge - (entry.cancel?.refund ?? 0);
 }
 
-// What a list and the desk's word on what the key spent say of one another: "same"; "less" where the desk counts less, so a booking was
-// cancelled elsewhere, with those that it may be; "more" where a booking isn't listed; and by how many points. Null where it can't be said.
-// Where the desk counts all that it said to this browser it is "claims": the doubt is about lists alone. None takes more back than was paid.
+// Compares the record with the desk's count of the key's spent points. Returns "same"; "less" with the possible entries, if the desk counts
+// less, so that a booking was cancelled elsewhere; or "more" if a booking isn't listed. It also returns the difference in points. Null where it
+// can't be said. Where the desk counts all that it said to this browser it is "claims": the doubt is about lists alone. No refund exceeds its
+// charge.
 export function compared(entries, spent, moment) {
   const counted = entries.filter((entry) => stateOf(entry) !== "refused");
   if (counted.some((entry) => unfinished(entry) !== null || amountsOf(entry).charge === undefined)) return null;
@@ -125,7 +126,7 @@ export function isAt(entry, slot) {
   return entry.facility === slot.facility && entry.day === slot.day && entry.hour === slot.hour;
 }
 
-// Whether a refused request must be sent under another number. A list's number may be that of a booking with other guests: it isn't booked twice.
+// Returns whether a refused request needs another number. A listed number may belong to a booking with other guests, which isn't booked twice.
 export function wantsOtherNumber(entry) {
   return entry.book?.fault === NUMBER_USED && !entry.ofList;
 }
@@ -138,12 +139,13 @@ export function isTooFarAhead(slot, moment) {
   return minutesOf(startOf(slot)) > minutesOf(moment) + DAYS_AHEAD * 1440;
 }
 
-// Charge and places left: the desk's, else what a list says.
+// Returns charge and places left, from the desk or otherwise from a list.
 export function amountsOf(entry) {
   return entry.book?.charge === undefined ? entry.listed ?? {} : entry.book;
 }
 
-// What a cancellation at a moment gives back of a charge: all a day or more ahead, else half, rounded down; null where it is too late.
+// Returns a cancellation's refund of a charge at a moment: all of it a day or more ahead, otherwise half, rounded down, or null if it is too
+// late.
 export function refundAt(entry, moment) {
   const { charge } = amountsOf(entry);
   if (hasBegun(entry, moment) || charge === undefined) return null;
@@ -173,7 +175,7 @@ function lineOf(entry) {
   return words.join(" ");
 }
 
-// The key and entries of a text, or the number of the line that isn't one, from 1.
+// Returns the key and entries of a text, or the number, from 1, of the first invalid line.
 export function readRecord(text, asked) {
   const lines = text.replaceAll("\r", "").split("\n").map((line) => line.trim()).filter((line) => line !== "");
   const key = TITLE.exec(lines[0] ?? "")?.[1];
@@ -208,8 +210,8 @@ function detailsOf(text) {
   return details;
 }
 
-// The entry that is kept where a list has one of the same number. The desk's replies to this browser stay, and so do open requests; a list
-// that says that it was cancelled is noted. Of two lists the claims of the one that knows more are kept.
+// Merges an entry with a listed one of the same number. The desk's replies to this browser and open requests stay, and a list's claim of a
+// cancellation is noted. Of two lists, the claims of the more complete one are kept.
 export function merged(own, other) {
   if (own === undefined) return other;
   if (!isAt(own, other)) return own;
@@ -222,7 +224,7 @@ export function merged(own, other) {
   return place >= 0 && known(other)[place] ? { ...own, guests: other.guests ?? own.guests, listed: other.listed } : own;
 }
 
-// A record in the part of an address after #: its lines with semicolons between them, and + for a space.
+// Reads a record from the part of an address after #, with semicolons between lines, and + for a space.
 export function fragmentOfRecord(text) {
   return `record=${text.trim().slice("record of ".length).replaceAll("\n", ";").replaceAll(" ", "+")}`;
 }

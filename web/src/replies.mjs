@@ -1,5 +1,5 @@
-// What comes back from the desk. A reply is the desk's where its body is JSON of the shape that was asked for, or a fault of the desk's
-// with its status; whatever else comes is no reply, and says nothing of what became of the request.
+// Reads replies. A reply is the desk's if its body is JSON of the expected shape, or a fault with the fault's status. Anything else isn't a
+// reply, and doesn't tell what happened to the request.
 
 // The statuses of the faults, by their numbers.
 const STATUSES = {
@@ -18,8 +18,8 @@ const UNAVAILABLE = 22;
 
 const TOO_MANY_REQUESTS = 429; // the proxy's
 
-// Nothing came that is the desk's. `wait` is how long the proxy wants the client to wait, in milliseconds, where it said so; `status` is
-// that of what came, 0 where nothing did.
+// No reply of the desk came. `wait` is the wait that the proxy asked for, in milliseconds, if any; `status` is that of the answer, or 0 without
+// one.
 export class NoReply extends Error {
   constructor(what, status = 0, wait = 0) {
     super(what);
@@ -27,7 +27,7 @@ export class NoReply extends Error {
   }
 }
 
-// Throws where the proxy says that too many requests came at once.
+// Throws if the proxy says that there were too many requests.
 export function refuseTooMany(status, retryAfter) {
   if (status === TOO_MANY_REQUESTS) throw new NoReply(`status ${status}`, status, 1000 * (Number(retryAfter) || 1));
 }
@@ -36,7 +36,7 @@ function isCount(value) {
   return Number.isInteger(value) && value >= 0;
 }
 
-// Of each kind of request whether a body is a reply to it.
+// For each kind of request, a test whether a body is a reply to it.
 const SHAPES = {
   view: (body, { facility, day, hour }) => body.facility === facility && body.day === day && body.hour === hour
     && isCount(body.price) && isCount(body.places) && isCount(body.taken) && typeof body.closed === "boolean",
@@ -45,7 +45,7 @@ const SHAPES = {
   account: (body) => typeof body.member === "string" && [body.balance, body.quota, body.open, body.spent].every(isCount),
 };
 
-// The reply of a status and the text of a body to a request; throws NoReply where it is none.
+// Returns the reply in a status and a body's text, or throws NoReply.
 export function readReply(action, asked, status, text) {
   let body;
   try {
@@ -59,8 +59,8 @@ export function readReply(action, asked, status, text) {
   return body;
 }
 
-// Whether a refusal is of the request's words or its pass, and not of what is asked: then it says nothing of an earlier try of the same
-// request, which may have been served.
+// Returns whether a refusal concerns the request's form or its pass. Such a refusal says nothing about an earlier try of the same request, which
+// may have been served.
 export function isOfPass(reply) {
   return reply.fault <= CAVEAT_DENIES;
 }

@@ -1,5 +1,5 @@
-// The hall's screen: today and tomorrow, without buttons, renewed each minute. A slot is asked for once a minute at most, and only before
-// it begins.
+// The hall's screen: today and tomorrow, without buttons, refreshed each minute. A slot is requested at most once a minute, and only before it
+// begins.
 import { hoursOf, whyClosed } from "./club.mjs";
 import { showClub } from "./club_view.mjs";
 import { daysLater, hourText } from "./dates.mjs";
@@ -30,7 +30,7 @@ function slotsOn(day) {
     .filter((slot) => !hasBegun(slot, moment) && denial("view", slot) === 0);
 }
 
-// Shows the screen with the pass of a link, or of this page, or the one that this browser keeps for it. A link's is kept if somebody says so.
+// Shows the screen with the pass from a link, from this page, or from this browser's storage. A link's pass is kept only if somebody agrees.
 export function startScreen(loadClub) {
   document.documentElement.classList.add("hall");
   for (const id of ["welcome", "views", "day", "bookings", "account"]) byName(id).hidden = true;
@@ -56,7 +56,7 @@ function askToKeep() {
     button("", say("keep-yes"), answer(true)), button("", say("keep-no"), answer(false))));
 }
 
-// `loadClub` loads the club's list, or leaves that of before.
+// `loadClub` loads the club's list, or keeps the old one.
 async function runScreen(loadClub) {
   for (;;) {
     await loadClub();

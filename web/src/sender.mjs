@@ -1,12 +1,12 @@
-// Sends what the record has of bookings and cancellations, until the desk answers: each is written down before it is sent, and its reply
-// after it came. One tab of a browser sends at a time, and looks into the record before it does, so that two tabs send nothing twice.
+// Sends the record's bookings and cancellations until the desk answers. Each request is recorded before it is sent, and each reply after it
+// came. Only one tab of a browser sends at a time, and checks the record first, so that two tabs send nothing twice.
 import { pauseBefore } from "./desk.mjs";
 import {
   answered, drawnNumber, isAt, isEntry, isLive, newBooking, stateOf, unfinished, wantsOtherNumber, withCancellation, withRequest,
 } from "./record.mjs";
 import { NoReply } from "./replies.mjs";
 
-// The record could not be written, so nothing was sent.
+// The record couldn't be written, so nothing was sent.
 export class NotStored extends Error {}
 
 export class Sender {
@@ -33,13 +33,13 @@ export class Sender {
     return this.run();
   }
 
-  // What is kept, but for what no page wrote.
+  // Returns the stored entries, without values that no page wrote.
   async entries() {
     const stored = (await this.store.all()).filter(isEntry);
     return stored.map((entry) => this.unsaved.get(`${entry.key}/${entry.number}`) ?? entry);
   }
 
-  // Books under a new number: the entry, or `second` where the key has this slot already and a second booking isn't meant.
+  // Books with a new number; returns the entry, or `second` if the key has this slot already and no second booking is intended.
   async book(slot, guests, isMeant) {
     const entry = await this.lock(async () => {
       const entries = await this.entries();
@@ -54,7 +54,7 @@ export class Sender {
     return entry;
   }
 
-  // Asks the desk for what a list names, under its number.
+  // Sends a listed booking to the desk, with its number.
   async askFor(key, number) {
     await this.lock(async () => {
       const entry = await this.store.get(key, number);
@@ -80,7 +80,7 @@ export class Sender {
     this.changed();
   }
 
-  // What becomes of an entry: calls back at each change, with the entry of now, also where it got another number.
+  // Follows an entry: calls back at each change with the current entry, even after a new number.
   follow(entry, call) {
     this.followers.set(`${entry.key}/${entry.number}`, call);
   }
@@ -94,7 +94,7 @@ export class Sender {
     call(entry);
   }
 
-  // Sends all that is unfinished of the pass's key, until nothing is. A second call while the first runs leaves it to that.
+  // Sends all unfinished requests of the pass's key. A second call during the first does nothing.
   async run() {
     if (this.running) return;
     this.running = true;
@@ -126,7 +126,7 @@ export class Sender {
     this.wait = 0;
   }
 
-  // Sends once what is unfinished of an entry, if it still is. Whether the desk replied, or there was nothing to send.
+  // Sends an entry's unfinished request once. Returns whether the desk replied, or there was nothing to send.
   async send(key, number) {
     const name = `${key}/${number}`;
     const entry = this.unsaved.get(name) ?? await this.store.get(key, number);
@@ -149,7 +149,7 @@ export class Sender {
     }
   }
 
-  // Writes down what an entry became. One whose number somebody else used is booked anew, under another number.
+  // Records an entry's result. An entry whose number somebody else used is booked again with another number.
   async keep(entry, next) {
     const name = `${entry.key}/${entry.number}`;
     if (unfinished(next) !== null && next.stopped !== undefined) this.stopped.add(name);

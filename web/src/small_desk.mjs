@@ -1,4 +1,4 @@
-// A small desk with the rules of the real one (docs/DESK.md), for the page to try: it keeps a club in this page and proves nothing.
+// A small desk with the rules of the real one (docs/DESK.md), for trying the page: it keeps a club in this page, and nothing about it is proved.
 import { bytesOf, characters } from "./bytes.mjs";
 import { allows, readCaveat } from "./caveats.mjs";
 import { minutesOf, startOf } from "./dates.mjs";
@@ -21,7 +21,7 @@ async function hmac(key, data) {
   return new Uint8Array(await crypto.subtle.sign("HMAC", made, data));
 }
 
-// The signature of an identifier and caveats under a root.
+// Returns the signature of an identifier and caveats under a root.
 export async function chain(root, identifier, caveats) {
   let signature = await hmac(await hmac(DERIVATION, root), identifier);
   for (const caveat of caveats) signature = await hmac(signature, caveat);
@@ -73,7 +73,7 @@ export class SmallDesk {
     return this.bookings.find((each) => each.key === key && each.number === number);
   }
 
-  // Status and body of a reply: `asked` has an action, a slot, a number and guests; the moment is the club's.
+  // Returns a reply's status and body: `asked` has an action, a slot, a number and guests; the moment is the club's.
   async answer(text, asked, moment) {
     let pass;
     try {

@@ -1,4 +1,4 @@
-// What the page knows at the moment, and what follows from it for all views.
+// The page's current state, and values that all views derive from it.
 import { firstDenial } from "./caveats.mjs";
 import { momentIn } from "./dates.mjs";
 import { serverTime } from "./desk.mjs";
@@ -24,7 +24,7 @@ export const state = {
 
 let shownMoment = { minute: null, zone: null, text: "" };
 
-// The moment at the club, or null where its zone isn't known.
+// Returns the moment at the club, or null if its zone isn't known.
 export function clubMoment() {
   if (state.club === null) return null;
   const minute = Math.floor(serverTime() / 60000);
@@ -42,18 +42,19 @@ export function withKind(slot) {
   return { ...slot, kind: facilityOf(state.club, slot.facility)?.kind ?? null };
 }
 
-// The number of the caveat that denies what is asked, from 1, or 0: as far as the page can tell, before the desk decides.
+// Returns the number, from 1, of the caveat that denies a request, or 0, as far as the page can tell; the desk decides.
 export function denial(action, slot, more = {}) {
   const place = slot === undefined ? undefined : withKind(slot);
   return firstDenial(state.pass, { action, moment: clubMoment() ?? "2000-01-01T00:00", slot: place, spent: spentOfKey(), ...more });
 }
 
-// What the pass's key spent: the desk's word, else what came with the pass and what was booked in this browser.
+// Returns the key's spent points: the desk's count, otherwise those that came with the pass and those booked in this browser.
 export function spentOfKey() {
   return state.account?.spent ?? ownEntries().reduce((sum, entry) => sum + (isLost(entry) ? 0 : costOf(entry)), state.base);
 }
 
-// Whether its slot has fewer persons in it than it should: then it is gone, or never was. A list's persons put no booking of the desk's in doubt.
+// Returns whether an entry's slot has too few persons, so that the booking is gone or never existed. Listed persons cast no doubt on bookings
+// that the desk confirmed.
 export function isLost(entry) {
   const found = state.taken.get(slotName(entry));
   const isThere = (each) => isLive(each) && (stateOf(each) === "booked" || (stateOf(each) === "listed" && stateOf(entry) === "listed"));
@@ -69,13 +70,13 @@ export function liveAt(slot) {
   return ownEntries().filter((entry) => isLive(entry) && isAt(entry, slot));
 }
 
-// The same, but for listed ones where the slot has fewer persons in it than all of them need.
+// The same for listed entries, if the slot has fewer persons than all of them need.
 export function ownAt(slot, view) {
   const live = liveAt(slot);
   return view !== null && view.taken < personsOf(live) ? live.filter((entry) => stateOf(entry) !== "listed") : live;
 }
 
-// Whether something may be sent that has to be written down first.
+// Returns whether requests that must be recorded first can be sent.
 export function canSend() {
   return state.sender !== null && state.key !== null;
 }

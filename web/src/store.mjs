@@ -1,4 +1,4 @@
-// Where the record lies: IndexedDB. A promise of `put` is kept once the browser has it on the disk.
+// The record's storage: IndexedDB. A promise of `put` resolves once the browser has the data on the disk.
 import { placeName } from "./place.mjs";
 
 const ENTRIES = "bookings";
@@ -16,7 +16,7 @@ export class Store {
     this.database = database;
   }
 
-  // Throws where the browser keeps nothing.
+  // Throws if the browser stores nothing.
   static async open() {
     const request = indexedDB.open(placeName("desk"), 1);
     request.addEventListener("upgradeneeded", () => request.result.createObjectStore(ENTRIES, { keyPath: ["key", "number"] }));
