@@ -10,8 +10,8 @@
 
 The desk is at the address in DESK (or http://127.0.0.1:8080), the pass in the file PASS (or pass).
 The file RECORD (or record) keeps each booking and cancellation before it is sent, and its reply. A
-request is sent again for PATIENCE seconds (or 60). Prints replies. Ends with status 1 at a refusal,
-and with 3 where no reply came: `repeat` finishes then.
+request is sent again for PATIENCE seconds (or 60). Prints replies. Ends with status 1 after a refusal, and with 3 without a reply: `repeat`
+finishes then.
 """
 import fcntl
 import json
@@ -32,7 +32,7 @@ class NoReply(Exception):
 
 
 class Record:
-    """Bookings by their numbers, in a file that grows by a line for each request and reply."""
+    """Bookings by number, in a file that gets a line for each request and reply."""
 
     def __init__(self, path):
         self.bookings = {}
@@ -40,7 +40,7 @@ class Record:
         fcntl.flock(self.file, fcntl.LOCK_EX)  # one program at a time
         self.file.seek(0)
         text = self.file.read()
-        # A request whose line was cut was never sent, and a reply whose line was cut comes again.
+        # A request with a truncated line was never sent, and a reply with one comes again.
         self.file.truncate(text.rfind(b"\n") + 1)
         for line in text.splitlines(keepends=True):
             if line.endswith(b"\n"):
@@ -59,7 +59,7 @@ class Record:
         self._add(line)
 
     def unfinished(self):
-        """Numbers and actions of the requests without a reply."""
+        """Returns numbers and actions of the requests without a reply."""
         return [(number, action) for number, booking in self.bookings.items()
                 for action in ("book", "cancel") if action in booking and booking[action] is None]
 
@@ -89,7 +89,7 @@ class Client:
         return reply
 
     def _ask(self, method, path, body=None):
-        """Sends a request until the desk replies: none of them does anything twice."""
+        """Sends a request until the desk replies; no request has an effect twice."""
         end, pause = time.monotonic() + self.patience, FIRST_PAUSE
         while True:
             try:
@@ -101,7 +101,7 @@ class Client:
             pause = min(2 * pause, LONGEST_PAUSE)
 
     def _finish(self, number, action):
-        """Sends a request on record, and keeps its reply."""
+        """Sends a recorded request, and records its reply."""
         booking = self.record.bookings[number]
         path = "/slots/{facility}/{day}/{hour}/bookings/{number}".format(number=number, **booking)
         if action == "book":
@@ -112,7 +112,7 @@ class Client:
         return reply
 
     def book(self, facility, day, hour, guests):
-        """Books under a new number. One that another holder of the key used is drawn anew."""
+        """Books under a new number. If another holder of the key used the number, it draws a new one."""
         while True:
             number = random.randint(1, LARGEST_NUMBER)
             if number in self.record.bookings:
@@ -124,14 +124,14 @@ class Client:
                 return reply
 
     def cancel(self, number):
-        """Cancels a booking on record. Its request goes first where that has no reply yet."""
+        """Cancels a booking on record. If the booking request has no reply yet, it is sent first."""
         if self.record.bookings[number]["book"] is None:
             self._finish(number, "book")
         self.record.keep(number=number, action="cancel")
         return self._finish(number, "cancel")
 
     def repeat(self):
-        """Finishes each request without a reply; their replies."""
+        """Finishes each request without a reply; returns the replies."""
         return [self._finish(number, action) for number, action in self.record.unfinished()]
 
     def show(self, facility, day, hour):

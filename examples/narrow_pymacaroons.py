@@ -1,7 +1,7 @@
 #!/usr/bin/env python3
 """Narrows passes in V1, V2 or JSON with pymacaroons: narrow_pymacaroons.py CAVEAT.. < passes
 
-Reads passes, one a line, and prints each with the caveats behind its own, in the form it came in.
+Reads passes, one per line, and prints each with the caveats after its own, in the same form.
 Wants Debian's python3-pymacaroons.
 """
 import sys
@@ -11,7 +11,7 @@ from pymacaroons.serializers import BinarySerializer, JsonSerializer
 
 
 def narrow(text, caveats):
-    """The pass with the caveats added."""
+    """Returns the pass with the caveats added."""
     form = JsonSerializer() if text.startswith("{") else BinarySerializer()
     macaroon = Macaroon.deserialize(text, form)
     for caveat in caveats:

@@ -168,7 +168,7 @@ function checkedText(value, subject) {
   return typeof value === "string" ? value : malformed("json-not-text", { subject });
 }
 
-// The names in the order of their bytes. JSON.stringify spells strings as the desk's writer does.
+// The names in the order of their bytes. JSON.stringify writes strings as the desk's writer does.
 export function writeJson(pass) {
   return JSON.stringify(Object.fromEntries([
     ["c", pass.caveats.map((caveat) => Object.fromEntries([namedBytes("i", caveat)]))],

@@ -22,7 +22,7 @@ export function readPass(text) {
   return { form, location, identifier, caveats: caveats.map((caveat) => caveat.identifier), signature };
 }
 
-// The form is known by the first byte. Spaces round a text, which copying brings, are no part of it here.
+// The first byte tells the form. Spaces around a text, which copying adds, are dropped here.
 function unwrapped(spaced) {
   const text = spaced.replace(/^[ \t\r\n]+|[ \t\r\n]+$/g, "");
   if (text.startsWith("{")) return { form: "json", bytes: bytesOf(text) };

@@ -98,7 +98,7 @@ export function costOf(entry) {
 
 // Compares the record with the desk's count of the key's spent points. Returns "same"; "less" with the possible entries, if the desk counts
 // less, so that a booking was cancelled elsewhere; or "more" if a booking isn't listed. It also returns the difference in points. Null where it
-// can't be said. Where the desk counts all that it said to this browser it is "claims": the doubt is about lists alone. No refund exceeds its
+// can't be said. It is "claims" if the desk counts everything that it confirmed to this browser: only lists are in doubt. No refund exceeds its
 // charge.
 export function compared(entries, spent, moment) {
   const counted = entries.filter((entry) => stateOf(entry) !== "refused");
@@ -229,7 +229,7 @@ export function fragmentOfRecord(text) {
   return `record=${text.trim().slice("record of ".length).replaceAll("\n", ";").replaceAll(" ", "+")}`;
 }
 
-// Null where the fragment is of another kind. Some messengers escape the signs of an address.
+// Null where the fragment is of another kind. Some messengers escape characters of an address.
 export function recordOfFragment(fragment) {
   const found = /^#?record=(.*)$/s.exec(fragment);
   const text = found === null ? null : found[1].replace(/%(?:3B|2B|20)/gi, (escape) => decodeURIComponent(escape));
