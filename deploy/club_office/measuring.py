@@ -1,6 +1,5 @@
 """Metrics of a club's desk in Prometheus' text format: requests by status and time, commands by status, the age of copies, sizes, the version.
-Requests are counted from the desk's log, and commands from the book. FILE-metrics has the counts, and the positions up to which both were
-read."""
+Requests are counted from the desk's log, and commands from the book. FILE-metrics has the counts, and the positions of the last lines read."""
 
 import json
 import os

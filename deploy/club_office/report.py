@@ -16,7 +16,7 @@ Booking = collections.namedtuple("Booking", "facility day hour persons charge re
 Facility = collections.namedtuple("Facility", "kind opens shuts")
 KINDS = ("court", "boat", "room")
 MOST_ACTIVE = 15
-# What `new-year` carries forward isn't a booking: it is a row with a high number, cancelled without a refund.
+# A row that `new-year` carries forward isn't a booking: it has a high number, and is cancelled without a refund.
 CARRIED = f"cancelled = 1 AND refund = 0 AND charge > 0 AND hour = 0 AND number > {MOST_NUMBER - 1_000_000}"
 
 

@@ -247,7 +247,7 @@ def test_limit(club, table, column, least, most):
             kept.copied_to(club.file)
 
 
-# Lines by which sqlite3 changes a club.
+# SQL lines that change a club.
 RENAMED = ("old_roots until", "members quota", "members used", "facilities price", "keys root", "slots closed", "slots taken", "bookings remains")
 SPOILED = [
     *(f"UPDATE desk SET version = {it}" for it in (9, 0, -1, 1, 3)), *(f"DROP TABLE {it}" for it in TABLES),

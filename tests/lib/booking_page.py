@@ -290,7 +290,7 @@ class BookingPage(Browser):
 
 
 def amounts(key):
-    """Returns the bookings of a key in the file: facility, day, hour, guests, charge, left, cancelled, refund by number."""
+    """Returns a key's bookings in the file by number, each with facility, day, hour, guests, charge, left, cancelled and refund."""
     found = rows("SELECT number, facility, date(day * 86400, 'unixepoch'), hour, guests, charge, remains, cancelled, refund FROM bookings "
                  "WHERE pass_key = ?", key)
     return {number: tuple(rest) for number, *rest in found}

@@ -1,8 +1,8 @@
 """Reads the contracts that a page cites in its tables, such as docs/PROMISES.md, and the computing definitions below them.
 
-The second cell of a row has groups that end at `;`, each `NAME`, .. `:` `CLAUSE`, .. `by` `DEFINITION`, ..: functions of the section's crate,
-implementations of a trait (`Log for LogLines`), or types and traits; the labels of their clauses, or all of them; and the definitions of the
-crate, or of the one before `::`, that these cite. The first name's module or type also applies to the later names that have none."""
+The second cell of a row has groups that end at `;`, each of the form `NAME`, .. `:` `CLAUSE`, .. `by` `DEFINITION`, ... A NAME is a function of
+the section's crate, an implementation of a trait (`Log for LogLines`), or a type or trait. Without a CLAUSE all of its clauses count. The
+DEFINITIONs that these cite are in the crate, or in the one before `::`. The first name's module or type also applies to the later names that have none."""
 
 import re
 from dataclasses import dataclass

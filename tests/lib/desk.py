@@ -43,7 +43,7 @@ def library(name, folder):
 
 
 def refused_in_turn(run, folder, step=1):
-    """What `run` gives with one allocation of its program refused, each in turn, or every Nth one. It first runs the program to count the
+    """Yields the results of `run` with one allocation of its program refused: each in turn, or every Nth one. It first runs the program to count the
     allocations, with variables."""
     counted, preload = Path(folder, "counted"), {"LD_PRELOAD": library("refused_memory", folder)}
     run(ALLOCATIONS_COUNTED=str(counted), **preload)

@@ -120,7 +120,7 @@ def begun(*words):
 
 
 def kill(command, chance=None):
-    """Kills a process and all its children, some of which sudo puts into their own sessions, or only a random one of them; waits for its end."""
+    """Kills a process and all its children, even those in sudo's own sessions, or only a random one of them; waits for its end."""
     with contextlib.suppress(psutil.NoSuchProcess):
         first = psutil.Process(command.pid)
         found = [first, *first.children(recursive=True)]
