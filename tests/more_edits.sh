@@ -13,7 +13,7 @@
 #   tests/more_edits.sh club_core/charges_a_repeat  this edit
 #
 # The first word of a line:
-# - false: the check found values for which a goal is false, so this body has no proof.
+# - false: the check found a counterexample to a goal, so this body has no proof.
 # - goal: a goal stays open, and each name that its proof cites is there. The proof of the right body's goal fails for this body, and so do the
 #   tactics, if there is no handwritten answer.
 # - names: only handwritten answers fail, since they cite a name that the edit removed: goals are named after the code's conditions, arms and

@@ -68,8 +68,8 @@ class ShowVersion(argparse.Action):
 
 
 Command = collections.namedtuple("Command", "kind words help does")
-# The kinds of commands: clubdesk carries out changes, listings and passes; functions run on a copy of the club, on the club, or on the clerk's
-# side; and there are corrections. A command without help is internal: only the clerk's side calls it.
+# The kinds of commands. clubdesk carries out changes, listings and passes. Other commands are corrections, or functions on a copy of the club,
+# on the club, or on the clerk's side. A command without help is internal: only the clerk's side calls it.
 ORDER, LOOK, PASS, LIST, CORRECTION, DESK, COUNTER = "order look pass list correction desk counter".split()
 
 # The most words of a command, including its name, and the most bytes of each.

@@ -8,8 +8,8 @@ import unicodedata
 from club_office.texts import MONTHS, WEEKDAYS
 
 LETTERS = {"ä": "ae", "ö": "oe", "ü": "ue", "ß": "ss", "æ": "ae", "ø": "oe", "å": "aa", "œ": "oe", "đ": "d", "ł": "l", "þ": "th", "ð": "d", "ı": "i", "ə": "e", "ħ": "h", "ŧ": "t", "ŋ": "n"}
-# The facts about a club that the parsers use: credit, balance and quota of each member; member of each key, and whether it is revoked; kind,
-# hours, places and price of each facility; the members' known full names.
+# The facts about a club that the parsers use. Members have credit, balance and quota. A key has its member, and is revoked or not. Facilities
+# have kind, hours, places and price. The members' known full names are there too.
 Names = collections.namedtuple("Names", "members keys facilities written")
 Member = collections.namedtuple("Member", "credited balance quota")
 Key = collections.namedtuple("Key", "member revoked")

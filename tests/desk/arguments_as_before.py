@@ -3,9 +3,9 @@
 
     tests/desk/arguments_as_before.py BEFORE NOW
 
-Run this after a change to argument reading that must not change behaviour. Plays some 400 command lines of the program that the paths end in:
-help, versions, each argument given correctly, wrongly, twice or not at all, two or three faults at once, words after `--`, bytes that aren't
-text. A `clubdesk` gets its own folder for each line; a line that serves names a folder as its database, so that it ends. Compares status,
+Run this after a change to argument reading that must not change behaviour. Plays some 400 command lines of the program that the paths end in.
+They have help, versions, each argument given correctly, wrongly, twice or not at all, two or three faults at once, words after `--`, bytes that
+aren't text. A `clubdesk` gets its own folder for each line; a line that serves names a folder as its database, so that it ends. Compares status,
 standard output and standard error byte for byte, prints each line that differs, and its last line has the counts. The status is 1 if one
 differs. No run of `tests/run` has a program of before, so none plays it."""
 

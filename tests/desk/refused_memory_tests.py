@@ -61,8 +61,8 @@ def built(crate):
 
 
 def ends_without_memory(output):
-    """Returns whether a failed test ended with out of memory: the value that it returned, or got instead of another one, is that fault alone, in
-    an `Err` or the like. A test that mentions the fault elsewhere, such as in an expected value, failed for another reason."""
+    """Returns whether a failed test ended with out of memory. The value that it returned or got must be that fault alone, in an `Err` or the
+    like. A test that mentions the fault elsewhere, such as in an expected value, failed for another reason."""
     def has_line(head):
         return any(re.fullmatch(head + FAULT, line) for line in output.splitlines())
 

@@ -200,7 +200,7 @@ def unsound(file):
 
 
 def add_past_bookings(file, count, root):
-    """Adds members x000 to x999, each with a key of its name, and a number of bookings by them in `old-court`, two by two in a slot; the totals
+    """Adds members x000 to x999, each with a key of its name. Adds a number of bookings by them in `old-court`, two by two in a slot; the totals
     are the sums."""
     thousand = "WITH n(i) AS (SELECT 0 UNION ALL SELECT i + 1 FROM n WHERE i < 999)"
     with opened(file) as database:

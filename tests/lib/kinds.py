@@ -1,6 +1,6 @@
 """The table of all kinds of reply: the requests to a club, with pass and moment, and the bytes of the replies.
 
-A scene is a list of steps on the club that COMMANDS make: a Row is a request to a separate server, a Command is the office's, and Sql is a
+A scene is a list of steps on the club that COMMANDS make. A Row is a request to a separate server, a Command is the office's, and Sql is a
 change by sqlite3. Passes are those of tests/reference, which also spells the replies."""
 
 import itertools

@@ -172,7 +172,7 @@ def without_answers(crate, lines):
 
 
 def open_goal(lines, gone):
-    """Returns the line of a goal that is open for a reason other than a lost name: its answer fails, or the proof file that lost answers has
+    """Returns the line of a goal that is open for a reason other than a lost name. Its answer fails, or the proof file that lost answers has
     none for it."""
     failing = {line for line, path, _, is_error, is_name in faults_in(lines) if path.startswith("proofs/") and is_error and not is_name}
     return next((line for line in lines if line in failing or (wanted := WANTED.search(line)) and wanted[1] not in gone), None)

@@ -2,12 +2,12 @@
 # `bin/package` makes the same bytes twice, and lintian has no complaint; the package's life in a fresh Debian.
 #
 # Debian is made by debootstrap and booted by systemd-nspawn, with its own systemd and without a network but loopback. The lines for root of
-# docs/RUNNING.md are run there, from the installation to the restore: the desk behind nginx with TLS, its timers and what they call, a second
-# club in another zone, mail, a machine that boots again. A clerk without root has her first week: import, who booked, sheet, wrong credit,
-# price, tournament, rain, lost pass, leaving member, restore. The package is upgraded while a client books, upgraded to one whose program opens
-# no club, removed, installed again, and purged: no acknowledged booking is lost, and the clubs' files stay. At the end the archive for other
-# systems, below /usr/local. Wants root, and Debian's mirror for the fresh Debian. DEBIAN=FOLDER names an existing Debian, made by
-# `debootstrap --variant=minbase --include=systemd,systemd-sysv bookworm FOLDER`. The test takes a copy.
+# docs/RUNNING.md are run there, from the installation to the restore. They cover the desk behind nginx with TLS, its timers and what they call,
+# a second club in another zone, mail, a machine that boots again. A clerk without root has her first week: import, who booked, sheet, wrong
+# credit, price, tournament, rain, lost pass, leaving member, restore. The package is upgraded while a client books, and upgraded to one whose
+# program opens no club. It is removed, installed again, and purged. No acknowledged booking is lost, and the clubs' files stay. At the end the
+# archive for other systems, below /usr/local. Wants root, and Debian's mirror for the fresh Debian. DEBIAN=FOLDER names an existing Debian, made
+# by `debootstrap --variant=minbase --include=systemd,systemd-sysv bookworm FOLDER`. The test takes a copy.
 # pytestmark = [mark.package, mark.root, mark.needs("clubdesk passtool"),
 #     mark.wants("debootstrap systemd-container lintian dpkg-dev xz-utils util-linux")]
 # shellcheck disable=SC2016 # a shell of the fresh Debian reads what is quoted

@@ -7,10 +7,10 @@ transactions and pragmas, the statements of crates/club_tables, and read the sam
 and Flask have the same status line, body and fields, in another order, and gunicorn adds Date and Server. A plain server in C, which reads once
 and writes 133 bytes, is measured too.
 
-Prints the medians in microseconds for a booking, its repeat, an account, a slot, a refused pass and a forged one, from before the client
-connects to the end of the reply, with clubdesk's ratios. Then it prints the ratios that have goals. The system calls of a request are those of
-101 requests less those of one, over 100, by strace. One client asks the servers in turn; it has one processor and they have another, if there
-are two.
+Prints the medians in microseconds for a booking, its repeat, an account, a slot, a refused pass and a forged one, with clubdesk's ratios. The
+time runs from before the client connects to the end of the reply. Then it prints the ratios that have goals. The system calls of a request are
+those of 101 requests less those of one, over 100, by strace. One client asks the servers in turn; it has one processor and they have another, if
+there are two.
 
 Each desk is run as DESK FILE MOMENT < STATEMENTS: the moment in minutes since 1970; a statement a line. It prints the line of ours, and serves
 until it is stopped. It reads a key's older root only if the key's own root didn't sign the pass, like ours.

@@ -1,5 +1,5 @@
 #!/usr/bin/python3 -B
-"""A desk with Flask and Python's sqlite3 under gunicorn with one worker, to compare clubdesk's times with: the same file, statements and
+"""A desk with Flask and Python's sqlite3 under gunicorn with one worker, to compare clubdesk's times with. It has the same file, statements and
 replies as beside_c/desk.c. tests/reference reads and verifies passes, and has the values of caveats and the refusals.
 
   beside_flask.py FILE MOMENT < STATEMENTS      as beside.py says of each desk
