@@ -2,5 +2,4 @@
 
 mod allowed;
 mod calls;
-mod rows;
 mod values;

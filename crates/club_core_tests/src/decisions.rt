@@ -1,148 +1,133 @@
-//! Requests as caveats see them, and a decision that no scenario leads to.
+//! Requests as caveats see them, and a decision that no scenario leads to. The views are those of
+//! the key `amy-1` of amy, who has quota 5 and 10,000 points, and of `court-1`.
 
-use crate::expect::expect_row;
-use crate::fixture::{AFTER_7, FRESH, Seen, key};
-use crate::values::moment;
+use crate::expect::expect_eq;
+use crate::values::{booking, facility, key, moment, slot};
 use club_core::{Refusal, Verdict, View, decide};
-use club_values::{Action, Kind, Slot};
+use club_values::{Action, Kind};
 use pass_caveats::Ask;
 use std::process::Abort;
 use std::test::*;
 use test_kit::moments::{NOON, START};
 use test_kit::requests::{ACCOUNT, BOOK_7, BOOK_7_ALONE};
-use test_kit::{BOOKING_7, COURT_AT_18, PlainRequest, PlainSlot};
+use test_kit::{BOOKING_7, COURT, COURT_AT_18, PlainRequest, amy};
 
-const NOWHERE: Seen = Seen {
-    facility: None,
-    ..FRESH
-};
-
-const NO_COURT: Seen = Seen {
-    facility: None,
-    booking: None,
-    ..AFTER_7
-};
-
-/// A slot that is closed and full. No club comes to it.
-const NOTHING_LEFT: Seen = Seen {
-    balance: 0,
-    open_count: 5,
-    taken: 4,
-    closed: true,
-    ..FRESH
-};
-
-/// The moment, and the first refusal that applies.
-static ORDER: [(&str, Refusal); 2] = [(NOON, Refusal::SlotClosed), (START, Refusal::NotBookable)];
-
-#[test]
-fn order_of_refusals(rt: HostRuntime) {
-    let view = NOTHING_LEFT.view(&rt);
-    let request = BOOK_7_ALONE.request().expect(&rt, "a request");
-    for (row, (at, refusal)) in ORDER.iter().enumerate() {
-        let verdict = decide(&view, &request, moment(&rt, at));
-        expect_row(&rt, row, &verdict, &Verdict::refuse(*refusal));
-    }
-}
-
-/// The view of `amy-1`, the request, and the request as caveats see it at noon: its action, its
-/// slot and the slot's kind, its guests and its points.
-struct AskRow(
-    Seen,
-    PlainRequest,
-    Action,
-    Option<PlainSlot>,
-    Option<Kind>,
-    u8,
-    u64,
-);
-
-const RECORDED: Seen = Seen {
-    booking: Some(BOOKING_7),
-    ..FRESH
-};
-
-const A_COURT: Option<Kind> = Some(Kind::Court);
-
-static ASKS: [AskRow; 3] = [
-    AskRow(
-        FRESH,
-        BOOK_7,
-        Action::Book,
-        Some(COURT_AT_18),
-        A_COURT,
-        2,
-        600,
-    ),
-    AskRow(
-        RECORDED,
-        BOOK_7,
-        Action::Book,
-        Some(COURT_AT_18),
-        A_COURT,
-        2,
-        0,
-    ),
-    AskRow(NOWHERE, ACCOUNT, Action::Account, None, None, 0, 0),
-];
-
-fn slot(rt: &impl Abort, slot: &Option<PlainSlot>) -> Option<Slot> {
-    match slot {
-        Some(slot) => Some(slot.slot().expect(rt, "a slot")),
-        None => None,
-    }
-}
-
-fn asks_so(rt: &impl Abort, number: usize, row: &AskRow) {
-    let AskRow(seen, asked, action, at, kind, guests, owed) = row;
-    let moment = moment(rt, NOON);
-    let want = Ask {
-        action: *action,
-        slot: slot(rt, at),
-        kind: *kind,
-        guests: *guests,
-        moment,
-        owed: *owed,
+/// The view before the first booking.
+fn fresh(rt: &impl Abort) -> View {
+    View {
+        key: key(rt, false).row(),
         spent: 0,
-    };
-    let request = asked.request().expect(rt, "a request");
-    let ask = seen.view(rt).ask(&request, moment);
-    expect_row(rt, number, &ask, &want);
+        member: amy(10_000, 5).expect(rt, "a member"),
+        balance: 10_000,
+        open_count: 0,
+        facility: facility(rt, &Some(COURT)),
+        taken: 0,
+        closed: false,
+        booking: None,
+    }
 }
 
-#[test]
-fn asks(rt: HostRuntime) {
-    for (number, row) in ASKS.iter().enumerate() {
-        asks_so(&rt, number, row);
+fn nowhere(rt: &impl Abort) -> View {
+    View {
+        facility: None,
+        ..fresh(rt)
+    }
+}
+
+fn recorded(rt: &impl Abort) -> View {
+    View {
+        booking: booking(rt, &Some(BOOKING_7)),
+        ..fresh(rt)
     }
 }
 
 /// The view with the key alone; the member's name comes from the key's row.
-const BARE: Seen = Seen {
-    quota: 0,
-    balance: 0,
-    facility: None,
-    ..FRESH
-};
+fn bare(rt: &impl Abort) -> View {
+    View {
+        member: amy(0, 0).expect(rt, "a member"),
+        balance: 0,
+        ..nowhere(rt)
+    }
+}
+
+/// The moment, and the first refusal that applies.
+static ORDER: [(&str, Refusal); 2] = [(NOON, Refusal::SlotClosed), (START, Refusal::NotBookable)];
+
+/// A slot that is closed and full. No club comes to it.
+#[test]
+fn order_of_refusals(rt: HostRuntime) {
+    let view = View {
+        balance: 0,
+        open_count: 5,
+        taken: 4,
+        closed: true,
+        ..fresh(&rt)
+    };
+    let request = BOOK_7_ALONE.request().expect(&rt, "a request");
+    for (row, (at, refusal)) in ORDER.iter().enumerate() {
+        let verdict = decide(&view, &request, moment(&rt, at));
+        expect_eq(&rt, &verdict, &Verdict::refuse(*refusal), &row);
+    }
+}
+
+/// The account as caveats see it at noon.
+fn account(rt: &impl Abort) -> Ask {
+    Ask {
+        action: Action::Account,
+        slot: None,
+        kind: None,
+        guests: 0,
+        moment: moment(rt, NOON),
+        owed: 0,
+        spent: 0,
+    }
+}
+
+/// A booking of number 7 that costs so much.
+fn booking_for(rt: &impl Abort, owed: u64) -> Ask {
+    Ask {
+        action: Action::Book,
+        slot: Some(slot(rt, &COURT_AT_18)),
+        kind: Some(Kind::Court),
+        guests: 2,
+        owed,
+        ..account(rt)
+    }
+}
+
+fn ask(rt: &impl Abort, view: &View, asked: &PlainRequest) -> Ask {
+    let request = asked.request().expect(rt, "a request");
+    view.ask(&request, moment(rt, NOON))
+}
+
+#[test]
+fn asks(rt: HostRuntime) {
+    let first = ask(&rt, &fresh(&rt), &BOOK_7);
+    expect_eq(&rt, &first, &booking_for(&rt, 600), &"first");
+    let again = ask(&rt, &recorded(&rt), &BOOK_7);
+    expect_eq(&rt, &again, &booking_for(&rt, 0), &"again");
+    let of_account = ask(&rt, &nowhere(&rt), &ACCOUNT);
+    expect_eq(&rt, &of_account, &account(&rt), &"account");
+}
 
 #[test]
 fn a_bare_view(rt: HostRuntime) {
-    let mut want = BARE.view(&rt);
-    want.member.credited = 0;
-    expect_row(&rt, 0, &View::of_key(&key(&rt, false).row()), &want);
+    let of_key = View::of_key(&key(&rt, false).row());
+    expect_eq(&rt, &of_key, &bare(&rt), &"bare");
 }
 
-/// A view, and whether a booking would be a new one at a known facility.
-static ANEW: [(Seen, bool); 4] = [
-    (FRESH, true),
-    (NO_COURT, false),
-    (RECORDED, false),
-    (BARE, false),
-];
-
+/// Only a booking that isn't on record, at a known facility, is a new one.
 #[test]
 fn new_bookings(rt: HostRuntime) {
-    for (number, (seen, is_new)) in ANEW.iter().enumerate() {
-        expect_row(&rt, number, &seen.view(&rt).books_anew(), is_new);
-    }
+    expect_eq(&rt, &fresh(&rt).books_anew(), &true, &"fresh");
+    let after_another = View {
+        spent: 600,
+        balance: 9_400,
+        open_count: 1,
+        taken: 3,
+        ..nowhere(&rt)
+    };
+    expect_eq(&rt, &after_another.books_anew(), &false, &"nowhere");
+    expect_eq(&rt, &recorded(&rt).books_anew(), &false, &"recorded");
+    expect_eq(&rt, &bare(&rt).books_anew(), &false, &"bare");
 }

@@ -1,7 +1,170 @@
-//! Tests of the reference machine.
+//! Tests of the reference machine: a member's part of a club, copies of one, and a list of many
+//! requests. Its replies in other states are scenarios.
 
-mod answers;
-mod lists;
-mod messages;
-mod parts;
-mod play;
+use crate::expect::expect_eq;
+use crate::values::{moment, name, slot};
+use club_core::{OfficeAnswer, Refusal, SlotUse};
+use club_reference::{Club, Words};
+use std::alloc::Global;
+use std::process::Abort;
+use std::test::*;
+use test_kit::moments::NOON;
+use test_kit::replies::{
+    ACCOUNT_AFTER, ACCOUNT_BEFORE, BOOKED_2, BOOKED_7, CANCELLED_7, FILLED_BY_7, NOT_VERIFIED,
+};
+use test_kit::requests::{ACCOUNT, BOOK_2, BOOK_7, CANCEL_7};
+use test_kit::roots::ROOT;
+use test_kit::{
+    COURT_AT_18, FIXTURE, FRIDAY, PlainCommand, PlainReply, PlainRequest, PlainSlot, signed_pass,
+};
+
+/// A request at noon under a pass of this key, and its reply.
+type Step = (&'static str, PlainRequest, PlainReply);
+
+fn words(rt: &(impl Abort + Alloc<A = Global>), key: &str, asked: &PlainRequest) -> Words {
+    let pass = signed_pass(rt.alloc(), Some(name(rt, key)), ROOT, &[]);
+    Words {
+        pass: Ok(pass.expect(rt, "a pass")),
+        request: asked.request().expect(rt, "a request"),
+    }
+}
+
+/// Ends the test unless the club gives the replies of these steps, in their order; if others than
+/// its member hold something of each slot, as a member's part.
+fn plays(
+    rt: &(impl Abort + Alloc<A = Global>),
+    club: &mut Club,
+    others: Option<SlotUse>,
+    steps: &[Step],
+) {
+    for (row, (key, asked, want)) in steps.iter().enumerate() {
+        let (words, at) = (words(rt, key, asked), moment(rt, NOON));
+        let returned = match others {
+            Some(others) => club.ask_alone(&words, at, others),
+            None => club.ask(&words, at),
+        };
+        let want = want.reply().expect(rt, "a reply");
+        expect_eq(rt, &returned.expect(rt, "memory"), &want, &row);
+    }
+}
+
+/// Gives a command, and ends the test unless it is carried out.
+fn carry_out(rt: &impl Abort, club: &mut Club, plain: &PlainCommand) {
+    let command = plain.command().expect(rt, "a command");
+    let answer = club.office(&command).expect(rt, "memory");
+    expect_eq(rt, &answer, &OfficeAnswer::done(&command), &"a command");
+}
+
+fn fixture_club(rt: &(impl Abort + Alloc<A = Global>)) -> Club {
+    let mut club = Club::new(rt.alloc());
+    for plain in &FIXTURE {
+        carry_out(rt, &mut club, plain);
+    }
+    club
+}
+
+/// Ends the test unless amy's part gives the replies of these steps, and others than amy hold this
+/// of the court at 18. They hold nothing where no slot is asked for.
+fn part_plays(
+    rt: &(impl Abort + Alloc<A = Global>),
+    club: &Club,
+    (taken, closed): (u32, bool),
+    steps: &[Step],
+) {
+    let amy = name(rt, "amy");
+    let nothing = club.outside(&amy, None);
+    expect_eq(
+        rt,
+        &(nothing.taken, nothing.closed),
+        &(0, false),
+        &"no slot",
+    );
+    let others = club.outside(&amy, Some(slot(rt, &COURT_AT_18)));
+    expect_eq(
+        rt,
+        &(others.taken, others.closed),
+        &(taken, closed),
+        &"a slot",
+    );
+    let mut part = club.part(&amy).expect(rt, "memory");
+    plays(rt, &mut part, Some(others), steps);
+    // There are no rows of others.
+    plays(rt, &mut part, None, &[("bob-1", ACCOUNT, NOT_VERIFIED)]);
+}
+
+const AMY_BOOKS: Step = ("amy-1", BOOK_7, BOOKED_7);
+
+const BOB_BOOKS: Step = ("bob-1", BOOK_2, BOOKED_2);
+
+const BEFORE: Step = ("amy-1", ACCOUNT, ACCOUNT_BEFORE);
+
+const AFTER: Step = ("amy-1", ACCOUNT, ACCOUNT_AFTER);
+
+const AMY_CANCELS: Step = ("amy-1", CANCEL_7, CANCELLED_7);
+
+/// If bob holds a place of the slot.
+const AMY_FILLS: Step = ("amy-1", BOOK_7, FILLED_BY_7);
+
+#[test]
+fn a_part_sees_what_others_hold(rt: HostRuntime) {
+    let mut club = fixture_club(&rt);
+    plays(&rt, &mut club, None, &[BOB_BOOKS]);
+    let steps = [BEFORE, AMY_FILLS, AFTER, AMY_CANCELS];
+    part_plays(&rt, &club, (1, false), &steps);
+}
+
+const IT_IS_CLOSED: Step = ("amy-1", BOOK_7, PlainReply::Refused(Refusal::SlotClosed));
+
+/// A part sees a closed slot, and one that is opened again, by what is held of it.
+#[test]
+fn opens_a_slot_for_all(rt: HostRuntime) {
+    let mut club = fixture_club(&rt);
+    carry_out(&rt, &mut club, &PlainCommand::CloseSlot(COURT_AT_18));
+    part_plays(&rt, &club, (0, true), &[IT_IS_CLOSED]);
+    carry_out(&rt, &mut club, &PlainCommand::OpenSlot(COURT_AT_18));
+    part_plays(&rt, &club, (0, false), &[AMY_BOOKS]);
+}
+
+#[test]
+fn a_duplicate_is_independent(rt: HostRuntime) {
+    let mut club = fixture_club(&rt);
+    plays(&rt, &mut club, None, &[AMY_BOOKS]);
+    let mut other = club.duplicate().expect(&rt, "memory");
+    plays(&rt, &mut other, None, &[AMY_CANCELS, BEFORE]);
+    plays(&rt, &mut club, None, &[AFTER]);
+}
+
+/// A booking of a place of `court-1`, the account, and the cancellation.
+fn booked_and_cancelled(day: u16, hour: u8, booking: u32) -> [Step; 3] {
+    let place = PlainSlot {
+        day,
+        hour,
+        ..COURT_AT_18
+    };
+    let booked = PlainReply::Booked("amy-1", booking, 200, 3);
+    let account = PlainReply::AccountShown(9_800, 1, 200);
+    let cancelled = PlainReply::Cancelled("amy-1", booking, 200);
+    [
+        ("amy-1", PlainRequest::Book(place, booking, 0), booked),
+        ("amy-1", ACCOUNT, account),
+        ("amy-1", PlainRequest::Cancel(place, booking), cancelled),
+    ]
+}
+
+/// Amy books `court-1` alone in each hour of fifteen days, sees the account, and cancels.
+#[test]
+fn answers_a_long_list(rt: HostRuntime) {
+    let mut club = fixture_club(&rt);
+    let mut booking = 0u32;
+    for day in FRIDAY..FRIDAY + 15 {
+        for hour in 8..22 {
+            booking = booking.saturating_add(1);
+            plays(
+                &rt,
+                &mut club,
+                None,
+                &booked_and_cancelled(day, hour, booking),
+            );
+        }
+    }
+}

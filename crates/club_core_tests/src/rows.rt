@@ -1,7 +1,7 @@
 //! The rows of a club, read from their columns within their limits.
 
-use crate::expect::expect_row;
-use crate::fixture::{booking, facility};
+use crate::expect::expect_eq;
+use crate::values::{booking, facility};
 use club_rows::{
     Booking, BookingColumns, BookingNumber, Facility, FacilityColumns, Guests, Member, Root,
 };
@@ -21,10 +21,6 @@ static GUESTS: [(u8, Option<u8>); 2] = [(49, Some(50)), (50, None)];
 
 static ROOT_LENGTHS: [(usize, bool); 4] = [(15, false), (16, true), (64, true), (65, false)];
 
-fn persons(guests: u8) -> Option<u8> {
-    Some(Guests::new(guests)?.persons())
-}
-
 fn is_root(len: usize) -> bool {
     let bytes = [9; 65];
     match bytes.get(..len) {
@@ -36,13 +32,14 @@ fn is_root(len: usize) -> bool {
 #[test]
 fn limits(rt: HostRuntime) {
     for (row, (number, within)) in NUMBERS.iter().enumerate() {
-        expect_row(&rt, row, &BookingNumber::new(*number).is_some(), within);
+        expect_eq(&rt, &BookingNumber::new(*number).is_some(), within, &row);
     }
     for (row, (guests, want)) in GUESTS.iter().enumerate() {
-        expect_row(&rt, row, &persons(*guests), want);
+        let persons = Guests::new(*guests).map(|guests| guests.persons());
+        expect_eq(&rt, &persons, want, &row);
     }
     for (row, (len, within)) in ROOT_LENGTHS.iter().enumerate() {
-        expect_row(&rt, row, &is_root(*len), within);
+        expect_eq(&rt, &is_root(*len), within, &row);
     }
 }
 
@@ -58,7 +55,7 @@ static MEMBERS: [(&[u8], i64, i64, bool); 4] = [
 fn columns_of_members(rt: HostRuntime) {
     for (row, (name, credited, quota, within)) in MEMBERS.iter().enumerate() {
         let member = Member::from_columns(name, *credited, *quota);
-        expect_row(&rt, row, &member.is_some(), within);
+        expect_eq(&rt, &member.is_some(), within, &row);
     }
 }
 
@@ -73,7 +70,7 @@ fn columns_of_a_facility(rt: HostRuntime) {
         shuts: 22,
     };
     let read = Facility::from_columns(&columns);
-    expect_row(&rt, 0, &read, &facility(&rt, &Some(COURT)));
+    expect_eq(&rt, &read, &facility(&rt, &Some(COURT)), &"court-1");
 }
 
 const CANCELLED: PlainBooking = PlainBooking {
@@ -108,6 +105,6 @@ fn columns_of(cancelled: i64, refund: i64) -> BookingColumns<'static> {
 fn columns_of_bookings(rt: HostRuntime) {
     for (row, (cancelled, refund, want)) in BOOKINGS.iter().enumerate() {
         let read = Booking::from_columns(&columns_of(*cancelled, *refund));
-        expect_row(&rt, row, &read, &booking(&rt, want));
+        expect_eq(&rt, &read, &booking(&rt, want), &row);
     }
 }

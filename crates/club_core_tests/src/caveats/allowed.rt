@@ -1,20 +1,24 @@
 //! Which bookings a limit of points allows after more than requests can spend, and faults.
 
 use super::calls::{answer, fault_at};
-use super::rows::{expect_eq, moment, slot};
+use crate::expect::expect_eq;
+use crate::values::{moment, slot};
 use club_values::{Action, Kind};
 use pass_caveats::{Ask, CaveatFault};
 use std::process::Abort;
+use std::test::*;
+use test_kit::COURT_AT_18;
+use test_kit::moments::NOON;
 
 /// A request to book `court-1` on 2026-05-01 at 18 for two guests, made on 2026-04-20 at noon, of a
 /// key that has spent so much.
 fn booking(rt: &impl Abort, spent: u64) -> Ask {
     Ask {
         action: Action::Book,
-        slot: Some(slot(rt)),
+        slot: Some(slot(rt, &COURT_AT_18)),
         kind: Some(Kind::Court),
         guests: 2,
-        moment: moment(rt, b"2026-04-20T12:00"),
+        moment: moment(rt, NOON),
         owed: 600,
         spent,
     }
@@ -42,27 +46,19 @@ static SECOND: [(&str, Option<CaveatFault>); 2] = [
     ("weekday = fri", None),
 ];
 
-fn find_second(rt: &impl Abort, rows: &[(&'static str, Option<CaveatFault>)]) {
-    let ask = booking(rt, 0);
-    for (text, want) in rows {
-        expect_eq(rt, &fault_at(text.as_bytes(), 2, &ask), want, text);
-    }
-}
-
 static PRINTED: [(CaveatFault, &str); 2] = [
     (CaveatFault::NotUnderstood(2), "caveat 2 not understood"),
     (CaveatFault::Denied(2), "caveat 2 denies"),
 ];
 
-fn print(rt: &(impl Abort + AllocGlobal), rows: &[(CaveatFault, &'static str)]) {
-    for (fault, want) in rows {
-        let text = format!(in rt.alloc(); "{fault}").expect(rt, "memory");
-        expect_eq(rt, &text.as_str(), want, fault);
-    }
-}
-
 #[test]
 fn faults_at_a_place(rt: HostRuntime) {
-    find_second(&rt, &SECOND);
-    print(&rt, &PRINTED);
+    let ask = booking(&rt, 0);
+    for (text, want) in &SECOND {
+        expect_eq(&rt, &fault_at(text.as_bytes(), 2, &ask), want, text);
+    }
+    for (fault, want) in &PRINTED {
+        let text = format!(in rt.alloc(); "{fault}").expect(&rt, "memory");
+        expect_eq(&rt, &text.as_str(), want, fault);
+    }
 }

@@ -4,11 +4,14 @@ use super::calls::{
     day_numbered, hour_numbered, is_name, moment_at, moment_numbered, read_action, read_day,
     read_hour, read_kind, read_moment, read_name,
 };
-use super::rows::{expect_eq, moment, slot};
+use crate::expect::expect_eq;
+use crate::values::{moment, slot};
 use club_values::ascii::text_of;
 use club_values::digits::{read_digits, read_number, read_two, two_digits};
 use club_values::{Day, Moment, Weekday};
 use std::process::Abort;
+use std::test::*;
+use test_kit::COURT_AT_18;
 
 /// Whether a text is a name, and that name has the text.
 fn is_name_again(text: &str) -> bool {
@@ -30,16 +33,12 @@ static NAMES: [(&str, bool); 9] = [
     ("a b", false),
 ];
 
-fn are_names(rt: &impl Abort, rows: &[(&'static str, bool)]) {
-    for (text, want) in rows {
-        expect_eq(rt, &is_name(text.as_bytes()), want, text);
-        expect_eq(rt, &is_name_again(text), want, text);
-    }
-}
-
 #[test]
 fn names(rt: HostRuntime) {
-    are_names(&rt, &NAMES);
+    for (text, want) in &NAMES {
+        expect_eq(&rt, &is_name(text.as_bytes()), want, text);
+        expect_eq(&rt, &is_name_again(text), want, text);
+    }
 }
 
 /// The day has this text and this number, and its number and its date give the day again.
@@ -67,28 +66,20 @@ static DAYS: [(&str, Option<u16>); 14] = [
     ("2026-05-011", None),
 ];
 
-fn are_days(rt: &impl Abort, rows: &[(&'static str, Option<u16>)]) {
-    for (text, want) in rows {
-        let day = read_day(text.as_bytes());
-        match *want {
-            Some(number) => is_day(rt, day.expect(rt, "a day"), text, number),
-            None => expect_eq(rt, &day, &None, text),
-        }
-    }
-}
-
 static NO_DAYS: [u16; 2] = [10_956, 47_482];
-
-fn are_no_days(rt: &impl Abort, numbers: &[u16]) {
-    for number in numbers {
-        expect_eq(rt, &day_numbered(*number), &None, number);
-    }
-}
 
 #[test]
 fn days(rt: HostRuntime) {
-    are_days(&rt, &DAYS);
-    are_no_days(&rt, &NO_DAYS);
+    for (text, want) in &DAYS {
+        let day = read_day(text.as_bytes());
+        match *want {
+            Some(number) => is_day(&rt, day.expect(&rt, "a day"), text, number),
+            None => expect_eq(&rt, &day, &None, text),
+        }
+    }
+    for number in &NO_DAYS {
+        expect_eq(&rt, &day_numbered(*number), &None, number);
+    }
     let last = day_numbered(47_481).expect(&rt, "a day");
     expect_eq(&rt, &last.year_month_day(), &(2099, 12, 31), &"last");
 }
@@ -100,16 +91,12 @@ static WEEKDAYS: [(u16, Weekday); 4] = [
     (20_577, Weekday::Monday),
 ];
 
-fn are_weekdays(rt: &impl Abort, rows: &[(u16, Weekday)]) {
-    for (number, want) in rows {
-        let day = day_numbered(*number).expect(rt, "a day");
-        expect_eq(rt, &day.weekday(), want, number);
-    }
-}
-
 #[test]
 fn weekdays(rt: HostRuntime) {
-    are_weekdays(&rt, &WEEKDAYS);
+    for (number, want) in &WEEKDAYS {
+        let day = day_numbered(*number).expect(&rt, "a day");
+        expect_eq(&rt, &day.weekday(), want, number);
+    }
 }
 
 static MOMENTS: [(&str, Option<u32>); 9] = [
@@ -136,59 +123,44 @@ fn is_moment(rt: &impl Abort, moment: Moment, text: &str, number: u32) {
     expect_eq(rt, &again, &Some(moment), &text);
 }
 
-fn are_moments(rt: &impl Abort, rows: &[(&'static str, Option<u32>)]) {
-    for (text, want) in rows {
-        let moment = read_moment(text.as_bytes());
-        match *want {
-            Some(number) => is_moment(rt, moment.expect(rt, "a moment"), text, number),
-            None => expect_eq(rt, &moment, &None, text),
-        }
-    }
-}
-
-fn are_no_moments(rt: &impl Abort, numbers: &[u32]) {
-    for number in numbers {
-        expect_eq(rt, &moment_numbered(*number), &None, number);
-    }
-}
-
 #[test]
 fn moments(rt: HostRuntime) {
-    are_moments(&rt, &MOMENTS);
-    are_no_moments(&rt, &NO_MOMENTS);
+    for (text, want) in &MOMENTS {
+        let moment = read_moment(text.as_bytes());
+        match *want {
+            Some(number) => is_moment(&rt, moment.expect(&rt, "a moment"), text, number),
+            None => expect_eq(&rt, &moment, &None, text),
+        }
+    }
+    for number in &NO_MOMENTS {
+        expect_eq(&rt, &moment_numbered(*number), &None, number);
+    }
     let day = day_numbered(20_574).expect(&rt, "a day");
     expect_eq(&rt, &moment_at(day, 1440), &None, &"minute 1440");
 }
 
 #[test]
 fn start_of_a_slot(rt: HostRuntime) {
-    expect_eq(&rt, &slot(&rt).start(), &29_627_640, &"2026-05-01T18:00");
+    let slot = slot(&rt, &COURT_AT_18);
+    expect_eq(&rt, &slot.start(), &29_627_640, &"2026-05-01T18:00");
 }
 
 static KINDS: [&str; 3] = ["court", "boat", "room"];
 
-fn are_kinds(rt: &(impl Abort + AllocGlobal), texts: &[&'static str]) {
-    for text in texts {
-        let kind = read_kind(text.as_bytes()).expect(rt, "a kind");
-        let printed = format!(in rt.alloc(); "{kind}").expect(rt, "memory");
-        expect_eq(rt, &(printed.as_str() == *text), &true, text);
-    }
-}
-
 static ACTIONS: [&str; 4] = ["view", "book", "cancel", "account"];
-
-fn are_actions(rt: &(impl Abort + AllocGlobal), texts: &[&'static str]) {
-    for text in texts {
-        let action = read_action(text.as_bytes()).expect(rt, "an action");
-        let printed = format!(in rt.alloc(); "{action}").expect(rt, "memory");
-        expect_eq(rt, &(printed.as_str() == *text), &true, text);
-    }
-}
 
 #[test]
 fn kinds_and_actions(rt: HostRuntime) {
-    are_kinds(&rt, &KINDS);
-    are_actions(&rt, &ACTIONS);
+    for text in &KINDS {
+        let kind = read_kind(text.as_bytes()).expect(&rt, "a kind");
+        let printed = format!(in rt.alloc(); "{kind}").expect(&rt, "memory");
+        expect_eq(&rt, &printed.as_str(), text, text);
+    }
+    for text in &ACTIONS {
+        let action = read_action(text.as_bytes()).expect(&rt, "an action");
+        let printed = format!(in rt.alloc(); "{action}").expect(&rt, "memory");
+        expect_eq(&rt, &printed.as_str(), text, text);
+    }
     expect_eq(&rt, &read_kind(b"Court"), &None, &"Court");
     expect_eq(&rt, &read_action(b"books"), &None, &"books");
 }
@@ -205,36 +177,23 @@ static HOURS: [(&str, Option<u8>); 5] = [
     ("0a", None),
 ];
 
-fn are_hours(rt: &impl Abort, rows: &[(&'static str, Option<u8>)]) {
-    for (text, want) in rows {
-        expect_eq(rt, &hour_number(text), want, text);
-    }
-}
-
 #[test]
 fn hours(rt: HostRuntime) {
-    are_hours(&rt, &HOURS);
+    for (text, want) in &HOURS {
+        expect_eq(&rt, &hour_number(text), want, text);
+    }
     expect_eq(&rt, &hour_numbered(24), &None, &"24");
-}
-
-fn print_slot(rt: &(impl Abort + AllocGlobal), want: &str) {
-    let slot = slot(rt);
-    let text = format!(in rt.alloc(); "{} {} {}", slot.facility, slot.day, slot.hour).expect(
-        rt, "memory",
-    );
-    expect_eq(rt, &text.as_str(), &want, &"a slot");
-}
-
-fn print_moment(rt: &(impl Abort + AllocGlobal), want: &str) {
-    let moment = moment(rt, want.as_bytes());
-    let text = format!(in rt.alloc(); "{moment}").expect(rt, "memory");
-    expect_eq(rt, &text.as_str(), &want, &"a moment");
 }
 
 #[test]
 fn displayed_values(rt: HostRuntime) {
-    print_slot(&rt, "court-1 2026-05-01 18");
-    print_moment(&rt, "2026-05-01T18:05");
+    let slot = slot(&rt, &COURT_AT_18);
+    let text = format!(in rt.alloc(); "{} {} {}", slot.facility, slot.day, slot.hour);
+    let text = text.expect(&rt, "memory");
+    expect_eq(&rt, &text.as_str(), &"court-1 2026-05-01 18", &"a slot");
+    let moment = moment(&rt, "2026-05-01T18:05");
+    let text = format!(in rt.alloc(); "{moment}").expect(&rt, "memory");
+    expect_eq(&rt, &text.as_str(), &"2026-05-01T18:05", &"a moment");
 }
 
 static TWO_DIGITS: [([u8; 2], Option<u8>); 4] = [
@@ -244,15 +203,11 @@ static TWO_DIGITS: [([u8; 2], Option<u8>); 4] = [
     ([b'7', b':'], None),
 ];
 
-fn read_two_digits(rt: &impl Abort, rows: &[([u8; 2], Option<u8>)]) {
-    for (text, want) in rows {
-        expect_eq(rt, &read_two(text[0], text[1]), want, text);
-    }
-}
-
 #[test]
 fn digits_of_a_fixed_width(rt: HostRuntime) {
-    read_two_digits(&rt, &TWO_DIGITS);
+    for (text, want) in &TWO_DIGITS {
+        expect_eq(&rt, &read_two(text[0], text[1]), want, text);
+    }
     expect_eq(&rt, &two_digits(7), b"07", &7);
     expect_eq(&rt, &text_of(b"07"), &"07", &"ASCII");
 }
@@ -270,14 +225,10 @@ static NUMBERS: [(&str, Option<u32>, Option<u32>); 9] = [
     ("1a", None, None),
 ];
 
-fn read_numbers(rt: &impl Abort, rows: &[(&'static str, Option<u32>, Option<u32>)]) {
-    for (text, number, digits) in rows {
-        expect_eq(rt, &read_number(text.as_bytes()), number, text);
-        expect_eq(rt, &read_digits(text.as_bytes()), digits, text);
-    }
-}
-
 #[test]
 fn numbers(rt: HostRuntime) {
-    read_numbers(&rt, &NUMBERS);
+    for (text, number, digits) in &NUMBERS {
+        expect_eq(&rt, &read_number(text.as_bytes()), number, text);
+        expect_eq(&rt, &read_digits(text.as_bytes()), digits, text);
+    }
 }
