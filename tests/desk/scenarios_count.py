@@ -29,7 +29,7 @@ TESTS = ("club_core_tests", "club_gate_tests", "club_http_tests", "end_to_end_te
 # ---- the reader of each table
 
 READERS = {
-    "club_gate_tests/long_json": {"TEXTS": lambda value: [rows.of_spaced(rows.join(it).decode()) for it in value]},
+    "club_gate_tests/long": {"TEXTS": lambda value: [rows.of_spaced(rows.join(it).decode()) for it in value]},
     "club_http_tests/bodies": {"LONGEST": lambda value: [rows.decodes(rows.join(value), ("book", ("court-1", 20574, 18), 7, 2))]},
     "end_to_end_tests/tasks": dict.fromkeys(("BOOKS", "EXCHANGES", "CANCELS", "BOOKS_AND_CANCELS", "ADDS_A_KEY", "CLOSES", "OPENS",
                                              "SETS_A_QUOTA", "DEBITS", "SETS_A_FACILITY", "CANCELS_FOR_A_MEMBER", "ROTATES", "MAKES_TABLES", "MIGRATES",
@@ -41,15 +41,13 @@ READERS = {
 STAYS = {
     "club_core_tests/caveats/values": "readers of values: names, days, moments, numbers",
     "club_core_tests/caveats/allowed": "more points than requests can spend, and calls of their own",
-    "club_core_tests/rows": "readers of a row's columns", "club_core_tests/texts": "what values print",
+    "club_core_tests/rows": "readers of a row's columns",
+    "club_core_tests/answers": "calls of their own: the answer of a command that is done, a key's older root, and what values print",
     "club_core_tests/decisions": "calls of their own: what a request is to caveats, and a slot that no club has",
-    "club_core_tests/commands": "the answer of a command that is done, by a call of its own",
-    "club_core_tests/reference/parts": "a member's part of a club, which only the plain machine has",
     "club_gate_tests/store": "tables and statements, by their own calls; odd and older databases",
-    "club_gate_tests/readings": "counted calls of the store",
-    "club_gate_tests/commands": "counted calls of the store", "club_gate_tests/at_once": "events that are run at once",
+    "club_gate_tests/readings": "counted calls of the store", "club_gate_tests/commands": "counted calls of the store",
     "club_gate_tests/law": "runs from nothing, by the theorem's calls",
-    "club_gate_tests/long_runs": "events that are run at once", "club_gate_tests/long_sheet": "many bookings, in loops",
+    "club_gate_tests/long": "long runs of events and sheets, in loops",
     "club_gate_tests/refusals": "a store that fails", "club_gate_tests/refused_memory": "refused memory",
     "club_gate_tests/passes": "the names of the forms", "club_gate_tests/values": "moments as numbers",
     "club_http_tests/heads": "whether what has come is whole", "club_http_tests/bodies": "bytes after a request, in loops",

@@ -1,7 +1,12 @@
-//! What a test expects.
+//! Assertions, and the runtime that a test needs.
 
 use std::fmt::Debug;
 use std::process::Abort;
+
+/// Ends a test, and allocates.
+pub(crate) trait Host: Abort + AllocGlobal {}
+
+impl<R: Abort + AllocGlobal> Host for R {}
 
 /// Ends the test unless the values are equal. A test that calls it is proved in a third of the time
 /// of one that asserts.
@@ -9,12 +14,12 @@ pub(crate) fn expect_eq<T: PartialEq + Debug>(rt: &impl Abort, returned: &T, wan
     assert_eq!(rt; returned, want);
 }
 
-/// The same of a row, whose number is counted from 0.
+/// The same of a row, which is named.
 pub(crate) fn expect_row<T: PartialEq + Debug>(
     rt: &impl Abort,
-    row: usize,
+    row: &impl Debug,
     returned: &T,
     want: &T,
 ) {
-    assert_eq!(rt; returned, want, "row {row}");
+    assert_eq!(rt; returned, want, "row {row:?}");
 }

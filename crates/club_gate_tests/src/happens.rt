@@ -1,9 +1,8 @@
 //! Events with their replies, in plain values.
 
-use crate::expect::expect_eq;
-use crate::values::{at, push};
+use crate::expect::Host;
+use crate::values::{at, command, push, request};
 use club_gate::{Event, EventReply, OfficeReply, Words};
-use std::alloc::Global;
 use std::process::Abort;
 use test_kit::minutes::NOON;
 use test_kit::{PlainCommand, PlainReply, PlainRequest};
@@ -17,58 +16,37 @@ pub(crate) enum Happens {
     Asked(&'static str, PlainRequest, PlainReply),
 }
 
-impl Happens {
-    fn event(&self, rt: &impl Abort) -> Event<'static> {
-        match *self {
-            Happens::Commanded(plain, _) => Event::Commanded(
-                plain.command().expect(rt, "a command"),
-            ),
-            Happens::Asked(pass, asked, _) => Event::Asked {
-                words: Words {
-                    pass: pass.as_bytes(),
-                    request: asked.request().expect(rt, "a request"),
-                },
-                moment: at(rt, NOON),
-            },
-        }
-    }
-
-    fn reply(&self, rt: &impl Abort) -> EventReply {
-        match *self {
-            Happens::Commanded(_, answer) => EventReply::Answered(answer),
-            Happens::Asked(_, _, expected) => EventReply::Replied(
-                expected.reply().expect(rt, "a reply"),
-            ),
-        }
-    }
-}
-
-/// The events of rows.
-pub(crate) fn events(
-    rt: &(impl Abort + Alloc<A = Global>),
+/// The events of rows, and their replies.
+pub(crate) fn events_and_replies(
+    rt: &impl Host,
     rows: &[Happens],
-) -> Vec<Event<'static>> {
+) -> (Vec<Event<'static>>, Vec<EventReply>) {
     let mut events = Vec::new(rt.alloc());
-    for row in rows {
-        push(rt, &mut events, row.event(rt));
-    }
-    events
-}
-
-fn replies(rt: &(impl Abort + Alloc<A = Global>), rows: &[Happens]) -> Vec<EventReply> {
     let mut replies = Vec::new(rt.alloc());
     for row in rows {
-        push(rt, &mut replies, row.reply(rt));
+        let (event, reply) = row.event_and_reply(rt);
+        push(rt, &mut events, event);
+        push(rt, &mut replies, reply);
     }
-    replies
+    (events, replies)
 }
 
-/// Ends the test unless these are the replies of rows.
-pub(crate) fn expect_replies(
-    rt: &(impl Abort + Alloc<A = Global>),
-    returned: &[EventReply],
-    rows: &[Happens],
-) {
-    let want = replies(rt, rows);
-    expect_eq(rt, &returned, &want.as_slice());
+impl Happens {
+    fn event_and_reply(&self, rt: &impl Abort) -> (Event<'static>, EventReply) {
+        match *self {
+            Happens::Commanded(plain, answer) => {
+                let event = Event::Commanded(command(rt, &plain));
+                (event, EventReply::Answered(answer))
+            }
+            Happens::Asked(pass, asked, want) => {
+                let words = Words {
+                    pass: pass.as_bytes(),
+                    request: request(rt, &asked),
+                };
+                let moment = at(rt, NOON);
+                let want = want.reply().expect(rt, "a reply");
+                (Event::Asked { words, moment }, EventReply::Replied(want))
+            }
+        }
+    }
 }

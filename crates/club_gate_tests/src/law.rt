@@ -1,26 +1,26 @@
 //! Lists of events from an empty database, a request after one, and the files that one leaves.
 
-use crate::at_once::append;
-use crate::expect::expect_eq;
-use crate::happens::{Happens, events, expect_replies};
-use crate::known::SIGNED;
+use crate::expect::{Host, expect_eq};
+use crate::happens::{Happens, events_and_replies};
 use crate::values::at;
-use club_core::{OfficeFault, Refusal, Request};
-use club_gate::{Desk, Fault, OfficeReply, Words};
+use club_core::Request;
+use club_gate::{Desk, OfficeReply, Words};
 use club_store::Store;
 use club_values::Kind;
 use desk_theorem::{reply_from_nothing, run_and_leave, run_from_nothing};
 use sqlite::{Alter, Connection, Files, Options};
 use sqlite_disk::{Disk, Memory};
-use std::alloc::Global;
-use std::process::Abort;
 use std::test::*;
 use test_kit::minutes::NOON;
-use test_kit::passes::{AMY_JSON, AMY_V1, AMY_V2};
-use test_kit::replies::{ACCOUNT_AFTER, BOOKED_7, CANCELLED_7, NOT_VERIFIED};
-use test_kit::requests::{ACCOUNT, BOOK_7, CANCEL_7};
+use test_kit::passes::{AMY_1_SIGNATURE, AMY_JSON, AMY_V1, AMY_V2};
+use test_kit::replies::{ACCOUNT_AFTER, BOOKED_7, NOT_VERIFIED};
+use test_kit::requests::{ACCOUNT, BOOK_7};
 use test_kit::roots::ROOT;
-use test_kit::{COURT_AT_18, COURT_AT_19, PlainCommand, PlainReply, PlainRequest};
+use test_kit::{PlainCommand, PlainReply};
+
+const SIGNED: OfficeReply = OfficeReply::Key {
+    signature: AMY_1_SIGNATURE,
+};
 
 /// Four commands, a booking, its repeats in the two other forms, and the account, which was charged
 /// once.
@@ -40,71 +40,22 @@ static BOOKS: [Happens; 8] = [
 
 #[test]
 fn books_once_in_three_forms(rt: HostRuntime) {
-    let events = events(&rt, &BOOKS);
+    let (events, want) = events_and_replies(&rt, &BOOKS);
     let replies = run_from_nothing(rt.alloc(), events.as_slice()).expect(&rt, "replies");
-    expect_replies(&rt, replies.as_slice(), &BOOKS);
-}
-
-const AT_19: PlainRequest = PlainRequest::Book(COURT_AT_19, 8, 0);
-
-const OUT_OF_RANGE: OfficeReply = OfficeReply::Refused(Fault::Refused(OfficeFault::OutOfRange));
-
-const SLOT_IN_USE: OfficeReply = OfficeReply::Refused(Fault::Refused(OfficeFault::SlotInUse));
-
-/// The office closes a slot and opens it again, sets a quota at the open bookings, and takes back
-/// what they leave. Then the court gets as many places as are taken, and another price. At last a
-/// booking is cancelled for amy, twice.
-static CORRECTS: [Happens; 21] = [
-    Happens::Commanded(PlainCommand::CloseSlot(COURT_AT_18), OfficeReply::Done),
-    Happens::Asked(AMY_V2, BOOK_7, PlainReply::Refused(Refusal::SlotClosed)),
-    Happens::Commanded(PlainCommand::OpenSlot(COURT_AT_18), OfficeReply::Done),
-    Happens::Asked(AMY_V2, BOOK_7, BOOKED_7),
-    Happens::Commanded(PlainCommand::OpenSlot(COURT_AT_18), OfficeReply::Done),
-    Happens::Commanded(PlainCommand::SetQuota("amy", 1), OfficeReply::Done),
-    Happens::Asked(AMY_V2, AT_19, PlainReply::Refused(Refusal::QuotaReached)),
-    Happens::Commanded(PlainCommand::SetQuota("amy", 5), OfficeReply::Done),
-    Happens::Asked(AMY_V2, ACCOUNT, ACCOUNT_AFTER),
-    Happens::Commanded(PlainCommand::Debit("amy", 9_401), OUT_OF_RANGE),
-    Happens::Commanded(PlainCommand::Debit("amy", 9_300), OfficeReply::Done),
-    Happens::Asked(AMY_V2, AT_19, PlainReply::Refused(Refusal::BalanceTooLow)),
-    Happens::Asked(AMY_V2, ACCOUNT, PlainReply::AccountShown(100, 1, 600)),
-    Happens::Commanded(
-        PlainCommand::SetFacility("court-1", 2, 0, 9, 20),
-        SLOT_IN_USE,
-    ),
-    Happens::Commanded(
-        PlainCommand::SetFacility("court-1", 3, 100, 9, 20),
-        OfficeReply::Done,
-    ),
-    Happens::Asked(AMY_V2, AT_19, PlainReply::Booked("amy-1", 8, 100, 2)),
-    Happens::Asked(AMY_V2, BOOK_7, BOOKED_7),
-    Happens::Commanded(PlainCommand::CancelBooking("amy-1", 7), OfficeReply::Done),
-    Happens::Commanded(PlainCommand::CancelBooking("amy-1", 7), OfficeReply::Done),
-    Happens::Asked(AMY_V2, CANCEL_7, CANCELLED_7),
-    Happens::Asked(AMY_V2, ACCOUNT, PlainReply::AccountShown(600, 1, 100)),
-];
-
-#[test]
-fn corrects_among_requests(rt: HostRuntime) {
-    let mut rows = Vec::new(rt.alloc());
-    append(&rt, &mut rows, &BOOKS[..4]);
-    append(&rt, &mut rows, &CORRECTS);
-    let events = events(&rt, rows.as_slice());
-    let replies = run_from_nothing(rt.alloc(), events.as_slice()).expect(&rt, "replies");
-    expect_replies(&rt, replies.as_slice(), rows.as_slice());
+    expect_eq(&rt, &replies.as_slice(), &want.as_slice());
 }
 
 /// Ends the test unless a request for the account after these events gets this reply.
-fn expect_reply_after(rt: &(impl Abort + Alloc<A = Global>), rows: &[Happens], want: &PlainReply) {
+fn expect_reply_after(rt: &impl Host, rows: &[Happens], want: &PlainReply) {
     let words = Words {
         pass: AMY_V1.as_bytes(),
         request: Request::Account,
     };
-    let events = events(rt, rows);
+    let (events, replies) = events_and_replies(rt, rows);
     let returned = reply_from_nothing(rt.alloc(), events.as_slice(), at(rt, NOON), &words).expect(
         rt, "replies",
     );
-    expect_replies(rt, returned.replies.as_slice(), rows);
+    expect_eq(rt, &returned.replies.as_slice(), &replies.as_slice());
     expect_eq(rt, &returned.reply, &want.reply().expect(rt, "a reply"));
 }
 
@@ -116,10 +67,7 @@ fn answers_after_a_list(rt: HostRuntime) {
 }
 
 /// The desk of a database that was just opened.
-fn desk_over<S: Alter + Drop>(
-    rt: &(impl Abort + Alloc<A = Global>),
-    connection: Connection<S>,
-) -> Desk<Store<S>> {
+fn desk_over<S: Alter + Drop>(rt: &impl Host, connection: Connection<S>) -> Desk<Store<S>> {
     let store = Store::adopt(rt.alloc(), connection).ok();
     Desk::new(rt.alloc(), store.expect(rt, "tables"))
 }
@@ -127,7 +75,7 @@ fn desk_over<S: Alter + Drop>(
 /// What is left of these files once the rows happened at a desk over them; `None` if they may not
 /// be used.
 fn files_left<D: Disk + Drop>(
-    rt: &(impl Abort + Alloc<A = Global>),
+    rt: &impl Host,
     files: Files<D>,
     rows: &[Happens],
 ) -> Option<Files<D>> {
@@ -136,10 +84,10 @@ fn files_left<D: Disk + Drop>(
     }
     let connection = Connection::open_files(rt.alloc(), files, Options::new(7)).ok();
     let desk = desk_over(rt, connection.expect(rt, "a database"));
-    let events = events(rt, rows);
+    let (events, want) = events_and_replies(rt, rows);
     let run = run_and_leave::<D, D>(desk, events.as_slice());
     let (replies, store) = run.expect(rt, "replies");
-    expect_replies(rt, replies.as_slice(), rows);
+    expect_eq(rt, &replies.as_slice(), &want.as_slice());
     Some(store.close())
 }
 

@@ -4,35 +4,21 @@
 #![tactic(auto)]
 
 #[cfg(test)]
-mod ample;
-#[cfg(test)]
-mod at_once;
-#[cfg(test)]
 mod commands;
-#[cfg(test)]
-mod counter;
 #[cfg(test)]
 mod expect;
 #[cfg(test)]
 mod happens;
 #[cfg(test)]
-mod known;
-#[cfg(test)]
 mod law;
 #[cfg(test)]
 mod lists;
 #[cfg(test)]
-mod long_json;
-#[cfg(test)]
-mod long_runs;
-#[cfg(test)]
-mod long_sheet;
+mod long;
 #[cfg(test)]
 mod passes;
 #[cfg(test)]
 mod readings;
-#[cfg(test)]
-mod reference_machine;
 #[cfg(test)]
 mod refusals;
 #[cfg(test)]
@@ -42,11 +28,7 @@ mod refusing;
 #[cfg(test)]
 mod scene;
 #[cfg(test)]
-mod sent;
-#[cfg(test)]
 mod store;
-#[cfg(test)]
-mod texts;
 #[cfg(test)]
 mod trial;
 #[cfg(test)]

@@ -1,15 +1,15 @@
 //! Random lists of events, one by one and at once: the desk's replies are the reference machine's,
 //! and those to amy are the solo machine's, which holds only her part.
 
+use crate::expect::Host;
 use crate::scene::{Scene, play};
 use crate::trial::Trial;
 use crate::values::push;
 use club_core::ClubStore;
 use club_gate::Desk;
-use std::alloc::Global;
-use std::process::Abort;
 use std::test::*;
-use test_kit::drawn::{Event, Numbers};
+use test_kit::PlainRequest;
+use test_kit::drawn::{AUDIT_AMY, AUDITORS, Asking, Event, Numbers, SLOTS, audit};
 
 // How many pairs of lists a test draws: the second begins with the club that the first one left. A
 // hundred lists in one test would take most of the minute that a test has.
@@ -25,108 +25,100 @@ struct Pair {
     are_run: bool,
 }
 
-/// Plays events one by one, then compares the members' accounts and what the desk shows.
-fn play_each<S: ClubStore>(
-    rt: &(impl Abort + Alloc<A = Global>),
-    trial: &mut Trial<S>,
-    events: &[Event],
-) {
-    for event in events {
-        trial.play(rt, event);
-    }
-    trial.audit(rt);
-    trial.show(rt);
-}
-
 impl Pair {
-    /// The trial after a list, and after the audit of the club behind it.
+    /// The trial after a list.
     fn trial_after<S: ClubStore>(
         &self,
-        rt: &(impl Abort + Alloc<A = Global>),
+        rt: &impl Host,
         mut trial: Trial<S>,
         events: &[Event],
     ) -> Trial<S> {
         if self.are_run {
             trial.run(rt, events);
         } else {
-            play_each(rt, &mut trial, events);
+            for event in events {
+                trial.play(rt, event);
+            }
         }
-        trial.into_audit(rt)
+        trial.reopened(rt)
     }
 }
 
 impl Scene for Pair {
-    fn play<S: ClubStore + Drop>(&self, rt: &(impl Abort + Alloc<A = Global>), desk: Desk<S>) {
+    fn play<S: ClubStore + Drop>(&self, rt: &impl Host, desk: Desk<S>) {
         let trial = self.trial_after(rt, Trial::begin(rt, desk), self.first.as_slice());
-        let _audited = self.trial_after(rt, trial, self.second.as_slice());
+        let _last = self.trial_after(rt, trial, self.second.as_slice());
     }
 }
 
-fn draw(rt: &(impl Abort + Alloc<A = Global>), numbers: &mut Numbers) -> Vec<Event> {
+/// Random events, and then requests that show the members' accounts and the slots.
+fn draw(rt: &impl Host, numbers: &mut Numbers) -> Vec<Event> {
     let mut events = Vec::new(rt.alloc());
     for _ in 0..EVENTS {
         push(rt, &mut events, numbers.event());
     }
+    for key in &AUDITORS {
+        push(rt, &mut events, Event::Asked(audit(key)));
+    }
+    for slot in &SLOTS {
+        let asking = Asking {
+            asked: PlainRequest::View(*slot),
+            ..audit(AUDIT_AMY)
+        };
+        push(rt, &mut events, Event::Asked(asking));
+    }
     events
 }
 
-/// Plays the next pair of lists of a row of numbers.
-fn play_pair(rt: &(impl Abort + Alloc<A = Global>), numbers: &mut Numbers, are_run: bool) {
-    let pair = Pair {
-        first: draw(rt, numbers),
-        second: draw(rt, numbers),
-        are_run,
-    };
-    play(rt, &pair);
-}
-
-/// Plays so many pairs of lists of a row of numbers, event by event.
-pub(crate) fn play_lists(rt: &(impl Abort + Alloc<A = Global>), first: u64, pairs: u32) {
+/// Plays the lists of a row of numbers, event by event or at once.
+fn play_lists(rt: &impl Host, first: u64, pairs: u32, are_run: bool) {
     let mut numbers = Numbers::new(first);
     for _ in 0..pairs {
-        play_pair(rt, &mut numbers, false);
-    }
-}
-
-/// Runs the lists of a row of numbers.
-fn run_lists(rt: &(impl Abort + Alloc<A = Global>), first: u64) {
-    let mut numbers = Numbers::new(first);
-    for _ in 0..PAIRS {
-        play_pair(rt, &mut numbers, true);
+        let pair = Pair {
+            first: draw(rt, &mut numbers),
+            second: draw(rt, &mut numbers),
+            are_run,
+        };
+        play(rt, &pair);
     }
 }
 
 #[test]
 fn answers_as_the_reference(rt: HostRuntime) {
-    play_lists(&rt, 2_026, PAIRS);
+    play_lists(&rt, 2_026, PAIRS, false);
 }
 
 #[test]
 fn answers_a_second_row_of_lists(rt: HostRuntime) {
-    play_lists(&rt, 2_027, PAIRS);
+    play_lists(&rt, 2_027, PAIRS, false);
 }
 
 #[test]
 fn answers_a_third_row_of_lists(rt: HostRuntime) {
-    play_lists(&rt, 2_028, PAIRS);
+    play_lists(&rt, 2_028, PAIRS, false);
 }
 
 #[test]
 fn answers_a_fourth_row_of_lists(rt: HostRuntime) {
-    play_lists(&rt, 2_029, PAIRS);
+    play_lists(&rt, 2_029, PAIRS, false);
 }
 
 #[test]
 fn answers_a_fifth_row_of_lists(rt: HostRuntime) {
-    play_lists(&rt, 2_030, PAIRS);
+    play_lists(&rt, 2_030, PAIRS, false);
+}
+
+#[test]
+fn answers_a_sixth_row_of_lists(rt: HostRuntime) {
+    play_lists(&rt, 2_031, 1, false);
 }
 
 #[test]
 fn runs_as_the_reference(rt: HostRuntime) {
-    run_lists(&rt, 2_026);
+    play_lists(&rt, 2_026, PAIRS, true);
 }
 
 #[test]
 fn runs_a_second_row_of_lists(rt: HostRuntime) {
-    run_lists(&rt, 2_027);
+    play_lists(&rt, 2_027, PAIRS, true);
 }

@@ -1,11 +1,10 @@
 //! Passes, in plain values.
 
+use crate::expect::Host;
 use crate::values::{name, root};
 use club_gate::{LOCATION, key_signature, minted};
 use pass_forms::{Form, Pass, narrow};
 use pass_json::write_any;
-use std::alloc::Global;
-use std::process::Abort;
 use test_kit::drawn::Asking;
 use test_kit::roots::ROOT;
 
@@ -22,51 +21,31 @@ pub(crate) enum Shown {
     Unnamed,
 }
 
-/// The office's pass of a key under a root.
-pub(crate) fn pass_of(
-    rt: &(impl Abort + Alloc<A = Global>),
-    key: &[u8],
-    root_bytes: &[u8],
-) -> Pass {
+/// The office's pass of a key under a root, with these caveats.
+fn narrowed_pass(rt: &impl Host, key: &str, root_bytes: &[u8], caveats: &[&str]) -> Pass {
     let name = name(rt, key);
     let signature = key_signature(&name, &root(rt, root_bytes));
-    minted(rt.alloc(), &name, signature).expect(rt, "memory")
-}
-
-fn narrowed_pass(
-    rt: &(impl Abort + Alloc<A = Global>),
-    key: &str,
-    root_bytes: &[u8],
-    caveats: &[&str],
-) -> Pass {
-    let mut pass = pass_of(rt, key.as_bytes(), root_bytes);
+    let mut pass = minted(rt.alloc(), &name, signature).expect(rt, "memory");
     for caveat in caveats {
         narrow(rt.alloc(), &mut pass, caveat.as_bytes()).expect(rt, "a narrower pass");
     }
     pass
 }
 
-/// Amy's pass with its last byte changed.
-fn changed_pass(rt: &(impl Abort + Alloc<A = Global>)) -> Pass {
-    let name = name(rt, b"amy-1");
+fn changed_pass(rt: &impl Host) -> Pass {
+    let name = name(rt, "amy-1");
     let mut signature = key_signature(&name, &root(rt, ROOT));
     signature[31] ^= 1;
     minted(rt.alloc(), &name, signature).expect(rt, "memory")
 }
 
-/// A pass whose identifier is the name of amy's key alone.
-fn unnamed_pass(rt: &(impl Abort + Alloc<A = Global>)) -> Pass {
+fn unnamed_pass(rt: &impl Host) -> Pass {
     let root = root(rt, ROOT);
     Pass::mint(rt.alloc(), root.as_bytes(), LOCATION, b"amy-1").expect(rt, "memory")
 }
 
-/// The text of a pass in a form.
-pub(crate) fn text_of(rt: &(impl Abort + Alloc<A = Global>), form: Form, pass: &Pass) -> String {
-    write_any(rt.alloc(), form, pass).expect(rt, "the text of a pass")
-}
-
 impl Shown {
-    fn pass(&self, rt: &(impl Abort + Alloc<A = Global>)) -> Pass {
+    fn pass(&self, rt: &impl Host) -> Pass {
         match *self {
             Shown::Of(key, root, caveats) => narrowed_pass(rt, key, root, caveats),
             Shown::Changed => changed_pass(rt),
@@ -75,13 +54,13 @@ impl Shown {
     }
 
     /// The text of the pass in a form.
-    pub fn text(&self, rt: &(impl Abort + Alloc<A = Global>), form: Form) -> String {
-        text_of(rt, form, &self.pass(rt))
+    pub fn text(&self, rt: &impl Host, form: Form) -> String {
+        write_any(rt.alloc(), form, &self.pass(rt)).expect(rt, "the text of a pass")
     }
 }
 
 /// The text of the pass of a drawn request.
-pub(crate) fn text_of_asking(rt: &(impl Abort + Alloc<A = Global>), asking: &Asking) -> String {
+pub(crate) fn text_of_asking(rt: &impl Host, asking: &Asking) -> String {
     Shown::Of(asking.key, asking.root, asking.caveats).text(rt, asking.form)
 }
 

@@ -1,17 +1,22 @@
-//! The desk reads of its store what an answer needs, and no more, and its change is the last call.
+//! The desk reads of its store only what an answer needs, and its change is the last call. The key
+//! comes first, and the older root for a pass that the current one doesn't sign. Then come the
+//! record under the number and the facility, then the sums for a limit of points, and at last the
+//! rows for the decision.
 
-use crate::counter::{carry_out, furnish, reply};
-use crate::expect::{expect_eq, expect_row};
+use crate::expect::{Host, expect_eq, expect_row};
 use crate::passes::{AMY, BOB, FORMS, Shown};
-use crate::refusing::{Calls, NONE, Refusing};
-use crate::scene::{Scene, play};
-use club_core::{ClubStore, Reply};
+use crate::refusing::Call::{
+    self, Account, Change, Facility, Key, OlderRoot, OpenCount, Record, Slot, Spent,
+};
+use crate::refusing::Refusing;
+use crate::scene::{Scene, carry_out, furnish, play, reply};
+use club_core::ClubStore;
 use club_gate::Desk;
 use pass_forms::Form;
-use std::alloc::Global;
 use std::process::Abort;
 use std::test::*;
 use test_kit::minutes::{NOON, UNTIL};
+use test_kit::passes::AMY_V2;
 use test_kit::replies::{
     ACCOUNT_AFTER, ACCOUNT_BEFORE, BOOKED_7, CANCELLED_7, DENIED_1, KEY_REVOKED, NO_SUCH_BOOKING,
     NO_SUCH_FACILITY, NOT_VERIFIED,
@@ -20,111 +25,51 @@ use test_kit::requests::{ACCOUNT, BOOK_7, BOOK_8, CANCEL_7, VIEW};
 use test_kit::roots::{ROOT, SECOND_ROOT, THIRD_ROOT};
 use test_kit::{FRIDAY, PlainCommand, PlainReply, PlainRequest, PlainSlot};
 
-const KEY: Calls = Calls { keys: 1, ..NONE };
+const BOTH_ROOTS: &[Call] = &[Key, OlderRoot];
 
-/// A pass that isn't signed under the current root.
-const BOTH_ROOTS: Calls = Calls {
-    older_roots: 1,
-    ..KEY
-};
+const SLOT: &[Call] = &[Key, Facility, Slot];
 
-const KEY_AND_FACILITY: Calls = Calls {
-    facilities: 1,
-    ..KEY
-};
+const RECORD: &[Call] = &[Key, Record, Facility];
 
-const SLOT: Calls = Calls {
-    slots: 1,
-    ..KEY_AND_FACILITY
-};
+const BOOKING: &[Call] = &[Key, Record, Facility, Slot, Account, OpenCount, Change];
 
-const RECORD: Calls = Calls {
-    records: 1,
-    ..KEY_AND_FACILITY
-};
-
-/// A repeat reads its facility only for a caveat on the kind.
-const REPEAT: Calls = Calls { records: 1, ..KEY };
-
-const CANCELLATION: Calls = Calls {
-    others: 1,
-    ..REPEAT
-};
-
-const CANCELLATION_BY_KIND: Calls = Calls {
-    others: 1,
-    ..RECORD
-};
-
-const BOOKING: Calls = Calls {
-    slots: 1,
-    accounts: 1,
-    open_counts: 1,
-    others: 1,
-    ..RECORD
-};
-
-/// Under a limit that leaves room for all that the member has used, no sum over bookings is read:
-/// the account is, once for the caveats and once for the decision.
-const LIMITED_BOOKING: Calls = Calls {
-    accounts: 2,
-    ..BOOKING
-};
+/// Under a limit that leaves room for all that the member has used, no sum over bookings is read.
+const LIMITED: &[Call] = &[
+    Key, Record, Facility, Account, Slot, Account, OpenCount, Change,
+];
 
 /// Under a lower limit what the key has spent is read, too.
-const SUMMED_BOOKING: Calls = Calls {
-    spent: 1,
-    ..LIMITED_BOOKING
-};
+const SUMMED: &[Call] = &[
+    Key, Record, Facility, Account, Spent, Slot, Account, OpenCount, Change,
+];
 
-const OVER_THE_LIMIT: Calls = Calls {
-    accounts: 1,
-    spent: 1,
-    ..RECORD
-};
+const OVER_THE_LIMIT: &[Call] = &[Key, Record, Facility, Account, Spent];
 
-const SUMS: Calls = Calls {
-    accounts: 1,
-    open_counts: 1,
-    spent: 1,
-    ..KEY
-};
+const SUMS: &[Call] = &[Key, Account, OpenCount, Spent];
 
-/// Books number 7.
-fn book<S: ClubStore>(rt: &(impl Abort + Alloc<A = Global>), desk: &mut Desk<S>) {
-    let text = AMY.text(rt, Form::V2);
-    let returned = reply(rt, desk, NOON, text.as_bytes(), &BOOK_7);
-    expect_eq(rt, &returned, &BOOKED_7.reply().expect(rt, "a reply"));
-}
+/// A repeat reads its facility only for a caveat on the kind.
+const REPEAT: &[Call] = &[Key, Record];
 
-/// Revokes bob's key, gives amy a second one, and books number 7 or not.
-fn prepare<S: ClubStore>(
-    rt: &(impl Abort + Alloc<A = Global>),
-    desk: &mut Desk<S>,
-    is_booked: bool,
-) {
-    carry_out(rt, desk, &PlainCommand::RevokeKey("bob-1"));
-    carry_out(rt, desk, &PlainCommand::AddKey("amy-2", "amy", ROOT));
-    if is_booked {
-        book(rt, desk);
-    }
-}
+const CANCELLATION: &[Call] = &[Key, Record, Change];
 
-/// The fixture, in which bob's key is revoked and amy has two, after number 7 was booked or before.
-fn counted_fixture<S: ClubStore>(
-    rt: &(impl Abort + Alloc<A = Global>),
-    desk: Desk<S>,
-    is_booked: bool,
-) -> Desk<Refusing<S>> {
-    let mut desk = furnish(rt, desk);
-    prepare(rt, &mut desk, is_booked);
-    Desk::new(rt.alloc(), Refusing::never(desk.into_store()))
-}
+const CANCELLATION_BY_KIND: &[Call] = &[Key, Record, Facility, Change];
+
+const BOOKING_BY_OLDER: &[Call] = &[
+    Key, OlderRoot, Record, Facility, Slot, Account, OpenCount, Change,
+];
 
 /// A pass, a request under it, the reply, and the calls of the store.
-type Row = (Shown, PlainRequest, PlainReply, Calls);
+type Row = (Shown, PlainRequest, PlainReply, &'static [Call]);
 
-const BOOKS_AT_18: Shown = Shown::Of("amy-1", ROOT, &["hours = 18-19"]);
+const NOBODY: Shown = Shown::Of("nobody", ROOT, &[]);
+
+const UNDER_SECOND: Shown = Shown::Of("amy-1", SECOND_ROOT, &[]);
+
+const UNDER_SECOND_NARROWED: Shown = Shown::Of("amy-1", SECOND_ROOT, &["hours = 18-20"]);
+
+const UNDER_THIRD: Shown = Shown::Of("amy-1", THIRD_ROOT, &[]);
+
+const AT_18: Shown = Shown::Of("amy-1", ROOT, &["hours = 18-19"]);
 
 /// A pass that allows no booking, whatever its key has spent.
 const VIEWS: Shown = Shown::Of("amy-1", ROOT, &["actions = view"]);
@@ -146,20 +91,13 @@ const NOWHERE: PlainSlot = PlainSlot {
 
 const BOOK_NOWHERE: PlainRequest = PlainRequest::Book(NOWHERE, 7, 2);
 
-// Before a signature is compared, and for a revoked key, the key's row is read and nothing else.
-// Its older root is read for a pass that the current one doesn't sign.
 static REFUSED: [Row; 5] = [
     // The identifier is no key's.
-    (Shown::Unnamed, BOOK_7, NOT_VERIFIED, NONE),
-    (Shown::Of("nobody", ROOT, &[]), BOOK_7, NOT_VERIFIED, KEY),
+    (Shown::Unnamed, BOOK_7, NOT_VERIFIED, &[]),
+    (NOBODY, BOOK_7, NOT_VERIFIED, &[Key]),
     (Shown::Changed, BOOK_7, NOT_VERIFIED, BOTH_ROOTS),
-    (
-        Shown::Of("amy-1", SECOND_ROOT, &["hours = 18-20"]),
-        BOOK_7,
-        NOT_VERIFIED,
-        BOTH_ROOTS,
-    ),
-    (BOB, BOOK_7, KEY_REVOKED, KEY),
+    (UNDER_SECOND_NARROWED, BOOK_7, NOT_VERIFIED, BOTH_ROOTS),
+    (BOB, BOOK_7, KEY_REVOKED, &[Key]),
 ];
 
 // Number 7 isn't booked.
@@ -167,12 +105,12 @@ static FIRST: [Row; 10] = [
     (AMY, VIEW, PlainReply::SlotShown(0, false), SLOT),
     (AMY, ACCOUNT, ACCOUNT_BEFORE, SUMS),
     (AMY, BOOK_7, BOOKED_7, BOOKING),
-    (BOOKS_AT_18, BOOK_7, BOOKED_7, BOOKING),
-    (SPENDS_700, BOOK_7, BOOKED_7, LIMITED_BOOKING),
+    (AT_18, BOOK_7, BOOKED_7, BOOKING),
+    (SPENDS_700, BOOK_7, BOOKED_7, LIMITED),
     // A request that a caveat refuses reads no sum.
     (VIEWS, BOOK_7, DENIED_1, RECORD),
     (VIEWS_THEN_SPENDS, BOOK_7, DENIED_1, RECORD),
-    (VIEWS, ACCOUNT, DENIED_1, KEY),
+    (VIEWS, ACCOUNT, DENIED_1, &[Key]),
     (AMY, CANCEL_7, NO_SUCH_BOOKING, RECORD),
     (AMY, BOOK_NOWHERE, NO_SUCH_FACILITY, RECORD),
 ];
@@ -193,189 +131,139 @@ static AGAIN: [Row; 10] = [
     (SPENDS_700, BOOK_8, DENIED_1, OVER_THE_LIMIT),
 ];
 
+// Amy's key has another root, and the one before it is good.
+static ROTATED: [Row; 3] = [
+    (UNDER_SECOND, BOOK_7, BOOKED_7, BOOKING),
+    (AMY, BOOK_7, BOOKED_7, BOOKING_BY_OLDER),
+    (UNDER_THIRD, BOOK_7, NOT_VERIFIED, BOTH_ROOTS),
+];
+
+/// A key of amy's, the caveats of its pass, the reply to a booking under number 8, and the calls.
+type Limited = (
+    &'static str,
+    &'static [&'static str],
+    PlainReply,
+    &'static [Call],
+);
+
 /// A booking of the last place for 200 points, under either key of amy.
 const BOOKED_BY_1: PlainReply = PlainReply::Booked("amy-1", 8, 200, 0);
 
 const BOOKED_BY_2: PlainReply = PlainReply::Booked("amy-2", 8, 200, 0);
 
+const THREE_LIMITS: &[&str] = &["spend <= 900", "spend <= 799", "spend <= 901"];
+
 // Number 7 is booked, for 600 points: all that amy has used, and her first key has spent. Number 8
 // costs 200, so the limits leave 599, 600 and 601 points for what was spent before.
-static LIMITS: [Row; 8] = [
-    (
-        Shown::Of("amy-1", ROOT, &["spend <= 799"]),
-        BOOK_8,
-        DENIED_1,
-        OVER_THE_LIMIT,
-    ),
-    (
-        Shown::Of("amy-1", ROOT, &["spend <= 800"]),
-        BOOK_8,
-        BOOKED_BY_1,
-        LIMITED_BOOKING,
-    ),
-    (
-        Shown::Of("amy-1", ROOT, &["spend <= 801"]),
-        BOOK_8,
-        BOOKED_BY_1,
-        LIMITED_BOOKING,
-    ),
+static LIMITS: [Limited; 8] = [
+    ("amy-1", &["spend <= 799"], DENIED_1, OVER_THE_LIMIT),
+    ("amy-1", &["spend <= 800"], BOOKED_BY_1, LIMITED),
+    ("amy-1", &["spend <= 801"], BOOKED_BY_1, LIMITED),
     // The second key has spent nothing.
-    (
-        Shown::Of("amy-2", ROOT, &["spend <= 799"]),
-        BOOK_8,
-        BOOKED_BY_2,
-        SUMMED_BOOKING,
-    ),
-    (
-        Shown::Of("amy-2", ROOT, &["spend <= 800"]),
-        BOOK_8,
-        BOOKED_BY_2,
-        LIMITED_BOOKING,
-    ),
-    (
-        Shown::Of("amy-2", ROOT, &["spend <= 801"]),
-        BOOK_8,
-        BOOKED_BY_2,
-        LIMITED_BOOKING,
-    ),
+    ("amy-2", &["spend <= 799"], BOOKED_BY_2, SUMMED),
+    ("amy-2", &["spend <= 800"], BOOKED_BY_2, LIMITED),
+    ("amy-2", &["spend <= 801"], BOOKED_BY_2, LIMITED),
     // The lowest limit decides whether a sum is read.
-    (
-        Shown::Of(
-            "amy-2",
-            ROOT,
-            &["spend <= 900", "spend <= 799", "spend <= 901"],
-        ),
-        BOOK_8,
-        BOOKED_BY_2,
-        SUMMED_BOOKING,
-    ),
+    ("amy-2", THREE_LIMITS, BOOKED_BY_2, SUMMED),
     // A limit below the charge refuses whatever was spent.
-    (
-        Shown::Of("amy-2", ROOT, &["spend <= 199"]),
-        BOOK_8,
-        DENIED_1,
-        RECORD,
-    ),
+    ("amy-2", &["spend <= 199"], DENIED_1, RECORD),
 ];
 
-const BOOKING_BY_OLDER: Calls = Calls {
-    older_roots: 1,
-    ..BOOKING
-};
-
-// Amy's key has another root, and the one before it is good.
-static ROTATED: [Row; 3] = [
-    (
-        Shown::Of("amy-1", SECOND_ROOT, &[]),
-        BOOK_7,
-        BOOKED_7,
-        BOOKING,
-    ),
-    (AMY, BOOK_7, BOOKED_7, BOOKING_BY_OLDER),
-    (
-        Shown::Of("amy-1", THIRD_ROOT, &[]),
-        BOOK_7,
-        NOT_VERIFIED,
-        BOTH_ROOTS,
-    ),
-];
-
-/// The reply to a row's request, and what the desk asked of its store for it. Ends the test if the
-/// store is called after a change.
-fn reply_and_calls<S: ClubStore + Drop>(
-    rt: &(impl Abort + Alloc<A = Global>),
-    mut desk: Desk<Refusing<S>>,
-    form: Form,
-    (shown, asked, _, _): &Row,
-) -> (Reply, Calls) {
-    let text = shown.text(rt, form);
-    let reply = reply(rt, &mut desk, NOON, text.as_bytes(), asked);
-    let store = desk.into_store();
-    expect_eq(rt, &store.order.goes_on_after_a_change, &false);
-    (reply, store.asked)
+/// The event before a request. The desk is that of the fixture, where bob's key is revoked and amy
+/// has a second one.
+#[derive(Clone, Copy)]
+enum Before {
+    Nothing,
+    /// Number 7 is booked.
+    Booking,
+    /// Amy's first key gets another root.
+    Rotation,
 }
 
-/// A row with its place, over a fixture in which number 7 is booked or not, with a pass in a form.
+impl Before {
+    fn happen<S: ClubStore>(self, rt: &impl Abort, desk: &mut Desk<S>) {
+        carry_out(rt, desk, &PlainCommand::RevokeKey("bob-1"));
+        carry_out(rt, desk, &PlainCommand::AddKey("amy-2", "amy", ROOT));
+        match self {
+            Before::Nothing => {}
+            Before::Booking => {
+                let returned = reply(rt, desk, NOON, AMY_V2.as_bytes(), &BOOK_7);
+                expect_eq(rt, &returned, &BOOKED_7.reply().expect(rt, "a reply"));
+            }
+            Before::Rotation => {
+                let rotation = PlainCommand::RotateKey("amy-1", SECOND_ROOT, UNTIL);
+                carry_out(rt, desk, &rotation);
+            }
+        }
+    }
+}
+
+/// A row with its place, and with its pass in a form.
 #[derive(Clone, Copy)]
 struct Reading<'a> {
+    before: Before,
     form: Form,
-    is_booked: bool,
     place: usize,
     row: &'a Row,
 }
 
 impl Scene for Reading<'_> {
-    fn play<S: ClubStore + Drop>(&self, rt: &(impl Abort + Alloc<A = Global>), desk: Desk<S>) {
-        let desk = counted_fixture(rt, desk, self.is_booked);
-        let (answer, asked) = reply_and_calls(rt, desk, self.form, self.row);
-        let (_, _, expected, calls) = self.row;
+    fn play<S: ClubStore + Drop>(&self, rt: &impl Host, desk: Desk<S>) {
+        let (shown, asked, expected, calls) = self.row;
+        let mut desk = furnish(rt, desk);
+        self.before.happen(rt, &mut desk);
+        let mut desk = Desk::new(rt.alloc(), Refusing::never(desk.into_store()));
+        let text = shown.text(rt, self.form);
+        let returned = reply(rt, &mut desk, NOON, text.as_bytes(), asked);
         let want = expected.reply().expect(rt, "a reply");
-        expect_row(rt, self.place, &answer, &want);
-        expect_row(rt, self.place, &asked, calls);
+        expect_row(rt, &self.place, &returned, &want);
+        desk.into_store().expect_calls(rt, self.place, calls);
     }
 }
 
-fn reads_each(rt: &(impl Abort + Alloc<A = Global>), is_booked: bool, rows: &[Row]) {
+/// Plays a row with its pass in each form.
+fn reads(rt: &impl Host, before: Before, place: usize, row: &Row) {
     for form in &FORMS {
-        for (place, row) in rows.iter().enumerate() {
-            let reading = Reading {
-                form: *form,
-                is_booked,
-                place,
-                row,
-            };
-            play(rt, &reading);
-        }
+        let reading = Reading {
+            before,
+            form: *form,
+            place,
+            row,
+        };
+        play(rt, &reading);
+    }
+}
+
+fn reads_each(rt: &impl Host, before: Before, rows: &[Row]) {
+    for (place, row) in rows.iter().enumerate() {
+        reads(rt, before, place, row);
     }
 }
 
 #[test]
 fn a_refused_pass_reads_its_key_alone(rt: HostRuntime) {
-    reads_each(&rt, false, &REFUSED);
+    reads_each(&rt, Before::Nothing, &REFUSED);
 }
 
 #[test]
 fn an_answer_reads_what_it_needs(rt: HostRuntime) {
-    reads_each(&rt, false, &FIRST);
+    reads_each(&rt, Before::Nothing, &FIRST);
 }
 
 #[test]
 fn a_repeat_and_a_cancellation_read_no_sum(rt: HostRuntime) {
-    reads_each(&rt, true, &AGAIN);
+    reads_each(&rt, Before::Booking, &AGAIN);
 }
 
 #[test]
 fn a_sum_is_read_only_where_the_limit_lies_below_what_the_member_has_used(rt: HostRuntime) {
-    reads_each(&rt, true, &LIMITS);
-}
-
-/// A row over a fixture in which amy's key was rotated.
-#[derive(Clone, Copy)]
-struct Rotated<'a> {
-    place: usize,
-    row: &'a Row,
-}
-
-impl Scene for Rotated<'_> {
-    fn play<S: ClubStore + Drop>(&self, rt: &(impl Abort + Alloc<A = Global>), desk: Desk<S>) {
-        let mut desk = furnish(rt, desk);
-        carry_out(
-            rt,
-            &mut desk,
-            &PlainCommand::RotateKey("amy-1", SECOND_ROOT, UNTIL),
-        );
-        let desk = Desk::new(rt.alloc(), Refusing::never(desk.into_store()));
-        let (answer, asked) = reply_and_calls(rt, desk, Form::V2, self.row);
-        let (_, _, expected, calls) = self.row;
-        let want = expected.reply().expect(rt, "a reply");
-        expect_row(rt, self.place, &answer, &want);
-        expect_row(rt, self.place, &asked, calls);
+    for (place, (key, caveats, want, calls)) in LIMITS.iter().enumerate() {
+        let row = (Shown::Of(key, ROOT, caveats), BOOK_8, *want, *calls);
+        reads(&rt, Before::Booking, place, &row);
     }
 }
 
 #[test]
 fn an_older_root_that_is_good_serves_and_is_read_only_then(rt: HostRuntime) {
-    for (place, row) in ROTATED.iter().enumerate() {
-        play(&rt, &Rotated { place, row });
-    }
+    reads_each(&rt, Before::Rotation, &ROTATED);
 }

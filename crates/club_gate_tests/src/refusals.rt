@@ -1,22 +1,19 @@
 //! The desk's replies if its store fails, or isn't called.
 
-use crate::counter::{furnish, reply};
-use crate::expect::{expect_eq, expect_row};
-use crate::passes::AMY;
+use crate::expect::{Host, expect_eq, expect_row};
 use crate::refusing::Refusing;
-use crate::scene::{Scene, play};
-use crate::values::{name, root};
+use crate::scene::{Scene, furnish, play, reply};
+use crate::values::{command, day, name, root, slot};
 use club_core::{ClubStore, OfficeFault, Refusal, Reply, StoreFault};
 use club_gate::{Desk, Fault, OfficeReply, key_signature};
-use club_values::Day;
-use pass_forms::{Form, MAX_TEXT};
-use std::alloc::Global;
+use pass_forms::MAX_TEXT;
 use std::process::Abort;
 use std::test::*;
 use test_kit::minutes::NOON;
+use test_kit::passes::AMY_V2;
 use test_kit::requests::{ACCOUNT, BOOK_7};
 use test_kit::roots::ROOT;
-use test_kit::{COURT_AT_18, PlainCommand};
+use test_kit::{COURT_AT_18, Piece, PlainCommand, join};
 
 // The signature of the longest name under a root of 64 bytes 7, by an independent program.
 const LONGEST: [u8; 32] = *b"\
@@ -26,13 +23,13 @@ const LONGEST: [u8; 32] = *b"\
 /// A store that fails from this call on.
 #[derive(Clone, Copy)]
 struct Failure {
-    first: u32,
+    first: usize,
     fault: StoreFault,
 }
 
 /// The fixture, whose store fails so.
 fn failing_desk<S: ClubStore>(
-    rt: &(impl Abort + Alloc<A = Global>),
+    rt: &impl Host,
     desk: Desk<S>,
     failure: &Failure,
 ) -> Desk<Refusing<S>> {
@@ -41,40 +38,30 @@ fn failing_desk<S: ClubStore>(
     Desk::new(rt.alloc(), failing)
 }
 
-/// A booking is unavailable.
-fn expect_unavailable<S: ClubStore>(rt: &(impl Abort + Alloc<A = Global>), desk: &mut Desk<S>) {
-    let text = AMY.text(rt, Form::V2);
-    let returned = reply(rt, desk, NOON, text.as_bytes(), &BOOK_7);
-    expect_eq(rt, &returned, &Reply::Refused(Refusal::Unavailable));
-}
-
-const ADD_KEY: PlainCommand = PlainCommand::AddKey("amy-2", "amy", ROOT);
-
-/// A new key and the day sheet fail.
+/// A booking is unavailable, and a new key and the day sheet fail.
 fn expect_failures<S: ClubStore>(rt: &impl Abort, desk: &mut Desk<S>, fault: StoreFault) {
-    let answer = desk.office(&ADD_KEY.command().expect(rt, "a command"));
+    let returned = reply(rt, desk, NOON, AMY_V2.as_bytes(), &BOOK_7);
+    expect_eq(rt, &returned, &Reply::Refused(Refusal::Unavailable));
+    let add_key = PlainCommand::AddKey("amy-2", "amy", ROOT);
+    let answer = desk.office(&command(rt, &add_key));
     expect_eq(rt, &answer, &OfficeReply::Refused(Fault::Store(fault)));
-    let day = Day::read(b"2026-05-01").expect(rt, "a day");
-    expect_eq(rt, &desk.sheet(day).is_err(), &true);
+    expect_eq(rt, &desk.sheet(day(rt, "2026-05-01")).is_err(), &true);
 }
 
 /// `court-1` has no persons at 18, and there is no key `amy-2`.
 fn expect_untouched<S: ClubStore>(rt: &impl Abort, store: &mut S) {
-    let held = store
-        .slot(&COURT_AT_18.slot().expect(rt, "a slot"))
-        .expect(rt, "a slot");
+    let held = store.slot(&slot(rt, &COURT_AT_18)).expect(rt, "a slot");
     expect_eq(rt, &held.taken, &0);
-    let key = store.key_row(&name(rt, b"amy-2")).expect(rt, "no fault");
+    let key = store.key_row(&name(rt, "amy-2")).expect(rt, "no fault");
     expect_eq(rt, &key.is_none(), &true);
 }
 
 // Every request and command fails and nothing is changed.
 impl Scene for Failure {
-    fn play<S: ClubStore + Drop>(&self, rt: &(impl Abort + Alloc<A = Global>), desk: Desk<S>) {
+    fn play<S: ClubStore + Drop>(&self, rt: &impl Host, desk: Desk<S>) {
         let mut desk = failing_desk(rt, desk, self);
-        expect_unavailable(rt, &mut desk);
         expect_failures(rt, &mut desk, self.fault);
-        expect_untouched(rt, &mut desk.into_store().into_inner());
+        expect_untouched(rt, &mut desk.into_store().store);
     }
 }
 
@@ -97,6 +84,13 @@ fn reports_refused_storage(rt: HostRuntime) {
 // One byte too many.
 static LONG: [u8; MAX_TEXT + 1] = [b'A'; MAX_TEXT + 1];
 
+/// A text in V1 with 2,049 empty caveats: longer than a pass, and than the head of a request.
+static FAR_TOO_LONG: [Piece; 3] = [(1, HEAD), (2_049, "MDAwOWNpZCAK"), (1, END)];
+
+const HEAD: &str = "MDAxN2xvY2F0aW9uIGNsdWItZGVzawowMDE5aWRlbnRpZmllciBrZXk6YW15LTEK";
+
+const END: &str = "MDAyZnNpZ25hdHVyZSAAAAAAAAAAAAAAAAAAAAAAAAAAAAAAAAAAAAAAAAAAAAo";
+
 fn expect_refused<S: ClubStore>(
     rt: &impl Abort,
     desk: &mut Desk<S>,
@@ -117,12 +111,13 @@ const ALWAYS: Failure = Failure {
 struct FaultsOfForm;
 
 impl Scene for FaultsOfForm {
-    fn play<S: ClubStore + Drop>(&self, rt: &(impl Abort + Alloc<A = Global>), desk: Desk<S>) {
+    fn play<S: ClubStore + Drop>(&self, rt: &impl Host, desk: Desk<S>) {
         let mut desk = failing_desk(rt, desk, &ALWAYS);
         expect_refused(rt, &mut desk, b"AgEJ", Refusal::PassMalformed);
         expect_refused(rt, &mut desk, &LONG, Refusal::PassTooLong);
-        let store = desk.into_store();
-        expect_eq(rt, &store.calls, &0);
+        let text = join(rt.alloc(), &FAR_TOO_LONG).expect(rt, "memory");
+        expect_refused(rt, &mut desk, text.as_bytes(), Refusal::PassTooLong);
+        expect_eq(rt, &desk.into_store().calls, &0);
     }
 }
 
@@ -134,7 +129,7 @@ fn reports_a_fault_of_form_first(rt: HostRuntime) {
 
 #[test]
 fn signs_for_the_longest_name(rt: HostRuntime) {
-    let name = name(&rt, b"abcdefghijklmnopqrstuvwx");
+    let name = name(&rt, "abcdefghijklmnopqrstuvwx");
     let root = root(&rt, &[7; 64]);
     expect_eq(&rt, &key_signature(&name, &root), &LONGEST);
 }
@@ -148,14 +143,10 @@ static FAULTS: [(Fault, &str); 6] = [
     (Fault::Store(StoreFault::Storage), "storage failed"),
 ];
 
-fn prints(rt: &(impl Abort + Alloc<A = Global>), row: usize, fault: Fault, want: &str) {
-    let printed = format!(in rt.alloc(); "{fault}").expect(rt, "memory");
-    expect_row(rt, row, &printed.as_str(), &want);
-}
-
 #[test]
 fn prints_faults(rt: HostRuntime) {
-    for (row, (fault, text)) in FAULTS.iter().enumerate() {
-        prints(&rt, row, *fault, text);
+    for (row, (fault, want)) in FAULTS.iter().enumerate() {
+        let printed = format!(in rt.alloc(); "{fault}").expect(&rt, "memory");
+        expect_row(&rt, &row, &printed.as_str(), want);
     }
 }

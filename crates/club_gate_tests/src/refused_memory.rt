@@ -2,23 +2,20 @@
 //! `tests/desk/refused_memory_tests.py` refuses each in turn, and none after it: a call that is out
 //! of memory changes nothing, and a second call is answered.
 
-use crate::counter::reply;
-use crate::expect::expect_eq;
-use crate::known::{SIGNED, SIGNED_ANEW};
-use crate::scene::{Scene, try_to_play};
-use crate::values::at;
+use crate::expect::{Host, expect_eq};
+use crate::scene::{Scene, reply, try_to_play};
+use crate::values::{at, command, request};
 use club_core::{ClubStore, OfficeFault, Refusal, Reply, StoreFault};
 use club_gate::{Desk, Event, EventReply, Fault, OfficeReply, Words};
 use club_values::Kind;
-use std::alloc::Global;
 use std::process::Abort;
 use std::test::*;
 use test_kit::minutes::{NOON, START};
-use test_kit::passes::{AMY_JSON, AMY_V1, AMY_V2};
+use test_kit::passes::{AMY_1_SECOND_SIGNATURE, AMY_1_SIGNATURE, AMY_JSON, AMY_V1, AMY_V2};
 use test_kit::replies::{ACCOUNT_AFTER, ACCOUNT_BEFORE, BOOKED_7, KEY_REVOKED};
 use test_kit::requests::{ACCOUNT, BOOK_7, VIEW};
 use test_kit::roots::{ROOT, SECOND_ROOT};
-use test_kit::{COURT_AT_19, PlainCommand, PlainReply, PlainRequest, PlainSlot};
+use test_kit::{COURT_AT_19, PlainCommand, PlainReply, PlainRequest};
 
 const UNAVAILABLE: Reply = Reply::Refused(Refusal::Unavailable);
 
@@ -36,26 +33,16 @@ fn reply_at_noon<S: ClubStore>(
     reply(rt, desk, NOON, pass.as_bytes(), asked)
 }
 
-const AT_19: PlainSlot = COURT_AT_19;
-
 /// What amy's key sees of the club: her account, and two slots.
 fn amys_view<S: ClubStore>(rt: &impl Abort, desk: &mut Desk<S>) -> [Reply; 3] {
     [
         reply_at_noon(rt, desk, AMY_V2, &ACCOUNT),
         reply_at_noon(rt, desk, AMY_V2, &VIEW),
-        reply_at_noon(rt, desk, AMY_V2, &PlainRequest::View(AT_19)),
+        reply_at_noon(rt, desk, AMY_V2, &PlainRequest::View(COURT_AT_19)),
     ]
 }
 
 const OUT_OF_MEMORY: OfficeReply = OfficeReply::Refused(Fault::Store(StoreFault::Memory));
-
-fn office_reply<S: ClubStore>(
-    rt: &impl Abort,
-    desk: &mut Desk<S>,
-    plain: &PlainCommand,
-) -> OfficeReply {
-    desk.office(&plain.command().expect(rt, "a command"))
-}
 
 /// Ends the test unless the office gets this answer. If the first call is out of memory, the club
 /// must be unchanged, and a second call must get it.
@@ -66,13 +53,14 @@ fn expect_answer<S: ClubStore>(
     answer: &OfficeReply,
 ) {
     let before = amys_view(rt, desk);
-    let first = office_reply(rt, desk, plain);
+    let command = command(rt, plain);
+    let first = desk.office(&command);
     if first != OUT_OF_MEMORY {
         expect_eq(rt, &first, answer);
         return;
     }
     expect_eq(rt, &amys_view(rt, desk), &before);
-    expect_eq(rt, &office_reply(rt, desk, plain), answer);
+    expect_eq(rt, &desk.office(&command), answer);
 }
 
 fn expect_answers<S: ClubStore>(
@@ -86,6 +74,17 @@ fn expect_answers<S: ClubStore>(
 }
 
 const DONE: OfficeReply = OfficeReply::Done;
+
+const EXISTS: OfficeReply = OfficeReply::Refused(Fault::Refused(OfficeFault::Exists));
+
+/// The answers to a new key `amy-1`, and to another root of it.
+const SIGNED: OfficeReply = OfficeReply::Key {
+    signature: AMY_1_SIGNATURE,
+};
+
+const SIGNED_ANEW: OfficeReply = OfficeReply::Key {
+    signature: AMY_1_SECOND_SIGNATURE,
+};
 
 /// Amy with quota 5, 10,000 points and her key; and the court.
 static FIXTURE: [(PlainCommand, OfficeReply); 4] = [
@@ -104,9 +103,9 @@ static COMMANDS: [(PlainCommand, OfficeReply); 9] = [
     (PlainCommand::Debit("amy", 1), DONE),
     (PlainCommand::SetQuota("amy", 4), DONE),
     (PlainCommand::CancelBooking("amy-1", 7), DONE),
-    (PlainCommand::CloseSlot(AT_19), DONE),
-    (PlainCommand::OpenSlot(AT_19), DONE),
-    (PlainCommand::CloseSlot(AT_19), DONE),
+    (PlainCommand::CloseSlot(COURT_AT_19), DONE),
+    (PlainCommand::OpenSlot(COURT_AT_19), DONE),
+    (PlainCommand::CloseSlot(COURT_AT_19), DONE),
     (
         PlainCommand::RotateKey("amy-1", SECOND_ROOT, START),
         SIGNED_ANEW,
@@ -116,14 +115,8 @@ static COMMANDS: [(PlainCommand, OfficeReply); 9] = [
 
 /// The commands were carried out.
 static REVOKED: [(PlainCommand, OfficeReply); 2] = [
-    (
-        PlainCommand::AddMember("amy", 5),
-        OfficeReply::Refused(Fault::Refused(OfficeFault::Exists)),
-    ),
-    (
-        PlainCommand::CloseSlot(AT_19),
-        OfficeReply::Refused(Fault::Refused(OfficeFault::Exists)),
-    ),
+    (PlainCommand::AddMember("amy", 5), EXISTS),
+    (PlainCommand::CloseSlot(COURT_AT_19), EXISTS),
 ];
 
 fn carries_out_commands<S: ClubStore>(rt: &impl Abort, desk: &mut Desk<S>) {
@@ -141,17 +134,8 @@ fn expect_replied<S: ClubStore>(
     asked: &PlainRequest,
     want: &PlainReply,
 ) {
-    expect_eq(
-        rt,
-        &reply_at_noon(rt, desk, pass, asked),
-        &want.reply().expect(rt, "a reply"),
-    );
-}
-
-/// The booking is on record: its reply, and that of the account.
-fn is_booked<S: ClubStore>(rt: &impl Abort, desk: &mut Desk<S>, pass: &str) {
-    expect_replied(rt, desk, pass, &BOOK_7, &BOOKED_7);
-    expect_replied(rt, desk, pass, &ACCOUNT, &ACCOUNT_AFTER);
+    let returned = reply_at_noon(rt, desk, pass, asked);
+    expect_eq(rt, &returned, &want.reply().expect(rt, "a reply"));
 }
 
 /// The first reply to the booking is the booking's, which is then on record. Or it is unavailable:
@@ -168,7 +152,8 @@ fn is_booked_or_unavailable<S: ClubStore>(
     } else {
         expect_eq(rt, first, &BOOKED_7.reply().expect(rt, "a reply"));
     }
-    is_booked(rt, desk, pass);
+    expect_replied(rt, desk, pass, &BOOK_7, &BOOKED_7);
+    expect_replied(rt, desk, pass, &ACCOUNT, &ACCOUNT_AFTER);
 }
 
 fn books<S: ClubStore>(rt: &impl Abort, desk: &mut Desk<S>, pass: &str) {
@@ -188,18 +173,13 @@ fn only(replies: &[EventReply]) -> Option<Reply> {
 fn reply_of_a_run<S: ClubStore>(rt: &impl Abort, desk: &mut Desk<S>, pass: &str) -> Reply {
     let words = Words {
         pass: pass.as_bytes(),
-        request: BOOK_7.request().expect(rt, "a request"),
+        request: request(rt, &BOOK_7),
     };
     let moment = at(rt, NOON);
     match desk.run(&[Event::Asked { words, moment }]) {
         Ok(replies) => only(&replies).expect(rt, "one reply"),
         Err(_) => UNAVAILABLE,
     }
-}
-
-fn books_in_a_run<S: ClubStore>(rt: &impl Abort, desk: &mut Desk<S>, pass: &str) {
-    let first = reply_of_a_run(rt, desk, pass);
-    is_booked_or_unavailable(rt, desk, pass, &first);
 }
 
 /// What is done from the fixture on.
@@ -212,18 +192,21 @@ enum Task {
 }
 
 impl Scene for Task {
-    fn play<S: ClubStore + Drop>(&self, rt: &(impl Abort + Alloc<A = Global>), mut desk: Desk<S>) {
+    fn play<S: ClubStore + Drop>(&self, rt: &impl Host, mut desk: Desk<S>) {
         expect_answers(rt, &mut desk, &FIXTURE);
         match self {
             Task::Commands => carries_out_commands(rt, &mut desk),
             Task::Ask(pass) => books(rt, &mut desk, pass),
-            Task::Run(pass) => books_in_a_run(rt, &mut desk, pass),
+            Task::Run(pass) => {
+                let first = reply_of_a_run(rt, &mut desk, pass);
+                is_booked_or_unavailable(rt, &mut desk, pass, &first);
+            }
         }
     }
 }
 
 /// Does this over new tables; over others if there was no memory for the first.
-fn perform(rt: &(impl Abort + Alloc<A = Global>), task: &Task) {
+fn perform(rt: &impl Host, task: &Task) {
     match try_to_play(rt, task) {
         Err(StoreFault::Memory) => try_to_play(rt, task).expect(rt, "a store"),
         first => first.expect(rt, "a store"),

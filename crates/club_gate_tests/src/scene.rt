@@ -1,14 +1,16 @@
-//! Scenes at a desk over tables in memory.
+//! Scenes at a desk over tables in memory, and the desk of the fixture.
 
-use club_core::{ClubStore, StoreFault};
-use club_gate::Desk;
+use crate::expect::{Host, expect_eq};
+use crate::values::{at, command, request};
+use club_core::{ClubStore, Reply, StoreFault};
+use club_gate::{Desk, OfficeReply, Words};
 use club_store::Store;
-use std::alloc::Global;
 use std::process::Abort;
+use test_kit::{FIXTURE, PlainCommand, PlainRequest};
 
 /// What happens at the desk of an empty club.
 pub(crate) trait Scene {
-    fn play<S: ClubStore + Drop>(&self, rt: &(impl Abort + Alloc<A = Global>), desk: Desk<S>);
+    fn play<S: ClubStore + Drop>(&self, rt: &impl Host, desk: Desk<S>);
 }
 
 /// Plays a scene over new tables in memory. It is the one function here that names their type: the
@@ -17,16 +19,39 @@ pub(crate) trait Scene {
 /// # Errors
 ///
 /// The tables can't be made, and nothing happens.
-pub(crate) fn try_to_play(
-    rt: &(impl Abort + Alloc<A = Global>),
-    scene: &impl Scene,
-) -> Result<(), StoreFault> {
+pub(crate) fn try_to_play(rt: &impl Host, scene: &impl Scene) -> Result<(), StoreFault> {
     let store = Store::open_in_memory(rt.alloc())?;
     scene.play(rt, Desk::new(rt.alloc(), store));
     Ok(())
 }
 
 /// Plays a scene over new tables in memory.
-pub(crate) fn play(rt: &(impl Abort + Alloc<A = Global>), scene: &impl Scene) {
+pub(crate) fn play(rt: &impl Host, scene: &impl Scene) {
     try_to_play(rt, scene).expect(rt, "empty tables");
+}
+
+/// Gives a command that has to succeed.
+pub(crate) fn carry_out<S: ClubStore>(rt: &impl Abort, desk: &mut Desk<S>, plain: &PlainCommand) {
+    let answer = desk.office(&command(rt, plain));
+    expect_eq(rt, &matches!(answer, OfficeReply::Refused(_)), &false);
+}
+
+/// Makes the fixture at the desk of an empty club.
+pub(crate) fn furnish<S: ClubStore>(rt: &impl Abort, mut desk: Desk<S>) -> Desk<S> {
+    for plain in &FIXTURE {
+        carry_out(rt, &mut desk, plain);
+    }
+    desk
+}
+
+/// The reply at a moment to a request whose pass is these bytes.
+pub(crate) fn reply<S: ClubStore>(
+    rt: &impl Abort,
+    desk: &mut Desk<S>,
+    moment: u32,
+    pass: &[u8],
+    asked: &PlainRequest,
+) -> Reply {
+    let request = request(rt, asked);
+    desk.ask(at(rt, moment), &Words { pass, request })
 }

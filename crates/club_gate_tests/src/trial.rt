@@ -1,22 +1,17 @@
 //! A desk beside the reference machine, and beside the solo machine, which holds only amy's part.
 
-use crate::counter::reply;
-use crate::expect::expect_eq;
+use crate::expect::{Host, expect_eq};
 use crate::passes::text_of_asking;
-use crate::reference_machine::{desk_reply, part_reply, reference_replies, reference_reply};
-use crate::sent::{sent_events, texts_of};
-use crate::values::{at, name, push};
-use club_core::{ClubStore, OfficeAnswer, OfficeFault, Reply, SlotUse};
-use club_gate::{Desk, EventReply, Fault};
-use club_reference::Club;
-use club_values::Slot;
-use std::alloc::Global;
+use crate::scene::reply;
+use crate::values::{at, command, name, push, request};
+use club_core::{ClubStore, OfficeAnswer};
+use club_gate::{
+    Desk, Event as SentEvent, EventReply, Fault, OfficeReply, Words as SentWords, key_signature,
+};
+use club_reference::{Club, Words};
 use std::process::Abort;
-use test_kit::drawn::{AMY, AUDIT_AMY, AUDITORS, Asking, BEGINNING, Event, SLOTS, audit};
-use test_kit::{PlainCommand, PlainRequest, PlainSlot};
-
-// No member, so that others hold all of a slot.
-const NOBODY: &str = "nobody";
+use test_kit::drawn::{AMY, Asking, BEGINNING, Event};
+use test_kit::{PlainCommand, signed_pass};
 
 /// The desk, the reference machine, the solo machine of amy, and the names of her keys.
 #[derive(Drop)]
@@ -27,152 +22,91 @@ pub(crate) struct Trial<S: ClubStore> {
     own_keys: Vec<&'static str>,
 }
 
-fn is_done(answer: &OfficeAnswer) -> bool {
-    !matches!(*answer, OfficeAnswer::NotDone(_))
-}
-
-/// What others than a member hold of the requested slot.
-fn held_by_others(
-    rt: &impl Abort,
-    reference: &Club,
-    member: &str,
-    asked: &PlainRequest,
-) -> SlotUse {
-    reference.outside(
-        &name(rt, member.as_bytes()),
-        asked.request().expect(rt, "a request").slot(),
-    )
-}
-
-/// Ends the test unless the stored use of a slot is the sum over the reference machine's bookings.
-fn expect_held<S: ClubStore>(rt: &impl Abort, store: &mut S, reference: &Club, slot: PlainSlot) {
-    let held = store
-        .slot(&slot.slot().expect(rt, "a slot"))
-        .expect(rt, "a slot");
-    let want = held_by_others(rt, reference, NOBODY, &PlainRequest::View(slot));
-    expect_eq(rt, &held, &want);
-}
-
-/// The same of each slot.
-fn expect_all_held<S: ClubStore>(rt: &impl Abort, store: &mut S, reference: &Club) {
-    for slot in &SLOTS {
-        expect_held(rt, store, reference, *slot);
+/// The text of the pass of an event; a command has none.
+fn text_of(rt: &impl Host, event: &Event) -> String {
+    match event {
+        Event::Asked(asking) => text_of_asking(rt, asking),
+        Event::Commanded(_) => String::new(rt.alloc()),
     }
 }
 
-/// The lines of an account, as the pages show them; `None` of another reply. An auditor's key is
-/// neither revoked nor rotated.
-fn account_lines(rt: &(impl Abort + Alloc<A = Global>), reply: &Reply) -> Option<String> {
-    let Reply::AccountShown {
-        member,
-        balance,
-        quota,
-        open_count,
-        spent,
-    } = reply
-    else {
-        return None;
-    };
-    let text = format!(in rt.alloc();
-        "member {member}\nbalance {balance}\nquota {quota}\nopen {open_count}\nspent {spent}\n\
-        revoked no\nolder root none\n"
-    );
-    Some(text.expect(rt, "memory"))
-}
-
-/// The lines that name a slot.
-fn name_lines(rt: &(impl Abort + Alloc<A = Global>), slot: &Slot) -> String {
-    let text = format!(in rt.alloc();
-        "facility {}\nday {}\nhour {}\n",
-        slot.facility, slot.day, slot.hour
-    );
-    text.expect(rt, "memory")
-}
-
-/// The lines of a slot; `None` of another reply.
-fn slot_lines(rt: &(impl Abort + Alloc<A = Global>), reply: &Reply) -> Option<String> {
-    let Reply::SlotShown {
-        slot,
-        kind,
-        price,
-        places,
-        taken,
-        closed,
-    } = reply
-    else {
-        return None;
-    };
-    let closed = if *closed { "yes" } else { "no" };
-    let state = format!(in rt.alloc();
-        "kind {kind}\nprice {price}\nplaces {places}\ntaken {taken}\nclosed {closed}\n"
-    );
-    let state = state.expect(rt, "memory");
-    let mut text = name_lines(rt, slot);
-    text.push_str(state.as_str()).expect(rt, "memory");
-    Some(text)
-}
-
-/// The lines of a reply; `None` if it shows nothing.
-fn lines_of(rt: &(impl Abort + Alloc<A = Global>), reply: &Reply) -> Option<String> {
-    match reply {
-        Reply::SlotShown { .. } => slot_lines(rt, reply),
-        _ => account_lines(rt, reply),
+/// An event as it is sent to the desk, with the text of its pass.
+fn sent_event<'a>(rt: &impl Abort, event: &Event, text: &'a str) -> SentEvent<'a> {
+    match event {
+        Event::Asked(asking) => SentEvent::Asked {
+            words: SentWords {
+                pass: text.as_bytes(),
+                request: request(rt, &asking.asked),
+            },
+            moment: at(rt, asking.moment),
+        },
+        Event::Commanded(plain) => SentEvent::Commanded(command(rt, plain)),
     }
 }
 
-/// The text that is shown, or why there is none.
-fn text_of(shown: &Result<String, Fault>) -> Result<&str, Fault> {
-    match shown {
-        Ok(text) => Ok(text.as_str()),
-        Err(fault) => Err(*fault),
+/// The words of a request for the reference machine: the pass is signed under the one root.
+fn words_of(rt: &impl Host, asking: &Asking) -> Words {
+    let key = name(rt, asking.key);
+    let pass = signed_pass(rt.alloc(), Some(key), asking.root, asking.caveats);
+    Words {
+        pass: Ok(pass.expect(rt, "a pass")),
+        request: request(rt, &asking.asked),
     }
 }
 
-/// What is shown is what a reply says; nothing if that refuses.
-fn expect_shown(
-    rt: &(impl Abort + Alloc<A = Global>),
-    shown: &Result<String, Fault>,
-    reply: &Reply,
-) {
-    let lines = lines_of(rt, reply).ok_or(Fault::Refused(OfficeFault::Unknown));
-    expect_eq(rt, &text_of(shown), &text_of(&lines));
+/// The desk's answer to the office for this answer of the reference machine.
+fn desk_reply(answer: &OfficeAnswer) -> OfficeReply {
+    match *answer {
+        OfficeAnswer::Done => OfficeReply::Done,
+        OfficeAnswer::NewKey { name, root } => OfficeReply::Key {
+            signature: key_signature(&name, &root),
+        },
+        OfficeAnswer::NotDone(fault) => OfficeReply::Refused(Fault::from(fault)),
+    }
+}
+
+fn office_answer(rt: &impl Abort, club: &mut Club, plain: &PlainCommand) -> OfficeAnswer {
+    club.office(&command(rt, plain)).expect(rt, "memory")
+}
+
+fn event_reply(rt: &impl Host, reference: &mut Club, event: &Event) -> EventReply {
+    match event {
+        Event::Asked(asking) => {
+            let reply = reference.ask(&words_of(rt, asking), at(rt, asking.moment));
+            EventReply::Replied(reply.expect(rt, "memory"))
+        }
+        Event::Commanded(plain) => {
+            EventReply::Answered(desk_reply(&office_answer(rt, reference, plain)))
+        }
+    }
 }
 
 impl<S: ClubStore> Trial<S> {
-    fn of(rt: &impl Alloc<A = Global>, desk: Desk<S>) -> Trial<S> {
-        Trial {
+    /// The club that each list begins with, from the desk of an empty one.
+    pub fn begin(rt: &impl Host, desk: Desk<S>) -> Trial<S> {
+        let mut trial = Trial {
             desk,
             reference: Club::new(rt.alloc()),
             part: Club::new(rt.alloc()),
             own_keys: Vec::new(rt.alloc()),
-        }
-    }
-
-    /// The club that each list begins with, from the desk of an empty one.
-    pub fn begin(rt: &(impl Abort + Alloc<A = Global>), desk: Desk<S>) -> Trial<S> {
-        let mut trial = Trial::of(rt, desk);
+        };
         for plain in &BEGINNING {
             trial.give(rt, plain);
         }
         trial
     }
 
-    /// Compares the stored use of each slot with the sum over the reference machine's bookings, and
-    /// goes on with the same club, a desk with an empty cache, and amy's part copied anew.
-    pub fn into_audit(self, rt: &(impl Abort + Alloc<A = Global>)) -> Trial<S> {
+    /// Goes on with the same club: a desk with an empty cache, and amy's part copied anew.
+    pub fn reopened(self, rt: &impl Host) -> Trial<S> {
         let Trial {
             desk,
             reference,
             part: _,
             own_keys,
         } = self;
-        let mut store = desk.into_store();
-        expect_all_held(rt, &mut store, &reference);
-        let part = reference
-            .part(&name(rt, AMY.as_bytes()))
-            .expect(rt, "memory");
+        let part = reference.part(&name(rt, AMY)).expect(rt, "memory");
         Trial {
-            desk: Desk::new(rt.alloc(), store),
+            desk: Desk::new(rt.alloc(), desk.into_store()),
             reference,
             part,
             own_keys,
@@ -180,12 +114,7 @@ impl<S: ClubStore> Trial<S> {
     }
 
     fn is_own_key(&self, key: &str) -> bool {
-        for own in &self.own_keys {
-            if *own == key {
-                return true;
-            }
-        }
-        false
+        self.own_keys.iter().any(|own| *own == key)
     }
 
     /// Whether a successful command is amy's own.
@@ -204,115 +133,63 @@ impl<S: ClubStore> Trial<S> {
         }
     }
 
-    /// Gives amy's part a command of her own: its answer is the reference machine's.
-    fn give_part(&mut self, rt: &impl Abort, plain: &PlainCommand, answer: &OfficeAnswer) {
-        let own = self
-            .part
-            .office(&plain.command().expect(rt, "a command"))
-            .expect(rt, "memory");
-        expect_eq(rt, &own, answer);
+    /// Gives a command to the desk and the reference machine, and to amy's part if it is her own.
+    fn give(&mut self, rt: &impl Abort, plain: &PlainCommand) {
+        let answer = office_answer(rt, &mut self.reference, plain);
+        let returned = self.desk.office(&command(rt, plain));
+        expect_eq(rt, &returned, &desk_reply(&answer));
+        if matches!(answer, OfficeAnswer::NotDone(_)) || !self.is_own(plain) {
+            return;
+        }
+        expect_eq(rt, &office_answer(rt, &mut self.part, plain), &answer);
         if let PlainCommand::AddKey(key, _, _) = *plain {
             push(rt, &mut self.own_keys, key);
         }
     }
 
-    /// Gives a command to the desk and the reference machine, and to amy's part if it is her own.
-    fn give(&mut self, rt: &impl Abort, plain: &PlainCommand) {
-        let command = plain.command().expect(rt, "a command");
-        let answer = self.reference.office(&command).expect(rt, "memory");
-        expect_eq(rt, &self.desk.office(&command), &desk_reply(&answer));
-        if is_done(&answer) && self.is_own(plain) {
-            self.give_part(rt, plain, &answer);
-        }
-    }
-
-    /// The desk's reply to a request.
-    fn reply(&mut self, rt: &(impl Abort + Alloc<A = Global>), asking: &Asking) -> Reply {
-        let text = text_of_asking(rt, asking);
-        reply(
-            rt,
-            &mut self.desk,
-            asking.moment,
-            text.as_bytes(),
-            &asking.asked,
-        )
-    }
-
     /// Asks the desk and the reference machine, and amy's part if the key is hers.
-    fn ask(&mut self, rt: &(impl Abort + Alloc<A = Global>), asking: &Asking) {
-        let reply = self.reply(rt, asking);
-        let others = held_by_others(rt, &self.reference, AMY, &asking.asked);
-        expect_eq(
-            rt,
-            &reply,
-            &reference_reply(rt, &mut self.reference, asking),
-        );
+    fn ask(&mut self, rt: &impl Host, asking: &Asking) {
+        let text = text_of_asking(rt, asking);
+        let desk = &mut self.desk;
+        let returned = reply(rt, desk, asking.moment, text.as_bytes(), &asking.asked);
+        let (words, moment) = (words_of(rt, asking), at(rt, asking.moment));
+        let others = self.reference.outside(&name(rt, AMY), words.request.slot());
+        let want = self.reference.ask(&words, moment).expect(rt, "memory");
+        expect_eq(rt, &returned, &want);
         if self.is_own_key(asking.key) {
-            expect_eq(rt, &reply, &part_reply(rt, &mut self.part, asking, others));
+            let alone = self.part.ask_alone(&words, moment, others);
+            expect_eq(rt, &returned, &alone.expect(rt, "memory"));
         }
     }
 
     /// Gives an event to the desk and to the machines.
-    pub fn play(&mut self, rt: &(impl Abort + Alloc<A = Global>), event: &Event) {
+    pub fn play(&mut self, rt: &impl Host, event: &Event) {
         match event {
             Event::Asked(asking) => self.ask(rt, asking),
             Event::Commanded(plain) => self.give(rt, plain),
         }
     }
 
-    /// Compares the members' accounts.
-    pub fn audit(&mut self, rt: &(impl Abort + Alloc<A = Global>)) {
-        for key in &AUDITORS {
-            self.ask(rt, &audit(key));
+    /// The desk's replies to events that are run at once.
+    fn desk_replies(&mut self, rt: &impl Host, events: &[Event]) -> Vec<EventReply> {
+        let mut texts = Vec::new(rt.alloc());
+        for event in events {
+            push(rt, &mut texts, text_of(rt, event));
         }
-    }
-
-    /// Compares what the desk shows of an auditor's account with the reference machine's reply.
-    fn show_account(&mut self, rt: &(impl Abort + Alloc<A = Global>), key: &'static str) {
-        let asking = audit(key);
-        let want = reference_reply(rt, &mut self.reference, &asking);
-        let moment = at(rt, asking.moment);
-        let shown = self.desk.show_account(&name(rt, key.as_bytes()), moment);
-        expect_shown(rt, &shown, &want);
-    }
-
-    /// The same of a slot, with the reply to an auditor.
-    fn show_slot(&mut self, rt: &(impl Abort + Alloc<A = Global>), slot: PlainSlot) {
-        let asking = Asking {
-            asked: PlainRequest::View(slot),
-            ..audit(AUDIT_AMY)
-        };
-        let want = reference_reply(rt, &mut self.reference, &asking);
-        let shown = self.desk.show_slot(&slot.slot().expect(rt, "a slot"));
-        expect_shown(rt, &shown, &want);
-    }
-
-    /// Compares what the desk shows of the auditors' accounts and of the slots with the plain
-    /// machine's replies to the auditors.
-    pub fn show(&mut self, rt: &(impl Abort + Alloc<A = Global>)) {
-        for key in &AUDITORS {
-            self.show_account(rt, key);
+        let mut sent = Vec::new(rt.alloc());
+        for (event, text) in events.iter().zip(texts.as_slice()) {
+            push(rt, &mut sent, sent_event(rt, event, text.as_str()));
         }
-        for slot in &SLOTS {
-            self.show_slot(rt, *slot);
-        }
-    }
-
-    /// What the desk tells events that are run at once.
-    fn desk_replies(
-        &mut self,
-        rt: &(impl Abort + Alloc<A = Global>),
-        events: &[Event],
-    ) -> Vec<EventReply> {
-        let texts = texts_of(rt, events);
-        let sent = sent_events(rt, events, texts.as_slice());
         self.desk.run(sent.as_slice()).expect(rt, "memory")
     }
 
     /// Runs events at once, and compares the responses with the reference machine's.
-    pub fn run(&mut self, rt: &(impl Abort + Alloc<A = Global>), events: &[Event]) {
+    pub fn run(&mut self, rt: &impl Host, events: &[Event]) {
         let returned = self.desk_replies(rt, events);
-        let want = reference_replies(rt, &mut self.reference, events);
+        let mut want = Vec::new(rt.alloc());
+        for event in events {
+            push(rt, &mut want, event_reply(rt, &mut self.reference, event));
+        }
         expect_eq(rt, &returned.as_slice(), &want.as_slice());
     }
 }

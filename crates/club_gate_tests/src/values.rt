@@ -1,21 +1,53 @@
-//! Values of the tests, made from numbers and bytes.
+//! Values of the tests, made from plain ones.
 
-use crate::expect::expect_eq;
-use club_rows::Root;
-use club_values::{Moment, Name};
+use crate::expect::expect_row;
+use club_core::{Command, Request};
+use club_rows::{Booking, BookingNumber, Root};
+use club_values::{Day, Moment, Name, Slot};
 use std::process::Abort;
+use std::test::*;
 use test_kit::minutes::{FIRST, NOON, START, UNTIL};
+use test_kit::{PlainBooking, PlainCommand, PlainRequest, PlainSlot};
 
-pub(crate) fn name(rt: &impl Abort, text: &[u8]) -> Name {
-    Name::read(text).expect(rt, "a name")
+pub(crate) fn name(rt: &impl Abort, text: &str) -> Name {
+    Name::read(text.as_bytes()).expect(rt, "a name")
 }
 
-pub(crate) fn at(rt: &impl Abort, moment: u32) -> Moment {
-    Moment::from_number(moment).expect(rt, "a moment")
+pub(crate) fn day(rt: &impl Abort, text: &str) -> Day {
+    Day::read(text.as_bytes()).expect(rt, "a day")
+}
+
+/// The moment of a minute, counted from 1970-01-01T00:00.
+pub(crate) fn at(rt: &impl Abort, minute: u32) -> Moment {
+    Moment::from_number(minute).expect(rt, "a moment")
+}
+
+pub(crate) fn moment(rt: &impl Abort, text: &str) -> Moment {
+    Moment::read(text.as_bytes()).expect(rt, "a moment")
 }
 
 pub(crate) fn root(rt: &impl Abort, bytes: &[u8]) -> Root {
     Root::new(bytes).expect(rt, "a root")
+}
+
+pub(crate) fn slot(rt: &impl Abort, slot: &PlainSlot) -> Slot {
+    slot.slot().expect(rt, "a slot")
+}
+
+pub(crate) fn number(rt: &impl Abort, number: u32) -> BookingNumber {
+    BookingNumber::new(number).expect(rt, "a number")
+}
+
+pub(crate) fn booking(rt: &impl Abort, booking: &PlainBooking) -> Booking {
+    booking.booking().expect(rt, "a booking")
+}
+
+pub(crate) fn request(rt: &impl Abort, asked: &PlainRequest) -> Request {
+    asked.request().expect(rt, "a request")
+}
+
+pub(crate) fn command(rt: &impl Abort, plain: &PlainCommand) -> Command {
+    plain.command().expect(rt, "a command")
 }
 
 /// Adds a value at the end.
@@ -23,17 +55,16 @@ pub(crate) fn push<T: Drop>(rt: &impl Abort, values: &mut Vec<T>, value: T) {
     values.push(value).expect(rt, "memory");
 }
 
-static MOMENTS: [(&[u8], u32); 4] = [
-    (b"2000-01-01T00:00", FIRST),
-    (b"2026-04-20T12:00", NOON),
-    (b"2026-04-25T00:00", UNTIL),
-    (b"2026-05-01T18:00", START),
+static MOMENTS: [(&str, u32); 4] = [
+    ("2000-01-01T00:00", FIRST),
+    ("2026-04-20T12:00", NOON),
+    ("2026-04-25T00:00", UNTIL),
+    ("2026-05-01T18:00", START),
 ];
 
 #[test]
 fn moments_are_those_of_their_texts(rt: HostRuntime) {
-    for (text, number) in &MOMENTS {
-        let read = Moment::read(text).expect(&rt, "a moment");
-        expect_eq(&rt, &read, &at(&rt, *number));
+    for (row, (text, minute)) in MOMENTS.iter().enumerate() {
+        expect_row(&rt, &row, &moment(&rt, text), &at(&rt, *minute));
     }
 }

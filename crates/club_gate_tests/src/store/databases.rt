@@ -1,7 +1,7 @@
 //! Databases as they are before a store opens them.
 
+use crate::expect::Host;
 use sqlite::{Alter, Connection, MemStore};
-use std::alloc::Global;
 use std::process::Abort;
 use test_kit::version_1::{OLDER_ROOTS, STATEMENTS};
 
@@ -44,14 +44,12 @@ impl Contents {
     }
 }
 
-/// Runs these statements.
 pub(crate) fn runs<S: Alter>(rt: &impl Abort, connection: &mut Connection<S>, texts: &[&str]) {
     for text in texts {
         connection.execute_batch(text).expect(rt, text);
     }
 }
 
-/// Runs these lists of statements.
 pub(crate) fn runs_all<S: Alter>(
     rt: &impl Abort,
     connection: &mut Connection<S>,
@@ -63,20 +61,14 @@ pub(crate) fn runs_all<S: Alter>(
 }
 
 /// A database in memory in which these lists of statements were run.
-pub(crate) fn database_after(
-    rt: &(impl Abort + Alloc<A = Global>),
-    lists: &[&[&str]],
-) -> Connection<MemStore> {
+pub(crate) fn database_after(rt: &impl Host, lists: &[&[&str]]) -> Connection<MemStore> {
     let mut connection = Connection::open_in_memory(rt.alloc()).expect(rt, "memory");
     runs_all(rt, &mut connection, lists);
     connection
 }
 
 /// A database in memory that holds this.
-pub(crate) fn database(
-    rt: &(impl Abort + Alloc<A = Global>),
-    contents: Contents,
-) -> Connection<MemStore> {
+pub(crate) fn database(rt: &impl Host, contents: Contents) -> Connection<MemStore> {
     database_after(rt, &contents.statements())
 }
 

@@ -1,17 +1,19 @@
-//! Real files of a test. `do_in_file` and `make_file` alone open stores in them: the proof of each
-//! takes half a minute or more.
+//! Openings of real files: of one that another program has, of one that can't be opened, and of one
+//! whose tables are refused. `do_in_file` and `make_file` alone open stores in files: the proof of
+//! each takes half a minute or more.
 
-use super::databases::{bookings, runs_all};
-use super::steps::{Step, plays};
+use super::databases::{Contents, bookings, runs_all};
+use super::shown::shows;
+use crate::expect::{Host, expect_eq};
 use club_core::StoreFault;
 use club_store::{Remains, Store};
 use sqlite::{Alter, Connection, Unknown};
-use std::alloc::Global;
 use std::process::Abort;
 use std::test::Fail;
 use std::{env, fs, process};
+use test_kit::version_1::STATEMENTS;
 
-/// What an opening that fails leaves.
+/// The rest that a failed opening leaves.
 #[derive(Clone, Copy, Debug, PartialEq, Eq)]
 pub enum Left {
     /// The files, which are closed.
@@ -41,13 +43,13 @@ pub fn remove(host: &HostRuntime, path: &str) -> Result<(), Fail> {
 
 /// What is done over a store in a file.
 pub trait FileWork {
-    fn work<S: Alter>(&self, rt: &(impl Abort + Alloc<A = Global>), store: &mut Store<S>);
+    fn work<S: Alter>(&self, rt: &impl Host, store: &mut Store<S>);
 }
 
 /// Opens the store in the file at a path, and does this over it.
 pub fn do_in_file(
     host: &HostRuntime,
-    rt: &(impl Abort + Alloc<A = Global>),
+    rt: &impl Host,
     path: &str,
     work: &impl FileWork,
 ) -> Result<(), (StoreFault, Left)> {
@@ -72,22 +74,70 @@ pub fn make_file(host: &HostRuntime, rt: &impl Abort, path: &str, lists: &[&[&st
     connection.close().expect(rt, "closed");
 }
 
-/// Steps over a store.
-#[derive(Clone, Copy)]
-struct Steps<'a>(&'a [Step]);
-
-impl FileWork for Steps<'_> {
-    fn work<S: Alter>(&self, rt: &(impl Abort + Alloc<A = Global>), store: &mut Store<S>) {
-        plays(rt, store, self.0);
+/// Compares what the store shows with these contents.
+impl FileWork for Contents {
+    fn work<S: Alter>(&self, rt: &impl Host, store: &mut Store<S>) {
+        shows(rt, store, *self);
     }
 }
 
-/// Plays steps over the store in the file at a path.
-pub fn plays_in_file(
-    host: &HostRuntime,
-    rt: &(impl Abort + Alloc<A = Global>),
-    path: &str,
-    steps: &[Step],
-) -> Result<(), (StoreFault, Left)> {
-    do_in_file(host, rt, path, &Steps(steps))
+#[derive(Clone, Copy)]
+struct OpensOnly;
+
+impl FileWork for OpensOnly {
+    fn work<S: Alter>(&self, _rt: &impl Host, _store: &mut Store<S>) {}
+}
+
+/// The rest that a failed opening leaves.
+fn left_by_opening(host: &HostRuntime, rt: &impl Host, path: &str) -> Option<Left> {
+    do_in_file(host, rt, path, &OpensOnly)
+        .err()
+        .map(|(_, left)| left)
+}
+
+/// A second opening of the same file beside the first.
+#[derive(Clone, Copy)]
+struct Reopening<'a> {
+    host: &'a HostRuntime,
+    path: &'a str,
+}
+
+impl FileWork for Reopening<'_> {
+    fn work<S: Alter>(&self, rt: &impl Host, _first: &mut Store<S>) {
+        let left = left_by_opening(self.host, rt, self.path);
+        expect_eq(rt, &left, &Some(Left::Held));
+    }
+}
+
+/// A file that another program has is distinguished from one that can't be opened.
+#[test]
+fn a_held_file(rt: HostRuntime) -> Result<(), Fail> {
+    let path = path_of(&rt)?;
+    let path = path.as_str();
+    let second = Reopening { host: &rt, path };
+    expect_eq(&rt, &do_in_file(&rt, &rt, path, &second), &Ok(()));
+    expect_eq(&rt, &left_by_opening(&rt, &rt, path), &None);
+    remove(&rt, path)?;
+    expect_eq(&rt, &left_by_opening(&rt, &rt, "/"), &Some(Left::Nothing));
+    fs::write(&rt, path, [b'x'; 100])?;
+    expect_eq(&rt, &left_by_opening(&rt, &rt, path), &Some(Left::Files));
+    let _ = fs::remove_file(&rt, path);
+    Ok(())
+}
+
+/// A version that no store knows.
+static NINTH: [&str; 1] = ["UPDATE desk SET version = 9"];
+
+/// A file whose tables are refused is left open, with its rows: at the next opening too.
+#[test]
+fn a_file_of_refused_tables(rt: HostRuntime) -> Result<(), Fail> {
+    let path = path_of(&rt)?;
+    let path = path.as_str();
+    make_file(&rt, &rt, path, &[&STATEMENTS, &NINTH]);
+    for _ in 0..2 {
+        let left = left_by_opening(&rt, &rt, path);
+        expect_eq(&rt, &left, &Some(Left::Open(Some(2))));
+    }
+    remove(&rt, path)?;
+    Ok(())
 }

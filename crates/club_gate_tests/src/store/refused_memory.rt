@@ -3,38 +3,17 @@
 //! database as it was, and a second one opens it.
 
 use super::databases::{Contents, database, version};
-use super::files::{make_file, path_of, plays_in_file, remove};
-use super::rows::CANCELLED_8;
-use super::steps::{Asked, Shown, Step, plays};
-use crate::expect::expect_eq;
+use super::files::{do_in_file, make_file, path_of, remove};
+use super::shown::shows;
+use crate::expect::{Host, expect_eq};
 use club_core::StoreFault;
 use club_store::Store;
 use sqlite::{Alter, Connection, MemStore};
-use std::alloc::Global;
-use std::process::Abort;
 use std::test::Fail;
-use test_kit::BOOKING_7;
-
-/// The account, and both bookings.
-static MIGRATED: [Step; 3] = [
-    Step::Shows(Shown::View(Asked::Account, 0, None)),
-    Step::Shows(Shown::View(Asked::Cancel(7), 3, Some(BOOKING_7))),
-    Step::Shows(Shown::View(Asked::Cancel(8), 3, Some(CANCELLED_8))),
-];
-
-static NOBODY: [Step; 1] = [Step::Shows(Shown::Member(None))];
-
-/// What the store over these shows.
-fn steps_shown(contents: Contents) -> &'static [Step] {
-    match contents {
-        Contents::Nothing => &NOBODY,
-        Contents::First | Contents::Unindexed | Contents::Second => &MIGRATED,
-    }
-}
 
 /// The store over a database that holds this, by the second opening if the first is out of memory.
 fn adopted_store<S: Alter + Drop>(
-    rt: &(impl Abort + Alloc<A = Global>),
+    rt: &impl Host,
     connection: Connection<S>,
     contents: Contents,
 ) -> Store<S> {
@@ -48,9 +27,9 @@ fn adopted_store<S: Alter + Drop>(
     }
 }
 
-fn opens_in_memory(rt: &(impl Abort + Alloc<A = Global>), contents: Contents) {
+fn opens_in_memory(rt: &impl Host, contents: Contents) {
     let mut store = adopted_store(rt, database(rt, contents), contents);
-    plays(rt, &mut store, steps_shown(contents));
+    shows(rt, &mut store, contents);
 }
 
 #[test]
@@ -74,7 +53,7 @@ fn tables_of_version_2(rt: HostRuntime) {
 }
 
 /// A new store in memory.
-fn new_store(rt: &(impl Abort + Alloc<A = Global>)) -> Store<MemStore> {
+fn new_store(rt: &impl Host) -> Store<MemStore> {
     match Store::open_in_memory(rt.alloc()) {
         Ok(store) => store,
         Err(fault) => {
@@ -86,21 +65,15 @@ fn new_store(rt: &(impl Abort + Alloc<A = Global>)) -> Store<MemStore> {
 
 #[test]
 fn store_in_memory(rt: HostRuntime) {
-    plays(&rt, &mut new_store(&rt), &NOBODY);
+    shows(&rt, &mut new_store(&rt), Contents::Nothing);
 }
 
 /// The store in the file shows what these tables hold, by the second opening if the first is out of
 /// memory.
-fn opens_at(
-    host: &HostRuntime,
-    rt: &(impl Abort + Alloc<A = Global>),
-    path: &str,
-    contents: Contents,
-) {
-    let steps = steps_shown(contents);
-    if let Err((fault, _)) = plays_in_file(host, rt, path, steps) {
+fn opens_at(host: &HostRuntime, rt: &impl Host, path: &str, contents: Contents) {
+    if let Err((fault, _)) = do_in_file(host, rt, path, &contents) {
         expect_eq(rt, &fault, &StoreFault::Memory);
-        expect_eq(rt, &plays_in_file(host, rt, path, steps), &Ok(()));
+        expect_eq(rt, &do_in_file(host, rt, path, &contents), &Ok(()));
     }
 }
 
@@ -113,11 +86,7 @@ fn new_file(rt: HostRuntime) -> Result<(), Fail> {
     remove(&rt, path.as_str())
 }
 
-fn opens_file(
-    host: &HostRuntime,
-    rt: &(impl Abort + Alloc<A = Global>),
-    contents: Contents,
-) -> Result<(), Fail> {
+fn opens_file(host: &HostRuntime, rt: &impl Host, contents: Contents) -> Result<(), Fail> {
     let path = path_of(host)?;
     make_file(host, rt, path.as_str(), &contents.statements());
     opens_at(host, rt, path.as_str(), contents);

@@ -1,201 +1,114 @@
-//! Tests of a store: what is written to it, and what it shows then.
+//! The rows and views of the club of `databases`. Amy has two bookings there: the court's, and the
+//! room's, which is cancelled.
 
-use super::rows::{AMY_1, DAY, REVOKED};
-use super::steps::{Asked, Shown, Start, Step, plays_from};
-use super::write::Write;
+use super::databases::{Contents, database};
+use super::rows::{AMY_1, Kept, key, member};
+use crate::expect::{Host, expect_eq, expect_row};
+use crate::values::{booking, moment, name, number, request};
+use club_core::{ClubStore, KeyView, MemberAccount};
+use club_store::Store;
+use sqlite::{Alter, Connection};
+use std::process::Abort;
 use std::test::*;
-use test_kit::{
-    BOOKING_7, BOOKING_8, COURT_AT_9, COURT_AT_10, COURT_AT_18, FRIDAY, PlainBooking, PlainSlot,
-    ROOM, ROOM_AT_9, ROOM_AT_10, ROOM_AT_18,
+use test_kit::requests::{ACCOUNT, CANCEL_7, VIEW};
+use test_kit::{BOOKING_7, BOOKING_8, COURT_AT_18, PlainBooking, PlainRequest, ROOM_AT_18};
+
+const CANCELLED_8: PlainBooking = PlainBooking {
+    refund: Some(300),
+    ..BOOKING_8
 };
 
-static UNKNOWN: [Step; 1] = [Step::Shows(Shown::Member(None))];
-
-static WRITTEN: [Step; 3] = [
-    Step::Shows(Shown::Member(Some(0))),
-    Step::Shows(Shown::Key(AMY_1)),
-    Step::Shows(Shown::Facility(ROOM)),
+/// Requests of `amy-1`, the persons in the slot of each, and the booking under its number.
+static VIEWS: [(PlainRequest, u64, Option<PlainBooking>); 6] = [
+    (ACCOUNT, 0, None),
+    (VIEW, 3, None),
+    (PlainRequest::View(ROOM_AT_18), 0, None),
+    (CANCEL_7, 3, Some(BOOKING_7)),
+    (PlainRequest::Cancel(COURT_AT_18, 8), 3, Some(CANCELLED_8)),
+    (PlainRequest::Cancel(COURT_AT_18, 9), 3, None),
 ];
 
-#[test]
-fn reads_what_was_written(rt: HostRuntime) {
-    plays_from(&rt, Start::Empty, &[&UNKNOWN]);
-    plays_from(&rt, Start::Rows, &[&WRITTEN]);
-}
-
-#[test]
-fn keeps_tables_that_hold_a_club(rt: HostRuntime) {
-    plays_from(&rt, Start::Rows, &[&WRITTEN, &WRITTEN]);
-}
-
-static CHANGES: [Step; 4] = [
-    Step::Applies(Write::Credit(10_000)),
-    Step::Shows(Shown::Member(Some(10_000))),
-    Step::Applies(Write::Revoke),
-    Step::Shows(Shown::Key(REVOKED)),
+static BOOKINGS: [(u32, Option<PlainBooking>); 3] = [
+    (7, Some(BOOKING_7)),
+    (8, Some(CANCELLED_8)),
+    (9, None),
 ];
 
-#[test]
-fn changes_rows(rt: HostRuntime) {
-    plays_from(&rt, Start::Rows, &[&CHANGES]);
+/// The day before the slots.
+const DAY_BEFORE: &str = "2026-04-30T17:00";
+
+/// The store over a database that it takes over.
+pub(crate) fn adopt<S: Alter + Drop>(rt: &impl Host, connection: Connection<S>) -> Store<S> {
+    Store::adopt(rt.alloc(), connection)
+        .ok()
+        .expect(rt, "adopted")
 }
 
-static PERSONS: [Step; 8] = [
-    Step::Applies(Write::Credit(1_201)),
-    Step::Applies(Write::Book(BOOKING_7)),
-    Step::Applies(Write::Book(BOOKING_8)),
-    Step::Shows(Shown::Slot(COURT_AT_18, 3, false)),
-    Step::Shows(Shown::Slot(ROOM_AT_18, 1, false)),
-    Step::Applies(Write::Cancel(BOOKING_8, 300)),
-    Step::Shows(Shown::Slot(COURT_AT_18, 3, false)),
-    Step::Shows(Shown::Slot(ROOM_AT_18, 0, false)),
-];
-
-#[test]
-fn counts_the_persons_of_a_slot(rt: HostRuntime) {
-    plays_from(&rt, Start::Rows, &[&PERSONS]);
+/// The view that `amy-1` has of a request on the day before the slots, with the key.
+fn view<S: Alter>(rt: &impl Abort, store: &mut Store<S>, asked: &PlainRequest) -> KeyView {
+    let at = moment(rt, DAY_BEFORE);
+    let found = store.view(&name(rt, "amy-1"), &request(rt, asked), at);
+    found.expect(rt, "an answer").expect(rt, "a view")
 }
 
-static CLOSES: [Step; 3] = [
-    Step::Applies(Write::Close(COURT_AT_9)),
-    Step::Shows(Shown::Slot(COURT_AT_9, 0, true)),
-    Step::Shows(Shown::Slot(COURT_AT_10, 0, false)),
-];
-
-#[test]
-fn closes_a_slot(rt: HostRuntime) {
-    plays_from(&rt, Start::Rows, &[&CLOSES]);
+/// Ends the test unless the store has this key, with its older root, and a view has it, too.
+pub(crate) fn shows_key<S: Alter>(rt: &impl Abort, store: &mut Store<S>, kept: &Kept) {
+    let want = key(rt, kept);
+    expect_eq(rt, &store.key(&want.name), &Ok(Some(want)));
+    let seen = view(rt, store, &ACCOUNT);
+    expect_eq(rt, &seen.key, &want);
+    expect_eq(rt, &seen.view.key, &want.row());
 }
 
-const COURT_10: PlainBooking = PlainBooking {
-    key: "amy-1",
-    number: 10,
-    slot: COURT_AT_18,
-    guests: 0,
-    charge: 200,
-    left: 0,
-    refund: None,
-};
-
-const COURT_3_AT_9: PlainBooking = PlainBooking {
-    key: "amy-1",
-    number: 3,
-    slot: COURT_AT_9,
-    guests: 0,
-    charge: 200,
-    left: 3,
-    refund: None,
-};
-
-const COURT_4_A_DAY_LATER: PlainBooking = PlainBooking {
-    key: "amy-1",
-    number: 4,
-    slot: PlainSlot {
-        day: FRIDAY + 1,
-        ..COURT_AT_18
-    },
-    guests: 1,
-    charge: 400,
-    left: 2,
-    refund: None,
-};
-
-const FULL_SHEET: &str = "\
-Day sheet 2026-05-01
-court-1                  18:00 amy-1                            7  3    600
-court-1                  18:00 amy-1                           10  1    200
-room-1                   18:00 amy-1                            8  1    601
-Total bookings 3, persons 5, charge 1401
-";
-
-const EMPTY_SHEET: &str = "Day sheet 2026-05-03\nNo bookings.\n";
-
-/// Three bookings of a day in another order than the sheet's, one that is cancelled, and one of the
-/// next day.
-static DAYS: [Step; 9] = [
-    Step::Applies(Write::Credit(10_000)),
-    Step::Applies(Write::Book(BOOKING_8)),
-    Step::Applies(Write::Book(COURT_10)),
-    Step::Applies(Write::Book(COURT_3_AT_9)),
-    Step::Applies(Write::Book(COURT_4_A_DAY_LATER)),
-    Step::Applies(Write::Book(BOOKING_7)),
-    Step::Applies(Write::Cancel(COURT_3_AT_9, 200)),
-    Step::Shows(Shown::Sheet(DAY, FULL_SHEET)),
-    Step::Shows(Shown::Sheet("2026-05-03", EMPTY_SHEET)),
-];
-
-/// An account, two slots, a booking that is there and one that isn't.
-static VIEWS: [Step; 5] = [
-    Step::Shows(Shown::View(Asked::Account, 0, None)),
-    Step::Shows(Shown::View(Asked::View(COURT_AT_18), 3, None)),
-    Step::Shows(Shown::View(Asked::View(ROOM_AT_18), 0, None)),
-    Step::Shows(Shown::View(Asked::Cancel(7), 3, Some(BOOKING_7))),
-    Step::Shows(Shown::View(Asked::Cancel(9), 3, None)),
-];
-
-/// The writes of the office by the calls of their own names.
-static OFFICE: [Step; 7] = [
-    Step::Calls(Write::Member(0)),
-    Step::Shows(Shown::Member(Some(0))),
-    Step::Calls(Write::Credit(9_000)),
-    Step::Calls(Write::Credit(99)),
-    Step::Shows(Shown::Member(Some(9_099))),
-    Step::Calls(Write::Facility(ROOM)),
-    Step::Shows(Shown::Facility(ROOM)),
-];
-
-static KEYS_AND_SLOTS: [Step; 9] = [
-    Step::Calls(Write::Member(0)),
-    Step::Calls(Write::Facility(ROOM)),
-    Step::Calls(Write::Key(AMY_1)),
-    Step::Shows(Shown::Key(AMY_1)),
-    Step::Calls(Write::Revoke),
-    Step::Shows(Shown::Key(REVOKED)),
-    Step::Calls(Write::Close(ROOM_AT_9)),
-    Step::Shows(Shown::Slot(ROOM_AT_9, 0, true)),
-    Step::Shows(Shown::Slot(ROOM_AT_10, 0, false)),
-];
-
-#[test]
-fn makes_the_writes_of_the_office(rt: HostRuntime) {
-    plays_from(&rt, Start::Empty, &[&OFFICE]);
+/// Of 10,000 points 600 are spent on the court, and of 601 for the room 300 came back.
+fn shows_views<S: Alter>(rt: &impl Abort, store: &mut Store<S>) {
+    for (row, (asked, taken, booked)) in VIEWS.iter().enumerate() {
+        let seen = view(rt, store, asked).view;
+        let account = (seen.spent, seen.balance, seen.open_count);
+        expect_row(rt, &row, &account, &(901, 9_099, 1));
+        expect_row(rt, &row, &(seen.taken, seen.closed), &(*taken, false));
+        let booked = booked.map(|booked| booking(rt, &booked));
+        expect_row(rt, &row, &seen.booking, &booked);
+    }
 }
 
-#[test]
-fn makes_the_writes_of_keys_and_slots(rt: HostRuntime) {
-    plays_from(&rt, Start::Empty, &[&KEYS_AND_SLOTS]);
+/// The same sums and bookings, each by a reading of its own.
+fn shows_rows<C: ClubStore>(rt: &impl Abort, store: &mut C) {
+    let amy = name(rt, "amy");
+    let account = MemberAccount {
+        member: member(rt, "amy", 10_000),
+        balance: 9_099,
+    };
+    expect_eq(rt, &store.account(&amy), &Ok(Some(account)));
+    let at = moment(rt, DAY_BEFORE);
+    expect_eq(rt, &store.open_count(&amy, at), &Ok(1));
+    let amy_1 = name(rt, "amy-1");
+    expect_eq(rt, &store.spent(&amy_1), &Ok(901));
+    for (numbered, booked) in &BOOKINGS {
+        let found = store.booking(&amy_1, number(rt, *numbered));
+        let booked = booked.map(|booked| booking(rt, &booked));
+        expect_row(rt, numbered, &found, &Ok(booked));
+    }
 }
 
-#[test]
-fn returns_a_day_in_order(rt: HostRuntime) {
-    plays_from(&rt, Start::Rows, &[&DAYS]);
+/// Ends the test unless the store shows the club of these tables.
+pub(crate) fn shows<S: Alter>(rt: &impl Abort, store: &mut Store<S>, contents: Contents) {
+    let amy = store.member(&name(rt, "amy"));
+    if let Contents::Nothing = contents {
+        expect_eq(rt, &amy, &Ok(None));
+        return;
+    }
+    expect_eq(rt, &amy, &Ok(Some(member(rt, "amy", 10_000))));
+    shows_key(rt, store, &AMY_1);
+    shows_views(rt, store);
+    shows_rows(rt, store);
 }
 
-/// Also if the store is opened again.
+/// Also if the tables are opened again.
 #[test]
 fn shows_what_a_key_sees(rt: HostRuntime) {
-    plays_from(&rt, Start::Bookings, &[&VIEWS, &VIEWS]);
-}
-
-static TWICE: [Step; 3] = [
-    Step::Calls(Write::Member(0)),
-    Step::Refuses(Write::Member(0)),
-    Step::Shows(Shown::Member(Some(0))),
-];
-
-#[test]
-fn refuses_what_the_tables_have(rt: HostRuntime) {
-    plays_from(&rt, Start::Empty, &[&TWICE]);
-}
-
-/// By what each store of a club has.
-static CREDITS: [Step; 3] = [
-    Step::Calls(Write::Member(0)),
-    Step::Applies(Write::Credit(5)),
-    Step::Shows(Shown::Member(Some(5))),
-];
-
-#[test]
-fn is_the_store_of_a_club(rt: HostRuntime) {
-    plays_from(&rt, Start::Empty, &[&CREDITS]);
+    let mut store = adopt(&rt, database(&rt, Contents::Second));
+    shows(&rt, &mut store, Contents::Second);
+    let mut again = adopt(&rt, store.into_connection());
+    shows(&rt, &mut again, Contents::Second);
 }

@@ -1,0 +1,190 @@
+//! Long passes, runs of events and sheets: the desk has memory for each.
+
+use crate::expect::{Host, expect_eq, expect_row};
+use crate::happens::{Happens, events_and_replies};
+use crate::passes::Shown;
+use crate::scene::{Scene, carry_out, furnish, play, reply};
+use crate::values::day;
+use club_core::{ClubStore, Refusal, Reply};
+use club_gate::{Desk, OfficeReply};
+use club_values::Kind;
+use pass_forms::Form;
+use std::process::Abort;
+use std::test::*;
+use test_kit::minutes::NOON;
+use test_kit::passes::AMY_V2;
+use test_kit::replies::ACCOUNT_BEFORE;
+use test_kit::requests::ACCOUNT;
+use test_kit::roots::ROOT;
+use test_kit::{FRIDAY, Piece, PlainCommand, PlainReply, PlainRequest, PlainSlot, join};
+
+/// Amy's pass with 64 caveats `guests <= 49`, and spaces at its end: by names of text and by those
+/// of base64. By a program of another language.
+static TEXTS: [[Piece; 4]; 2] = [
+    [
+        (1, "{\"c\":[{\"i\":\"guests <= 49\"}"),
+        (63, ",{\"i\":\"guests <= 49\"}"),
+        (
+            1,
+            "],\"i\":\"key:amy-1\",\"l\":\"club-desk\",\
+            \"s64\":\"jCSpJgMr5YUx6PCR4OlJ7e-9I14_9EdSPtydQqP6Auw\",\"v\":2}",
+        ),
+        (6_751, " "),
+    ],
+    [
+        (1, "{\"c\":[{\"i64\":\"Z3Vlc3RzIDw9IDQ5\"}"),
+        (63, ",{\"i64\":\"Z3Vlc3RzIDw9IDQ5\"}"),
+        (
+            1,
+            "],\"i64\":\"a2V5OmFteS0x\",\"l64\":\"Y2x1Yi1kZXNr\",\
+            \"s64\":\"jCSpJgMr5YUx6PCR4OlJ7e-9I14_9EdSPtydQqP6Auw\",\"v\":2}",
+        ),
+        (6_357, " "),
+    ],
+];
+
+/// The desk of the fixture shows amy's account under a text, which has 8,192 characters.
+fn shows_account<S: ClubStore>(rt: &impl Host, desk: &mut Desk<S>, place: usize, pieces: &[Piece]) {
+    let text = join(rt.alloc(), pieces).expect(rt, "memory");
+    expect_eq(rt, &text.len(), &8_192);
+    let returned = reply(rt, desk, NOON, text.as_bytes(), &ACCOUNT);
+    let want = ACCOUNT_BEFORE.reply().expect(rt, "a reply");
+    expect_row(rt, &place, &returned, &want);
+}
+
+struct LongTexts;
+
+impl Scene for LongTexts {
+    fn play<S: ClubStore + Drop>(&self, rt: &impl Host, desk: Desk<S>) {
+        let mut desk = furnish(rt, desk);
+        for (place, pieces) in TEXTS.iter().enumerate() {
+            shows_account(rt, &mut desk, place, pieces);
+        }
+    }
+}
+
+#[test]
+fn serves_the_longest_json(rt: HostRuntime) {
+    play(&rt, &LongTexts);
+}
+
+/// A run of rows, one list of them after the other.
+#[derive(Clone, Copy)]
+struct LongRun {
+    rows: &'static [Happens],
+    times: usize,
+}
+
+impl Scene for LongRun {
+    fn play<S: ClubStore + Drop>(&self, rt: &impl Host, desk: Desk<S>) {
+        let mut desk = furnish(rt, desk);
+        let (events, replies) = events_and_replies(rt, self.rows);
+        let mut all = Vec::new(rt.alloc());
+        let mut want = Vec::new(rt.alloc());
+        for _ in 0..self.times {
+            all.extend_from_slice(&events).expect(rt, "memory");
+            want.extend_from_slice(&replies).expect(rt, "memory");
+        }
+        let returned = desk.run(&all).expect(rt, "replies");
+        expect_eq(rt, &returned.as_slice(), &want.as_slice());
+    }
+}
+
+/// A request under a text that is no pass.
+static NO_PASS: [Happens; 1] = [Happens::Asked(
+    "x",
+    ACCOUNT,
+    PlainReply::Refused(Refusal::PassMalformed),
+)];
+
+#[test]
+fn runs_of_any_length(rt: HostRuntime) {
+    for times in [0, 1, 101, 100_000] {
+        let rows = &NO_PASS;
+        play(&rt, &LongRun { rows, times });
+    }
+}
+
+/// A credit of bob's, and amy's account, which it leaves as it was.
+static IN_TURN: [Happens; 2] = [
+    Happens::Commanded(PlainCommand::Credit("bob", 1), OfficeReply::Done),
+    Happens::Asked(AMY_V2, ACCOUNT, ACCOUNT_BEFORE),
+];
+
+#[test]
+fn runs_two_hundred_events(rt: HostRuntime) {
+    let run = LongRun {
+        rows: &IN_TURN,
+        times: 100,
+    };
+    play(&rt, &run);
+}
+
+/// Names of 24 letters, and a key of each member.
+const FACILITY: &str = "a-facility-of-24-letters";
+
+const KEY: &str = "a-key-name-of-24-letters";
+
+const OTHER_KEY: &str = "key-2-name-of-24-letters";
+
+static MEMBERS: [PlainCommand; 5] = [
+    PlainCommand::AddMember("a", 99),
+    PlainCommand::AddKey(KEY, "a", ROOT),
+    PlainCommand::AddMember("b", 99),
+    PlainCommand::AddKey(OTHER_KEY, "b", ROOT),
+    PlainCommand::AddFacility(FACILITY, Kind::Room, 50, 0, 0, 24),
+];
+
+/// The number of bookings of each key.
+const BOOKINGS: u8 = 60;
+
+/// The number of a booking, in one of the hours of a day in turn.
+fn booking(number: u8) -> PlainRequest {
+    let slot = PlainSlot {
+        facility: FACILITY,
+        day: FRIDAY,
+        hour: number % 24,
+    };
+    PlainRequest::Book(slot, 999_999_000 + u32::from(number), 0)
+}
+
+fn book_all<S: ClubStore>(rt: &impl Abort, desk: &mut Desk<S>, text: &str) {
+    for number in 0..BOOKINGS {
+        let returned = reply(rt, desk, NOON, text.as_bytes(), &booking(number));
+        let refused = matches!(returned, Reply::Refused(_));
+        expect_row(rt, &usize::from(number), &refused, &false);
+    }
+}
+
+const HEAD: &str = "Day sheet 2026-05-01\na-facility-of-24-letters 00:00 ";
+
+const END: &str = "\nTotal bookings 120, persons 120, charge 0\n";
+
+/// The sheet has a line of 76 bytes for each booking.
+fn prints_all<S: ClubStore>(rt: &impl Abort, desk: &mut Desk<S>) {
+    let sheet = desk.sheet(day(rt, "2026-05-01")).expect(rt, "a sheet");
+    expect_eq(rt, &sheet.len(), &(21 + 120 * 76 + 42));
+    expect_eq(rt, &sheet.starts_with(HEAD), &true);
+    expect_eq(rt, &sheet.ends_with(END), &true);
+}
+
+/// A sheet of more than 8,193 bytes.
+struct LongSheet;
+
+impl Scene for LongSheet {
+    fn play<S: ClubStore + Drop>(&self, rt: &impl Host, mut desk: Desk<S>) {
+        for plain in &MEMBERS {
+            carry_out(rt, &mut desk, plain);
+        }
+        for key in [KEY, OTHER_KEY] {
+            let text = Shown::Of(key, ROOT, &[]).text(rt, Form::V2);
+            book_all(rt, &mut desk, text.as_str());
+        }
+        prints_all(rt, &mut desk);
+    }
+}
+
+#[test]
+fn prints_a_long_sheet(rt: HostRuntime) {
+    play(&rt, &LongSheet);
+}

@@ -1,0 +1,371 @@
+//! Changes of a small club: the rows that each leaves, and changes that don't fit it. Those are
+//! false of its rows, or the club after them isn't sound: each is a fault of storage.
+
+use super::rows::{AMY_1, Kept, Older, facility, key};
+use super::write::Write::{
+    self, Book, Cancel, Close, Credit, Debit, Facility, Key, Member, Numbers, Open, Quota, Revoke,
+    Rotate,
+};
+use super::write::change;
+use crate::expect::{Host, expect_row};
+use crate::scene::{Scene, play};
+use crate::values::{booking, day, moment, name, number, slot};
+use club_core::{ClubStore, MemberAccount, StoreFault};
+use club_gate::Desk;
+use std::process::Abort;
+use std::test::*;
+use test_kit::moments::START;
+use test_kit::roots::{ROOT, SECOND_ROOT, THIRD_ROOT};
+use test_kit::{
+    BOOKING_7, COURT, COURT_AT_18, COURT_AT_19, PlainBooking, PlainFacility, PlainSlot,
+};
+
+/// Rows and sums of a club. A member has its credited points, the points of its bookings, and its
+/// quota. A slot has its persons, and whether it is closed. Amy's bookings are all under `amy-1`.
+#[derive(Clone, Copy)]
+struct Seen {
+    amy: Option<(u32, u32, u8)>,
+    ben: Option<(u32, u32, u8)>,
+    key: Option<Kept>,
+    court: Option<PlainFacility>,
+    at_18: (u32, bool),
+    at_19: (u32, bool),
+    seventh: Option<PlainBooking>,
+    /// The number of amy's open bookings.
+    open: u64,
+}
+
+/// The writes, the club after them, and changes that don't fit it.
+type Row = (&'static [Write], Seen, &'static [Write]);
+
+const EMPTY: Seen = Seen {
+    amy: None,
+    ben: None,
+    key: None,
+    court: None,
+    at_18: (0, false),
+    at_19: (0, false),
+    seventh: None,
+    open: 0,
+};
+
+/// Amy's points in two credits, her key, the court and her booking of it.
+static FILLS: [Write; 5] = [
+    Member("amy", 9_000),
+    Credit("amy", 1_000),
+    Key(AMY_1),
+    Facility(COURT),
+    Book("amy-1", 7, COURT_AT_18, 2, "amy", 600),
+];
+
+const FILLED: Seen = Seen {
+    amy: Some((10_000, 600, 5)),
+    key: Some(AMY_1),
+    court: Some(COURT),
+    at_18: (3, false),
+    seventh: Some(BOOKING_7),
+    open: 1,
+    ..EMPTY
+};
+
+/// Bookings that aren't those of the filled club, or don't fit into it.
+const CANCELLED_7: PlainBooking = PlainBooking {
+    refund: Some(300),
+    ..BOOKING_7
+};
+
+const OTHER_PERSONS: PlainBooking = PlainBooking {
+    guests: 0,
+    ..BOOKING_7
+};
+
+const OTHER_CHARGE: PlainBooking = PlainBooking {
+    charge: 601,
+    ..BOOKING_7
+};
+
+const OTHER_SLOT: PlainBooking = PlainBooking {
+    slot: COURT_AT_19,
+    ..BOOKING_7
+};
+
+const UNKNOWN_KEY: PlainBooking = PlainBooking {
+    key: "amy-2",
+    ..BOOKING_7
+};
+
+const NOWHERE: PlainSlot = PlainSlot {
+    facility: "court-9",
+    ..COURT_AT_18
+};
+
+/// The court is shut at that hour.
+const COURT_AT_22: PlainSlot = PlainSlot {
+    hour: 22,
+    ..COURT_AT_18
+};
+
+const OLDER: Older = Older(ROOT, "2026-04-25T00:00");
+
+const SECOND_KEY_WITH_OLDER: Kept = Kept {
+    name: "amy-2",
+    older: Some(OLDER),
+    ..AMY_1
+};
+
+/// Amy has 9,400 points left, and the court has one place at 18 and four at 19.
+const UNFIT: &[Write] = &[
+    Cancel(UNKNOWN_KEY, "amy", 300),
+    Book("amy-2", 7, COURT_AT_19, 2, "amy", 600),
+    Cancel(OTHER_PERSONS, "amy", 300),
+    Cancel(OTHER_SLOT, "amy", 300),
+    Cancel(OTHER_CHARGE, "amy", 300),
+    // A point more than the charge.
+    Cancel(BOOKING_7, "amy", 601),
+    // A number that is used, and a facility that isn't there.
+    Book("amy-1", 7, COURT_AT_18, 2, "amy", 600),
+    Book("amy-1", 9, NOWHERE, 0, "amy", 200),
+    // Two persons at one place; and five in a slot that nobody booked.
+    Book("amy-1", 9, COURT_AT_18, 1, "amy", 200),
+    Book("amy-1", 9, COURT_AT_19, 4, "amy", 200),
+    // A point more than amy has.
+    Book("amy-1", 9, COURT_AT_18, 0, "amy", 9_401),
+    // Names that are taken, and a credit beyond 999,999,999 points.
+    Member("amy", 0),
+    Facility(COURT),
+    Key(AMY_1),
+    Key(SECOND_KEY_WITH_OLDER),
+    Credit("amy", 999_990_000),
+    // Of an unknown member; more than was credited; a point more than the booking leaves.
+    Debit("cy", 1),
+    Debit("amy", 10_001),
+    Debit("amy", 9_401),
+    // Of an unknown facility; each number beyond its limit; a place less than a slot has persons.
+    Numbers("court-9", 4, 200, 8, 22),
+    Numbers("court-1", 51, 200, 8, 22),
+    Numbers("court-1", 4, 10_000, 8, 22),
+    Numbers("court-1", 4, 200, 22, 22),
+    Numbers("court-1", 4, 200, 8, 25),
+    Numbers("court-1", 2, 200, 8, 22),
+    Quota("amy", 100),
+    Quota("cy", 5),
+    Close(NOWHERE),
+    Open(NOWHERE),
+    // A root that the key never had, and a key that isn't there.
+    Rotate("amy-1", Older(SECOND_ROOT, "2026-04-25T00:00"), THIRD_ROOT),
+    Rotate("amy-2", OLDER, SECOND_ROOT),
+];
+
+/// Neither a booking under amy's key nor its refund is ben's, and he has no point more.
+const UNFIT_OF_BEN: &[Write] = &[
+    Book("amy-1", 9, COURT_AT_19, 2, "ben", 600),
+    Cancel(BOOKING_7, "ben", 300),
+    Debit("ben", 1_001),
+];
+
+const WITH_BEN: Seen = Seen {
+    ben: Some((1_000, 0, 5)),
+    ..FILLED
+};
+
+/// The booking as it was on record and as it is; and no place at all.
+const UNFIT_ONCE_CANCELLED: &[Write] = &[
+    Cancel(BOOKING_7, "amy", 300),
+    Cancel(CANCELLED_7, "amy", 300),
+    Numbers("court-1", 0, 200, 8, 22),
+];
+
+/// The refund goes back to the member and the key, and the places to the slot.
+const CANCELLED: Seen = Seen {
+    amy: Some((10_000, 300, 5)),
+    at_18: (0, false),
+    seventh: Some(CANCELLED_7),
+    open: 0,
+    ..FILLED
+};
+
+const DEBITED: Seen = Seen {
+    amy: Some((600, 600, 5)),
+    ..FILLED
+};
+
+/// A slot with a row, and one without.
+const CLOSED_AT_18: Seen = Seen {
+    at_18: (3, true),
+    ..FILLED
+};
+
+const CLOSED_AT_19: Seen = Seen {
+    at_19: (0, true),
+    ..FILLED
+};
+
+static ROWS: [Row; 9] = [
+    (&[], FILLED, UNFIT),
+    (&[Member("ben", 1_000)], WITH_BEN, UNFIT_OF_BEN),
+    (
+        &[Cancel(BOOKING_7, "amy", 300)],
+        CANCELLED,
+        UNFIT_ONCE_CANCELLED,
+    ),
+    (&[Debit("amy", 9_400)], DEBITED, &[Debit("amy", 1)]),
+    (&[Close(COURT_AT_18)], CLOSED_AT_18, &[Close(COURT_AT_18)]),
+    (&[Close(COURT_AT_19)], CLOSED_AT_19, &[Close(COURT_AT_19)]),
+    // An open slot can be opened, also at an hour at which the court is shut. Its persons stay.
+    (&[Close(COURT_AT_18), Open(COURT_AT_18)], FILLED, &[]),
+    (&[Open(COURT_AT_18), Open(COURT_AT_22)], FILLED, &[]),
+    (
+        &[Close(COURT_AT_18), Close(COURT_AT_19), Open(COURT_AT_18)],
+        CLOSED_AT_19,
+        &[],
+    ),
+];
+
+/// A member's points, what its bookings cost, and its quota.
+fn account<C: ClubStore>(rt: &impl Abort, store: &mut C, text: &str) -> Option<(u32, u32, u8)> {
+    let account = store.account(&name(rt, text)).expect(rt, "an answer")?;
+    let MemberAccount { member, balance } = account;
+    let used = member.credited.saturating_sub(balance);
+    Some((member.credited, used, member.quota))
+}
+
+fn expect_accounts<C: ClubStore>(rt: &impl Abort, store: &mut C, row: usize, seen: &Seen) {
+    expect_row(rt, &row, &account(rt, store, "amy"), &seen.amy);
+    expect_row(rt, &row, &account(rt, store, "ben"), &seen.ben);
+    let used = seen.amy.unwrap_or((0, 0, 0)).1;
+    let spent = store.spent(&name(rt, "amy-1"));
+    expect_row(rt, &row, &spent, &Ok(u64::from(used)));
+    expect_row(rt, &row, &store.spent(&name(rt, "amy-2")), &Ok(0));
+}
+
+/// The key with its older root. There is no second one.
+fn expect_keys<C: ClubStore>(rt: &impl Abort, store: &mut C, row: usize, seen: &Seen) {
+    let want = seen.key.map(|kept| key(rt, &kept));
+    let amy_1 = name(rt, "amy-1");
+    let bare = want.map(|key| key.row());
+    expect_row(rt, &row, &store.key_row(&amy_1), &Ok(bare));
+    let older = want.and_then(|key| key.older);
+    expect_row(rt, &row, &store.older_root(&amy_1), &Ok(older));
+    let amy_2 = name(rt, "amy-2");
+    expect_row(rt, &row, &store.key_row(&amy_2), &Ok(None));
+    expect_row(rt, &row, &store.older_root(&amy_2), &Ok(None));
+}
+
+/// The court and its slots. There is no second court.
+fn expect_court<C: ClubStore>(rt: &impl Abort, store: &mut C, row: usize, seen: &Seen) {
+    let court_1 = name(rt, "court-1");
+    let want = seen.court.map(|court| facility(rt, &court));
+    expect_row(rt, &row, &store.facility(&court_1), &Ok(want));
+    expect_row(rt, &row, &store.facility(&name(rt, "court-2")), &Ok(None));
+    expect_row(rt, &row, &store.most_taken(&court_1), &Ok(seen.at_18.0));
+    let at_22 = (0, false);
+    let slots = [
+        (COURT_AT_18, seen.at_18),
+        (COURT_AT_19, seen.at_19),
+        (COURT_AT_22, at_22),
+    ];
+    for (at, want) in &slots {
+        let held = store.slot(&slot(rt, at)).expect(rt, "an answer");
+        expect_row(rt, &row, &(held.taken, held.closed), want);
+    }
+}
+
+/// The day's bookings, which aren't cancelled. There is none on the next day.
+fn expect_days<C: ClubStore>(rt: &impl Abort, store: &mut C, row: usize, seen: &Seen) {
+    let rows = store.day(day(rt, "2026-05-01")).expect(rt, "a day");
+    expect_row(rt, &row, &(rows.len() as u64), &seen.open);
+    let first = match seen.open {
+        0 => None,
+        _ => seen.seventh.map(|booked| booking(rt, &booked)),
+    };
+    expect_row(rt, &row, &rows.first().copied(), &first);
+    let next = store.day(day(rt, "2026-05-02")).expect(rt, "a day");
+    expect_row(rt, &row, &next.len(), &0);
+}
+
+/// The minute before the slot begins.
+const BEFORE: &str = "2026-05-01T17:59";
+
+/// The bookings on record. They are open until their slot begins.
+fn expect_bookings<C: ClubStore>(rt: &impl Abort, store: &mut C, row: usize, seen: &Seen) {
+    let amy_1 = name(rt, "amy-1");
+    for (numbered, want) in [(7, seen.seventh), (8, None), (9, None)] {
+        let found = store.booking(&amy_1, number(rt, numbered));
+        let want = want.map(|booked| booking(rt, &booked));
+        expect_row(rt, &row, &found, &Ok(want));
+    }
+    let open = [
+        ("amy", BEFORE, seen.open),
+        ("amy", START, 0),
+        ("bob", BEFORE, 0),
+    ];
+    for (member, at, want) in open {
+        let count = store.open_count(&name(rt, member), moment(rt, at));
+        expect_row(rt, &row, &count, &Ok(want));
+    }
+}
+
+/// Ends the test unless all of this is read.
+fn expect_seen<C: ClubStore>(rt: &impl Abort, store: &mut C, row: usize, seen: &Seen) {
+    expect_accounts(rt, store, row, seen);
+    expect_keys(rt, store, row, seen);
+    expect_court(rt, store, row, seen);
+    expect_bookings(rt, store, row, seen);
+    expect_days(rt, store, row, seen);
+}
+
+/// Makes changes, which all end so.
+fn apply<C: ClubStore>(
+    rt: &impl Abort,
+    store: &mut C,
+    writes: &[Write],
+    want: Result<(), StoreFault>,
+) {
+    for (row, write) in writes.iter().enumerate() {
+        expect_row(rt, &row, &store.apply(&change(rt, write)), &want);
+    }
+}
+
+/// A row with its number, after the writes that all rows begin with.
+#[derive(Clone, Copy)]
+struct Played<'a> {
+    before: &'a [Write],
+    number: usize,
+    row: &'a Row,
+}
+
+impl Scene for Played<'_> {
+    fn play<S: ClubStore + Drop>(&self, rt: &impl Host, desk: Desk<S>) {
+        let (writes, seen, refused) = self.row;
+        let mut store = desk.into_store();
+        apply(rt, &mut store, self.before, Ok(()));
+        apply(rt, &mut store, writes, Ok(()));
+        expect_seen(rt, &mut store, self.number, seen);
+        apply(rt, &mut store, refused, Err(StoreFault::Storage));
+        expect_seen(rt, &mut store, self.number, seen);
+    }
+}
+
+/// Plays rows, each after the same writes.
+fn plays(rt: &impl Host, before: &[Write], rows: &[Row]) {
+    for (number, row) in rows.iter().enumerate() {
+        let played = Played {
+            before,
+            number,
+            row,
+        };
+        play(rt, &played);
+    }
+}
+
+static OF_NOBODY: [Row; 1] = [(&[], EMPTY, &[Credit("amy", 5), Revoke("amy-1")])];
+
+#[test]
+fn of_an_empty_club(rt: HostRuntime) {
+    plays(&rt, &[], &OF_NOBODY);
+}
+
+#[test]
+fn of_a_filled_club(rt: HostRuntime) {
+    plays(&rt, &FILLS, &ROWS);
+}
