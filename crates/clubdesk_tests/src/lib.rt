@@ -2,19 +2,11 @@
 #![tactic(auto)]
 
 #[cfg(test)]
-mod arriving;
-#[cfg(test)]
 mod bad_commands;
-#[cfg(test)]
-mod beside;
 #[cfg(test)]
 mod callers;
 #[cfg(test)]
-mod clubs;
-#[cfg(test)]
 mod commands;
-#[cfg(test)]
-mod corrections;
 #[cfg(test)]
 mod door;
 #[cfg(test)]
@@ -29,8 +21,6 @@ mod handed_over;
 mod handover;
 #[cfg(test)]
 mod input;
-#[cfg(test)]
-mod lists;
 #[cfg(test)]
 mod long_paths;
 #[cfg(test)]
@@ -47,7 +37,3 @@ mod runs;
 mod served;
 #[cfg(test)]
 mod servers;
-#[cfg(test)]
-mod shown;
-#[cfg(test)]
-mod terminal;
