@@ -1,14 +1,42 @@
 //! Events at a desk, and the texts of their replies.
 
-use crate::events::{Event, moment};
 use crate::expect::{expect_case, push, text};
 use club_core::{ClubStore, Reply};
 use club_gate::OfficeReply;
 use club_http::{
     Desk, Face, MAX_REPLY_LEN, ReadInlet, Routes, Words, WriteOutlet, answer, reply_bytes, words_of,
 };
+use club_values::{Kind, Moment};
 use std::alloc::Global;
 use std::process::Abort;
+use test_kit::PlainCommand;
+use test_kit::roots::ROOT;
+
+/// An event at a desk.
+#[derive(Clone, Copy)]
+pub(crate) enum Event {
+    Gives(PlainCommand),
+    /// The request of these bytes, at a moment, by `Desk::ask`.
+    Asks(&'static str, &'static str),
+    /// The request of these bytes, at a moment, by `answer`.
+    Exchanges(&'static str, &'static str),
+}
+
+/// The commands of `test_kit::FIXTURE`, as events.
+pub(crate) static FIXTURE: [Event; 8] = [
+    Event::Gives(PlainCommand::AddMember("amy", 5)),
+    Event::Gives(PlainCommand::Credit("amy", 10_000)),
+    Event::Gives(PlainCommand::AddKey("amy-1", "amy", ROOT)),
+    Event::Gives(PlainCommand::AddMember("bob", 5)),
+    Event::Gives(PlainCommand::Credit("bob", 10_000)),
+    Event::Gives(PlainCommand::AddKey("bob-1", "bob", ROOT)),
+    Event::Gives(PlainCommand::AddFacility("court-1", Kind::Court, 4, 200, 8, 22)),
+    Event::Gives(PlainCommand::AddFacility("room-1", Kind::Room, 1, 601, 8, 22)),
+];
+
+pub(crate) fn moment(rt: &impl Abort, text: &str) -> Moment {
+    Moment::read(text.as_bytes()).expect(rt, "a moment")
+}
 
 /// The bytes of a reply.
 pub(crate) fn reply_text(rt: &(impl Abort + Alloc<A = Global>), reply: &Reply) -> String {
@@ -34,18 +62,6 @@ pub(crate) fn words_in<'a>(rt: &(impl Abort + Alloc<A = Global>), bytes: &'a str
         Ok(words) => words,
         Err(_) => panic!(rt; "no words"),
     }
-}
-
-/// The reply to a request's bytes, by `Desk::ask`.
-fn ask<S: ClubStore>(
-    rt: &(impl Abort + Alloc<A = Global>),
-    desk: &mut Desk<S>,
-    at: &str,
-    bytes: &str,
-) -> String {
-    let words = words_in(rt, bytes);
-    let reply = desk.ask(moment(rt, at), &words);
-    reply_text(rt, &reply)
 }
 
 /// The reply to a request's bytes, by `answer`, which writes the reply and nothing else.
@@ -77,22 +93,12 @@ fn reply<S: ClubStore>(
             let command = plain.command().expect(rt, "a command");
             office_text(rt, &desk.office(&command))
         }
-        Event::Asks(at, bytes) => ask(rt, desk, at, bytes),
+        Event::Asks(at, bytes) => {
+            let words = words_in(rt, bytes);
+            reply_text(rt, &desk.ask(moment(rt, at), &words))
+        }
         Event::Exchanges(at, bytes) => exchange(rt, desk, at, bytes),
     }
-}
-
-/// The replies to events, one after the other.
-fn replies<S: ClubStore>(
-    rt: &(impl Abort + Alloc<A = Global>),
-    desk: &mut Desk<S>,
-    events: &[Event],
-) -> Vec<String> {
-    let mut replies = Vec::new(rt.alloc());
-    for event in events {
-        push(rt, &mut replies, reply(rt, desk, event));
-    }
-    replies
 }
 
 /// The replies of a desk over a store to events, one after the other; and the store after them.
@@ -102,6 +108,9 @@ pub(crate) fn replies_over<S: ClubStore>(
     events: &[Event],
 ) -> (Vec<String>, S) {
     let mut desk = Desk::new(rt.alloc(), store);
-    let replies = replies(rt, &mut desk, events);
+    let mut replies = Vec::new(rt.alloc());
+    for event in events {
+        push(rt, &mut replies, reply(rt, &mut desk, event));
+    }
     (replies, desk.into_store())
 }

@@ -36,16 +36,6 @@ pub(crate) struct Bytes {
     pub db: Vec<u8>,
 }
 
-/// A disk of these bytes.
-fn disk(rt: &(impl Abort + Alloc<A = Global>), bytes: &[u8]) -> Recorded {
-    Recorded::of(rt.alloc(), bytes).expect(rt, "memory")
-}
-
-/// The bytes of the file, synced or not.
-fn bytes_in(rt: &(impl Abort + Alloc<A = Global>), file: &Stops) -> Vec<u8> {
-    Vec::from_slice(rt.alloc(), file.inner().bytes()).expect(rt, "memory")
-}
-
 impl Bytes {
     /// None.
     pub fn none(rt: &impl Alloc<A = Global>) -> Bytes {
@@ -58,33 +48,31 @@ impl Bytes {
     /// All that is in the files, synced or not.
     pub fn of_files(rt: &(impl Abort + Alloc<A = Global>), files: &Files<Stops>) -> Bytes {
         Bytes {
-            log: bytes_in(rt, &files.log),
-            db: bytes_in(rt, &files.db),
+            log: Vec::from_slice(rt.alloc(), files.log.inner().bytes()).expect(rt, "memory"),
+            db: Vec::from_slice(rt.alloc(), files.db.inner().bytes()).expect(rt, "memory"),
         }
     }
 
     /// Files of which one stops there.
     pub fn files(&self, rt: &(impl Abort + Alloc<A = Global>), stop: Stop) -> Files<Stops> {
-        let (log, db) = match stop.part {
+        let (log_calls, db_calls) = match stop.part {
             Part::Log => (stop.calls, u64::MAX),
             Part::Database => (u64::MAX, stop.calls),
         };
+        let log = Recorded::of(rt.alloc(), self.log.as_slice()).expect(rt, "memory");
+        let db = Recorded::of(rt.alloc(), self.db.as_slice()).expect(rt, "memory");
         Files {
-            log: Fuse::new(disk(rt, self.log.as_slice()), log),
-            db: Fuse::new(disk(rt, self.db.as_slice()), db),
+            log: Fuse::new(log, log_calls),
+            db: Fuse::new(db, db_calls),
         }
     }
 }
 
-/// Whether a file would take a call more.
-fn takes_a_call(file: &mut Stops) -> bool {
-    file.may_be_used() && file.len().is_ok()
-}
-
 /// Whether that one of the files would have taken a call more.
 pub(crate) fn has_calls_left(files: &mut Files<Stops>, part: Part) -> bool {
-    match part {
-        Part::Log => takes_a_call(&mut files.log),
-        Part::Database => takes_a_call(&mut files.db),
-    }
+    let file = match part {
+        Part::Log => &mut files.log,
+        Part::Database => &mut files.db,
+    };
+    file.may_be_used() && file.len().is_ok()
 }

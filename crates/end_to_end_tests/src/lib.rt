@@ -12,8 +12,6 @@ mod disk;
 #[cfg(test)]
 mod ends;
 #[cfg(test)]
-mod events;
-#[cfg(test)]
 mod expect;
 #[cfg(test)]
 mod failing_ends;
@@ -21,10 +19,6 @@ mod failing_ends;
 mod front;
 #[cfg(test)]
 mod laws;
-#[cfg(test)]
-mod messages;
-#[cfg(test)]
-mod passes;
 #[cfg(test)]
 mod recorded;
 #[cfg(test)]
@@ -35,8 +29,6 @@ mod refused_memory;
 mod tables;
 #[cfg(test)]
 mod tasks;
-#[cfg(test)]
-mod texts;
 #[cfg(test)]
 mod torn;
 #[cfg(test)]

@@ -1,18 +1,17 @@
 //! The reference machine's club: its replies to events, and the rows that its tables have then.
 
-use crate::desk::{office_text, reply_text, words_in};
-use crate::events::{Event, moment};
+use crate::desk::{Event, moment, office_text, reply_text, words_in};
 use crate::expect::{push, text};
-use crate::tables::{names, none_of};
-use club_core::{OfficeAnswer, Request};
+use crate::tables::{add_no_tables, none_of};
+use club_core::OfficeAnswer;
 use club_gate::{Fault, OfficeReply, key_signature};
 use club_reference::{Club, Words};
-use club_rows::{Booking, Facility, Key, Member, OlderRoot};
+use club_rows::{Booking, Facility, Key, Member};
 use club_values::{Name, Slot};
 use std::alloc::Global;
 use std::process::Abort;
 use test_kit::roots::ROOT;
-use test_kit::{PlainCommand, signed_pass};
+use test_kit::signed_pass;
 
 /// Which tables a file has.
 #[derive(Clone, Copy, PartialEq, Eq)]
@@ -28,18 +27,13 @@ fn name(rt: &impl Abort, text: &str) -> Name {
     Name::read(text.as_bytes()).expect(rt, "a name")
 }
 
-/// A request under the pass of `amy-1` that is signed under the first root.
-fn words(rt: &(impl Abort + Alloc<A = Global>), request: Request) -> Words {
-    let key = name(rt, "amy-1");
-    let pass = signed_pass(rt.alloc(), Some(key), ROOT, &[]);
-    Words {
-        pass: Ok(pass.expect(rt, "a pass")),
-        request,
-    }
-}
-
+/// The reply to a request under the pass of `amy-1` that is signed under the first root.
 fn ask(rt: &(impl Abort + Alloc<A = Global>), club: &mut Club, at: &str, bytes: &str) -> String {
-    let words = words(rt, words_in(rt, bytes).request);
+    let pass = signed_pass(rt.alloc(), Some(name(rt, "amy-1")), ROOT, &[]);
+    let words = Words {
+        pass: Ok(pass.expect(rt, "a pass")),
+        request: words_in(rt, bytes).request,
+    };
     let reply = club.ask(&words, moment(rt, at)).expect(rt, "memory");
     reply_text(rt, &reply)
 }
@@ -54,19 +48,13 @@ fn desk_reply(answer: &OfficeAnswer) -> OfficeReply {
     }
 }
 
-fn give_command(
-    rt: &(impl Abort + Alloc<A = Global>),
-    club: &mut Club,
-    plain: &PlainCommand,
-) -> String {
-    let command = plain.command().expect(rt, "a command");
-    let answer = club.office(&command).expect(rt, "memory");
-    office_text(rt, &desk_reply(&answer))
-}
-
 fn reply(rt: &(impl Abort + Alloc<A = Global>), club: &mut Club, event: &Event) -> String {
     match event {
-        Event::Gives(plain) => give_command(rt, club, plain),
+        Event::Gives(plain) => {
+            let command = plain.command().expect(rt, "a command");
+            let answer = club.office(&command).expect(rt, "memory");
+            office_text(rt, &desk_reply(&answer))
+        }
         Event::Asks(at, bytes) | Event::Exchanges(at, bytes) => ask(rt, club, at, bytes),
     }
 }
@@ -84,60 +72,42 @@ pub(crate) fn replies(
     replies
 }
 
-fn member_line(rt: &(impl Abort + Alloc<A = Global>), club: &Club, member: &Member) -> String {
+fn add_member(
+    rt: &(impl Abort + Alloc<A = Global>),
+    lines: &mut Vec<String>,
+    club: &Club,
+    member: &Member,
+) {
     let (name, credited, quota) = (&member.name, member.credited, member.quota);
     let used = credited.saturating_sub(club.balance(member));
-    text(
-        rt,
-        format!(in rt.alloc(); "member {name} {credited} {quota} {used}"),
-    )
+    let line = format!(in rt.alloc(); "member {name} {credited} {quota} {used}");
+    push(rt, lines, text(rt, line));
 }
 
-fn add_members(rt: &(impl Abort + Alloc<A = Global>), lines: &mut Vec<String>, club: &Club) {
-    for member in club.members() {
-        push(rt, lines, member_line(rt, club, member));
-    }
-}
-
-fn facility_line(rt: &(impl Abort + Alloc<A = Global>), facility: &Facility) -> String {
+fn add_facility(
+    rt: &(impl Abort + Alloc<A = Global>),
+    lines: &mut Vec<String>,
+    facility: &Facility,
+) {
     let (name, kind, places) = (&facility.name, facility.kind, facility.places);
     let (price, opens, shuts) = (facility.price, facility.opens, facility.shuts);
-    text(
-        rt,
-        format!(in rt.alloc(); "facility {name} {kind} {places} {price} {opens} {shuts}"),
-    )
-}
-
-fn add_facilities(rt: &(impl Abort + Alloc<A = Global>), lines: &mut Vec<String>, club: &Club) {
-    for facility in club.facilities() {
-        push(rt, lines, facility_line(rt, facility));
-    }
+    let line = format!(in rt.alloc(); "facility {name} {kind} {places} {price} {opens} {shuts}");
+    push(rt, lines, text(rt, line));
 }
 
 fn hex_of(rt: &(impl Abort + Alloc<A = Global>), bytes: &[u8]) -> String {
     text(rt, hex::encode_upper(rt.alloc(), bytes))
 }
 
-fn key_line(rt: &(impl Abort + Alloc<A = Global>), key: &Key) -> String {
+fn add_key(rt: &(impl Abort + Alloc<A = Global>), lines: &mut Vec<String>, key: &Key) {
     let (name, member) = (&key.name, &key.member);
     let (root, revoked) = (hex_of(rt, key.root.as_bytes()), u8::from(key.revoked));
-    text(
-        rt,
-        format!(in rt.alloc(); "key {name} {member} {root} {revoked}"),
-    )
-}
-
-fn old_root_line(rt: &(impl Abort + Alloc<A = Global>), key: &Name, older: &OlderRoot) -> String {
-    let (root, until) = (hex_of(rt, older.root.as_bytes()), older.until.number());
-    text(rt, format!(in rt.alloc(); "old root {key} {root} {until}"))
-}
-
-fn add_keys(rt: &(impl Abort + Alloc<A = Global>), lines: &mut Vec<String>, club: &Club) {
-    for key in club.keys() {
-        push(rt, lines, key_line(rt, key));
-        if let Some(older) = &key.older {
-            push(rt, lines, old_root_line(rt, &key.name, older));
-        }
+    let line = format!(in rt.alloc(); "key {name} {member} {root} {revoked}");
+    push(rt, lines, text(rt, line));
+    if let Some(older) = &key.older {
+        let (root, until) = (hex_of(rt, older.root.as_bytes()), older.until.number());
+        let line = format!(in rt.alloc(); "old root {name} {root} {until}");
+        push(rt, lines, text(rt, line));
     }
 }
 
@@ -147,95 +117,80 @@ fn place(rt: &(impl Abort + Alloc<A = Global>), slot: &Slot) -> String {
     text(rt, format!(in rt.alloc(); "{facility} {day} {hour}"))
 }
 
-/// What a booking costs, what it left, and what its cancellation gave back, if it is cancelled.
-fn sums(rt: &(impl Abort + Alloc<A = Global>), booking: &Booking) -> String {
-    let (charge, left, refund) = (booking.charge, booking.left, booking.refund);
-    let cancelled = u8::from(booking.cancelled);
-    text(
-        rt,
-        format!(in rt.alloc(); "{charge} {left} {cancelled} {refund}"),
-    )
-}
-
-fn booking_line(rt: &(impl Abort + Alloc<A = Global>), booking: &Booking) -> String {
+/// Adds a booking; and, unless it is cancelled, its slot.
+fn add_booking(
+    rt: &(impl Abort + Alloc<A = Global>),
+    lines: &mut Vec<String>,
+    club: &Club,
+    booking: &Booking,
+) {
     let (key, number, guests) = (&booking.key, booking.number.get(), booking.guests.get());
-    let (place, sums) = (place(rt, &booking.slot), sums(rt, booking));
-    text(
-        rt,
-        format!(in rt.alloc(); "booking {key} {number} {place} {guests} {sums}"),
-    )
+    let (charge, left, refund) = (booking.charge, booking.left, booking.refund);
+    let (place, cancelled) = (place(rt, &booking.slot), u8::from(booking.cancelled));
+    let line = format!(in rt.alloc();
+        "booking {key} {number} {place} {guests} {charge} {left} {cancelled} {refund}"
+    );
+    push(rt, lines, text(rt, line));
+    if !booking.cancelled {
+        add_slot(rt, lines, club, &booking.slot);
+    }
 }
 
-/// What is taken of a slot by all members, and whether it is closed: nobody is a member's name.
-fn slot_line(rt: &(impl Abort + Alloc<A = Global>), club: &Club, slot: &Slot) -> String {
+/// Adds what is taken of a slot by all members, and whether it is closed, unless that is there.
+/// Nobody is a member's name.
+fn add_slot(
+    rt: &(impl Abort + Alloc<A = Global>),
+    lines: &mut Vec<String>,
+    club: &Club,
+    slot: &Slot,
+) {
     let all = club.outside(&name(rt, "nobody"), Some(*slot));
-    let (closed, taken) = (u8::from(all.closed), all.taken);
-    let place = place(rt, slot);
-    text(rt, format!(in rt.alloc(); "slot {place} {closed} {taken}"))
-}
-
-/// Adds a line that isn't among them yet.
-fn add_new(rt: &impl Abort, lines: &mut Vec<String>, line: String) {
+    let (place, closed, taken) = (place(rt, slot), u8::from(all.closed), all.taken);
+    let line = text(rt, format!(in rt.alloc(); "slot {place} {closed} {taken}"));
     if !lines.contains(&line) {
         push(rt, lines, line);
     }
 }
 
-fn add_bookings(rt: &(impl Abort + Alloc<A = Global>), lines: &mut Vec<String>, club: &Club) {
+/// Adds the rows of a club.
+fn add_rows(rt: &(impl Abort + Alloc<A = Global>), lines: &mut Vec<String>, club: &Club) {
+    for member in club.members() {
+        add_member(rt, lines, club, member);
+    }
+    for facility in club.facilities() {
+        add_facility(rt, lines, facility);
+    }
+    for key in club.keys() {
+        add_key(rt, lines, key);
+    }
     for booking in club.bookings() {
-        push(rt, lines, booking_line(rt, booking));
-        if !booking.cancelled {
-            add_new(rt, lines, slot_line(rt, club, &booking.slot));
-        }
+        add_booking(rt, lines, club, booking);
     }
-}
-
-fn add_closed_slots(rt: &(impl Abort + Alloc<A = Global>), lines: &mut Vec<String>, club: &Club) {
     for slot in club.closed_slots() {
-        add_new(rt, lines, slot_line(rt, club, slot));
+        add_slot(rt, lines, club, slot);
     }
 }
 
-/// The lines of tables that aren't there.
-fn without_tables(rt: &(impl Abort + Alloc<A = Global>)) -> Vec<String> {
-    let mut lines = Vec::new(rt.alloc());
-    for name in &names(rt) {
-        push(rt, &mut lines, none_of(rt, name));
-    }
-    lines
-}
-
-/// The rows of a club, but for the older roots that tables of version 1 don't have.
-fn with_tables(
-    rt: &(impl Abort + Alloc<A = Global>),
-    club: &Club,
-    version: Version,
-) -> Vec<String> {
-    let mut lines = Vec::new(rt.alloc());
-    add_members(rt, &mut lines, club);
-    add_facilities(rt, &mut lines, club);
-    add_keys(rt, &mut lines, club);
-    add_bookings(rt, &mut lines, club);
-    add_closed_slots(rt, &mut lines, club);
-    if version == Version::First {
-        push(rt, &mut lines, text(rt, format!(in rt.alloc(); "desk 1")));
-        push(rt, &mut lines, none_of(rt, "old_roots"));
-    } else {
-        push(rt, &mut lines, text(rt, format!(in rt.alloc(); "desk 2")));
-    }
-    lines
-}
-
-/// The lines of the tables of this version that hold a club, sorted.
+/// The lines of the tables of this version that hold a club, sorted. Tables of version 1 have no
+/// older roots.
 pub(crate) fn lines_of(
     rt: &(impl Abort + Alloc<A = Global>),
     club: &Club,
     version: Version,
 ) -> Vec<String> {
-    let mut lines = match version {
-        Version::None => without_tables(rt),
-        version => with_tables(rt, club, version),
-    };
+    let mut lines = Vec::new(rt.alloc());
+    match version {
+        Version::None => add_no_tables(rt, &mut lines),
+        Version::First => {
+            add_rows(rt, &mut lines, club);
+            push(rt, &mut lines, text(rt, format!(in rt.alloc(); "desk 1")));
+            push(rt, &mut lines, none_of(rt, "old_roots"));
+        }
+        Version::Second => {
+            add_rows(rt, &mut lines, club);
+            push(rt, &mut lines, text(rt, format!(in rt.alloc(); "desk 2")));
+        }
+    }
     lines.sort().expect(rt, "memory");
     lines
 }

@@ -5,48 +5,38 @@ use sqlite::{Alter, Connection, Row};
 use std::alloc::Global;
 use std::process::Abort;
 
-/// A table: its name, and the statement that makes a line of each row. The row of a slot that is
-/// open and that nobody has booked is left out.
-struct Table {
-    name: &'static str,
-    lines: &'static str,
-}
-
-static TABLES: [Table; 7] = [
-    Table {
-        name: "desk",
-        lines: "SELECT 'desk ' || version FROM desk",
-    },
-    Table {
-        name: "members",
-        lines: "SELECT 'member ' || name || ' ' || credited || ' ' || quota || ' ' || used \
-            FROM members",
-    },
-    Table {
-        name: "facilities",
-        lines: "SELECT 'facility ' || name || ' ' || kind || ' ' || places || ' ' || price || ' ' \
-            || opens || ' ' || shuts FROM facilities",
-    },
-    Table {
-        name: "keys",
-        lines: "SELECT 'key ' || name || ' ' || member || ' ' || hex(root) || ' ' || revoked \
-            FROM keys",
-    },
-    Table {
-        name: "old_roots",
-        lines: "SELECT 'old root ' || pass_key || ' ' || hex(root) || ' ' || until FROM old_roots",
-    },
-    Table {
-        name: "slots",
-        lines: "SELECT 'slot ' || facility || ' ' || day || ' ' || hour || ' ' || closed || ' ' \
-            || taken FROM slots WHERE closed <> 0 OR taken <> 0",
-    },
-    Table {
-        name: "bookings",
-        lines: "SELECT 'booking ' || pass_key || ' ' || number || ' ' || facility || ' ' || day \
-            || ' ' || hour || ' ' || guests || ' ' || charge || ' ' || remains || ' ' \
-            || cancelled || ' ' || refund FROM bookings",
-    },
+/// The tables: the name of each, and the statement that makes a line of each row. The row of a slot
+/// that is open and that nobody has booked is left out.
+static TABLES: [(&str, &str); 7] = [
+    ("desk", "SELECT 'desk ' || version FROM desk"),
+    (
+        "members",
+        "SELECT 'member ' || name || ' ' || credited || ' ' || quota || ' ' || used FROM members",
+    ),
+    (
+        "facilities",
+        "SELECT 'facility ' || name || ' ' || kind || ' ' || places || ' ' || price || ' ' || \
+            opens || ' ' || shuts FROM facilities",
+    ),
+    (
+        "keys",
+        "SELECT 'key ' || name || ' ' || member || ' ' || hex(root) || ' ' || revoked FROM keys",
+    ),
+    (
+        "old_roots",
+        "SELECT 'old root ' || pass_key || ' ' || hex(root) || ' ' || until FROM old_roots",
+    ),
+    (
+        "slots",
+        "SELECT 'slot ' || facility || ' ' || day || ' ' || hour || ' ' || closed || ' ' || taken \
+            FROM slots WHERE closed <> 0 OR taken <> 0",
+    ),
+    (
+        "bookings",
+        "SELECT 'booking ' || pass_key || ' ' || number || ' ' || facility || ' ' || day || ' ' \
+            || hour || ' ' || guests || ' ' || charge || ' ' || remains || ' ' || cancelled \
+            || ' ' || refund FROM bookings",
+    ),
 ];
 
 /// The line of a table that isn't there.
@@ -54,17 +44,11 @@ pub(crate) fn none_of(rt: &(impl Abort + Alloc<A = Global>), table: &str) -> Str
     text(rt, format!(in rt.alloc(); "no {table}"))
 }
 
-/// The names of the tables.
-pub(crate) fn names(rt: &(impl Abort + Alloc<A = Global>)) -> Vec<&'static str> {
-    let mut names = Vec::new(rt.alloc());
-    for table in &TABLES {
-        push(rt, &mut names, table.name);
+/// Adds the lines of tables that aren't there.
+pub(crate) fn add_no_tables(rt: &(impl Abort + Alloc<A = Global>), lines: &mut Vec<String>) {
+    for (table, _) in &TABLES {
+        push(rt, lines, none_of(rt, table));
     }
-    names
-}
-
-fn rows_of<S: Alter>(connection: &mut Connection<S>, table: &Table) -> Option<Vec<Row>> {
-    connection.query_all(table.lines, &[]).ok()
 }
 
 fn add_rows(rt: &impl Abort, lines: &mut Vec<String>, rows: &[Row]) {
@@ -80,10 +64,11 @@ pub(crate) fn lines_in<S: Alter>(
     connection: &mut Connection<S>,
 ) -> Vec<String> {
     let mut lines = Vec::new(rt.alloc());
-    for table in &TABLES {
-        match rows_of(connection, table) {
+    for (table, statement) in &TABLES {
+        let rows: Option<Vec<Row>> = connection.query_all(statement, &[]).ok();
+        match rows {
             Some(rows) => add_rows(rt, &mut lines, rows.as_slice()),
-            None => push(rt, &mut lines, none_of(rt, table.name)),
+            None => push(rt, &mut lines, none_of(rt, table)),
         }
     }
     lines.sort().expect(rt, "memory");

@@ -1,8 +1,7 @@
-//! The tasks in which a disk fails.
+//! The tasks in which a disk fails. The expected replies are by an independent program.
 
 use crate::crash::{Beginning, Trial};
-use crate::events::Event;
-use crate::texts::{AMY_1_ANEW, AMY_2, DONE, EXISTS, OUT_OF_RANGE};
+use crate::desk::Event;
 use std::test::*;
 use test_kit::exchanges::{
     ACCOUNT, BALANCE_9099, BALANCE_9400, BALANCE_10000, BOOK_7, BOOK_8, BOOKED_7, BOOKED_8,
@@ -12,14 +11,34 @@ use test_kit::moments::{LATER, NOON};
 use test_kit::roots::{ROOT, SECOND_ROOT};
 use test_kit::{COURT_AT_18, COURT_AT_19, PlainCommand, minutes};
 
+const BOOK: Event = Event::Asks(NOON, BOOK_7);
+
+const CANCEL: Event = Event::Asks(NOON, CANCEL_7);
+
+const BOOK_ROOM: Event = Event::Asks(NOON, BOOK_8);
+
+const SHOW: Event = Event::Asks(NOON, ACCOUNT);
+
+/// At the club of the fixture.
+const AT_FIRST: Trial = Trial {
+    beginning: Beginning::Made(&[]),
+    task: &[],
+    again: &[],
+    replies: &[],
+    refused: None,
+    calls: [0, 0],
+};
+
+/// After the booking.
+const BOOKED: Beginning = Beginning::Made(&[BOOK]);
+
 /// By `Desk::ask`.
 static BOOKS: Trial = Trial {
-    beginning: Beginning::Made(&[]),
-    task: &[Event::Asks(NOON, BOOK_7)],
-    again: &[Event::Asks(NOON, BOOK_7), Event::Asks(NOON, ACCOUNT)],
-    first: &[BOOKED_7, BALANCE_9400],
-    repeated: &[BOOKED_7, BALANCE_9400],
+    task: &[BOOK],
+    again: &[BOOK, SHOW],
+    replies: &[BOOKED_7, BALANCE_9400],
     calls: [54, 66],
+    ..AT_FIRST
 };
 
 #[test]
@@ -29,15 +48,14 @@ fn books_whole_or_not_at_all(rt: HostRuntime) {
 
 /// By `answer`.
 static EXCHANGES: Trial = Trial {
-    beginning: Beginning::Made(&[]),
     task: &[Event::Exchanges(NOON, BOOK_7)],
     again: &[
         Event::Exchanges(NOON, BOOK_7),
         Event::Exchanges(NOON, ACCOUNT),
     ],
-    first: &[BOOKED_7, BALANCE_9400],
-    repeated: &[BOOKED_7, BALANCE_9400],
+    replies: &[BOOKED_7, BALANCE_9400],
     calls: [54, 66],
+    ..AT_FIRST
 };
 
 #[test]
@@ -46,16 +64,12 @@ fn exchanges_a_booking_whole_or_not_at_all(rt: HostRuntime) {
 }
 
 static CANCELS: Trial = Trial {
-    beginning: Beginning::Made(&[Event::Asks(NOON, BOOK_7)]),
-    task: &[Event::Asks(NOON, CANCEL_7)],
-    again: &[
-        Event::Asks(NOON, CANCEL_7),
-        Event::Asks(NOON, BOOK_7),
-        Event::Asks(NOON, ACCOUNT),
-    ],
-    first: &[CANCELLED_7, BOOKED_7, BALANCE_10000],
-    repeated: &[CANCELLED_7, BOOKED_7, BALANCE_10000],
+    beginning: BOOKED,
+    task: &[CANCEL],
+    again: &[CANCEL, BOOK, SHOW],
+    replies: &[CANCELLED_7, BOOKED_7, BALANCE_10000],
     calls: [50, 64],
+    ..AT_FIRST
 };
 
 #[test]
@@ -66,16 +80,11 @@ fn cancels_whole_or_not_at_all(rt: HostRuntime) {
 /// The second commit of an opened database, over what the first one has made room for, so that one
 /// sync has to do.
 static BOOKS_AND_CANCELS: Trial = Trial {
-    beginning: Beginning::Made(&[]),
-    task: &[Event::Asks(NOON, BOOK_7), Event::Asks(NOON, CANCEL_7)],
-    again: &[
-        Event::Asks(NOON, BOOK_7),
-        Event::Asks(NOON, CANCEL_7),
-        Event::Asks(NOON, ACCOUNT),
-    ],
-    first: &[BOOKED_7, CANCELLED_7, BALANCE_10000],
-    repeated: &[BOOKED_7, CANCELLED_7, BALANCE_10000],
+    task: &[BOOK, CANCEL],
+    again: &[BOOK, CANCEL, SHOW],
+    replies: &[BOOKED_7, CANCELLED_7, BALANCE_10000],
     calls: [58, 66],
+    ..AT_FIRST
 };
 
 #[test]
@@ -85,13 +94,14 @@ fn books_and_cancels_whole_or_not_at_all(rt: HostRuntime) {
 
 const ADD_KEY: Event = Event::Gives(PlainCommand::AddKey("amy-2", "amy", ROOT));
 
+/// The first reply is the signature of the pass.
 static ADDS_A_KEY: Trial = Trial {
-    beginning: Beginning::Made(&[]),
     task: &[ADD_KEY],
     again: &[ADD_KEY],
-    first: &[AMY_2],
-    repeated: &[EXISTS],
+    replies: &["50e3b0b20dfaab6c19f3db5a215d610423d675e346e47a03ddcc59a578043743"],
+    refused: Some("exists"),
     calls: [48, 63],
+    ..AT_FIRST
 };
 
 #[test]
@@ -99,15 +109,15 @@ fn adds_a_key_whole_or_not_at_all(rt: HostRuntime) {
     ADDS_A_KEY.holds(&rt);
 }
 
-/// While the slot before it is booked.
 const CLOSE_AT_19: Event = Event::Gives(PlainCommand::CloseSlot(COURT_AT_19));
 
+/// While the slot before it is booked.
 static CLOSES: Trial = Trial {
-    beginning: Beginning::Made(&[Event::Asks(NOON, BOOK_7)]),
+    beginning: BOOKED,
     task: &[CLOSE_AT_19],
     again: &[CLOSE_AT_19],
-    first: &[DONE],
-    repeated: &[EXISTS],
+    replies: &["done"],
+    refused: Some("exists"),
     calls: [46, 62],
 };
 
@@ -116,18 +126,18 @@ fn closes_a_slot_or_not(rt: HostRuntime) {
     CLOSES.holds(&rt);
 }
 
-const CLOSE_THAT: Event = Event::Gives(PlainCommand::CloseSlot(COURT_AT_18));
+const CLOSE_AT_18: Event = Event::Gives(PlainCommand::CloseSlot(COURT_AT_18));
 
 const OPEN_AT_19: Event = Event::Gives(PlainCommand::OpenSlot(COURT_AT_19));
 
 /// While the slot before it stays closed.
 static OPENS: Trial = Trial {
-    beginning: Beginning::Made(&[CLOSE_THAT, CLOSE_AT_19]),
+    beginning: Beginning::Made(&[CLOSE_AT_18, CLOSE_AT_19]),
     task: &[OPEN_AT_19],
-    again: &[OPEN_AT_19, CLOSE_THAT],
-    first: &[DONE, EXISTS],
-    repeated: &[DONE, EXISTS],
+    again: &[OPEN_AT_19, CLOSE_AT_18],
+    replies: &["done", "exists"],
     calls: [44, 61],
+    ..AT_FIRST
 };
 
 #[test]
@@ -135,15 +145,15 @@ fn opens_a_slot_or_not(rt: HostRuntime) {
     OPENS.holds(&rt);
 }
 
-/// Of all that the booking leaves, so that a second debit is refused.
 const DEBIT: Event = Event::Gives(PlainCommand::Debit("amy", 9_400));
 
+/// Of all that the booking leaves, so that a second debit is refused.
 static DEBITS: Trial = Trial {
-    beginning: Beginning::Made(&[Event::Asks(NOON, BOOK_7)]),
+    beginning: BOOKED,
     task: &[DEBIT],
-    again: &[DEBIT, Event::Asks(NOON, BOOK_7)],
-    first: &[DONE, BOOKED_7],
-    repeated: &[OUT_OF_RANGE, BOOKED_7],
+    again: &[DEBIT, BOOK],
+    replies: &["done", BOOKED_7],
+    refused: Some("out of range"),
     calls: [44, 61],
 };
 
@@ -152,16 +162,16 @@ fn debits_a_member_or_not(rt: HostRuntime) {
     DEBITS.holds(&rt);
 }
 
-/// As many places as persons in a slot.
 const SET_FACILITY: Event = Event::Gives(PlainCommand::SetFacility("court-1", 3, 100, 9, 20));
 
+/// As many places as persons in a slot.
 static SETS_A_FACILITY: Trial = Trial {
-    beginning: Beginning::Made(&[Event::Asks(NOON, BOOK_7)]),
+    beginning: BOOKED,
     task: &[SET_FACILITY],
-    again: &[SET_FACILITY, Event::Asks(NOON, BOOK_7)],
-    first: &[DONE, BOOKED_7],
-    repeated: &[DONE, BOOKED_7],
+    again: &[SET_FACILITY, BOOK],
+    replies: &["done", BOOKED_7],
     calls: [44, 61],
+    ..AT_FIRST
 };
 
 #[test]
@@ -173,17 +183,12 @@ const CANCEL_BOOKING: Event = Event::Gives(PlainCommand::CancelBooking("amy-1", 
 
 /// A second one finds nothing to do, and the member's own gets the whole charge.
 static CANCELS_FOR_A_MEMBER: Trial = Trial {
-    beginning: Beginning::Made(&[Event::Asks(NOON, BOOK_7)]),
+    beginning: BOOKED,
     task: &[CANCEL_BOOKING],
-    again: &[
-        CANCEL_BOOKING,
-        Event::Asks(NOON, CANCEL_7),
-        Event::Asks(NOON, BOOK_7),
-        Event::Asks(NOON, ACCOUNT),
-    ],
-    first: &[DONE, CANCELLED_7, BOOKED_7, BALANCE_10000],
-    repeated: &[DONE, CANCELLED_7, BOOKED_7, BALANCE_10000],
+    again: &[CANCEL_BOOKING, CANCEL, BOOK, SHOW],
+    replies: &["done", CANCELLED_7, BOOKED_7, BALANCE_10000],
     calls: [50, 64],
+    ..AT_FIRST
 };
 
 #[test]
@@ -195,12 +200,12 @@ const SET_QUOTA: Event = Event::Gives(PlainCommand::SetQuota("amy", 1));
 
 /// Below the open bookings, which stay.
 static SETS_A_QUOTA: Trial = Trial {
-    beginning: Beginning::Made(&[Event::Asks(NOON, BOOK_7), Event::Asks(NOON, BOOK_8)]),
+    beginning: Beginning::Made(&[BOOK, BOOK_ROOM]),
     task: &[SET_QUOTA],
-    again: &[SET_QUOTA, Event::Asks(NOON, BOOK_7)],
-    first: &[DONE, BOOKED_7],
-    repeated: &[DONE, BOOKED_7],
+    again: &[SET_QUOTA, BOOK],
+    replies: &["done", BOOKED_7],
     calls: [44, 61],
+    ..AT_FIRST
 };
 
 #[test]
@@ -210,13 +215,17 @@ fn sets_a_quota_or_not(rt: HostRuntime) {
 
 const ROTATE: Event = Event::Gives(PlainCommand::RotateKey("amy-1", SECOND_ROOT, minutes::UNTIL));
 
+/// The first reply is the signature of the pass.
 static ROTATES: Trial = Trial {
-    beginning: Beginning::Made(&[]),
     task: &[ROTATE],
-    again: &[ROTATE, Event::Asks(NOON, ACCOUNT)],
-    first: &[AMY_1_ANEW, BALANCE_10000],
-    repeated: &[EXISTS, BALANCE_10000],
+    again: &[ROTATE, SHOW],
+    replies: &[
+        "282157e98ba6978eaa38d39a5cb77c35d49c30717746181eaf66e9bc38691e8f",
+        BALANCE_10000,
+    ],
+    refused: Some("exists"),
     calls: [48, 63],
+    ..AT_FIRST
 };
 
 #[test]
@@ -226,11 +235,8 @@ fn rotates_a_key_whole_or_not_at_all(rt: HostRuntime) {
 
 static MAKES_TABLES: Trial = Trial {
     beginning: Beginning::Nothing,
-    task: &[],
-    again: &[],
-    first: &[],
-    repeated: &[],
     calls: [61, 32],
+    ..AT_FIRST
 };
 
 #[test]
@@ -238,28 +244,20 @@ fn makes_all_tables_or_none(rt: HostRuntime) {
     MAKES_TABLES.holds(&rt);
 }
 
-/// Two bookings, of which the second is cancelled; and requests that show them.
-const BOOKED_TWICE: &[Event] = &[
-    Event::Asks(NOON, BOOK_7),
-    Event::Asks(NOON, BOOK_8),
-    Event::Asks(LATER, CANCEL_8),
-];
+/// Two bookings. The second is cancelled.
+const BOOKED_TWICE: &[Event] = &[BOOK, BOOK_ROOM, Event::Asks(LATER, CANCEL_8)];
 
-const SHOWS_BOTH: &[Event] = &[
-    Event::Asks(NOON, BOOK_7),
-    Event::Asks(NOON, BOOK_8),
-    Event::Asks(NOON, ACCOUNT),
-];
-
-const BOTH_SHOWN: &[&str] = &[BOOKED_7, BOOKED_8, BALANCE_9099];
+/// The tables are changed when they are opened.
+const CHANGES: Trial = Trial {
+    again: &[BOOK, BOOK_ROOM, SHOW],
+    replies: &[BOOKED_7, BOOKED_8, BALANCE_9099],
+    ..AT_FIRST
+};
 
 static MIGRATES: Trial = Trial {
     beginning: Beginning::First(BOOKED_TWICE),
-    task: &[],
-    again: SHOWS_BOTH,
-    first: BOTH_SHOWN,
-    repeated: BOTH_SHOWN,
     calls: [52, 56],
+    ..CHANGES
 };
 
 #[test]
@@ -269,11 +267,8 @@ fn migrates_whole_or_not_at_all(rt: HostRuntime) {
 
 static ADDS_THE_INDEX: Trial = Trial {
     beginning: Beginning::Unindexed(BOOKED_TWICE),
-    task: &[],
-    again: SHOWS_BOTH,
-    first: BOTH_SHOWN,
-    repeated: BOTH_SHOWN,
     calls: [46, 59],
+    ..CHANGES
 };
 
 #[test]

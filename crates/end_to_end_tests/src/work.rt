@@ -1,8 +1,7 @@
 //! Tasks over a database in two files.
 
-use crate::desk::replies_over;
+use crate::desk::{Event, replies_over};
 use crate::disk::{Bytes, Stop, Stops, has_calls_left};
-use crate::events::Event;
 use crate::expect::append;
 use crate::tables::lines_in;
 use club_store::Store;
@@ -21,12 +20,6 @@ pub(crate) enum Work {
     Inspects(&'static [Event]),
 }
 
-fn run<S: Alter>(rt: &impl Abort, connection: &mut Connection<S>, statements: &[&str]) {
-    for statement in statements {
-        connection.execute_batch(statement).expect(rt, statement);
-    }
-}
-
 /// The replies of a desk over the database; `None` if no store adopts it.
 fn replies_of_desk<S: Alter + Drop>(
     rt: &(impl Abort + Alloc<A = Global>),
@@ -42,19 +35,6 @@ fn replies_of_desk<S: Alter + Drop>(
     }
 }
 
-/// The rows of the database, the replies of a desk over it, and the rows then.
-fn inspect<S: Alter + Drop>(
-    rt: &(impl Abort + Alloc<A = Global>),
-    mut connection: Connection<S>,
-    events: &[Event],
-) -> (Option<Vec<String>>, Connection<S>) {
-    let mut lines = lines_in(rt, &mut connection);
-    let (replies, mut connection) = replies_of_desk(rt, connection, events);
-    append(rt, &mut lines, replies.expect(rt, "a store"));
-    append(rt, &mut lines, lines_in(rt, &mut connection));
-    (Some(lines), connection)
-}
-
 /// Does this over a database: the lines of output, `None` if no store adopts it.
 fn do_work<S: Alter + Drop>(
     rt: &(impl Abort + Alloc<A = Global>),
@@ -63,11 +43,19 @@ fn do_work<S: Alter + Drop>(
 ) -> (Option<Vec<String>>, Connection<S>) {
     match work {
         Work::Runs(statements) => {
-            run(rt, &mut connection, statements);
+            for statement in statements {
+                connection.execute_batch(statement).expect(rt, statement);
+            }
             (Some(Vec::new(rt.alloc())), connection)
         }
         Work::Serves(events) => replies_of_desk(rt, connection, events),
-        Work::Inspects(events) => inspect(rt, connection, events),
+        Work::Inspects(events) => {
+            let mut lines = lines_in(rt, &mut connection);
+            let (replies, mut connection) = replies_of_desk(rt, connection, events);
+            append(rt, &mut lines, replies.expect(rt, "a store"));
+            append(rt, &mut lines, lines_in(rt, &mut connection));
+            (Some(lines), connection)
+        }
     }
 }
 
