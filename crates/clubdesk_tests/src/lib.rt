@@ -2,6 +2,8 @@
 #![tactic(auto)]
 
 #[cfg(test)]
+mod arriving;
+#[cfg(test)]
 mod bad_commands;
 #[cfg(test)]
 mod callers;
@@ -21,6 +23,8 @@ mod handed_over;
 mod handover;
 #[cfg(test)]
 mod input;
+#[cfg(test)]
+mod lists;
 #[cfg(test)]
 mod long_paths;
 #[cfg(test)]
