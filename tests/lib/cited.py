@@ -1,6 +1,6 @@
 """Reads the contracts that a page cites in its tables, such as docs/PROMISES.md, and the computing definitions below them.
 
-The second cell of a row has groups that end at `;`, each of the form `NAME`, .. `:` `CLAUSE`, .. `by` `DEFINITION`, ... A NAME is a function of
+The second cell of a row has groups that end at `;`. Each has the form `NAME, .. : CLAUSE, .. by DEFINITION, ..`. A NAME is a function of
 the section's crate, an implementation of a trait (`Log for LogLines`), or a type or trait. Without a CLAUSE all of its clauses count. The
 DEFINITIONs that these cite are in the crate, or in the one before `::`. The first name's module or type also applies to the later names that have none."""
 

@@ -1,6 +1,6 @@
 // Refuses the allocation whose number is in the variable REFUSED_ALLOCATION, counted from 1. A program that ends by itself writes its number of
-// allocations to the file named by the variable ALLOCATIONS_COUNTED, if set. If the variable CALLS_TOLD names a file, it gets lines for the
-// calls that end a commit or send a reply: `sync` or `send`, and the number of allocations before it. Loaded before the C library.
+// allocations to the file named by the variable ALLOCATIONS_COUNTED, if set. If the variable CALLS_TOLD names a file, it gets a line
+// for each call that ends a commit or sends a reply. The line has `sync` or `send`, and the number of allocations before it. Loaded before the C library.
 #define _GNU_SOURCE
 #include <dlfcn.h>
 #include <errno.h>

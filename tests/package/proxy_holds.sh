@@ -187,8 +187,10 @@ by_both GET account "$pass"
 wait "$slow" || :
 
 # ---- The limits. Under one pass 1,000 requests at once get through; later ones get the message. Another pass still gets replies, and so does
-# the same one a second later. One address may send twice as many. flood NAME COUNT [WORD..]: sends COUNT requests at
-# once, with words for curl, for a file, which comes sooner than a reply of the desk. Prints how many got through and how many were limited; together these are all.
+# the same one a second later. One address may send twice as many.
+#
+# The function `flood NAME COUNT [WORD..]` sends COUNT requests at once, with words for curl. They ask for a file, which comes sooner than a
+# reply of the desk. It prints how many got through and how many were limited; together these are all.
 flood() {
     name=$1 count=$2
     shift 2

@@ -1,13 +1,15 @@
-// The record of bookings: the requests to the desk and its answers, with an entry for each booking. An entry has
-//   key, number, facility, day, hour: its identity at the desk;
-//   guests: null if only number and slot are known;
-//   book: null while its PUT has no reply, else the reply; an empty object where somebody else has it;
-//   cancel: undefined, or null while its DELETE has no reply, else the reply;
-//   unsure: whether one of its requests was sent and may have been carried out although no reply came;
-//   asked: when the entry was made, in milliseconds;
-//   listed: for an entry from a list, the list's claims: charge, left, refund, cancel. The desk hasn't confirmed any of it to this browser.
-//     So such an entry is never sent automatically, and never counts as cancelled;
-//   saidCancelled: whether a list claims that this browser's own booking was cancelled.
+// The record of bookings: the requests to the desk and its answers, with an entry for each booking. An entry has:
+//
+// - key, number, facility, day, hour: its identity at the desk.
+// - guests: null if only number and slot are known.
+// - book: null while its PUT has no reply, else the reply; an empty object where somebody else has it.
+// - cancel: undefined, or null while its DELETE has no reply, else the reply.
+// - unsure: whether one of its requests was sent and may have been carried out although no reply came.
+// - asked: when the entry was made, in milliseconds.
+// - listed: for an entry from a list, the list's claims: charge, left, refund, cancel. The desk hasn't confirmed any of it to this browser.
+//   So such an entry is never sent automatically, and never counts as cancelled.
+// - saidCancelled: whether a list claims that this browser's own booking was cancelled.
+//
 // The functions of this module return new entries and change none.
 import { isName, NAME } from "./caveats.mjs";
 import { isDate, minutesOf, startOf } from "./dates.mjs";

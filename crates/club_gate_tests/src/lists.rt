@@ -108,8 +108,8 @@ fn answers_a_fifth_row_of_lists(rt: HostRuntime) {
     play_lists(&rt, 2_030, PAIRS, false);
 }
 
-// The reference machine never replies `Unavailable`, so neither does the desk here, nor in any other
-// list or scenario.
+// The reference machine never replies `Unavailable`. So neither does the desk, here or in any other
+// list.
 #[test]
 fn no_unavailable_with_ample_memory(rt: HostRuntime) {
     play_lists(&rt, 2_031, 1, false);
