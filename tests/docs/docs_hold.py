@@ -2,11 +2,11 @@
 """The commands, outputs, links and names of the pages hold.
 
 Holds README.md, CONTRIBUTING.md, docs/, and the README.md of each crate against the repository.
-- Each ```console block is run, the blocks of a page one after the other in a folder of its own, with bin/ on the path: a line
-  that begins with `$ ` is a command, the lines after it are what it prints, on standard output or standard error. Empty lines
-  and spaces at the end of a line don't count, and another port may stand for 8080.
+- Each ```console block is run, the blocks of a page one after the other in a folder of its own. The programs and bin/ are on the path. A line
+  that begins with `$ ` is a command, and the lines after it are its standard output and error. Empty lines and spaces at the end of a line
+  don't count, and another port may replace 8080.
 - Each test below says what else it checks.
-bin/proved proves and builds missing or stale programs.
+The programs are those of the variables CLUBDESK and PASSTOOL. One without a variable is proved and built first.
   tests/docs/docs_hold.py                    every page
   tests/docs/docs_hold.py -k DESK            the pages whose names have this word
   tests/docs/docs_hold.py --no-commands ..   what wants no program of ours
@@ -286,13 +286,17 @@ def test_commands(page, tmp_path):
         (room / folder).symlink_to(desk.ROOT / folder)
     # Bodies of replies end without a line feed, which a terminal shows as a prompt after them.
     (tmp_path / ".curlrc").write_text('silent\nshow-error\nnoproxy = "*"\nwrite-out = "\\n"\n')
-    for name, words in {"passtool": ["passtool", "--help"], "clubdesk": ["clubdesk", "--help"], "bin/library": ["library", tmp_path / "library"]}.items():
-        # The program is built first, so that the build's output isn't taken for the program's, and its proof doesn't use up the page's time.
+    # All is built first, so that a build's output isn't taken for a program's, and no proof uses up the page's time.
+    given = tmp_path / "given"
+    given.mkdir()
+    for name in ("passtool", "clubdesk"):
         if name in text:
-            subprocess.run([f"bin/{words[0]}", *words[1:]], check=True, stdout=subprocess.DEVNULL)
+            (given / name).symlink_to(desk.program(name))
+    if "bin/library" in text:
+        subprocess.run(["bin/library", tmp_path / "library"], check=True, stdout=subprocess.DEVNULL)
     with open(out, "wb") as printed:
         subprocess.run(["sh", "-c", script_of(text)], cwd=room, stdin=subprocess.DEVNULL, stdout=printed, stderr=printed, timeout=600, check=False,
-                       env={**os.environ, "PATH": f"{desk.ROOT}/bin:{os.environ['PATH']}", "CURL_HOME": str(tmp_path), "OUT": str(out)})
+                       env={**os.environ, "PATH": f"{given}:{desk.ROOT}/bin:{os.environ['PATH']}", "CURL_HOME": str(tmp_path), "OUT": str(out)})
     assert squeezed(out.read_text(encoding="utf-8")) == squeezed(text)
 
 
