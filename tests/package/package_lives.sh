@@ -221,7 +221,8 @@ systemctl reset-failed
 rm -r /etc/clubdesk/broken.conf /etc/clubdesk/silent.conf /var/lib/clubdesk/broken /var/backups/clubdesk/broken /var/backups/clubdesk/silent
 LINES
 
-# ---- A clerk without root, by sudo: her club, from its file to a correction that stops the server, which systemd restarts.
+# ---- A clerk without root, by sudo: her club, with a correction that leaves the server alone, and a restore that stops it. systemd then
+# starts it again.
 blocks 'The clerks' | gives 'The clerks'
 gives 'a club of hers' <<'LINES'
 useradd --create-home carl
@@ -244,10 +245,11 @@ done
 # Once a request under a pass is answered, the server has the file open.
 account() { inside sh -c 'curl -sS -H "Authorization: Bearer $(cat /home/anna/eve-1)" http://127.0.0.1:8083/account'; }
 same 'the account before it' '{"member":"eve","balance":1000,"quota":5,"open":0,"spent":0}' "$(account)"
-before=$(inside systemctl show --value -p MainPID clubdesk@tennis)
+pid_of() { inside systemctl show --value -p MainPID "$1"; }
+before=$(pid_of clubdesk@tennis)
 holds 'a correction' office anna set-quota eve 7 --yes
 answers 8083
-[ "$(inside systemctl show --value -p MainPID clubdesk@tennis)" != "$before" ] || fail 'a correction beside a running desk'
+same 'the server beside a correction' "$before" "$(pid_of clubdesk@tennis)"
 same 'the account after it' '{"member":"eve","balance":1000,"quota":7,"open":0,"spent":0}' "$(account)"
 office anna log >told
 [ "$(grep -c anna told)" -ge 6 ] || fail "the book: $(cat told)"
@@ -289,6 +291,7 @@ night=$(office anna copies --csv | grep back-up | tail -n 1 | cut -d , -f 1)
 holds 'a member who leaves' office anna leave mueller-bob --yes
 same 'her pass' '{"fault":9,"text":"not verified"}' "$(asks passes/mueller-bob-1 GET account)"
 same 'who is there' '1,3000,0,0,1, amy,9990,5,1,1,Amy eve,1000,7,0,1,' "$(office anna members --csv | tail -n +2 | xargs)"
+before=$(pid_of clubdesk@tennis)
 office anna restore "$night" --yes >told
 same 'a restore' 'removes the member 1
 brings back the member mueller-bob
@@ -297,6 +300,7 @@ brings back the key mueller-bob-1 and its passes
 in all: 4 changes
 done' "$(cat told)"
 same 'a pass of before' '{"member":"mueller-bob","balance":3000,"quota":2,"open":0,"spent":0}' "$(asks passes/mueller-bob-1 GET account)"
+[ "$(pid_of clubdesk@tennis)" != "$before" ] || fail 'a restore beside a running desk'
 same 'the totals of her club' 'the totals are the sums of the bookings' "$(office anna check)"
 [ "$(office anna log | grep -c ' anna 0 ')" -ge 20 ] || fail "the book: $(office anna log)"
 same 'what a clerk reads of the clubs' '' "$(inside runuser -u anna -- sh -c 'cat /var/lib/clubdesk/* /var/backups/clubdesk/* 2>/dev/null' || :)"
@@ -337,7 +341,6 @@ books 'the desk after a power cut'
 inside sh -c 'runuser -u clubdesk -- clubdesk credit /var/lib/clubdesk/club amy 100000 >/dev/null; cat >/root/client' <"$here/package_lives.py"
 inside sh -c "rm -f /root/enough; exec python3 /root/client $day" >booked 2>client.log &
 client=$!
-pid_of() { inside systemctl show --value -p MainPID "$1"; }
 before=$(pid_of clubdesk@club) other_before=$(pid_of clubdesk@rowing)
 sleep 1
 copies=$(inside sh -c 'ls /var/backups/clubdesk/club | wc -l')
