@@ -76,12 +76,12 @@ static OLDER: [(bool, &str, bool); 3] = [
 
 #[test]
 fn older_roots(rt: HostRuntime) {
-    let second = root(&rt, SECOND_ROOT);
-    let older = OlderRoot {
-        root: second,
-        until: moment(&rt, UNTIL),
-    };
     for (row, (is_rotated, at, is_good)) in OLDER.iter().enumerate() {
+        let second = root(&rt, SECOND_ROOT);
+        let older = OlderRoot {
+            root: second,
+            until: moment(&rt, UNTIL),
+        };
         let mut key = key(&rt, false);
         key.older = is_rotated.then_some(older);
         let found = key.older_root_at(moment(&rt, at)).copied();

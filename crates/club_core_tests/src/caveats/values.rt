@@ -151,15 +151,15 @@ static ACTIONS: [&str; 4] = ["view", "book", "cancel", "account"];
 
 #[test]
 fn kinds_and_actions(rt: HostRuntime) {
-    for text in &KINDS {
+    for (row, text) in KINDS.iter().enumerate() {
         let kind = read_kind(text.as_bytes()).expect(&rt, "a kind");
         let printed = format!(in rt.alloc(); "{kind}").expect(&rt, "memory");
-        expect_eq(&rt, &printed.as_str(), text, text);
+        expect_eq(&rt, &printed.as_str(), text, &row);
     }
-    for text in &ACTIONS {
+    for (row, text) in ACTIONS.iter().enumerate() {
         let action = read_action(text.as_bytes()).expect(&rt, "an action");
         let printed = format!(in rt.alloc(); "{action}").expect(&rt, "memory");
-        expect_eq(&rt, &printed.as_str(), text, text);
+        expect_eq(&rt, &printed.as_str(), text, &row);
     }
     expect_eq(&rt, &read_kind(b"Court"), &None, &"Court");
     expect_eq(&rt, &read_action(b"books"), &None, &"books");
