@@ -1,14 +1,16 @@
 //! HMAC, key derivation and the signature chain.
 
-use crate::calls::{hmac, narrowed_signature, same, signed_by_key, signed_under};
+use crate::calls::hmac;
 use crate::rows::expect_eq;
+use pass_mac::{Chain, derive, same};
 use std::process::Abort;
 
 // A key, a text and their HMAC.
 type Mac = (&'static [u8], &'static [u8], &'static [u8; 32]);
 
-// The cases of RFC 4231, section 4, but for the one whose output is cut off.
-static CASES: [Mac; 6] = [
+// The cases of RFC 4231, section 4, but for the one whose output is cut off. Then keys around the
+// length of a block, by an independent program: a longer one is hashed.
+static CASES: [Mac; 9] = [
     (
         &[0x0b; 20],
         b"Hi There",
@@ -39,30 +41,6 @@ static CASES: [Mac; 6] = [
         b"This is a test using a larger than block-size key and a larger than block-size data. The key needs to be hashed before being used by the HMAC algorithm.",
         b"\x9b\x09\xff\xa7\x1b\x94\x2f\xcb\x27\x63\x5f\xbc\xd5\xb0\xe9\x44\xbf\xdc\x63\x64\x4f\x07\x13\x93\x8a\x7f\x51\x53\x5c\x3a\x35\xe2",
     ),
-];
-
-fn are_macs(rt: &impl Abort, rows: &[Mac]) {
-    for (key, text, mac) in rows {
-        expect_eq(rt, &hmac(key, text), *mac, text);
-    }
-}
-
-#[test]
-fn hmac_of_the_rfc(rt: HostRuntime) {
-    are_macs(&rt, &CASES);
-}
-
-// Case 5 of RFC 4231, whose output is cut off after 16 bytes.
-const FRONT: &[u8] = b"\xa3\xb6\x16\x74\x73\x10\x0e\xe0\x6e\x0c\x79\x6c\x29\x55\x55\x2b";
-
-#[test]
-fn hmac_of_the_rfc_in_front(rt: HostRuntime) {
-    let mac = hmac(&[0x0c; 20], b"Test With Truncation");
-    expect_eq(&rt, &&mac[..16], &FRONT, &"case 5");
-}
-
-// A key of a whole block is used as it is, and a longer one is hashed. By an independent program.
-static AROUND_A_BLOCK: [Mac; 3] = [
     (
         &[0xaa; 63],
         b"Hi There",
@@ -80,9 +58,16 @@ static AROUND_A_BLOCK: [Mac; 3] = [
     ),
 ];
 
+// Case 5 of RFC 4231, whose output is cut off after 16 bytes.
+const FRONT: &[u8] = b"\xa3\xb6\x16\x74\x73\x10\x0e\xe0\x6e\x0c\x79\x6c\x29\x55\x55\x2b";
+
 #[test]
-fn hmac_of_keys_around_a_block(rt: HostRuntime) {
-    are_macs(&rt, &AROUND_A_BLOCK);
+fn macs_of_the_rfc(rt: HostRuntime) {
+    for (key, text, mac) in &CASES {
+        expect_eq(&rt, &hmac(key, text), *mac, text);
+    }
+    let mac = hmac(&[0x0c; 20], b"Test With Truncation");
+    expect_eq(&rt, &&mac[..16], &FRONT, &"case 5");
 }
 
 // The root, identifier and caveat of libmacaroons' README, with the signatures that libmacaroons
@@ -101,8 +86,10 @@ const NARROWED: &[u8; 32] =
 
 #[test]
 fn chain_of_a_known_root(rt: HostRuntime) {
-    let outcome = signed_under(ROOT, IDENTIFIER, CAVEAT);
-    expect_eq(&rt, &outcome, &(*SIGNED, *NARROWED), &"under a root");
+    let mut chain = Chain::start(ROOT, IDENTIFIER);
+    expect_eq(&rt, &chain.signature(), SIGNED, &"of the identifier");
+    chain.add(CAVEAT);
+    expect_eq(&rt, &chain.signature(), NARROWED, &"with the caveat");
 }
 
 fn expect_same(rt: &impl Abort, a: &[u8; 32], b: &[u8; 32], alike: bool) {
@@ -111,8 +98,11 @@ fn expect_same(rt: &impl Abort, a: &[u8; 32], b: &[u8; 32], alike: bool) {
 
 #[test]
 fn chain_resumes_from_a_signature_or_a_key(rt: HostRuntime) {
-    expect_same(&rt, &narrowed_signature(*SIGNED, CAVEAT), NARROWED, true);
-    expect_same(&rt, &signed_by_key(ROOT, IDENTIFIER), SIGNED, true);
+    let mut chain = Chain::resume(*SIGNED);
+    chain.add(CAVEAT);
+    expect_same(&rt, &chain.signature(), NARROWED, true);
+    let chain = Chain::from_key(&derive(ROOT), IDENTIFIER);
+    expect_same(&rt, &chain.signature(), SIGNED, true);
 }
 
 // The derivation matters: under the root itself the signature is another.

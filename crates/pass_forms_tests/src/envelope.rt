@@ -1,94 +1,50 @@
 //! What is taken off round the bytes of a pass.
 
-use crate::calls::{decode_base64, unwrap_text};
+use crate::calls::unwrap_text;
 use crate::rows::{Piece, expect_eq, join};
-use pass_forms::{Form, FormFault, MAX_BYTES};
+use pass_forms::{Form, FormFault, MAX_BYTES, decode_base64};
 use std::process::Abort;
 
 // The bytes of a V2 pass of location `http://example.org/` and identifier `keyid`.
-const PASS: &[u8; 65] = b"\x02\x01\x13http://example.org/\x02\x05keyid\x00\x00\x06\x20\
+const PASS: &[u8] = b"\x02\x01\x13http://example.org/\x02\x05keyid\x00\x00\x06\x20\
     \x7c\xde\xe7\x92\x51\x1c\x5b\xc6\xf5\x28\x48\x58\x05\xdf\xe9\xb2\
     \x4e\x78\x5e\x28\xe2\xa9\x93\x01\xf9\xd7\x11\xc6\x09\xe3\x8e\xf7";
 
-// A text, and what it wraps: a form, whether plainly or in base64, and bytes.
-struct Wrapped {
-    text: &'static [u8],
-    form: Form,
-    plain: bool,
-    bytes: &'static [u8],
-}
-
-fn is_wrapped(rt: &impl Abort, row: &Wrapped) {
-    let mut room = [1; MAX_BYTES];
-    let unwrapped = unwrap_text(row.text, &mut room).expect(rt, "a form");
-    let shape = (unwrapped.form, unwrapped.plain, unwrapped.len);
-    let want = (row.form, row.plain, row.bytes.len());
-    expect_eq(rt, &shape, &want, &row.text);
-    expect_eq(rt, &unwrapped.bytes(row.text, &room), &row.bytes, &row.text);
-}
-
-fn are_wrapped(rt: &impl Abort, rows: &[Wrapped]) {
-    for row in rows {
-        is_wrapped(rt, row);
-    }
-}
-
-static SPELLINGS: [Wrapped; 4] = [
-    Wrapped {
-        text: b"AgETaHR0cDovL2V4YW1wbGUub3JnLwIFa2V5aWQAAAYgfN7nklEcW8b1KEhYBd_psk54XijiqZMB-dcRxgnjjvc",
-        form: Form::V2,
-        plain: false,
-        bytes: PASS,
-    },
-    Wrapped {
-        text: b"AgETaHR0cDovL2V4YW1wbGUub3JnLwIFa2V5aWQAAAYgfN7nklEcW8b1KEhYBd_psk54XijiqZMB-dcRxgnjjvc=",
-        form: Form::V2,
-        plain: false,
-        bytes: PASS,
-    },
-    Wrapped {
-        text: b"AgETaHR0cDovL2V4YW1wbGUub3JnLwIFa2V5aWQAAAYgfN7nklEcW8b1KEhYBd/psk54XijiqZMB+dcRxgnjjvc",
-        form: Form::V2,
-        plain: false,
-        bytes: PASS,
-    },
-    Wrapped {
-        text: b"AgETaHR0cDovL2V4YW1wbGUub3JnLwIFa2V5aWQAAAYgfN7nklEcW8b1KEhYBd/psk54XijiqZMB+dcRxgnjjvc=",
-        form: Form::V2,
-        plain: false,
-        bytes: PASS,
-    },
+static SPELLINGS: [&[u8]; 4] = [
+    b"AgETaHR0cDovL2V4YW1wbGUub3JnLwIFa2V5aWQAAAYgfN7nklEcW8b1KEhYBd_psk54XijiqZMB-dcRxgnjjvc",
+    b"AgETaHR0cDovL2V4YW1wbGUub3JnLwIFa2V5aWQAAAYgfN7nklEcW8b1KEhYBd_psk54XijiqZMB-dcRxgnjjvc=",
+    b"AgETaHR0cDovL2V4YW1wbGUub3JnLwIFa2V5aWQAAAYgfN7nklEcW8b1KEhYBd/psk54XijiqZMB+dcRxgnjjvc",
+    b"AgETaHR0cDovL2V4YW1wbGUub3JnLwIFa2V5aWQAAAYgfN7nklEcW8b1KEhYBd/psk54XijiqZMB+dcRxgnjjvc=",
 ];
+
+// A text in JSON, whether it is plain, and its bytes.
+static OBJECTS: [(&[u8], bool, &[u8]); 3] = [
+    (b"{}", true, b"{}"),
+    (b"{\xff", true, b"{\xff"),
+    (b"e30", false, b"{}"),
+];
+
+// A text wraps these bytes in this form, plainly or in base64.
+fn wraps(rt: &impl Abort, text: &[u8], form: Form, plain: bool, bytes: &[u8]) {
+    let mut room = [1; MAX_BYTES];
+    let unwrapped = unwrap_text(text, &mut room).expect(rt, "a form");
+    let shape = (unwrapped.form, unwrapped.plain, unwrapped.len);
+    expect_eq(rt, &shape, &(form, plain, bytes.len()), &text);
+    expect_eq(rt, &unwrapped.bytes(text, &room), &bytes, &text);
+}
 
 #[test]
 fn takes_off_four_spellings(rt: HostRuntime) {
-    are_wrapped(&rt, &SPELLINGS);
+    for text in &SPELLINGS {
+        wraps(&rt, text, Form::V2, false, PASS);
+    }
 }
-
-static OBJECTS: [Wrapped; 3] = [
-    Wrapped {
-        text: b"{}",
-        form: Form::Json,
-        plain: true,
-        bytes: b"{}",
-    },
-    Wrapped {
-        text: b"{\xff",
-        form: Form::Json,
-        plain: true,
-        bytes: b"{\xff",
-    },
-    Wrapped {
-        text: b"e30",
-        form: Form::Json,
-        plain: false,
-        bytes: b"{}",
-    },
-];
 
 #[test]
 fn json_is_plain_or_in_base64(rt: HostRuntime) {
-    are_wrapped(&rt, &OBJECTS);
+    for (text, plain, bytes) in &OBJECTS {
+        wraps(&rt, text, Form::Json, *plain, bytes);
+    }
 }
 
 // The form of a text, and the number of its bytes.
@@ -98,75 +54,45 @@ fn outcome(text: &[u8]) -> Result<(Form, usize), FormFault> {
     Ok((unwrapped.form, unwrapped.bytes(text, &room).len()))
 }
 
-// A text in pieces, and its form and number of bytes.
-type TextRow = (&'static [Piece], Result<(Form, usize), FormFault>);
+static OTHER_TEXTS: [&[u8]; 8] = [
+    // Both alphabets, too much padding, a last bit set.
+    b"AgETaHR0cDovL2V4YW1wbGUub3JnLwIFa2V5aWQAAAYgfN7nklEcW8b1KEhYBd_psk54XijiqZMB+dcRxgnjjvc",
+    b"AgETaHR0cDovL2V4YW1wbGUub3JnLwIFa2V5aWQAAAYgfN7nklEcW8b1KEhYBd_psk54XijiqZMB-dcRxgnjjvc==",
+    b"AgETaHR0cDovL2V4YW1wbGUub3JnLwIFa2V5aWQAAAYgfN7nklEcW8b1KEhYBd_psk54XijiqZMB-dcRxgnjjvd",
+    // Too little padding, padding alone, nothing, white space, bytes that are no text.
+    b"Zg=",
+    b"=",
+    b"",
+    b" {}",
+    b"\xff\xfe",
+];
 
-fn expect_outcomes(rt: &(impl Abort + AllocGlobal), rows: &[TextRow]) {
-    for (pieces, want) in rows {
-        expect_eq(rt, &outcome(&join(rt, pieces)), want, pieces);
+fn expect_outcomes(rt: &impl Abort, texts: &[&[u8]], want: Result<(Form, usize), FormFault>) {
+    for text in texts {
+        expect_eq(rt, &outcome(text), &want, text);
     }
 }
 
-static OTHER_TEXTS: [TextRow; 8] = [
-    // Both alphabets, too much padding, a last bit set.
-    (
-        &[(
-            1,
-            b"AgETaHR0cDovL2V4YW1wbGUub3JnLwIFa2V5aWQAAAYgfN7nklEcW8b1KEhYBd_psk54XijiqZMB+dcRxgnjjvc",
-        )],
-        Err(FormFault::Malformed),
-    ),
-    (
-        &[(
-            1,
-            b"AgETaHR0cDovL2V4YW1wbGUub3JnLwIFa2V5aWQAAAYgfN7nklEcW8b1KEhYBd_psk54XijiqZMB-dcRxgnjjvc==",
-        )],
-        Err(FormFault::Malformed),
-    ),
-    (
-        &[(
-            1,
-            b"AgETaHR0cDovL2V4YW1wbGUub3JnLwIFa2V5aWQAAAYgfN7nklEcW8b1KEhYBd_psk54XijiqZMB-dcRxgnjjvd",
-        )],
-        Err(FormFault::Malformed),
-    ),
-    // Too little padding, padding alone, nothing, white space, bytes that are no text.
-    (&[(1, b"Zg=")], Err(FormFault::Malformed)),
-    (&[(1, b"=")], Err(FormFault::Malformed)),
-    (&[(1, b"")], Err(FormFault::Malformed)),
-    (&[(1, b" {}")], Err(FormFault::Malformed)),
-    (&[(1, b"\xff\xfe")], Err(FormFault::Malformed)),
-];
-
 #[test]
 fn refuses_other_texts(rt: HostRuntime) {
-    expect_outcomes(&rt, &OTHER_TEXTS);
+    expect_outcomes(&rt, &OTHER_TEXTS, Err(FormFault::Malformed));
 }
 
-// Base64 of one byte each: 1, 2, 3, then `/09:AF` and "`afgz{|".
-static FIRST_BYTES: [TextRow; 14] = [
-    (&[(1, b"AQ")], Err(FormFault::Malformed)),
-    (&[(1, b"Ag")], Ok((Form::V2, 1))),
-    (&[(1, b"Aw")], Err(FormFault::Malformed)),
-    (&[(1, b"Lw")], Err(FormFault::Malformed)),
-    (&[(1, b"MA")], Ok((Form::V1, 1))),
-    (&[(1, b"OQ")], Ok((Form::V1, 1))),
-    (&[(1, b"Og")], Err(FormFault::Malformed)),
-    (&[(1, b"QQ")], Err(FormFault::Malformed)),
-    (&[(1, b"YA")], Err(FormFault::Malformed)),
-    (&[(1, b"YQ")], Ok((Form::V1, 1))),
-    (&[(1, b"Zg==")], Ok((Form::V1, 1))),
-    (&[(1, b"Zw")], Err(FormFault::Malformed)),
-    (&[(1, b"ew")], Ok((Form::Json, 1))),
-    (&[(1, b"fA")], Err(FormFault::Malformed)),
-];
+// Base64 of one byte each: `09af`, and 1, 3, `/:A` and "`g|".
+static V1_BYTES: [&[u8]; 4] = [b"MA", b"OQ", b"YQ", b"Zg=="];
+
+static OTHER_BYTES: [&[u8]; 8] = [b"AQ", b"Aw", b"Lw", b"Og", b"QQ", b"YA", b"Zw", b"fA"];
 
 #[test]
 fn first_byte_decides_the_form(rt: HostRuntime) {
-    expect_outcomes(&rt, &FIRST_BYTES);
+    expect_outcomes(&rt, &V1_BYTES, Ok((Form::V1, 1)));
+    expect_outcomes(&rt, &OTHER_BYTES, Err(FormFault::Malformed));
+    expect_eq(&rt, &outcome(b"Ag"), &Ok((Form::V2, 1)), &"the byte 2");
+    expect_eq(&rt, &outcome(b"ew"), &Ok((Form::Json, 1)), &"a brace");
 }
 
-static LONG: [TextRow; 4] = [
+// A text in pieces, and its form and number of bytes.
+static LONG: [(&[Piece], Result<(Form, usize), FormFault>); 4] = [
     (&[(8192, b"A")], Err(FormFault::Malformed)),
     (&[(8193, b"A")], Err(FormFault::TooLong)),
     (&[(1, b"Ag"), (8190, b"A")], Ok((Form::V2, 6144))),
@@ -175,19 +101,20 @@ static LONG: [TextRow; 4] = [
 
 #[test]
 fn reads_up_to_8192_bytes(rt: HostRuntime) {
-    expect_outcomes(&rt, &LONG);
+    for (pieces, want) in &LONG {
+        expect_eq(&rt, &outcome(&join(&rt, pieces)), want, pieces);
+    }
 }
 
-// A text, and the bytes of which it is base64.
-type Decoded = (&'static [u8], Option<&'static [u8]>);
-
-// RFC 4648's vectors, in each alphabet and with padding or without, and texts that are no base64.
-static DECODED: [Decoded; 12] = [
+// A text, and what it is base64 of: RFC 4648's vectors, in each alphabet, with padding and without,
+// and texts that are no base64.
+static DECODED: [(&[u8], Option<&[u8]>); 13] = [
     (b"", Some(b"")),
     (b"Zg", Some(b"f")),
     (b"Zm8=", Some(b"fo")),
     (b"Zm9v", Some(b"foo")),
     (b"Zm9vYmFy", Some(b"foobar")),
+    (b"_w", Some(b"\xff")),
     (b"-_8", Some(b"\xfb\xff")),
     (b"+/8=", Some(b"\xfb\xff")),
     (b"Z", None),
@@ -197,20 +124,16 @@ static DECODED: [Decoded; 12] = [
     (b" Zg", None),
 ];
 
-pub(crate) fn decodes(rt: &(impl Abort + AllocGlobal), text: &[u8], want: Option<&[u8]>) {
+fn decodes(rt: &(impl Abort + AllocGlobal), text: &[u8], want: Option<&[u8]>) {
     match decode_base64(rt.alloc(), text).expect(rt, "memory") {
         Some(bytes) => expect_eq(rt, &Some(bytes.as_slice()), &want, &text),
         None => expect_eq(rt, &None, &want, &text),
     }
 }
 
-fn decode(rt: &(impl Abort + AllocGlobal), rows: &[Decoded]) {
-    for (text, want) in rows {
-        decodes(rt, text, *want);
-    }
-}
-
 #[test]
 fn decodes_base64(rt: HostRuntime) {
-    decode(&rt, &DECODED);
+    for (text, want) in &DECODED {
+        decodes(&rt, text, *want);
+    }
 }

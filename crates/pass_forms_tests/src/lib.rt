@@ -13,13 +13,13 @@ mod envelope;
 #[cfg(test)]
 mod json;
 #[cfg(test)]
-mod parts;
-#[cfg(test)]
 mod read;
 #[cfg(test)]
 mod refused_memory;
 #[cfg(test)]
 mod rows;
+#[cfg(test)]
+mod texts;
 #[cfg(test)]
 mod v1;
 #[cfg(test)]

@@ -1,20 +1,22 @@
-//! Passes that are read and written in each form if an allocation is refused.
+//! Passes that are read and written in each form, also if an allocation is refused.
 //! `tests/desk/refused_memory_tests.py` refuses each in turn, and none after it: a second call is
 //! given what it asks for.
 
-use crate::any::{BARE, EXAMPLE, KNOWN};
-use crate::json::calls::{read_any, write_any};
+use crate::calls::{read_any, write_any};
 use crate::rows::expect_eq;
+use crate::texts::{BARE, EXAMPLE, FORMS, KNOWN};
 use pass_forms::{Form, FormFault, Pass};
 use std::process::Abort;
 
-// The form and the pass of a text, by the second call if the first is out of memory.
-fn read(rt: &(impl Abort + AllocGlobal), text: &str) -> (Form, Pass) {
+/// The pass of a text that is read in this form, by the second call if the first is out of memory.
+pub(crate) fn read_in(rt: &(impl Abort + AllocGlobal), form: Form, text: &str) -> Pass {
     let found = match read_any(rt.alloc(), text.as_bytes()) {
         Err(FormFault::Memory) => read_any(rt.alloc(), text.as_bytes()),
         found => found,
     };
-    found.expect(rt, "a pass")
+    let (detected, pass) = found.expect(rt, "a pass");
+    expect_eq(rt, &detected, &form, &text);
+    pass
 }
 
 // The text of a pass, by the second call if the first is out of memory.
@@ -26,18 +28,17 @@ fn written_text(rt: &(impl Abort + AllocGlobal), form: Form, pass: &Pass) -> Str
     text.expect(rt, "a text")
 }
 
-fn is_written(rt: &(impl Abort + AllocGlobal), pass: &Pass, texts: &[(Form, &str)]) {
-    for (form, text) in texts {
+/// The pass is written as these texts.
+pub(crate) fn is_written(rt: &(impl Abort + AllocGlobal), pass: &Pass, texts: &[&str; 3]) {
+    for (form, text) in FORMS.iter().zip(texts) {
         expect_eq(rt, &written_text(rt, *form, pass).as_str(), text, form);
     }
 }
 
-// Each text is read in its form, and its pass is written in every form.
-fn convert(rt: &(impl Abort + AllocGlobal), texts: &[(Form, &str)]) {
-    for (form, text) in texts {
-        let (found, pass) = read(rt, text);
-        expect_eq(rt, &found, form, text);
-        is_written(rt, &pass, texts);
+/// Each text is read in its form, and its pass is written in every form.
+pub(crate) fn convert(rt: &(impl Abort + AllocGlobal), texts: &[&str; 3]) {
+    for (form, text) in FORMS.iter().zip(texts) {
+        is_written(rt, &read_in(rt, *form, text), texts);
     }
 }
 

@@ -1,5 +1,6 @@
 //! What the rows of the tests are made of, and what a row expects.
 
+use crate::calls::new_pass;
 use pass_forms::Pass;
 use std::fmt::Debug;
 use std::process::Abort;
@@ -53,4 +54,22 @@ pub(crate) fn expect_pass(rt: &impl Abort, pass: &Pass, want: &Fields<'_>) {
     expect_eq(rt, &pass.identifier(), &want.identifier, want);
     expect_eq(rt, &pass.signature(), &want.signature, want);
     expect_caveats(rt, pass.caveats(), want);
+}
+
+/// A pass with no location, this identifier and `caveat_count` empty caveats.
+pub(crate) fn pass_of(
+    rt: &(impl Abort + AllocGlobal),
+    identifier: &[Piece],
+    caveat_count: usize,
+) -> Pass {
+    let mut caveats = Vec::new(rt.alloc());
+    for _ in 0..caveat_count {
+        caveats.push(Vec::new(rt.alloc())).expect(rt, "memory");
+    }
+    new_pass(
+        Vec::new(rt.alloc()),
+        join(rt, identifier),
+        caveats,
+        [0xff; 32],
+    )
 }

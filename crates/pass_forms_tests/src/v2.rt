@@ -1,8 +1,9 @@
 //! Passes that are read from V2.
 
-use crate::read::{Read, are_read, are_refused, is_refused_cut_short};
+use crate::read::{Refused, Row, are_read, are_refused, are_refused_between, is_refused_cut_short};
 use crate::rows::{Fields, Piece};
-use pass_forms::{Form, FormFault};
+use pass_forms::Form;
+use pass_forms::FormFault::{Malformed, ThirdParty, TooLong, TooMany};
 
 // A header with a location and without, and what follows the caveats.
 const HEADER: Piece = (1, b"\x02\x01\x13http://example.org/\x02\x05keyid\x00");
@@ -14,75 +15,70 @@ const AFTER: Piece = (
     b"\x00\x06\x20\x7c\xde\xe7\x92\x51\x1c\x5b\xc6\xf5\x28\x48\x58\x05\xdf\xe9\xb2\x4e\x78\x5e\x28\xe2\xa9\x93\x01\xf9\xd7\x11\xc6\x09\xe3\x8e\xf7",
 );
 
-const SIGNATURE: &[u8; 32] =
-    b"\x7c\xde\xe7\x92\x51\x1c\x5b\xc6\xf5\x28\x48\x58\x05\xdf\xe9\xb2\x4e\x78\x5e\x28\xe2\xa9\x93\x01\xf9\xd7\x11\xc6\x09\xe3\x8e\xf7";
-
-const KEYID_FIELDS: Fields<'static> = Fields {
+/// The fields of a pass of identifier `keyid` alone.
+pub(crate) const KEYID_FIELDS: Fields<'static> = Fields {
     location: b"",
     identifier: b"keyid",
     caveats: &[],
-    signature: SIGNATURE,
+    signature: b"\x7c\xde\xe7\x92\x51\x1c\x5b\xc6\xf5\x28\x48\x58\x05\xdf\xe9\xb2\x4e\x78\x5e\x28\xe2\xa9\x93\x01\xf9\xd7\x11\xc6\x09\xe3\x8e\xf7",
 };
 
 static KNOWN: [Piece; 2] = [HEADER, AFTER];
 
 const GUESTS: &[u8] = b"guests <= 1";
 
-static READ: [Read; 8] = [
-    Read {
-        pieces: &[HEADER, AFTER],
-        fields: Fields {
+static READ: [Row; 8] = [
+    (
+        &[HEADER, AFTER],
+        Fields {
             location: b"http://example.org/",
             ..KEYID_FIELDS
         },
-    },
+    ),
     // The caveats are between the identifier and the signature.
-    Read {
-        pieces: &[KEYID, (1, b"\x02\x01x\x00\x02\x00\x00"), AFTER],
-        fields: Fields {
+    (
+        &[KEYID, (1, b"\x02\x01x\x00\x02\x00\x00"), AFTER],
+        Fields {
             caveats: &[b"x", b""],
             ..KEYID_FIELDS
         },
-    },
+    ),
     // The header's location may be empty, which is the same as left out.
-    Read {
-        pieces: &[(1, b"\x02\x01\x00\x02\x05keyid\x00"), AFTER],
-        fields: KEYID_FIELDS,
-    },
-    Read {
-        pieces: &[KEYID, AFTER],
-        fields: KEYID_FIELDS,
-    },
+    (
+        &[(1, b"\x02\x01\x00\x02\x05keyid\x00"), AFTER],
+        KEYID_FIELDS,
+    ),
+    (&[KEYID, AFTER], KEYID_FIELDS),
     // A length of 127 takes one byte, of 128 and 200 two.
-    Read {
-        pieces: &[(1, b"\x02\x02\x7f"), (127, b"x"), (1, b"\x00"), AFTER],
-        fields: Fields {
+    (
+        &[(1, b"\x02\x02\x7f"), (127, b"x"), (1, b"\x00"), AFTER],
+        Fields {
             identifier: &[b'x'; 127],
             ..KEYID_FIELDS
         },
-    },
-    Read {
-        pieces: &[(1, b"\x02\x02\x80\x01"), (128, b"x"), (1, b"\x00"), AFTER],
-        fields: Fields {
+    ),
+    (
+        &[(1, b"\x02\x02\x80\x01"), (128, b"x"), (1, b"\x00"), AFTER],
+        Fields {
             identifier: &[b'x'; 128],
             ..KEYID_FIELDS
         },
-    },
-    Read {
-        pieces: &[(1, b"\x02\x02\xc8\x01"), (200, b"x"), (1, b"\x00"), AFTER],
-        fields: Fields {
+    ),
+    (
+        &[(1, b"\x02\x02\xc8\x01"), (200, b"x"), (1, b"\x00"), AFTER],
+        Fields {
             identifier: &[b'x'; 200],
             ..KEYID_FIELDS
         },
-    },
+    ),
     // The most caveats.
-    Read {
-        pieces: &[KEYID, (64, b"\x02\x0bguests <= 1\x00"), AFTER],
-        fields: Fields {
+    (
+        &[KEYID, (64, b"\x02\x0bguests <= 1\x00"), AFTER],
+        Fields {
             caveats: &[GUESTS; 64],
             ..KEYID_FIELDS
         },
-    },
+    ),
 ];
 
 #[test]
@@ -95,66 +91,39 @@ fn refuses_the_known_pass_cut_short(rt: HostRuntime) {
     is_refused_cut_short(&rt, Form::V2, &KNOWN, 65);
 }
 
-static REFUSED: [(&[Piece], FormFault); 13] = [
-    // Grown by a byte.
-    (&[HEADER, AFTER, (1, b"\x00")], FormFault::Malformed),
+// Odd sections of caveats.
+static ODD: [&[u8]; 3] = [
+    b"\x02\x01x\x05\x00\x00",
+    b"\x02\x01x\x04\x00\x04\x00\x00",
+    b"\x04\x00\x02\x01x\x00",
+];
+
+static THIRD_PARTIES: [&[u8]; 2] = [b"\x02\x01x\x04\x00\x00", b"\x01\x00\x02\x01x\x00"];
+
+const MANY: Piece = (65, b"\x02\x0bguests <= 1\x00");
+
+static REFUSED: [Refused; 8] = [
+    // A byte more.
+    (&[HEADER, AFTER, (1, b"\x00")], Malformed),
     // A length that isn't in its shortest spelling, one without an end, one of a byte too many.
-    (
-        &[(1, b"\x02\x02\x85\x00keyid\x00"), AFTER],
-        FormFault::Malformed,
-    ),
-    (
-        &[
-            (1, b"\x02\x02\xff\xff\xff\xff\xff\xff\xff\xff\xff\xff"),
-            AFTER,
-        ],
-        FormFault::Malformed,
-    ),
-    (&[(1, b"\x02\x02\x06keyid"), AFTER], FormFault::Malformed),
-    // Odd sections of caveats.
-    (
-        &[KEYID, (1, b"\x02\x01x\x04\x00\x00"), AFTER],
-        FormFault::ThirdParty,
-    ),
-    (
-        &[KEYID, (1, b"\x01\x00\x02\x01x\x00"), AFTER],
-        FormFault::ThirdParty,
-    ),
-    (
-        &[KEYID, (1, b"\x02\x01x\x05\x00\x00"), AFTER],
-        FormFault::Malformed,
-    ),
-    (
-        &[KEYID, (1, b"\x02\x01x\x04\x00\x04\x00\x00"), AFTER],
-        FormFault::Malformed,
-    ),
-    (
-        &[KEYID, (1, b"\x04\x00\x02\x01x\x00"), AFTER],
-        FormFault::Malformed,
-    ),
+    (&[(1, b"\x02\x02\x85\x00keyid\x00"), AFTER], Malformed),
+    (&[(1, b"\x02\x02"), (10, b"\xff"), AFTER], Malformed),
+    (&[(1, b"\x02\x02\x06keyid"), AFTER], Malformed),
     // A long one.
-    (&[(8193, b"\x02")], FormFault::TooLong),
-    // Too many caveats, alone, before a byte too many and with a third party's.
+    (&[(8193, b"\x02")], TooLong),
+    // Too many caveats: alone, before a byte more and with a third party's.
+    (&[KEYID, MANY, AFTER], TooMany),
+    (&[KEYID, MANY, AFTER, (1, b"\x00")], Malformed),
     (
-        &[KEYID, (65, b"\x02\x0bguests <= 1\x00"), AFTER],
-        FormFault::TooMany,
-    ),
-    (
-        &[KEYID, (65, b"\x02\x0bguests <= 1\x00"), AFTER, (1, b"\x00")],
-        FormFault::Malformed,
-    ),
-    (
-        &[
-            KEYID,
-            (65, b"\x02\x0bguests <= 1\x00"),
-            (1, b"\x02\x01x\x04\x01y\x00"),
-            AFTER,
-        ],
-        FormFault::ThirdParty,
+        &[KEYID, MANY, (1, b"\x02\x01x\x04\x01y\x00"), AFTER],
+        ThirdParty,
     ),
 ];
 
 #[test]
 fn shows_each_fault(rt: HostRuntime) {
     are_refused(&rt, Form::V2, &REFUSED);
+    let around = (KEYID, AFTER);
+    are_refused_between(&rt, Form::V2, around, &ODD, Malformed);
+    are_refused_between(&rt, Form::V2, around, &THIRD_PARTIES, ThirdParty);
 }

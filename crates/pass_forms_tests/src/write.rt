@@ -1,181 +1,154 @@
-//! Passes that are narrowed, and written in V1 and V2.
+//! Passes that are made, narrowed and written.
 
-use crate::calls::{narrow, new_pass, read, unwrap_text, write};
-use crate::envelope::decodes;
-use crate::parts::known_pass;
-use crate::rows::{Piece, expect_eq, join};
-use pass_forms::{Form, FormFault, MAX_BYTES, Pass};
+use crate::calls::{narrow, read, read_any, write, write_any};
+use crate::rows::{Fields, Piece, expect_caveats, expect_eq, expect_pass, pass_of};
+use crate::texts::{FORMS, KNOWN};
+use crate::v1::{KNOWN_FIELDS, ROOT};
+use pass_forms::{Form, FormFault, Pass};
 use std::alloc::Global;
 use std::process::Abort;
 
-// A pass of location `http://example.org/` and identifier `keyid`, in each form.
-const EXAMPLE_V1: &str =
-    "MDAyMWxvY2F0aW9uIGh0dHA6Ly9leGFtcGxlLm9yZy8KMDAxNWlkZW50aWZpZXIga2V5aWQKMDAyZnNpZ25hdHVyZSB83ueSURxbxvUoSFgF3-myTnheKOKpkwH51xHGCeOO9wo";
+// The known pass of libmacaroons' README before its caveat.
+static WITHOUT_CAVEAT: Fields<'static> = Fields {
+    caveats: &[],
+    signature: b"\xe3\xd9\xe0\x29\x08\x52\x6c\x4c\x00\x39\xae\x15\x11\x41\x15\xd9\x7f\xdd\x68\xbf\x2b\xa3\x79\xb3\x42\xaa\xf0\xf6\x17\xd0\x55\x2f",
+    ..KNOWN_FIELDS
+};
 
-const EXAMPLE_V2: &str =
-    "AgETaHR0cDovL2V4YW1wbGUub3JnLwIFa2V5aWQAAAYgfN7nklEcW8b1KEhYBd_psk54XijiqZMB-dcRxgnjjvc";
-
-// The known pass of libmacaroons' README: before its caveat, and with it.
-const WITHOUT_CAVEAT: &str =
-    "MDAxY2xvY2F0aW9uIGh0dHA6Ly9teWJhbmsvCjAwMjZpZGVudGlmaWVyIHdlIHVzZWQgb3VyIHNlY3JldCBrZXkKMDAyZnNpZ25hdHVyZSDj2eApCFJsTAA5rhURQRXZf91ovyujebNCqvD2F9BVLwo";
-
-const KNOWN_V1: &str =
-    "MDAxY2xvY2F0aW9uIGh0dHA6Ly9teWJhbmsvCjAwMjZpZGVudGlmaWVyIHdlIHVzZWQgb3VyIHNlY3JldCBrZXkKMDAxNmNpZCB0ZXN0ID0gY2F2ZWF0CjAwMmZzaWduYXR1cmUgGXusegRK8zMyhluSZuJtSTvdZopmDkTYjOGpmMI9vWcK";
-
-const KNOWN_V2: &str =
-    "AgEOaHR0cDovL215YmFuay8CFndlIHVzZWQgb3VyIHNlY3JldCBrZXkAAg10ZXN0ID0gY2F2ZWF0AAAGIBl7rHoESvMzMoZbkmbibUk73WaKZg5E2IzhqZjCPb1n";
-
-// A pass of identifier `keyid` and a signature of equal bytes, with an empty location in V2, which
-// is left out of V2 and a packet of V1.
-const EMPTY_LOCATION_WRITTEN: &str =
-    "AgEAAgVrZXlpZAAABiAHBwcHBwcHBwcHBwcHBwcHBwcHBwcHBwcHBwcHBwcHBw";
-
-const EMPTY_LOCATION_V1: &str =
-    "MDAwZWxvY2F0aW9uIAowMDE1aWRlbnRpZmllciBrZXlpZAowMDJmc2lnbmF0dXJlIAcHBwcHBwcHBwcHBwcHBwcHBwcHBwcHBwcHBwcHBwcHCg";
-
-const EMPTY_LOCATION_V2: &str = "AgIFa2V5aWQAAAYgBwcHBwcHBwcHBwcHBwcHBwcHBwcHBwcHBwcHBwcHBwc";
-
-// A pass that is read, the caveats by which it is narrowed, and its texts then.
-struct Written {
-    text: &'static str,
-    narrowed_by: &'static [&'static [u8]],
-    v1: &'static str,
-    v2: &'static str,
+fn mint_known(rt: &(impl Abort + AllocGlobal), want: &Fields<'_>) -> Pass {
+    let pass = Pass::mint(rt.alloc(), ROOT, want.location, want.identifier).expect(rt, "memory");
+    expect_pass(rt, &pass, want);
+    expect_eq(rt, &pass.is_signed(ROOT), &true, want);
+    pass
 }
 
-static WRITTEN: [Written; 5] = [
-    Written {
-        text: EXAMPLE_V1,
-        narrowed_by: &[],
-        v1: EXAMPLE_V1,
-        v2: EXAMPLE_V2,
-    },
-    Written {
-        text: EXAMPLE_V2,
-        narrowed_by: &[],
-        v1: EXAMPLE_V1,
-        v2: EXAMPLE_V2,
-    },
-    Written {
-        text: WITHOUT_CAVEAT,
-        narrowed_by: &[b"test = caveat"],
-        v1: KNOWN_V1,
-        v2: KNOWN_V2,
-    },
-    Written {
-        text: EMPTY_LOCATION_WRITTEN,
-        narrowed_by: &[],
-        v1: EMPTY_LOCATION_V1,
-        v2: EMPTY_LOCATION_V2,
-    },
-    Written {
-        text: EMPTY_LOCATION_V2,
-        narrowed_by: &[],
-        v1: EMPTY_LOCATION_V1,
-        v2: EMPTY_LOCATION_V2,
-    },
-];
-
-fn read_text(alloc: Global, text: &[u8]) -> Result<Pass, FormFault> {
-    let mut room = [0; MAX_BYTES];
-    let unwrapped = unwrap_text(text, &mut room)?;
-    read(alloc, unwrapped.form, unwrapped.bytes(text, &room))
+// The known pass, made under its root.
+fn known_pass(rt: &(impl Abort + AllocGlobal)) -> Pass {
+    let mut pass = mint_known(rt, &WITHOUT_CAVEAT);
+    narrow(rt.alloc(), &mut pass, b"test = caveat").expect(rt, "memory");
+    pass
 }
 
-fn expect_text(rt: &(impl Abort + AllocGlobal), pass: &Pass, form: Form, want: &str) {
+#[test]
+fn gives_its_parts_back(rt: HostRuntime) {
+    let (parts, want) = (known_pass(&rt).into_parts(), &KNOWN_FIELDS);
+    expect_eq(&rt, &parts.location.as_slice(), &want.location, want);
+    expect_eq(&rt, &parts.identifier.as_slice(), &want.identifier, want);
+    expect_eq(&rt, &parts.signature, want.signature, want);
+    expect_caveats(&rt, &parts.caveats, want);
+}
+
+fn expect_text(rt: &(impl Abort + AllocGlobal), form: Form, pass: &Pass, want: &str) {
     let text = write(rt.alloc(), form, pass).expect(rt, "a text");
     expect_eq(rt, &text.as_str(), &want, &form);
 }
 
-fn narrows(rt: &(impl Abort + AllocGlobal), pass: &mut Pass, caveats: &[&[u8]]) {
-    for caveat in caveats {
-        narrow(rt.alloc(), pass, caveat).expect(rt, "a narrower pass");
-    }
-}
-
-fn is_written(rt: &(impl Abort + AllocGlobal), row: &Written) {
-    let mut pass = read_text(rt.alloc(), row.text.as_bytes()).expect(rt, "a pass");
-    narrows(rt, &mut pass, row.narrowed_by);
-    expect_text(rt, &pass, Form::V1, row.v1);
-    expect_text(rt, &pass, Form::V2, row.v2);
-}
-
-fn are_written(rt: &(impl Abort + AllocGlobal), rows: &[Written]) {
-    for row in rows {
-        is_written(rt, row);
-    }
-}
-
-// With ample memory each call answers, and doesn't end for want of it.
+// No call reports out of memory when memory is available.
 #[test]
 fn answers_with_ample_memory(rt: HostRuntime) {
     let pass = known_pass(&rt);
-    expect_text(&rt, &pass, Form::V1, KNOWN_V1);
-    expect_text(&rt, &pass, Form::V2, KNOWN_V2);
-    are_written(&rt, &WRITTEN);
-    decodes(&rt, b"_w", Some(b"\xff"));
-}
-
-// A pass with no location, an identifier of so many bytes and so many empty caveats.
-fn pass_of(rt: &(impl Abort + AllocGlobal), identifier_len: usize, caveat_count: usize) -> Pass {
-    let mut caveats = Vec::new(rt.alloc());
-    for _ in 0..caveat_count {
-        caveats.push(Vec::new(rt.alloc())).expect(rt, "memory");
+    for (form, text) in FORMS.iter().zip(&KNOWN) {
+        expect_text(&rt, *form, &pass, text);
     }
-    let identifier = join(rt, &[(identifier_len, b"x")]);
-    new_pass(Vec::new(rt.alloc()), identifier, caveats, [7; 32])
 }
 
-// The form, identifier's length and number of caveats of a pass, and the length of its text.
-type Len = (Form, usize, usize, Result<usize, FormFault>);
+// The pass is written in JSON as this text, which is read as the same pass.
+fn is_written_in_json(rt: &(impl Abort + AllocGlobal), pass: &Pass, text: &str) {
+    expect_text(rt, Form::Json, pass, text);
+    let back = read(rt.alloc(), Form::Json, text.as_bytes()).expect(rt, "the pass of its text");
+    expect_eq(rt, &back.location(), &pass.location(), &"a location");
+    expect_eq(rt, &back.identifier(), &pass.identifier(), &"an identifier");
+    expect_eq(rt, &back.signature(), &pass.signature(), &"a signature");
+}
 
-// 6,144 bytes make 8,192 characters. Beside the identifier a pass without caveats takes 77 bytes in
-// V1, 40 in V2.
-static LENS: [Len; 4] = [
-    (Form::V1, 6067, 0, Ok(8192)),
+// JSON texts, and the one text as which their pass is written.
+static JSON: [(&str, &str); 2] = [
+    (
+        "{\"i\":\"keyid\",\"s64\":\"fN7nklEcW8b1KEhYBd_psk54XijiqZMB-dcRxgnjjvc\"}",
+        "{\"c\":[],\"i\":\"keyid\",\"s64\":\"fN7nklEcW8b1KEhYBd_psk54XijiqZMB-dcRxgnjjvc\",\"v\":2}",
+    ),
+    (
+        "{\"i64\":\"_w\",\"l64\":\"__4AYWJj\",\"c\":[{\"i64\":\"YQ==\"},{\"i64\":\"_w\"}],\"s\":\"0123456789abcdef0123456789abcdef\"}",
+        "{\"c\":[{\"i\":\"a\"},{\"i64\":\"_w\"}],\"i64\":\"_w\",\"l64\":\"__4AYWJj\",\"s64\":\"MDEyMzQ1Njc4OWFiY2RlZjAxMjM0NTY3ODlhYmNkZWY\",\"v\":2}",
+    ),
+];
+
+#[test]
+fn writes_one_text(rt: HostRuntime) {
+    for (text, written) in &JSON {
+        let pass = read(rt.alloc(), Form::Json, text.as_bytes()).expect(&rt, "a pass");
+        is_written_in_json(&rt, &pass, written);
+    }
+}
+
+// RFC 8259's short escapes, `\u` for the other control bytes, and all else as it is.
+#[test]
+fn writes_escapes(rt: HostRuntime) {
+    let identifier: &[Piece] = &[(
+        1,
+        b"\x00\x08\t\n\x0c\r\x1f\"\\/\x7f\xc3\xa9\xe2\x80\xa8\xf0\x9f\x98\x80",
+    )];
+    let text =
+        "{\"c\":[],\"i\":\"\\u0000\\b\\t\\n\\f\\r\\u001f\\\"\\\\/\x7f\u{e9}\u{2028}\u{1f600}\",\"s64\":\"__________________________________________8\",\"v\":2}";
+    is_written_in_json(&rt, &pass_of(&rt, identifier, 0), text);
+}
+
+// The length of a pass's text, and of the identifier and the caveats that are read in it.
+type Lens = (usize, usize, usize);
+
+// A form, the identifier's length and the number of empty caveats of a pass, and its lengths.
+type Row = (Form, usize, usize, Result<Lens, FormFault>);
+
+// 6,144 bytes make 8,192 characters of base64. Next to the identifier a pass without caveats takes
+// 77 bytes in V1, 40 in V2 and 73 in JSON. Too many comes before too long.
+static LENS: [Row; 16] = [
+    (Form::V1, 6067, 0, Ok((8192, 6067, 0))),
     (Form::V1, 6068, 0, Err(FormFault::TooLong)),
-    (Form::V2, 6104, 0, Ok(8192)),
-    (Form::V2, 6105, 0, Err(FormFault::TooLong)),
-];
-
-static TOO_MANY_AND_TOO_LONG: [Len; 2] = [
+    (Form::V1, 8193, 0, Err(FormFault::TooLong)),
+    (Form::V1, 0, 65, Err(FormFault::TooMany)),
     (Form::V1, 9000, 65, Err(FormFault::TooMany)),
+    (Form::V2, 6104, 0, Ok((8192, 6104, 0))),
+    (Form::V2, 6105, 0, Err(FormFault::TooLong)),
+    (Form::V2, 8193, 0, Err(FormFault::TooLong)),
+    (Form::V2, 0, 65, Err(FormFault::TooMany)),
     (Form::V2, 9000, 65, Err(FormFault::TooMany)),
+    (Form::Json, 8119, 0, Ok((8192, 8119, 0))),
+    (Form::Json, 8120, 0, Err(FormFault::TooLong)),
+    (Form::Json, 8193, 0, Err(FormFault::TooLong)),
+    (Form::Json, 0, 64, Ok((648, 0, 64))),
+    (Form::Json, 0, 65, Err(FormFault::TooMany)),
+    (Form::Json, 9000, 65, Err(FormFault::TooMany)),
 ];
 
-fn len_of(alloc: Global, form: Form, pass: &Pass) -> Result<usize, FormFault> {
-    Ok(write(alloc, form, pass)?.len())
+fn lens_of(alloc: Global, text: Result<String, FormFault>) -> Result<Lens, FormFault> {
+    let text = text?;
+    let (_form, back) = read_any(alloc, text.as_bytes())?;
+    Ok((text.len(), back.identifier().len(), back.caveats().len()))
 }
 
-fn are_so_long(rt: &(impl Abort + AllocGlobal), rows: &[Len]) {
-    for row in rows {
-        let pass = pass_of(rt, row.1, row.2);
-        expect_eq(rt, &len_of(rt.alloc(), row.0, &pass), &row.3, row);
+fn has_lens(rt: &(impl Abort + AllocGlobal), row: &Row) {
+    let (form, identifier_len, caveat_count, want) = row;
+    let pass = pass_of(rt, &[(*identifier_len, b"x")], *caveat_count);
+    let written = write(rt.alloc(), *form, &pass);
+    expect_eq(rt, &lens_of(rt.alloc(), written), want, row);
+    let written = write_any(rt.alloc(), *form, &pass);
+    expect_eq(rt, &lens_of(rt.alloc(), written), want, row);
+}
+
+#[test]
+fn writes_up_to_the_limits(rt: HostRuntime) {
+    for row in &LENS {
+        has_lens(&rt, row);
     }
-}
-
-#[test]
-fn writes_up_to_8192_characters(rt: HostRuntime) {
-    are_so_long(&rt, &LENS);
-}
-
-// Too many comes before too long.
-#[test]
-fn refuses_too_many_first(rt: HostRuntime) {
-    are_so_long(&rt, &TOO_MANY_AND_TOO_LONG);
-}
-
-fn is_written_in_each(rt: &(impl Abort + AllocGlobal), pass: &Pass) {
-    let v1 = write(rt.alloc(), Form::V1, pass).is_ok();
-    let v2 = write(rt.alloc(), Form::V2, pass).is_ok();
-    expect_eq(rt, &(v1, v2), &(true, true), &"64 caveats");
 }
 
 #[test]
 fn counts_caveats(rt: HostRuntime) {
-    let mut pass = pass_of(&rt, 0, 63);
-    narrows(&rt, &mut pass, &[b""]);
-    is_written_in_each(&rt, &pass);
+    let mut pass = pass_of(&rt, &[], 63);
+    narrow(rt.alloc(), &mut pass, b"").expect(&rt, "a narrower pass");
+    for form in &FORMS {
+        expect_eq(&rt, &write(rt.alloc(), *form, &pass).is_ok(), &true, form);
+    }
     let refused = narrow(rt.alloc(), &mut pass, b"");
     expect_eq(&rt, &refused, &Err(FormFault::TooMany), &"a 65th caveat");
     expect_eq(&rt, &pass.caveats().len(), &64, &"caveats");
