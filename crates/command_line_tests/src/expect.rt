@@ -20,7 +20,7 @@ pub(crate) fn expect_case<T: PartialEq + Debug>(
     assert_eq!(rt; returned, want, "{case}");
 }
 
-/// Ends the test of this row unless a run ended so.
-pub(crate) fn expect_end(rt: &impl Abort, output: &Output, end: &End, row: &[&str]) {
-    assert!(rt; end.fits(output), "{row:?}: {output:?}, and not {end:?}");
+/// Ends the test of this line unless a run ended so.
+pub(crate) fn expect_end(rt: &impl Abort, output: &Output, end: &End, line: &str) {
+    assert!(rt; end.fits(output), "{line}: {output:?}, and not {end:?}");
 }

@@ -15,11 +15,19 @@ fn output_of_fault(rt: &(impl Abort + AllocGlobal), fault: &Fault) -> Output {
     }
 }
 
+// What arguments ask for.
+fn asked<'a>(
+    rt: &impl AllocGlobal,
+    arguments: &'a [&'a str],
+) -> Result<Asked<Job<'a>>, ArgumentsFault<()>> {
+    read_job(rt.alloc(), arguments)
+}
+
 // The status and the line of the fault of arguments that are refused.
-pub(super) fn output_of(rt: &(impl Abort + AllocGlobal), arguments: &[&str]) -> Output {
-    let asked: Result<Asked<Job<'_>>, ArgumentsFault<()>> = read_job(rt.alloc(), arguments);
-    match asked {
-        Ok(_) => panic!(rt; "{arguments:?}"),
+pub(super) fn output_of(rt: &(impl Abort + AllocGlobal), line: &str) -> Output {
+    let arguments = arguments_of(rt, line);
+    match asked(rt, arguments.as_slice()) {
+        Ok(_) => panic!(rt; "{line}"),
         Err(fault) => output_of_fault(rt, &Fault::from(fault)),
     }
 }
@@ -27,13 +35,11 @@ pub(super) fn output_of(rt: &(impl Abort + AllocGlobal), arguments: &[&str]) -> 
 // The arguments of each line are refused so.
 fn expect_refused(rt: &(impl Abort + AllocGlobal), lines: &[&str], end: &End) {
     for line in lines {
-        let arguments = arguments_of(rt, line);
-        let arguments = arguments.as_slice();
-        expect_end(rt, &output_of(rt, arguments), end, arguments);
+        expect_end(rt, &output_of(rt, line), end, line);
     }
 }
 
-static BAD_VALUES: [&str; 65] = [
+static BAD_VALUES: [&str; 76] = [
     "add-member|F|Amy|5",
     "add-member|F||5",
     "add-member|F|amybobcydideeveflogushalfi|5",
@@ -100,28 +106,17 @@ static BAD_VALUES: [&str; 65] = [
     "show-slot|F|court-1|2026-05-01|24",
     "add-key|F|K|bob|--root-stdin",
     "rotate-key|F|k|never|--root-stdin",
-];
-
-#[test]
-fn bad_values(rt: HostRuntime) {
-    expect_refused(&rt, &BAD_VALUES, &Begins(3, "bad value"));
-}
-
-static BAD_ROOTS: [&str; 11] = [
+    // Roots: of 15 bytes, of 16 with half a byte or another letter, of 65 bytes.
     "add-key|F|k|bob|",
-    // 15 bytes, and 16 with half a byte.
     "add-key|F|k|bob|000102030405060708090a0b0c0d0e",
     "add-key|F|k|bob|000102030405060708090a0b0c0d0e0f1",
     "add-key|F|k|bob|000102030405060708090a0b0c0d0e0g",
-    // 65 bytes.
     "add-key|F|k|bob|0000000000000000000000000000000000000000000000000000000000000000\
     000000000000000000000000000000000000000000000000000000000000000000",
     "rotate-key|F|k||2026-04-25T00:00",
-    // 15 bytes, and 16 with half a byte.
     "rotate-key|F|k|000102030405060708090a0b0c0d0e|2026-04-25T00:00",
     "rotate-key|F|k|000102030405060708090a0b0c0d0e0f1|2026-04-25T00:00",
     "rotate-key|F|k|000102030405060708090a0b0c0d0e0g|2026-04-25T00:00",
-    // 65 bytes.
     "rotate-key|F|k|0000000000000000000000000000000000000000000000000000000000000000\
     000000000000000000000000000000000000000000000000000000000000000000|2026-04-25T00:00",
     // A moment before the first.
@@ -129,39 +124,27 @@ static BAD_ROOTS: [&str; 11] = [
 ];
 
 #[test]
-fn bad_roots(rt: HostRuntime) {
-    expect_refused(&rt, &BAD_ROOTS, &Begins(3, "bad value"));
+fn bad_values(rt: HostRuntime) {
+    expect_refused(&rt, &BAD_VALUES, &Begins(3, "bad value"));
 }
-
-// Sixteen bytes, 0 to 15.
-const ROOT: &str = "000102030405060708090a0b0c0d0e0f";
 
 static OTHER_FORMS: [&str; 5] = ["", "v3", "V1", "JSON", "v1 "];
 
-// Arguments are refused by the line about this form.
-fn expect_other_form(rt: &(impl Abort + AllocGlobal), arguments: &[&str], form: &str) {
-    let output = output_of(rt, arguments);
-    let line = form_line(rt.alloc(), form).expect(rt, "memory");
-    assert!(rt; output.begins(2, line.as_str()), "{output:?}");
+// A line before a form is refused by the line about this form.
+fn expect_other_form(rt: &(impl Abort + AllocGlobal), before: &str, form: &str) {
+    let line = format!(in rt.alloc(); "{before}|--form|{form}").expect(rt, "memory");
+    let output = output_of(rt, line.as_str());
+    let want = form_line(rt.alloc(), form).expect(rt, "memory");
+    assert!(rt; output.begins(2, want.as_str()), "{output:?}");
 }
 
 // A form is checked before other values.
 #[test]
 fn bad_forms(rt: HostRuntime) {
     for form in &OTHER_FORMS {
-        let arguments = ["clubdesk", "add-key", "F", "K", "BOB", "zz", "--form", form];
-        expect_other_form(&rt, &arguments, form);
-        let arguments = [
-            "clubdesk",
-            "rotate-key",
-            "F",
-            "k",
-            ROOT,
-            "never",
-            "--form",
-            form,
-        ];
-        expect_other_form(&rt, &arguments, form);
+        expect_other_form(&rt, "add-key|F|K|BOB|zz", form);
+        let rotation = "rotate-key|F|k|000102030405060708090a0b0c0d0e0f|never";
+        expect_other_form(&rt, rotation, form);
     }
 }
 
@@ -226,64 +209,37 @@ const NOT_TEXT: End = Prints(
 #[test]
 fn arguments_that_are_no_text(rt: HostRuntime) {
     let fault = Fault::from(text_fault::<CommandName, ()>(rt.alloc()));
-    expect_end(&rt, &output_of_fault(&rt, &fault), &NOT_TEXT, &["no text"]);
+    expect_end(&rt, &output_of_fault(&rt, &fault), &NOT_TEXT, "no text");
 }
 
-static HELP: [&str; 8] = [
-    "--help",
-    "help",
-    "help|serve",
-    "help|show-account",
-    "help|show-slot",
-    "add-facility|-h",
-    "--version",
-    "-V",
-];
+// Lines that show help, with bars between their arguments.
+const HELP: &str =
+    "--help help help|serve help|show-account help|show-slot add-facility|-h --version -V";
 
-fn help_of(rt: &(impl Abort + AllocGlobal), arguments: &[&str]) -> String {
-    let asked: Result<Asked<Job<'_>>, ArgumentsFault<()>> = read_job(rt.alloc(), arguments);
-    match asked {
+fn help_of(rt: &(impl Abort + AllocGlobal), line: &str) -> String {
+    let arguments = arguments_of(rt, line);
+    match asked(rt, arguments.as_slice()) {
         Ok(Asked::ShowText(help)) => help.to_string(rt.alloc()).expect(rt, "memory"),
-        _ => panic!(rt; "{arguments:?}"),
+        _ => panic!(rt; "{line}"),
     }
 }
 
 // The text that is shown names the program.
-fn expect_help(rt: &(impl Abort + AllocGlobal), line: &str) {
-    let arguments = arguments_of(rt, line);
-    let text = help_of(rt, arguments.as_slice());
-    assert!(rt; text.as_str().contains("clubdesk"), "{text}");
-}
-
 #[test]
 fn help(rt: HostRuntime) {
-    for line in &HELP {
-        expect_help(&rt, line);
+    for line in HELP.split(' ') {
+        let text = help_of(&rt, line);
+        assert!(rt; text.as_str().contains("clubdesk"), "{text}");
     }
 }
 
-static COMMANDS: [&str; 16] = [
-    "add-member",
-    "credit",
-    "debit",
-    "set-quota",
-    "add-facility",
-    "set-facility",
-    "add-key",
-    "revoke-key",
-    "rotate-key",
-    "close-slot",
-    "open-slot",
-    "cancel-booking",
-    "sheet",
-    "serve",
-    "show-account",
-    "show-slot",
-];
+const COMMANDS: &str = "add-member credit debit set-quota add-facility set-facility add-key \
+    revoke-key rotate-key close-slot open-slot cancel-booking sheet serve show-account show-slot";
 
 // The help of a command has an example of it.
 fn expect_example(rt: &(impl Abort + AllocGlobal), command: &str) {
-    let text = help_of(rt, &["clubdesk", command, "--help"]);
+    let line = format!(in rt.alloc(); "{command}|--help").expect(rt, "memory");
+    let text = help_of(rt, line.as_str());
     let example = format!(in rt.alloc(); "\n  clubdesk {command} club.db ").expect(rt, "memory");
     let piped = format!(in rt.alloc(); " | clubdesk {command} club.db ").expect(rt, "memory");
     let shown = text.as_str();
@@ -293,7 +249,7 @@ fn expect_example(rt: &(impl Abort + AllocGlobal), command: &str) {
 
 #[test]
 fn examples(rt: HostRuntime) {
-    for command in &COMMANDS {
+    for command in COMMANDS.split(' ') {
         expect_example(&rt, command);
     }
 }

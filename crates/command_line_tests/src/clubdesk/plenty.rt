@@ -1,7 +1,7 @@
 //! Long paths, roots, numbers and words: arguments are read, or refused, whatever memory they take.
 
 use super::bad_arguments::output_of;
-use super::tasks::{arguments_of, expect_asked};
+use super::tasks::expect_asked;
 use crate::expect::{expect_case, expect_end};
 use clubdesk_arguments::root_of;
 use std::process::Abort;
@@ -40,21 +40,9 @@ fn takes_a_long_path(rt: HostRuntime) {
 }
 
 // Credits of each decimal length.
-static CREDITS: [&str; 9] = [
-    "1",
-    "12",
-    "123",
-    "1234",
-    "12345",
-    "123456",
-    "1234567",
-    "12345678",
-    "123456789",
-];
-
 #[test]
 fn takes_numbers_of_each_length(rt: HostRuntime) {
-    for points in &CREDITS {
+    for points in "1 12 123 1234 12345 123456 1234567 12345678 123456789".split(' ') {
         let line = format!(in rt.alloc(); "credit|F|amy|{points}").expect(&rt, "memory");
         let want = format!(in rt.alloc(); "Credit {{ member: \"amy\", points: {points} }}");
         expect_asked(&rt, line.as_str(), "F", want.expect(&rt, "memory").as_str());
@@ -96,8 +84,6 @@ fn refuses_long_words(rt: HostRuntime) {
     let word = text_of(&rt, &[(1_000, "w")]);
     for (before, end) in &BEFORE_A_LONG_WORD {
         let line = format!(in rt.alloc(); "{before}{word}").expect(&rt, "memory");
-        let arguments = arguments_of(&rt, line.as_str());
-        let output = output_of(&rt, arguments.as_slice());
-        expect_end(&rt, &output, end, &[*before]);
+        expect_end(&rt, &output_of(&rt, line.as_str()), end, before);
     }
 }

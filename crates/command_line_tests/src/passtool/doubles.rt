@@ -1,31 +1,58 @@
-//! Readers that give pieces or fail, and writers that take pieces or fail.
+//! A slow pipe: one byte a call, signals, and failures.
 
 use std::alloc::Global;
 use std::io::{self, ErrorKind, Read, Write};
 
-// Gives one byte a read, and then the end of the input or a failure. A signal interrupts the first
-// read and every other one.
+/// Gives one byte a read, and takes one byte a write. Signals interrupt it before each call.
 #[derive(Drop)]
-pub(crate) struct Pieces<'a> {
-    left: &'a [u8],
-    fails: bool,
-    interrupted: bool,
+pub(crate) struct Slow<'a> {
+    /// The bytes that it still gives; then its reads fail, or it is at its end.
+    pub(crate) left: &'a [u8],
+    pub(crate) fails: bool,
+    /// The bytes that it took, how many it takes, and whether it can be flushed then.
+    pub(crate) taken: Vec<u8>,
+    pub(crate) room: usize,
+    pub(crate) flushes: bool,
+    /// The signals before each call, and how many of them came.
+    pub(crate) signals: u8,
+    came: u8,
 }
 
-impl<'a> Pieces<'a> {
-    pub(crate) fn new(left: &'a [u8], fails: bool) -> Pieces<'a> {
-        Pieces {
+impl<'a> Slow<'a> {
+    /// Gives these bytes and takes any, with a signal before each.
+    pub(crate) fn new(alloc: Global, left: &'a [u8]) -> Slow<'a> {
+        Slow {
             left,
-            fails,
-            interrupted: false,
+            fails: false,
+            taken: Vec::new(alloc),
+            room: usize::MAX,
+            flushes: true,
+            signals: 1,
+            came: 0,
         }
+    }
+
+    /// Fails at the end of these bytes.
+    pub(crate) fn failing(alloc: Global, left: &'a [u8]) -> Slow<'a> {
+        let mut slow = Slow::new(alloc, left);
+        slow.fails = true;
+        slow
+    }
+
+    // Whether a signal comes now.
+    fn is_interrupted(&mut self) -> bool {
+        self.came = if self.came < self.signals {
+            self.came + 1
+        } else {
+            0
+        };
+        self.came != 0
     }
 }
 
-impl Read for Pieces<'_> {
+impl Read for Slow<'_> {
     fn read(&mut self, buf: &mut [u8]) -> io::Result<usize> {
-        self.interrupted = !self.interrupted;
-        if self.interrupted {
+        if self.is_interrupted() {
             return Err(io::Error::from(ErrorKind::Interrupted));
         }
         match self.left.split_first() {
@@ -40,36 +67,9 @@ impl Read for Pieces<'_> {
     }
 }
 
-// Fails at its first read.
-pub(crate) fn no_input() -> Pieces<'static> {
-    Pieces::new(b"", true)
-}
-
-// Takes one byte a write and fails once it is full; flushing succeeds or fails. A signal interrupts
-// the first write or flush and every other one.
-#[derive(Drop)]
-pub(crate) struct Narrow {
-    pub(crate) taken: Vec<u8>,
-    room: usize,
-    flushes: bool,
-    interrupted: bool,
-}
-
-impl Narrow {
-    pub(crate) fn new(alloc: Global, room: usize, flushes: bool) -> Narrow {
-        Narrow {
-            taken: Vec::new(alloc),
-            room,
-            flushes,
-            interrupted: false,
-        }
-    }
-}
-
-impl Write for Narrow {
+impl Write for Slow<'_> {
     fn write(&mut self, buf: &[u8]) -> io::Result<usize> {
-        self.interrupted = !self.interrupted;
-        if self.interrupted {
+        if self.is_interrupted() {
             return Err(io::Error::from(ErrorKind::Interrupted));
         }
         match buf.first() {
@@ -85,8 +85,7 @@ impl Write for Narrow {
     }
 
     fn flush(&mut self) -> io::Result<()> {
-        self.interrupted = !self.interrupted;
-        if self.interrupted {
+        if self.is_interrupted() {
             return Err(io::Error::from(ErrorKind::Interrupted));
         }
         if self.flushes {

@@ -1,76 +1,41 @@
 //! Passes of 64 caveats, long caveats and words, and slow pipes: a run has memory for each.
 
-use super::doubles::{Pieces, no_input};
-use super::runs::{Arguments, TEXT, TO_V2, V2_TEXT, ended_by, output_of};
+use super::doubles::Slow;
+use super::runs::{
+    BARE_TEXT, FORMS, TEXT, TO_V2, TOO_MANY, V2_TEXT, arguments_of, ended_by, expect, output_of,
+    unread_output_of,
+};
 use crate::expect::{expect_case, expect_end, expect_eq};
-use std::io::{self, ErrorKind, Read, Write};
+use std::io::Read;
 use std::process::Abort;
 use test_kit::End::{Begins, Prints, Writes};
 use test_kit::passes::{AMY_JSON, AMY_V1, AMY_V2};
-use test_kit::{End, Piece, join};
+use test_kit::{End, Output, Piece, join};
 
-const VERIFY: Arguments = &[
-    "passtool",
-    "verify",
-    "--root",
-    "00112233445566778899aabbccddeeff",
-];
+const VERIFY: &str = "verify|--root|00112233445566778899aabbccddeeff";
 
-static FORMS: [&str; 3] = ["v1", "v2", "json"];
+// Amy's pass with caveats `guests <= 49` in each form, by a program of another language. Its text
+// up to the first caveat, a further caveat, and the text after 63 and after 64 of them.
+type Guests = [&'static str; 4];
 
-// Amy's pass with 63 caveats `guests <= 49` and with 64, in each form, by a program of another
-// language.
-static OF_63: [[Piece; 3]; 3] = [
+static GUESTS: [Guests; 3] = [
     [
-        (
-            1,
-            "MDAxN2xvY2F0aW9uIGNsdWItZGVzawowMDE5aWRlbnRpZmllciBrZXk6YW15LTEK",
-        ),
-        (63, "MDAxNWNpZCBndWVzdHMgPD0gNDkK"),
-        (
-            1,
-            "MDAyZnNpZ25hdHVyZSBmLswfZ1VYwg0L5-m6hOXJXowm5PNxdjv8ZGENiAtdLAo",
-        ),
+        "MDAxN2xvY2F0aW9uIGNsdWItZGVzawowMDE5aWRlbnRpZmllciBrZXk6YW15LTEKMDAxNWNpZCBndWVzdHMgPD0gNDkK",
+        "MDAxNWNpZCBndWVzdHMgPD0gNDkK",
+        "MDAyZnNpZ25hdHVyZSBmLswfZ1VYwg0L5-m6hOXJXowm5PNxdjv8ZGENiAtdLAo",
+        "MDAyZnNpZ25hdHVyZSCMJKkmAyvlhTHo8JHg6Unt770jXj_0R1I-3J1Co_oC7Ao",
     ],
     [
-        (1, "AgEJY2x1Yi1kZXNrAglrZXk6YW15LTEA"),
-        (63, "AgxndWVzdHMgPD0gNDkA"),
-        (1, "AAYgZi7MH2dVWMINC-fpuoTlyV6MJuTzcXY7_GRhDYgLXSw"),
+        "AgEJY2x1Yi1kZXNrAglrZXk6YW15LTEAAgxndWVzdHMgPD0gNDkA",
+        "AgxndWVzdHMgPD0gNDkA",
+        "AAYgZi7MH2dVWMINC-fpuoTlyV6MJuTzcXY7_GRhDYgLXSw",
+        "AAYgjCSpJgMr5YUx6PCR4OlJ7e-9I14_9EdSPtydQqP6Auw",
     ],
     [
-        (1, "{\"c\":[{\"i\":\"guests <= 49\"}"),
-        (62, ",{\"i\":\"guests <= 49\"}"),
-        (
-            1,
-            "],\"i\":\"key:amy-1\",\"l\":\"club-desk\",\"s64\":\"Zi7MH2dVWMINC-fpuoTlyV6MJuTzcXY7_GRhDYgLXSw\",\"v\":2}",
-        ),
-    ],
-];
-
-static OF_64: [[Piece; 3]; 3] = [
-    [
-        (
-            1,
-            "MDAxN2xvY2F0aW9uIGNsdWItZGVzawowMDE5aWRlbnRpZmllciBrZXk6YW15LTEK",
-        ),
-        (64, "MDAxNWNpZCBndWVzdHMgPD0gNDkK"),
-        (
-            1,
-            "MDAyZnNpZ25hdHVyZSCMJKkmAyvlhTHo8JHg6Unt770jXj_0R1I-3J1Co_oC7Ao",
-        ),
-    ],
-    [
-        (1, "AgEJY2x1Yi1kZXNrAglrZXk6YW15LTEA"),
-        (64, "AgxndWVzdHMgPD0gNDkA"),
-        (1, "AAYgjCSpJgMr5YUx6PCR4OlJ7e-9I14_9EdSPtydQqP6Auw"),
-    ],
-    [
-        (1, "{\"c\":[{\"i\":\"guests <= 49\"}"),
-        (63, ",{\"i\":\"guests <= 49\"}"),
-        (
-            1,
-            "],\"i\":\"key:amy-1\",\"l\":\"club-desk\",\"s64\":\"jCSpJgMr5YUx6PCR4OlJ7e-9I14_9EdSPtydQqP6Auw\",\"v\":2}",
-        ),
+        "{\"c\":[{\"i\":\"guests <= 49\"}",
+        ",{\"i\":\"guests <= 49\"}",
+        "],\"i\":\"key:amy-1\",\"l\":\"club-desk\",\"s64\":\"Zi7MH2dVWMINC-fpuoTlyV6MJuTzcXY7_GRhDYgLXSw\",\"v\":2}",
+        "],\"i\":\"key:amy-1\",\"l\":\"club-desk\",\"s64\":\"jCSpJgMr5YUx6PCR4OlJ7e-9I14_9EdSPtydQqP6Auw\",\"v\":2}",
     ],
 ];
 
@@ -78,45 +43,67 @@ fn text_of(rt: &(impl Abort + AllocGlobal), pieces: &[Piece]) -> String {
     join(rt.alloc(), pieces).expect(rt, "memory")
 }
 
+fn of_63(rt: &(impl Abort + AllocGlobal), of: &Guests) -> String {
+    text_of(rt, &[(1, of[0]), (62, of[1]), (1, of[2])])
+}
+
+fn of_64(rt: &(impl Abort + AllocGlobal), of: &Guests) -> String {
+    text_of(rt, &[(1, of[0]), (63, of[1]), (1, of[3])])
+}
+
 // A run on an input writes this text and a line feed.
-fn expect_text(rt: &(impl Abort + AllocGlobal), arguments: &[&str], input: &str, want: &str) {
+fn expect_text(rt: &(impl Abort + AllocGlobal), line: &str, input: &str, want: &str) {
     let mut reader = input.as_bytes();
-    let output = output_of(rt, arguments, &mut reader);
+    let output = output_of(rt, line, &mut reader);
     expect_case(rt, want, &output.status, &0);
     expect_case(rt, input, &output.text.strip_suffix('\n'), &Some(want));
 }
 
 // A text is signed, and converted to each form.
-fn is_converted(rt: &(impl Abort + AllocGlobal), text: &str, all: &[[Piece; 3]]) {
+fn is_converted(rt: &(impl Abort + AllocGlobal), text: &str) {
     expect_text(rt, VERIFY, text, "signed");
-    for (form, pieces) in FORMS.iter().zip(all) {
-        let arguments = ["passtool", "convert", "--form", form];
-        let want = text_of(rt, pieces);
-        expect_text(rt, &arguments, text, want.as_str());
+    for (form, of) in FORMS.iter().zip(&GUESTS) {
+        let line = format!(in rt.alloc(); "convert|--form|{form}").expect(rt, "memory");
+        expect_text(rt, line.as_str(), text, of_64(rt, of).as_str());
     }
 }
 
 #[test]
 fn verifies_and_converts_sixty_four_caveats(rt: HostRuntime) {
-    for pieces in &OF_64 {
-        let text = text_of(&rt, pieces);
-        is_converted(&rt, text.as_str(), &OF_64);
+    for of in &GUESTS {
+        is_converted(&rt, of_64(&rt, of).as_str());
     }
 }
 
 #[test]
 fn narrows_to_sixty_four_caveats(rt: HostRuntime) {
-    for (pieces, wanted) in OF_63.iter().zip(&OF_64) {
-        let text = text_of(&rt, pieces);
-        let want = text_of(&rt, wanted);
-        let arguments = ["passtool", "narrow", "guests <= 49"];
-        expect_text(&rt, &arguments, text.as_str(), want.as_str());
+    for of in &GUESTS {
+        let (text, want) = (of_63(&rt, of), of_64(&rt, of));
+        expect_text(&rt, "narrow|guests <= 49", text.as_str(), want.as_str());
     }
 }
 
-// A caveat of 256 bytes, and amy's pass with it in each form, by the same program.
-static LONG: [Piece; 2] = [(15, "---------------- "), (1, "-")];
+const GUESTS_64: Piece = (64, "|guests <= 1");
 
+const MINT: Piece = (1, "mint|--root|ROOT|--id|we used our secret key");
+
+// The line of a run in pieces, its input, and how it ends.
+static ADDED: [(&[Piece], &str, End); 4] = [
+    (&[(1, "narrow"), GUESTS_64], TEXT, TOO_MANY),
+    (&[(1, "narrow"), GUESTS_64], BARE_TEXT, Begins(0, "")),
+    (&[MINT, (64, "|x")], "", Begins(0, "")),
+    (&[MINT, (65, "|x")], "", TOO_MANY),
+];
+
+#[test]
+fn adds_no_sixty_fifth_caveat(rt: HostRuntime) {
+    for (pieces, input, end) in &ADDED {
+        let line = join(rt.alloc(), pieces).expect(&rt, "memory");
+        expect(&rt, line.as_str(), input.as_bytes(), end);
+    }
+}
+
+// Amy's pass with a caveat of 256 bytes in each form, by the same program.
 static OF_LONG: [&str; 3] = [
     "MDAxN2xvY2F0aW9uIGNsdWItZGVzawowMDE5aWRlbnRpZmllciBrZXk6YW15LTEKMDEwOWNpZCAtLS0tLS0tLS0tLS0tLS0tIC0tLS0tLS0tLS0tLS0tLS0gLS0tLS0tLS0tLS0tLS0tLSAtLS0tLS0tLS0tLS0tLS0tIC0tLS0tLS0tLS0tLS0tLS0gLS0tLS0tLS0tLS0tLS0tLSAtLS0tLS0tLS0tLS0tLS0tIC0tLS0tLS0tLS0tLS0tLS0gLS0tLS0tLS0tLS0tLS0tLSAtLS0tLS0tLS0tLS0tLS0tIC0tLS0tLS0tLS0tLS0tLS0gLS0tLS0tLS0tLS0tLS0tLSAtLS0tLS0tLS0tLS0tLS0tIC0tLS0tLS0tLS0tLS0tLS0gLS0tLS0tLS0tLS0tLS0tLSAtCjAwMmZzaWduYXR1cmUg0EYA3QeW9E_rlyXJ4RF9vkes1fuayd1HMFzy7zTp_ysK",
     "AgEJY2x1Yi1kZXNrAglrZXk6YW15LTEAAoACLS0tLS0tLS0tLS0tLS0tLSAtLS0tLS0tLS0tLS0tLS0tIC0tLS0tLS0tLS0tLS0tLS0gLS0tLS0tLS0tLS0tLS0tLSAtLS0tLS0tLS0tLS0tLS0tIC0tLS0tLS0tLS0tLS0tLS0gLS0tLS0tLS0tLS0tLS0tLSAtLS0tLS0tLS0tLS0tLS0tIC0tLS0tLS0tLS0tLS0tLS0gLS0tLS0tLS0tLS0tLS0tLSAtLS0tLS0tLS0tLS0tLS0tIC0tLS0tLS0tLS0tLS0tLS0gLS0tLS0tLS0tLS0tLS0tLSAtLS0tLS0tLS0tLS0tLS0tIC0tLS0tLS0tLS0tLS0tLS0gLQAABiDQRgDdB5b0T-uXJcnhEX2-R6zV-5rJ3UcwXPLvNOn_Kw",
@@ -127,104 +114,38 @@ static OF_NONE: [&str; 3] = [AMY_V1, AMY_V2, AMY_JSON];
 
 #[test]
 fn narrows_by_a_long_caveat(rt: HostRuntime) {
-    let caveat = text_of(&rt, &LONG);
-    let arguments = ["passtool", "narrow", "--any", "--", caveat.as_str()];
+    let caveat = text_of(&rt, &[(15, "---------------- "), (1, "-")]);
     expect_eq(&rt, &caveat.len(), &256);
+    let line = format!(in rt.alloc(); "narrow|--any|--|{caveat}").expect(&rt, "memory");
     for (text, want) in OF_NONE.iter().zip(&OF_LONG) {
-        expect_text(&rt, &arguments, text, want);
+        expect_text(&rt, line.as_str(), text, want);
         expect_text(&rt, VERIFY, want, "signed");
     }
 }
 
-// Gives one byte a read, and takes one byte a write. Two signals interrupt each.
-#[derive(Drop)]
-struct Interrupted<'a> {
-    left: &'a [u8],
-    taken: Vec<u8>,
-    signals: u8,
-}
-
-impl Interrupted<'_> {
-    // Whether a signal comes now.
-    fn is_interrupted(&mut self) -> bool {
-        self.signals = if self.signals < 2 {
-            self.signals + 1
-        } else {
-            0
-        };
-        self.signals != 0
-    }
-}
-
-impl Read for Interrupted<'_> {
-    fn read(&mut self, buf: &mut [u8]) -> io::Result<usize> {
-        if self.is_interrupted() {
-            return Err(io::Error::from(ErrorKind::Interrupted));
-        }
-        match self.left.split_first() {
-            Some((byte, rest)) if !buf.is_empty() => {
-                buf[0] = *byte;
-                self.left = rest;
-                Ok(1)
-            }
-            _ => Ok(0),
-        }
-    }
-}
-
-impl Write for Interrupted<'_> {
-    fn write(&mut self, buf: &[u8]) -> io::Result<usize> {
-        if self.is_interrupted() {
-            return Err(io::Error::from(ErrorKind::Interrupted));
-        }
-        match buf.first() {
-            None => Ok(0),
-            Some(byte) => match self.taken.push(*byte) {
-                Ok(()) => Ok(1),
-                Err(_) => Err(io::Error::from(ErrorKind::OutOfMemory)),
-            },
-        }
-    }
-
-    fn flush(&mut self) -> io::Result<()> {
-        if self.is_interrupted() {
-            return Err(io::Error::from(ErrorKind::Interrupted));
-        }
-        Ok(())
-    }
-}
-
-fn with_signals<'a>(rt: &impl AllocGlobal, left: &'a str) -> Interrupted<'a> {
-    Interrupted {
-        left: left.as_bytes(),
-        taken: Vec::new(rt.alloc()),
-        signals: 0,
-    }
+// A pipe with two signals before each call.
+fn with_signals<'a>(rt: &impl AllocGlobal, left: &'a str) -> Slow<'a> {
+    let mut slow = Slow::new(rt.alloc(), left.as_bytes());
+    slow.signals = 2;
+    slow
 }
 
 #[test]
 fn goes_on_after_two_signals_in_a_row(rt: HostRuntime) {
     let (mut reader, mut writer) = (with_signals(&rt, TEXT), with_signals(&rt, ""));
-    let output = ended_by(&rt, TO_V2, &mut reader, &mut writer);
+    let arguments = arguments_of(&rt, TO_V2);
+    let output = ended_by(&rt, arguments.as_slice(), &mut reader, &mut writer);
     expect_end(&rt, &output, &Prints(0, ""), TO_V2);
     let written = str::from_utf8(&writer.taken).ok().expect(&rt, "text");
     expect_eq(&rt, &written.strip_suffix('\n'), &Some(V2_TEXT));
 }
 
-const VERIFY_LONGEST: Arguments = &["passtool", "verify", "--root", "00"];
+const VERIFY_LONGEST: &str = "verify|--root|00";
 
-// A pass of 8,192 characters and a line feed, signed under a root of one zero byte.
-fn longest_line(rt: &(impl Abort + AllocGlobal)) -> String {
-    let identifier = text_of(rt, &[(6_104, "k")]);
-    let arguments = [
-        "passtool",
-        "mint",
-        "--root",
-        "00",
-        "--id",
-        identifier.as_str(),
-    ];
-    output_of(rt, &arguments, &mut no_input()).text
+// A run that mints a pass with an identifier of `len` bytes, under a root of one zero byte.
+fn minted(rt: &(impl Abort + AllocGlobal), len: usize) -> Output {
+    let line = text_of(rt, &[(1, "mint|--root|00|--id|"), (len, "k")]);
+    unread_output_of(rt, line.as_str())
 }
 
 fn expect_signed(rt: &(impl Abort + AllocGlobal), reader: &mut impl Read) {
@@ -234,53 +155,57 @@ fn expect_signed(rt: &(impl Abort + AllocGlobal), reader: &mut impl Read) {
 
 #[test]
 fn reads_the_longest_line_byte_by_byte(rt: HostRuntime) {
-    let line = longest_line(&rt);
+    let line = minted(&rt, 6_104).text;
     expect_eq(&rt, &line.len(), &8_193);
-    expect_signed(&rt, &mut Pieces::new(line.as_bytes(), false));
+    expect_signed(&rt, &mut Slow::new(rt.alloc(), line.as_bytes()));
     expect_signed(&rt, &mut with_signals(&rt, line.as_str()));
 }
 
-// Arguments before a word of 1,000 letters, and how a run ends.
-static BEFORE_A_LONG_WORD: [(Arguments, End); 7] = [
+const TOO_LONG: End = Prints(3, "fault 1: too long");
+
+// Bytes after the 8,192 characters of a pass, and how `verify` ends. It takes one line feed off.
+static BEHIND: [(&str, End); 6] = [
+    ("", Writes("signed")),
+    ("\n", Writes("signed")),
+    ("\nx", TOO_LONG),
+    ("\n\n", TOO_LONG),
+    ("\nxx", TOO_LONG),
+    ("x", TOO_LONG),
+];
+
+// With the other parts of the pass 6,104 bytes make 6,144 in V2, and 8,192 characters.
+#[test]
+fn takes_no_text_above_the_limit(rt: HostRuntime) {
+    expect_end(&rt, &minted(&rt, 6_105), &TOO_LONG, "6,105 bytes");
+    let line = minted(&rt, 6_104).text;
+    let text = line.strip_suffix('\n').expect(&rt, "a line");
+    for (behind, end) in &BEHIND {
+        let input = format!(in rt.alloc(); "{text}{behind}").expect(&rt, "memory");
+        expect(&rt, VERIFY_LONGEST, input.as_bytes(), end);
+    }
+}
+
+// The line before a word of 1,000 letters, and how a run ends.
+static BEFORE_A_LONG_WORD: [(&str, End); 7] = [
+    ("", Begins(2, "error: unrecognized subcommand 'wwwwwwww")),
+    ("show|", Begins(2, "error: unexpected argument 'wwwwwwww")),
     (
-        &["passtool"],
-        Begins(2, "error: unrecognized subcommand 'wwwwwwww"),
-    ),
-    (
-        &["passtool", "show"],
-        Begins(2, "error: unexpected argument 'wwwwwwww"),
-    ),
-    (
-        &["passtool", "convert", "--form"],
+        "convert|--form|",
         Begins(2, "error: invalid value 'wwwwwwww"),
     ),
     (
-        &["passtool", "help"],
+        "help|",
         Begins(2, "error: unrecognized subcommand 'wwwwwwww"),
     ),
-    (&["passtool", "verify", "--root"], Prints(6, "bad root")),
-    (
-        &["passtool", "mint", "--id", "k", "--root"],
-        Prints(6, "bad root"),
-    ),
-    (
-        &["passtool", "narrow"],
-        Prints(5, "caveat 1 not understood"),
-    ),
+    ("verify|--root|", Prints(6, "bad root")),
+    ("mint|--id|k|--root|", Prints(6, "bad root")),
+    ("narrow|", Prints(5, "caveat 1 not understood")),
 ];
-
-fn expect_word(rt: &(impl Abort + AllocGlobal), first: &[&str], word: &str, end: &End) {
-    let mut arguments = Vec::new(rt.alloc());
-    arguments.extend_from_slice(first).expect(rt, "memory");
-    arguments.push(word).expect(rt, "memory");
-    let output = output_of(rt, arguments.as_slice(), &mut no_input());
-    expect_end(rt, &output, end, first);
-}
 
 #[test]
 fn refuses_long_words(rt: HostRuntime) {
-    let word = text_of(&rt, &[(1_000, "w")]);
-    for (first, end) in &BEFORE_A_LONG_WORD {
-        expect_word(&rt, first, word.as_str(), end);
+    for (before, end) in &BEFORE_A_LONG_WORD {
+        let line = text_of(&rt, &[(1, before), (1_000, "w")]);
+        expect_end(&rt, &unread_output_of(&rt, line.as_str()), end, before);
     }
 }

@@ -1,11 +1,13 @@
 //! Processes of `passtool`: all of their arguments count, and how they end. The signature was
 //! computed by a program of another language.
 
-use super::runs::{BARE_TEXT, OTHER_TEXT, SHOW, TEXT, output_of};
+use super::doubles::Slow;
+use super::runs::{BARE_TEXT, OTHER_TEXT, SHOW, TEXT, VERIFY, arguments_of, output_of};
 use crate::expect::expect_eq;
 use command_line::given_arguments;
 use passtool_commands::{BadValue, Name, run_process};
 use std::fmt::Write;
+use std::io::Read;
 use std::process::Abort;
 use test_kit::Process;
 
@@ -13,81 +15,79 @@ use test_kit::Process;
 type Ended = (u8, String, String);
 
 /// The end of a process with these arguments and this input.
-fn end_of(rt: &(impl Abort + AllocGlobal), arguments: &[&[u8]], input: &str) -> Ended {
+fn end_of(rt: &(impl Abort + AllocGlobal), arguments: &[&[u8]], input: &mut impl Read) -> Ended {
     let process = Process::new(rt.alloc(), arguments);
-    let mut reader = input.as_bytes();
     let mut written = Vec::new(rt.alloc());
-    let status = run_process(rt.alloc(), &process, &mut reader, &mut written);
+    let status = run_process(rt.alloc(), &process, input, &mut written);
     let written = String::from_utf8(written).ok().expect(rt, "text");
     (status, written, process.into_printed())
 }
 
-/// Arguments, an input, and the end of a process with them.
-type Row = (
-    &'static [&'static [u8]],
-    &'static str,
-    u8,
-    &'static str,
-    &'static str,
-);
+/// The line of a process, its input, its status and its text.
+type Row = (&'static str, &'static str, u8, &'static str);
 
-const ROOT: &[u8] =
-    b"74686973206973206f757220737570657220736563726574206b65793b206f6e6c792077652073686f756c64206b6e6f77206974";
+// The text of clap ends its lines itself.
+const MORE: &str =
+    "error: unexpected argument 'more' found\n\nUsage: passtool show\n\nFor more information, try '--help'.\n";
 
-static ROWS: [Row; 7] = [
+const OTHER_FORM: &str =
+    "error: invalid value 'v3' for '--form <FORM>'\n  [possible values: v1, v2, json]\n\nUsage: passtool <COMMAND>\n\nFor more information, try '--help'.\n";
+
+const NO_TEXT: &str =
+    "error: invalid UTF-8 was detected in one or more arguments\n\nUsage: passtool <COMMAND>\n\nFor more information, try '--help'.\n";
+
+static ROWS: [Row; 8] = [
+    (VERIFY, TEXT, 0, "signed\n"),
+    (VERIFY, OTHER_TEXT, 1, "not signed\n"),
+    (SHOW, "!", 3, "fault 2: malformed\n"),
+    ("verify|--root|zz", TEXT, 6, "bad root\n"),
+    ("narrow|shoe = red", "!", 5, "caveat 1 not understood\n"),
     (
-        &[b"passtool", b"verify", b"--root", ROOT],
-        TEXT,
-        0,
-        "signed\n",
-        "",
-    ),
-    (
-        &[b"passtool", b"verify", b"--root", ROOT],
-        OTHER_TEXT,
-        1,
-        "not signed\n",
-        "",
-    ),
-    (&[b"passtool", b"show"], "!", 3, "", "fault 2: malformed\n"),
-    (
-        &[b"passtool", b"verify", b"--root", b"zz"],
-        TEXT,
-        6,
-        "",
-        "bad root\n",
-    ),
-    (
-        &[b"passtool", b"narrow", b"guests <= 1", b"shoe = red"],
+        "narrow|guests <= 1|shoe = red",
         TEXT,
         5,
-        "",
         "caveat 2 not understood\n",
     ),
-    (
-        &[b"passtool", b"show", b"more"],
-        TEXT,
-        2,
-        "",
-        "error: unexpected argument 'more' found\n\nUsage: passtool show\n\nFor more information, try '--help'.\n",
-    ),
-    (
-        &[b"passtool", b"show", b"\xff"],
-        TEXT,
-        2,
-        "",
-        "error: invalid UTF-8 was detected in one or more arguments\n\nUsage: passtool <COMMAND>\n\nFor more information, try '--help'.\n",
-    ),
+    ("show|more", TEXT, 2, MORE),
+    ("convert|--form|v3", "!", 2, OTHER_FORM),
 ];
+
+const SHOWN: &[&[u8]] = &[b"passtool", b"show"];
+
+const NO_TEXT_SHOWN: &[&[u8]] = &[b"passtool", b"show", b"\xff"];
+
+// An answer is written, and the line of a fault is printed.
+fn expect_ended(rt: &impl Abort, (status, written, printed): Ended, want: (u8, &str)) {
+    expect_eq(rt, &status, &want.0);
+    let (text, nothing) = if status < 2 {
+        (written, printed)
+    } else {
+        (printed, written)
+    };
+    expect_eq(rt, &text.as_str(), &want.1);
+    expect_eq(rt, &nothing.as_str(), &"");
+}
+
+fn ends(rt: &(impl Abort + AllocGlobal), (line, input, status, text): &Row) {
+    let arguments = arguments_of(rt, line);
+    let arguments: Vec<&[u8]> = arguments
+        .iter()
+        .map(|text| text.as_bytes())
+        .collect(rt.alloc())
+        .expect(rt, "memory");
+    let ended = end_of(rt, arguments.as_slice(), &mut input.as_bytes());
+    expect_ended(rt, ended, (*status, text));
+}
 
 #[test]
 fn ends_with_a_status_and_a_line(rt: HostRuntime) {
-    for (arguments, input, status, written, printed) in &ROWS {
-        let (ended, output, line) = end_of(&rt, arguments, input);
-        expect_eq(&rt, &ended, status);
-        expect_eq(&rt, &output.as_str(), written);
-        expect_eq(&rt, &line.as_str(), printed);
+    for row in &ROWS {
+        ends(&rt, row);
     }
+    let ended = end_of(&rt, NO_TEXT_SHOWN, &mut TEXT.as_bytes());
+    expect_ended(&rt, ended, (2, NO_TEXT));
+    let ended = end_of(&rt, SHOWN, &mut Slow::failing(rt.alloc(), b""));
+    expect_ended(&rt, ended, (7, "input or output failed\n"));
 }
 
 // More arguments than any command takes, of lengths up to a thousand.
@@ -131,7 +131,7 @@ fn narrows_by_every_caveat(rt: HostRuntime) {
         writeln!(want, "caveat {number} guests <= 1").expect(&rt, "memory");
     }
     writeln!(want, "signature {SIGNATURE}").expect(&rt, "memory");
-    let (status, pass, _) = end_of(&rt, arguments.as_slice(), BARE_TEXT);
+    let (status, pass, _) = end_of(&rt, arguments.as_slice(), &mut BARE_TEXT.as_bytes());
     expect_eq(&rt, &status, &0);
     let mut pass = pass.as_bytes();
     let shown = output_of(&rt, SHOW, &mut pass);

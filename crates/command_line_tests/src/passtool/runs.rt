@@ -1,24 +1,20 @@
 //! Runs of the program over memory, and how they end. The pass and its root are those of
 //! libmacaroons' documentation; other values were computed by a program of another language.
 
-use super::doubles::no_input;
+use super::doubles::Slow;
 use crate::expect::{expect_end, expect_eq};
-use passtool_commands::{Fault, run};
+use passtool_commands::run;
 use std::io::{Read, Write};
 use std::process::Abort;
+use test_kit::End::Prints;
 use test_kit::{End, Output};
 
-/// The arguments of a run, of which the first is the program's name.
-pub(crate) type Arguments = &'static [&'static str];
-
 // "this is our super secret key; only we should know it"
-pub(crate) const ROOT: &str =
+const ROOT: &str =
     "74686973206973206f757220737570657220736563726574206b65793b206f6e6c792077652073686f756c64206b6e6f77206974";
 
-pub(crate) const IDENTIFIER: &str = "we used our secret key";
-
-// The location http://mybank/, the identifier and the caveat "test = caveat", signed under the
-// root: in V1, V2 and JSON.
+// The location http://mybank/, the identifier "we used our secret key" and the caveat
+// "test = caveat", signed under the root: in V1, V2 and JSON.
 pub(crate) const TEXT: &str =
     "MDAxY2xvY2F0aW9uIGh0dHA6Ly9teWJhbmsvCjAwMjZpZGVudGlmaWVyIHdlIHVzZWQgb3VyIHNlY3JldCBrZXkKMDAxNmNpZCB0ZXN0ID0gY2F2ZWF0CjAwMmZzaWduYXR1cmUgGXusegRK8zMyhluSZuJtSTvdZopmDkTYjOGpmMI9vWcK";
 
@@ -37,52 +33,54 @@ pub(crate) const BARE_TEXT: &str =
     "MDAxY2xvY2F0aW9uIGh0dHA6Ly9teWJhbmsvCjAwMjZpZGVudGlmaWVyIHdlIHVzZWQgb3VyIHNlY3JldCBrZXkKMDAyZnNpZ25hdHVyZSDj2eApCFJsTAA5rhURQRXZf91ovyujebNCqvD2F9BVLwo";
 
 // The location http://example.org/, the identifier "keyid" and no caveats, of an unknown root: in
-// V1, V2 and JSON.
+// V1 and V2.
 pub(crate) const OTHER_TEXT: &str =
     "MDAyMWxvY2F0aW9uIGh0dHA6Ly9leGFtcGxlLm9yZy8KMDAxNWlkZW50aWZpZXIga2V5aWQKMDAyZnNpZ25hdHVyZSB83ueSURxbxvUoSFgF3-myTnheKOKpkwH51xHGCeOO9wo";
 
 pub(crate) const OTHER_V2: &str =
     "AgETaHR0cDovL2V4YW1wbGUub3JnLwIFa2V5aWQAAAYgfN7nklEcW8b1KEhYBd_psk54XijiqZMB-dcRxgnjjvc";
 
-pub(crate) const OTHER_JSON: &str =
-    "{\"c\":[],\"i\":\"keyid\",\"l\":\"http://example.org/\",\"s64\":\"fN7nklEcW8b1KEhYBd_psk54XijiqZMB-dcRxgnjjvc\",\"v\":2}";
+// The names of the forms, in the order of texts.
+pub(crate) static FORMS: [&str; 3] = ["v1", "v2", "json"];
 
-// The arguments of each command.
-pub(crate) const VERIFY: Arguments = &["passtool", "verify", "--root", ROOT];
+// The line of each command.
+pub(crate) const VERIFY: &str = "verify|--root|ROOT";
 
-pub(crate) const SHOW: Arguments = &["passtool", "show"];
+pub(crate) const SHOW: &str = "show";
 
-pub(crate) const TO_V1: Arguments = &["passtool", "convert", "--form", "v1"];
+pub(crate) const TO_V1: &str = "convert|--form|v1";
 
-pub(crate) const TO_V2: Arguments = &["passtool", "convert", "--form", "v2"];
+pub(crate) const TO_V2: &str = "convert|--form|v2";
 
-pub(crate) const TO_JSON: Arguments = &["passtool", "convert", "--form", "json"];
+pub(crate) const TO_JSON: &str = "convert|--form|json";
 
 // Makes `TEXT` of `BARE_TEXT`.
-pub(crate) const NARROW: Arguments = &["passtool", "narrow", "--any", "test = caveat"];
+pub(crate) const NARROW: &str = "narrow|--any|test = caveat";
 
 // Makes `V2_TEXT`.
-pub(crate) const MINT: Arguments = &[
-    "passtool",
-    "mint",
-    "--root",
-    ROOT,
-    "--id",
-    IDENTIFIER,
-    "--location=http://mybank/",
-    "test = caveat",
-];
+pub(crate) const MINT: &str =
+    "mint|--root|ROOT|--id|we used our secret key|--location=http://mybank/|test = caveat";
 
-pub(crate) const MALFORMED: End = End::Prints(3, "fault 2: malformed");
+pub(crate) const MALFORMED: End = Prints(3, "fault 2: malformed");
 
-pub(crate) const TOO_MANY: End = End::Prints(3, "fault 4: too many caveats");
+pub(crate) const TOO_MANY: End = Prints(3, "fault 4: too many caveats");
 
-/// Arguments and an input, and how a run on them ends.
-pub(crate) struct Row(
-    pub(crate) Arguments,
-    pub(crate) &'static str,
-    pub(crate) End,
-);
+/// The line of a run, its input, and how it ends.
+pub(crate) type Row = (&'static str, &'static str, End);
+
+/// The arguments of a line, split at bars, after the program's name. `ROOT` stands for the root of
+/// the known pass.
+pub(crate) fn arguments_of<'a>(rt: &(impl Abort + AllocGlobal), line: &'a str) -> Vec<&'a str> {
+    let mut arguments = Vec::from_array(rt.alloc(), ["passtool"]).expect(rt, "memory");
+    if line.is_empty() {
+        return arguments;
+    }
+    for argument in line.split('|') {
+        let argument = if argument == "ROOT" { ROOT } else { argument };
+        arguments.push(argument).expect(rt, "memory");
+    }
+    arguments
+}
 
 /// A run of the program; the text of its end is its line on standard error.
 pub(crate) fn ended_by<R: Read, W: Write>(
@@ -96,26 +94,22 @@ pub(crate) fn ended_by<R: Read, W: Write>(
             status: outcome.status(),
             text: String::new(rt.alloc()),
         },
-        Err(fault) => output_of_fault(rt, &fault),
-    }
-}
-
-/// The status of a fault and its line.
-pub(crate) fn output_of_fault(rt: &(impl Abort + AllocGlobal), fault: &Fault) -> Output {
-    Output {
-        status: fault.status(),
-        text: fault.to_string(rt.alloc()).expect(rt, "memory"),
+        Err(fault) => Output {
+            status: fault.status(),
+            text: fault.to_string(rt.alloc()).expect(rt, "memory"),
+        },
     }
 }
 
 /// A run of the program, which writes nothing before a fault.
 pub(crate) fn output_of<R: Read>(
     rt: &(impl Abort + AllocGlobal),
-    arguments: &[&str],
+    line: &str,
     reader: &mut R,
 ) -> Output {
+    let arguments = arguments_of(rt, line);
     let mut written = Vec::new(rt.alloc());
-    let output = ended_by(rt, arguments, reader, &mut written);
+    let output = ended_by(rt, arguments.as_slice(), reader, &mut written);
     if output.text.is_empty() {
         let text = String::from_utf8(written).ok().expect(rt, "text");
         return Output {
@@ -127,33 +121,27 @@ pub(crate) fn output_of<R: Read>(
     output
 }
 
+/// A run that reads no input.
+pub(crate) fn unread_output_of(rt: &(impl Abort + AllocGlobal), line: &str) -> Output {
+    output_of(rt, line, &mut Slow::failing(rt.alloc(), b""))
+}
+
 /// A run on this input ends so.
-pub(crate) fn expect(rt: &(impl Abort + AllocGlobal), arguments: &[&str], input: &[u8], end: &End) {
+pub(crate) fn expect(rt: &(impl Abort + AllocGlobal), line: &str, input: &[u8], end: &End) {
     let mut reader = input;
-    expect_end(rt, &output_of(rt, arguments, &mut reader), end, arguments);
+    expect_end(rt, &output_of(rt, line, &mut reader), end, line);
 }
 
 /// Each run ends as its row says.
 pub(crate) fn expect_rows(rt: &(impl Abort + AllocGlobal), rows: &[Row]) {
-    for Row(arguments, input, end) in rows {
-        let mut reader = input.as_bytes();
-        expect_end(rt, &output_of(rt, arguments, &mut reader), end, &[*input]);
+    for (line, input, end) in rows {
+        expect(rt, line, input.as_bytes(), end);
     }
 }
 
-/// A run that reads no input ends so.
-pub(crate) fn expect_unread(rt: &(impl Abort + AllocGlobal), arguments: &[&str], end: &End) {
-    expect_end(
-        rt,
-        &output_of(rt, arguments, &mut no_input()),
-        end,
-        arguments,
-    );
-}
-
 /// Each of these runs reads no input, and ends so.
-pub(crate) fn expect_all_unread(rt: &(impl Abort + AllocGlobal), rows: &[(Arguments, End)]) {
-    for (arguments, end) in rows {
-        expect_unread(rt, arguments, end);
+pub(crate) fn expect_unread(rt: &(impl Abort + AllocGlobal), rows: &[(&str, End)]) {
+    for (line, end) in rows {
+        expect_end(rt, &unread_output_of(rt, line), end, line);
     }
 }

@@ -1,45 +1,26 @@
 //! Verifying, and texts that are no pass.
 
 use super::runs::{
-    Arguments, JSON_TEXT, MALFORMED, OTHER_TEXT, OTHER_V2, ROOT, Row, SHOW, TEXT, TO_V1, V2_TEXT,
-    VERIFY, expect, expect_rows,
+    JSON_TEXT, MALFORMED, OTHER_TEXT, OTHER_V2, Row, SHOW, TEXT, TO_V1, V2_TEXT, VERIFY, expect,
+    expect_rows,
 };
-use std::process::Abort;
 use test_kit::End;
 use test_kit::End::{Prints, Writes};
 
-const VERIFY_OTHER: Arguments = &["passtool", "verify", "--root", "00"];
+const VERIFY_OTHER: &str = "verify|--root|00";
 
 static SIGNED: [Row; 6] = [
-    Row(VERIFY, TEXT, Prints(0, "signed\n")),
-    Row(VERIFY, V2_TEXT, Prints(0, "signed\n")),
-    Row(VERIFY, JSON_TEXT, Prints(0, "signed\n")),
-    Row(VERIFY_OTHER, TEXT, Prints(1, "not signed\n")),
-    Row(VERIFY_OTHER, V2_TEXT, Prints(1, "not signed\n")),
-    Row(VERIFY_OTHER, JSON_TEXT, Prints(1, "not signed\n")),
+    (VERIFY, TEXT, Prints(0, "signed\n")),
+    (VERIFY, V2_TEXT, Prints(0, "signed\n")),
+    (VERIFY, JSON_TEXT, Prints(0, "signed\n")),
+    (VERIFY_OTHER, TEXT, Prints(1, "not signed\n")),
+    (VERIFY_OTHER, V2_TEXT, Prints(1, "not signed\n")),
+    (VERIFY_OTHER, JSON_TEXT, Prints(1, "not signed\n")),
 ];
 
 #[test]
 fn verifies_signed_and_not_signed(rt: HostRuntime) {
     expect_rows(&rt, &SIGNED);
-}
-
-// The runs of rows on inputs with more after them.
-fn expect_behind(rt: &(impl Abort + AllocGlobal), rows: &[(&str, Row)]) {
-    for (more, Row(arguments, input, end)) in rows {
-        let longer = format!(in rt.alloc(); "{input}{more}").expect(rt, "memory");
-        expect(rt, arguments, longer.as_bytes(), end);
-    }
-}
-
-static LINE_FEEDS: [(&str, Row); 2] = [
-    ("\n", Row(VERIFY, TEXT, Prints(0, "signed\n"))),
-    ("\n\n", Row(VERIFY, TEXT, MALFORMED)),
-];
-
-#[test]
-fn takes_one_line_feed_off(rt: HostRuntime) {
-    expect_behind(&rt, &LINE_FEEDS);
 }
 
 #[test]
@@ -69,41 +50,28 @@ static NO_PASSES: [&[u8]; 13] = [
     b"\xff\xfe",
 ];
 
-const NARROW_ONCE: Arguments = &["passtool", "narrow", "guests <= 1"];
-
 #[test]
 fn refuses_texts_that_are_no_pass(rt: HostRuntime) {
     for input in &NO_PASSES {
-        expect(&rt, NARROW_ONCE, input, &MALFORMED);
+        expect(&rt, "narrow|guests <= 1", input, &MALFORMED);
     }
 }
 
-const HAS_A_THIRD_PARTY: End = Prints(3, "fault 3: third-party caveat");
-
-static THIRD_PARTIES: [Row; 3] = [
-    Row(
-        TO_V1,
-        "MDAwZWxvY2F0aW9uIAowMDEzaWRlbnRpZmllciBrZXkKMDAwYWNpZCBjCjAwMGF2aWQgdgowMDA5Y2wgbAowMDJmc2lnbmF0dXJlIAAAAAAAAAAAAAAAAAAAAAAAAAAAAAAAAAAAAAAAAAAACg",
-        HAS_A_THIRD_PARTY,
-    ),
-    Row(
-        TO_V1,
-        "AgIBawACAWMEAXYAAAYgAAAAAAAAAAAAAAAAAAAAAAAAAAAAAAAAAAAAAAAAAAA",
-        HAS_A_THIRD_PARTY,
-    ),
-    Row(
-        TO_V1,
-        "{\"c\":[{\"i\":\"c\",\"v64\":\"dg\"}],\"i\":\"k\",\"s64\":\"fN7nklEcW8b1KEhYBd_psk54XijiqZMB-dcRxgnjjvc\"}",
-        HAS_A_THIRD_PARTY,
-    ),
+static THIRD_PARTIES: [&str; 3] = [
+    "MDAwZWxvY2F0aW9uIAowMDEzaWRlbnRpZmllciBrZXkKMDAwYWNpZCBjCjAwMGF2aWQgdgowMDA5Y2wgbAowMDJmc2lnbmF0dXJlIAAAAAAAAAAAAAAAAAAAAAAAAAAAAAAAAAAAAAAAAAAACg",
+    "AgIBawACAWMEAXYAAAYgAAAAAAAAAAAAAAAAAAAAAAAAAAAAAAAAAAAAAAAAAAA",
+    "{\"c\":[{\"i\":\"c\",\"v64\":\"dg\"}],\"i\":\"k\",\"s64\":\"fN7nklEcW8b1KEhYBd_psk54XijiqZMB-dcRxgnjjvc\"}",
 ];
 
 #[test]
 fn refuses_third_party_caveats_in_each_form(rt: HostRuntime) {
-    expect_rows(&rt, &THIRD_PARTIES);
+    let end = Prints(3, "fault 3: third-party caveat");
+    for input in &THIRD_PARTIES {
+        expect(&rt, TO_V1, input.as_bytes(), &end);
+    }
 }
 
-// `OTHER_V2` in the standard alphabet.
+// `OTHER_V2` in the standard alphabet, in both, and with a last bit set.
 const STANDARD: &str =
     "AgETaHR0cDovL2V4YW1wbGUub3JnLwIFa2V5aWQAAAYgfN7nklEcW8b1KEhYBd/psk54XijiqZMB+dcRxgnjjvc";
 
@@ -113,18 +81,24 @@ const MIXED: &str =
 const BITS_LEFT: &str =
     "AgETaHR0cDovL2V4YW1wbGUub3JnLwIFa2V5aWQAAAYgfN7nklEcW8b1KEhYBd/psk54XijiqZMB+dcRxgnjjvd";
 
-static ALPHABETS: [(&str, Row); 6] = [
-    ("", Row(TO_V1, OTHER_V2, Writes(OTHER_TEXT))),
-    ("", Row(TO_V1, STANDARD, Writes(OTHER_TEXT))),
-    ("", Row(TO_V1, MIXED, MALFORMED)),
-    ("", Row(TO_V1, BITS_LEFT, MALFORMED)),
-    ("=", Row(TO_V1, STANDARD, Writes(OTHER_TEXT))),
-    ("==", Row(TO_V1, STANDARD, MALFORMED)),
+// A run whose input has more after its text.
+static MORE: [(&str, Row); 8] = [
+    ("\n", (VERIFY, TEXT, Prints(0, "signed\n"))),
+    ("\n\n", (VERIFY, TEXT, MALFORMED)),
+    ("", (TO_V1, OTHER_V2, Writes(OTHER_TEXT))),
+    ("", (TO_V1, STANDARD, Writes(OTHER_TEXT))),
+    ("", (TO_V1, MIXED, MALFORMED)),
+    ("", (TO_V1, BITS_LEFT, MALFORMED)),
+    ("=", (TO_V1, STANDARD, Writes(OTHER_TEXT))),
+    ("==", (TO_V1, STANDARD, MALFORMED)),
 ];
 
 #[test]
-fn takes_either_alphabet_and_right_padding(rt: HostRuntime) {
-    expect_behind(&rt, &ALPHABETS);
+fn takes_one_line_feed_either_alphabet_and_right_padding(rt: HostRuntime) {
+    for (more, (line, text, end)) in &MORE {
+        let input = format!(in rt.alloc(); "{text}{more}").expect(&rt, "memory");
+        expect(&rt, line, input.as_bytes(), end);
+    }
 }
 
 static LENGTHS: [(usize, End); 3] = [
