@@ -154,7 +154,7 @@ class Turn:
             return
         text = left.decode(errors="backslashreplace").rstrip("\n")
         if not BEGUN.fullmatch(text):
-            text = f"{now()} unknown ? [an order that can't be read] {shlex.quote(text[:200])}"
+            text = f"{now()} unknown ? [a command that can't be read] {shlex.quote(text[:200])}"
         write_line(self.club, printable(text))
         os.ftruncate(self.file, 0)
 

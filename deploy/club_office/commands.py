@@ -268,7 +268,7 @@ COMMANDS = {
         restore,
     ),
     "new": Command(DESK, [], "make the club's file", lambda club, _words: make_new(club)),
-    "log": Command(COUNTER, [word("WORD", nargs="?")], "print the book of orders, or those of its lines that have a word", read_book),
+    "log": Command(COUNTER, [word("WORD", nargs="?")], "print the book of commands, or only its lines with a word", read_book),
     # Internal commands, which the clerk's side calls on the desk's side.
     "names": Command(LIST, [], "", print_names),
     "import-state": Command(LIST, [], "", import_state),

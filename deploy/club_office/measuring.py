@@ -140,7 +140,7 @@ def text_of(club, counts):
     total = sum(counts["requests"].values())
     buckets = [("_bucket", {"le": f"{most:g}"}, number) for most, number in zip(BUCKETS, counts["buckets"])]
     made.add("request_seconds", "histogram", "From a connection's beginning to its end.", *buckets, ("_bucket", {"le": "+Inf"}, total), ("_sum", {}, float(counts["seconds"])), ("_count", {}, total))
-    made.add("orders_total", "counter", "Orders of the office, by their status; ? is one that was broken off.",
+    made.add("orders_total", "counter", "Commands of the office, by their status; ? is an interrupted one.",
              *(("", {"status": status}, number) for status, number in sorted(counts["orders"].items())))
     made.add("copy_age_seconds", "gauge", "How old the newest copy is.", *(("", {"place": place}, int(age)) for place, age in ages(club).items()))
     if club.settings.get("offsite"):

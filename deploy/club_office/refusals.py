@@ -60,16 +60,16 @@ REFUSALS = {
     ),
     "no site": ("the configuration of {club} has no line SITE=https://ADDRESS", "die Einrichtung von {club} hat keine Zeile SITE=https://ADRESSE"),
     "spares": ("the configuration of {club}, SPARES and SPARE_NAME: {fault}", "die Einrichtung von {club}, SPARES und SPARE_NAME: {fault}"),
-    # Orders and the book.
-    "waits": ("waiting for another order", "wartet auf einen anderen Befehl"),
-    "order under way": ("another order has been under way for {seconds} seconds", "ein anderer Befehl läuft seit {seconds} Sekunden"),
+    # Commands and the book.
+    "waits": ("waiting for another command", "wartet auf einen anderen Befehl"),
+    "order under way": ("another command has been running for {seconds} seconds", "ein anderer Befehl läuft seit {seconds} Sekunden"),
     "book unwritten": (
-        "the order ended with status {status}, but the book can't be written: {fault}",
+        "the command ended with status {status}, but the book can't be written: {fault}",
         "der Befehl endete mit Status {status}, aber das Buch lässt sich nicht schreiben: {fault}",
     ),
     "command undone": (
-        "{order}: {said}. Give the order again: what is done isn't done twice",
-        "{order}: {said}. Gib den Befehl noch einmal: was getan ist, geschieht nicht zweimal",
+        "{order}: {said}. Give the command again: nothing is done twice",
+        "{order}: {said}. Gib den Befehl noch einmal: nichts geschieht doppelt",
     ),
     "rest not confirmed": (
         "not confirmed; what was confirmed before is done",
@@ -77,11 +77,11 @@ REFUSALS = {
     ),
     "booked meanwhile": ("booked meanwhile: {slots}", "inzwischen gebucht: {slots}"),
     "names undone": (
-        "{member} has its names still: {why}. Give the order again",
+        "{member} has its names still: {why}. Give the command again",
         "{member} hat noch die alten Namen: {why}. Gib den Befehl noch einmal",
     ),
     "debited otherwise": (
-        "{member} was credited otherwise since this was broken off on {moment}: look at `log {member}`. Given once more, the order begins anew",
+        "{member} was credited otherwise since this was interrupted on {moment}: look at `log {member}`. Given once more, the command begins anew",
         "{member} bekam etwas anderes, seit das am {moment} abbrach: sieh in `log {member}` nach. Noch einmal gegeben, beginnt der Befehl von vorn",
     ),
     "order failed": ("{order}: status {status}", "{order}: Status {status}"),
@@ -95,7 +95,7 @@ REFUSALS = {
     "faults": ("{count} faults", "{count} Fehler"),
     # Corrections.
     "changed since": (
-        "the club has changed since this was shown; nothing changed. Give the order again",
+        "the club has changed since this was shown; nothing changed. Give the command again",
         "beim Verein hat sich etwas geändert, seit das gezeigt wurde; nichts geändert. Gib den Befehl noch einmal",
     ),
     "file taken": (
@@ -240,11 +240,11 @@ REFUSALS = {
     ),
     "begun otherwise": ("{label} was begun with {points} points", "{label} wurde mit {points} Punkten begonnen"),
     "credited otherwise": (
-        "{member} was credited otherwise since {label} was broken off: look at `log {member}`, and write it into {path}",
+        "{member} was credited otherwise since {label} was interrupted: look at `log {member}`, and write it into {path}",
         "{member} bekam etwas anderes, seit {label} abbrach: sieh in `log {member}` nach, und schreib es in {path}",
     ),
     "not credited": (
-        "{member} isn't credited: status {status}; mend it and give the order again",
+        "{member} isn't credited: status {status}; mend it and give the command again",
         "{member} hat die Punkte nicht: Status {status}; behebe den Fehler, und gib den Befehl noch einmal",
     ),
     # Letters, the page's list.

@@ -209,7 +209,7 @@ def rows_of_member(db, member):
 
 
 def plan_undo(db, club):
-    """Puts the rows of the last correction back, each only if it is as the correction left it, or, of one that was broken off, as it was."""
+    """Puts the rows of the last correction back, each only if it is as the correction left it, or as it was, if the correction was interrupted."""
     it = read(club)
     if not it or it["rows"] is None or is_undo(it):
         raise refusal("no undo", club=club.name)

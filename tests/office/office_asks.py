@@ -262,11 +262,11 @@ def interrupted():
             task(called, *pairs[:at], (pairs[at][0], None))
     with open(HOME / "club-orders", "r+", encoding="ascii") as turn:
         fcntl.flock(turn, fcntl.LOCK_EX)
-        shown = task("a new member", ("Full name", "Zoë"), ("Open", "5"), ("Points", "100"), ("Do it", ENTER), ("waiting for another order", None))
+        shown = task("a new member", ("Full name", "Zoë"), ("Open", "5"), ("Points", "100"), ("Do it", ENTER), ("waiting for another command", None))
         shown.has("Ctrl-C at a command", "interrupted: `office club log` shows what was done by then",
                   "not done: office club person zoe; office club credit zoe 100; office club add-key zoe-1 zoe --to passes/zoe-1; office club letters zoe-1")
         terminal = Terminal("club", "debit", "mueller-bob", "1")
-        terminal.answers(("Shall", "y"), ("waiting for another order", None))
+        terminal.answers(("Shall", "y"), ("waiting for another command", None))
         same("Ctrl-C at a correction", (terminal.ends(), "storage failed" in terminal.shown), (130, False))
     terminal = Terminal("club")
     terminal.answers(("Task: ", None))

@@ -271,7 +271,7 @@ def outlives_its_order(correction, programs):
     order.wait()
     stop_at("0 never")
     with begun(*words, "--yes") as again:
-        same(f"{words} waits for its command", again.stderr.readline(), "waiting for another order\n")
+        same(f"{words} waits for its command", again.stderr.readline(), "waiting for another command\n")
         again.communicate()
     same(f"{words}, once its command has ended", (again.returncode, rows(correction.sql)), (0, wanted))
 
@@ -281,7 +281,7 @@ def credited_meanwhile(correction):
     words, _ = correction.next()
     killed("3 before", [*words, "--yes"])
     done("credit", "zoe", "7")
-    refused([*words, "--yes"], 1, "refused: zoe was credited otherwise since this was broken off")
+    refused([*words, "--yes"], 1, "refused: zoe was credited otherwise since this was interrupted")
     before = rows(correction.sql)[0][0]
     done(*words, "--yes")
     same(f"{words} begins anew", rows(correction.sql), [(before - int(words[-1]),)])

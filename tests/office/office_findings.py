@@ -88,7 +88,7 @@ def orders_that_cannot_be_read():
     for left in (b"\0" * 40, b"2026-04-20T12:00:00 b", b'{"moment"', b"2026-04-20T12:00:00 ben 0 credit amy 9\n2026"):
         TURN.write_bytes(left)
         done("credit", "amy", "1")
-        same(f"the rest of a line: {left}", re.match("unknown [?] .an order that can't be read. ", book_lines()[-2]) is not None, True)
+        same(f"the rest of a line: {left}", re.match("unknown [?] .a command that can't be read. ", book_lines()[-2]) is not None, True)
     TURN.write_bytes(b"2026-04-20T12:00:00 ben ? cred\xff\n\x85")
     done("credit", "amy", "1")
     same("a line that is cut", book_lines()[-2], "ben ? cred\\xff\\x0a\\x85")

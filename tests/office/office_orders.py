@@ -132,7 +132,7 @@ def takes_turns():
         fcntl.flock(turn, fcntl.LOCK_EX)
         commands = [begun(*words) for words in (["credit", "amy", "1"], ["debit", "amy", "1", *YES])]
         for command in commands:
-            same("it says that it waits", command.stderr.readline(), "waiting for another order\n")
+            same("it says that it waits", command.stderr.readline(), "waiting for another command\n")
         same("both wait", [command.poll() for command in commands], [None, None])
         before = balance()
     for command in commands:
