@@ -28,7 +28,7 @@ REFUSALS = {
     ),
     "too many words": (
         "more than {words} arguments, or one of more than {bytes} bytes",
-        "mehr als {words} Argumente, oder eines von mehr als {bytes} Bytes",
+        "mehr als {words} Argumente oder eines von mehr als {bytes} Bytes",
     ),
     # The configuration, the club's file, programs.
     "no such club": ("no club {word} is configured: there is no {path}", "kein Verein {word} ist eingerichtet: es gibt kein {path}"),
@@ -82,7 +82,7 @@ REFUSALS = {
     ),
     "debited otherwise": (
         "{member} was credited otherwise since this was interrupted on {moment}: look at `log {member}`. Given once more, the command begins anew",
-        "{member} bekam etwas anderes, seit das am {moment} abbrach: sieh in `log {member}` nach. Noch einmal gegeben, beginnt der Befehl von vorn",
+        "{member} bekam andere Gutschriften, seit das am {moment} unterbrochen wurde: sieh in `log {member}` nach. Noch einmal gegeben, beginnt der Befehl von vorn",
     ),
     "order failed": ("{order}: status {status}", "{order}: Status {status}"),
     "journal unread": ("the journal can't be read: {fault}", "das Journal lässt sich nicht lesen: {fault}"),
@@ -116,7 +116,7 @@ REFUSALS = {
     "persons booked": ("{count} persons are booked {day} {hour:02d}:00", "{count} Personen sind gebucht am {day} {hour:02d}:00"),
     "not closed": ("{slot} isn't closed", "{slot} ist nicht gesperrt"),
     "none closed": ("{slot} isn't closed, nor one of the hours after it", "{slot} ist nicht gesperrt, und auch keine der Stunden danach"),
-    "number or all": ("cancel: a NUMBER, or --all for all that is to come", "cancel: eine NUMMER, oder --all für alles, was noch kommt"),
+    "number or all": ("cancel: a NUMBER, or --all for all that is to come", "cancel: eine NUMMER oder --all für alles, was noch kommt"),
     "none to come": ("{key} has no booking to come", "{key} hat keine Buchung, die noch kommt"),
     "cancelled already": ("booking {number} of {key} is cancelled already", "Buchung {number} von {key} ist schon abgesagt"),
     "booking unknown": ("booking {number} of {key} is unknown", "Buchung {number} von {key} gibt es nicht"),
@@ -168,7 +168,7 @@ REFUSALS = {
     "other copy": ("{why}; --copy names another one", "{why}; --copy nennt eine andere"),
     "beside unread": ("what lay beside the club can't be read: {fault}", "die Dateien neben dem Verein lassen sich nicht lesen: {fault}"),
     # Passes, files of the clerk.
-    "root or input": ("{command}: a ROOT, or --root-stdin", "{command}: eine WURZEL, oder --root-stdin"),
+    "root or input": ("{command}: a ROOT, or --root-stdin", "{command}: eine WURZEL oder --root-stdin"),
     "file there": ("there is a file {path} already", "eine Datei {path} gibt es schon"),
     "file by now": ("there is a file {path} by now", "eine Datei {path} gibt es inzwischen"),
     "no leave": ("no leave to write to {path}; nothing was done", "keine Rechte, in {path} zu schreiben; nichts getan"),
@@ -186,13 +186,13 @@ REFUSALS = {
     "in line": ("{path}, line {line}: {why}", "{path}, Zeile {line}: {why}"),
     "other's file": (
         "there is a file {path}, which isn't this row's pass: move it away, and run the import again",
-        "es gibt eine Datei {path}, die nicht der Pass dieser Zeile ist: verschieb sie, und starte den Import noch einmal",
+        "es gibt eine Datei {path}, die nicht der Pass dieser Zeile ist: verschieb sie und starte den Import noch einmal",
     ),
     "spare undone": (
         "{member} is added, but the spare key {key} isn't made: {fault}. `office CLUB add-key {key} {member} --to {path}` makes it",
         "{member} ist eingetragen, aber der Ersatzschlüssel {key} fehlt: {fault}. `office CLUB add-key {key} {member} --to {path}` macht ihn",
     ),
-    "row undone": ("{member} isn't done; mend it and run the import again", "{member} ist nicht fertig: behebe den Fehler, und starte den Import noch einmal"),
+    "row undone": ("{member} isn't done; mend it and run the import again", "{member} ist nicht fertig: behebe den Fehler und starte den Import noch einmal"),
     "roots": (
         "import-row reads the roots of a key from standard input, each of 64 hexadecimal digits",
         "import-row liest die Wurzeln eines Schlüssels von der Standardeingabe, je 64 hexadezimale Ziffern",
@@ -241,11 +241,11 @@ REFUSALS = {
     "begun otherwise": ("{label} was begun with {points} points", "{label} wurde mit {points} Punkten begonnen"),
     "credited otherwise": (
         "{member} was credited otherwise since {label} was interrupted: look at `log {member}`, and write it into {path}",
-        "{member} bekam etwas anderes, seit {label} abbrach: sieh in `log {member}` nach, und schreib es in {path}",
+        "{member} bekam andere Gutschriften, seit {label} unterbrochen wurde: sieh in `log {member}` nach und schreib es in {path}",
     ),
     "not credited": (
         "{member} isn't credited: status {status}; mend it and give the command again",
-        "{member} hat die Punkte nicht: Status {status}; behebe den Fehler, und gib den Befehl noch einmal",
+        "{member} hat die Punkte nicht: Status {status}; behebe den Fehler und gib den Befehl noch einmal",
     ),
     # Letters, the page's list.
     "no code": ("no code of the link: {said}", "kein Code für den Link: {said}"),
@@ -290,7 +290,7 @@ REFUSALS = {
         "the club's name has a letter that isn't printed, or is no UTF-8",
         "der Name des Vereins hat ein Zeichen, das sich nicht drucken lässt, oder ist kein UTF-8",
     ),
-    "page of before": ("the page still shows the club of before: {fault}", "die Seite zeigt noch den Verein von vorher: {fault}"),
+    "page of before": ("the page still shows the club of before: {fault}", "die Seite zeigt noch den früheren Stand: {fault}"),
     "reason unwritten": ("the reason can't be written: {fault}", "der Grund lässt sich nicht schreiben: {fault}"),
     # Totals that are off, by `check`.
     "used off": ("member {member}: used is {used}, its bookings cost {spent}", "Mitglied {member}: gebucht sind {used}, die Buchungen kosten {spent}"),
@@ -318,7 +318,7 @@ GERMAN = {
     "not bookable": "nicht zu buchen: schon begonnen, nicht offen, oder mehr als 60 Tage im Voraus",
     "slot closed": "gesperrt",
     "no places": "keine Plätze frei",
-    "quota reached": "so viele Buchungen zugleich, wie erlaubt sind",
+    "quota reached": "schon so viele offene Buchungen wie erlaubt",
     "balance too low": "zu wenige Punkte",
     "slot has begun": "schon begonnen",
     "unavailable": "nicht erreichbar",
