@@ -1,18 +1,20 @@
-//! Exchanges over memory and over a socket, with a desk that counts what it is asked.
+//! Exchanges over memory and over a socket, with a responder that counts what it is asked.
 
-pub mod doubles;
+mod doubles;
 mod reading;
 
-use crate::desk::Desk;
-use crate::expect::{Runtime, expect_bytes, expect_eq, expect_shown, noon};
+use crate::expect::{expect_bytes, expect_eq, expect_shown};
+use crate::rows::moment;
 use crate::sockets::{client_of, expect_reply, loopback_listener};
 use club_core::{Refusal, Reply, Request};
-use club_http::{AnswerFault, Face, ReadInlet, WriteOutlet, answer};
-use doubles::{Narrow, Pieces, ROOM};
+use club_http::{AnswerFault, Face, Inlet, Outlet, ReadInlet, WriteOutlet, answer};
+use doubles::{Counting, Narrow, Pieces, ROOM};
+use std::alloc::Global;
 use std::net::TcpListener;
+use std::process::Abort;
 use test_kit::exchanges::{BAD_REQUEST, BOOKED_7, UNAVAILABLE};
-use test_kit::replies;
-use test_kit::requests::BOOK_7;
+use test_kit::moments::NOON;
+use test_kit::{replies, requests};
 
 /// A head of 116 bytes and a body of 12.
 const BOOKING: &str = "PUT /slots/court-1/2026-05-01/18/bookings/7 HTTP/1.1\r\nHost: club\r\n\
@@ -20,110 +22,161 @@ const BOOKING: &str = "PUT /slots/court-1/2026-05-01/18/bookings/7 HTTP/1.1\r\nH
 
 const _: () = prove!(BOOKING.len() == 128);
 
-/// The outcome of an exchange with a desk that answers the booking; what it was asked, if it was;
-/// and a text. The written bytes are all of the text, or a prefix if the writer failed.
-type Ended = (Result<Reply, AnswerFault>, Option<Request>, &'static str);
-
-const IS_BAD: Ended = (Ok(Reply::Refused(Refusal::BadRequest)), None, BAD_REQUEST);
-
-const IS_UNAVAILABLE: Ended = (Ok(Reply::Refused(Refusal::Unavailable)), None, UNAVAILABLE);
-
-const NO_REQUEST: Ended = (Err(AnswerFault::Read), None, "");
-
-fn booked_reply(rt: &impl Runtime) -> Reply {
+fn booked_reply(rt: &impl Abort) -> Reply {
     replies::BOOKED_7.reply().expect(rt, "a reply")
 }
 
-fn booked(rt: &impl Runtime) -> Ended {
-    (Ok(booked_reply(rt)), BOOK_7.request(), BOOKED_7)
+fn booking(rt: &impl Abort) -> Request {
+    requests::BOOK_7.request().expect(rt, "a request")
 }
 
-/// The writer failed after these bytes.
-fn cut_off(len: usize) -> Ended {
-    (Err(AnswerFault::Write(len)), BOOK_7.request(), BOOKED_7)
+/// The outcome of an exchange with a desk that answers the booking.
+#[derive(Clone, Copy)]
+enum ExchangeResult {
+    /// The desk was asked, and its reply was written.
+    Booked,
+    /// The desk wasn't asked.
+    Refused(Refusal, &'static str),
+    /// The desk wasn't asked, and nothing was written.
+    NoRequest,
+    /// The desk was asked, and so many bytes of its reply were written.
+    CutOff(usize),
 }
 
-/// The desk that answers the booking.
-fn booking_desk(rt: &impl Runtime) -> Desk<'static> {
-    Desk {
-        reply: booked_reply(rt),
-        ..Desk::new(rt.alloc(), noon(rt))
+const IS_BAD: ExchangeResult = ExchangeResult::Refused(Refusal::BadRequest, BAD_REQUEST);
+
+const IS_UNAVAILABLE: ExchangeResult = ExchangeResult::Refused(Refusal::Unavailable, UNAVAILABLE);
+
+impl ExchangeResult {
+    fn outcome(&self, rt: &impl Abort) -> Result<Reply, AnswerFault> {
+        match self {
+            ExchangeResult::Booked => Ok(booked_reply(rt)),
+            ExchangeResult::Refused(refusal, _) => Ok(Reply::Refused(*refusal)),
+            ExchangeResult::NoRequest => Err(AnswerFault::Read),
+            ExchangeResult::CutOff(len) => Err(AnswerFault::Write(*len)),
+        }
+    }
+
+    /// The last request that the desk was asked.
+    fn last(&self, rt: &impl Abort) -> Option<Request> {
+        match self {
+            ExchangeResult::Booked | ExchangeResult::CutOff(_) => Some(booking(rt)),
+            _ => None,
+        }
+    }
+
+    fn reply_bytes(&self, rt: &impl Abort) -> &'static [u8] {
+        match self {
+            ExchangeResult::Booked => BOOKED_7.as_bytes(),
+            ExchangeResult::Refused(_, text) => text.as_bytes(),
+            ExchangeResult::NoRequest => b"",
+            ExchangeResult::CutOff(len) => BOOKED_7
+                .as_bytes()
+                .get(..*len)
+                .expect(rt, "bytes of the reply"),
+        }
+    }
+
+    /// Fails the test unless the exchange had this outcome.
+    fn expect(
+        &self,
+        rt: &impl Abort,
+        outcome: &Result<Reply, AnswerFault>,
+        desk: &Counting,
+        writer: &Narrow,
+    ) {
+        expect_eq(rt, outcome, &self.outcome(rt));
+        expect_eq(rt, &desk.last, &self.last(rt));
+        expect_eq(rt, &desk.asked, &u64::from(desk.last.is_some()));
+        expect_bytes(
+            rt,
+            writer.written_bytes(),
+            self.reply_bytes(rt),
+            "the booking",
+        );
     }
 }
 
-/// Ends the test unless the exchange ended so.
-fn expect_ended(
-    rt: &impl Runtime,
-    outcome: &Result<Reply, AnswerFault>,
-    desk: &Desk<'_>,
-    writer: &Narrow,
-    (want, last, text): &Ended,
-) {
-    expect_eq(rt, outcome, want);
-    let asked = u64::from(last.is_some());
-    expect_eq(rt, &(desk.asked, desk.last), &(asked, *last));
-    let len = match want {
-        Err(AnswerFault::Write(len)) => *len,
-        _ => text.len(),
-    };
-    let written = text.as_bytes().get(..len).expect(rt, "a prefix");
-    expect_bytes(rt, writer.written_bytes(), written, "the booking");
+/// An exchange with this desk.
+fn exchange_with<R: Inlet, W: Outlet>(
+    rt: &(impl Abort + Alloc<A = Global>),
+    desk: &mut Counting,
+    reader: &mut R,
+    writer: &mut W,
+) -> Result<Reply, AnswerFault> {
+    let mut face = Face::new(rt.alloc()).expect(rt, "a face");
+    answer(&mut face, desk, moment(rt, NOON), reader, writer)
 }
 
-/// Ends the test unless an exchange ends so.
-fn ends(rt: &impl Runtime, reader: &mut Pieces<'_>, writer: &mut Narrow, want: &Ended) {
-    let mut desk = booking_desk(rt);
-    let mut face = Face::new(rt.alloc()).expect(rt, "a face");
-    let outcome = answer(&mut face, &mut desk, noon(rt), reader, writer);
-    expect_ended(rt, &outcome, &desk, writer, want);
+/// Fails the test unless an exchange has this outcome.
+fn exchange_returns(
+    rt: &(impl Abort + Alloc<A = Global>),
+    reader: &mut Pieces<'_>,
+    writer: &mut Narrow,
+    returned: &ExchangeResult,
+) {
+    let mut desk = Counting::new(booked_reply(rt));
+    let outcome = exchange_with(rt, &mut desk, reader, writer);
+    returned.expect(rt, &outcome, &desk, writer);
 }
 
 /// The same with a writer that takes a whole reply.
-fn returns(rt: &impl Runtime, reader: &mut Pieces<'_>, want: &Ended) {
-    ends(rt, reader, &mut Narrow::new(ROOM, ROOM), want);
+fn returns(
+    rt: &(impl Abort + Alloc<A = Global>),
+    reader: &mut Pieces<'_>,
+    returned: &ExchangeResult,
+) {
+    exchange_returns(rt, reader, &mut Narrow::new(ROOM), returned);
 }
 
 /// The booking, to a writer.
-fn gives(rt: &impl Runtime, writer: &mut Narrow, want: &Ended) {
+fn gives(rt: &(impl Abort + Alloc<A = Global>), writer: &mut Narrow, returned: &ExchangeResult) {
     let mut reader = Pieces::new(BOOKING.as_bytes(), 600, false);
-    ends(rt, &mut reader, writer, want);
+    exchange_returns(rt, &mut reader, writer, returned);
 }
 
-/// The writer fails after each number of bytes.
+/// The writer fails after so many bytes.
+fn fails_after(rt: &(impl Abort + Alloc<A = Global>), len: usize) {
+    let mut writer = Narrow::failing(len);
+    gives(rt, &mut writer, &ExchangeResult::CutOff(len));
+    expect_eq(rt, &writer.failures, &1);
+}
+
 #[test]
 fn failing_writers(rt: HostRuntime) {
     for len in 0..BOOKED_7.len() {
-        let mut writer = Narrow::new(ROOM, len);
-        gives(&rt, &mut writer, &cut_off(len));
-        expect_eq(&rt, &writer.failures, &1);
+        fails_after(&rt, len);
     }
 }
 
 /// A writer that takes a byte a call, and one that takes none.
 #[test]
 fn short_writes(rt: HostRuntime) {
-    let mut writer = Narrow::new(1, ROOM);
-    gives(&rt, &mut writer, &booked(&rt));
+    let mut writer = Narrow::new(1);
+    gives(&rt, &mut writer, &ExchangeResult::Booked);
     expect_eq(&rt, &writer.calls, &133);
-    let mut writer = Narrow::new(ROOM, 0);
-    writer.stalls = true;
-    gives(&rt, &mut writer, &cut_off(0));
+    gives(&rt, &mut Narrow::stalled(), &ExchangeResult::CutOff(0));
 }
 
-/// The booking's reply, or that of `Unavailable`, and then the desk wasn't asked. Any allocation is
-/// refused, as `rt try --test --fail-alloc N` refuses the Nth.
+/// The booking's reply, or that of `Unavailable`, and then the desk wasn't asked.
+fn is_booked_or_unavailable(rt: &impl Abort, face: &mut Face) {
+    let mut desk = Counting::new(booked_reply(rt));
+    let mut reader = Pieces::new(BOOKING.as_bytes(), 600, false);
+    let mut writer = Narrow::new(ROOM);
+    let outcome = answer(face, &mut desk, moment(rt, NOON), &mut reader, &mut writer);
+    if outcome == Ok(Reply::Refused(Refusal::Unavailable)) {
+        IS_UNAVAILABLE.expect(rt, &outcome, &desk, &writer);
+    } else {
+        ExchangeResult::Booked.expect(rt, &outcome, &desk, &writer);
+    }
+}
+
+/// With any allocation refused, as `rt try --test --fail-alloc N` refuses the Nth.
 #[test]
 fn refused_memory(rt: HostRuntime) {
-    let Ok(mut face) = Face::new(rt.alloc()) else {
-        return;
-    };
-    let mut desk = booking_desk(&rt);
-    let mut reader = Pieces::new(BOOKING.as_bytes(), 600, false);
-    let mut writer = Narrow::new(ROOM, ROOM);
-    let outcome = answer(&mut face, &mut desk, noon(&rt), &mut reader, &mut writer);
-    let refused = outcome == IS_UNAVAILABLE.0;
-    let want = if refused { IS_UNAVAILABLE } else { booked(&rt) };
-    expect_ended(&rt, &outcome, &desk, &writer, &want);
+    if let Ok(mut face) = Face::new(rt.alloc()) {
+        is_booked_or_unavailable(&rt, &mut face);
+    }
 }
 
 #[test]
@@ -133,13 +186,12 @@ fn names_of_faults(rt: HostRuntime) {
 }
 
 /// The next connection of the listener has its exchange.
-fn answers_one(rt: &impl Runtime, listener: &TcpListener) {
+fn answers_one(rt: &(impl Abort + Alloc<A = Global>), listener: &TcpListener) {
     let (stream, _) = listener.accept().expect(rt, "a connection");
-    let mut face = Face::new(rt.alloc()).expect(rt, "a face");
-    let mut desk = booking_desk(rt);
+    let mut desk = Counting::new(booked_reply(rt));
     let mut reader = ReadInlet::new(&stream);
     let mut writer = WriteOutlet::new(&stream);
-    let outcome = answer(&mut face, &mut desk, noon(rt), &mut reader, &mut writer);
+    let outcome = exchange_with(rt, &mut desk, &mut reader, &mut writer);
     expect_eq(rt, &outcome, &Ok(booked_reply(rt)));
 }
 
@@ -149,5 +201,5 @@ fn over_a_socket(rt: HostRuntime) {
     let listener = loopback_listener(&rt);
     let mut client = client_of(&rt, &listener, BOOKING.as_bytes());
     answers_one(&rt, &listener);
-    expect_reply(&rt, &mut client, BOOKED_7);
+    expect_reply(&rt, &mut client, BOOKED_7.as_bytes());
 }

@@ -3,13 +3,13 @@
 #![tactic(auto)]
 
 #[cfg(test)]
+mod asked;
+#[cfg(test)]
 mod bodies;
 #[cfg(test)]
 mod body_lengths;
 #[cfg(test)]
 mod counted;
-#[cfg(test)]
-mod desk;
 #[cfg(test)]
 mod expect;
 #[cfg(test)]
@@ -17,6 +17,10 @@ mod heads;
 #[cfg(test)]
 mod replies;
 #[cfg(test)]
+mod rows;
+#[cfg(test)]
 mod server;
 #[cfg(test)]
 mod sockets;
+#[cfg(test)]
+mod targets;

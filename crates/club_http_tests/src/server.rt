@@ -1,4 +1,5 @@
-//! Servers and exchanges over memory, and what the tests over sockets share.
+//! Zones, and servers over memory and over a socket. What clocks show was computed by a program of
+//! another language, from the zones' own database.
 
 mod accepted;
 mod at_the_door;
@@ -14,28 +15,31 @@ mod logs;
 mod over_sockets;
 mod request_lines;
 mod told;
+mod years;
+mod zones;
 
-use crate::desk::Desk;
-use crate::expect::{Runtime, expect_eq, expect_row, expect_shown, noon};
-use club_clock::{Clock, MomentsOf};
-use club_core::Reply;
-use club_http::{AnswerFault, Face};
-use club_values::{Kind, Moment, Slot};
+use crate::expect::{expect_eq, expect_shown};
+use crate::rows::{expect_row, moment};
+use club_clock::{Clock, Moments, MomentsOf};
+use club_http::Face;
+use club_values::Moment;
 use desk_server::{
-    Accepted, Arrival, Arrivals, ClientSocket, ClockOutOfRange, Connection, Listening, Unlogged,
-    serve_on,
+    Accepted, Arrival, Arrivals, ClientSocket, ClockOutOfRange, Listening, serve_on,
 };
-use doubles::{Script, Step, Stopped, Wire};
-pub use journal::{Call, Journal};
+use doubles::{Countdown, Noting, Script, Stopped, Wire};
+use std::alloc::Global;
 use std::net::TcpListener;
-use std::os::unix::net::UnixListener;
+use std::process::Abort;
 use std::time::{self, Duration};
-use test_kit::exchanges::UNAVAILABLE;
+use test_kit::moments::NOON;
 
 const REQUEST: &[u8] = b"GET /account HTTP/1.1\r\nAuthorization: Bearer AgEJ\r\n\r\n";
 
-/// The reply of a desk that is out of memory.
-const REPLY: &str = UNAVAILABLE;
+const REPLY: &[u8] =
+    b"HTTP/1.1 503 Service Unavailable\r\nContent-Type: application/json\r\nContent-Length: 33\r\n\
+    Connection: close\r\n\r\n{\"fault\":22,\"text\":\"unavailable\"}";
+
+const _: () = prove!(REPLY.len() == 140);
 
 /// A clock of the machine that can't be read.
 static UNREADABLE: Stopped = Stopped(None);
@@ -48,132 +52,122 @@ fn always(moment: Moment) -> MomentsOf<'static, 'static, Stopped> {
     }
 }
 
-/// A face that has no request yet.
-fn new_face(rt: &impl Runtime) -> Face {
-    Face::new(rt.alloc()).expect(rt, "a face")
+/// Always noon.
+fn noon(rt: &impl Abort) -> MomentsOf<'static, 'static, Stopped> {
+    always(moment(rt, NOON))
 }
 
-/// A desk that counts the requests at noon.
-fn desk_at_noon<'d>(rt: &impl Runtime) -> Desk<'d> {
-    Desk::new(rt.alloc(), noon(rt))
+/// Gives noon so many times, and then no moment.
+fn noons(rt: &impl Abort, count: u32) -> Countdown {
+    Countdown::new(moment(rt, NOON), count)
 }
 
-/// The patience with clients, unless a test says otherwise.
-fn patience() -> Duration {
-    Duration::from_secs(10)
-}
-
-/// A slot of a court, with how many persons booked it.
-fn slot_shown(slot: Slot, price: u16, taken: u64) -> Reply {
-    Reply::SlotShown {
-        slot,
-        kind: Kind::Court,
-        price,
-        places: 4,
-        taken,
-        closed: false,
-    }
-}
-
-/// The next client of a listener, perhaps beside the office's door.
-fn client_at<'a, C: time::Clock>(
-    rt: &impl Runtime,
-    listener: &'a TcpListener,
-    door: Option<&'a UnixListener>,
-    clock: &'a C,
-    patience: Duration,
-) -> Accepted<'a, ClientSocket<'a, C>, C> {
-    let client = match Listening::new(listener, door, clock, patience).next() {
-        Arrival::Client(client) => Some(client),
-        Arrival::Command(_) | Arrival::Nobody => None,
-    };
-    client.expect(rt, "a connection")
-}
-
-/// Runs an exchange at the desk's moment. The bytes of the request stay in the face.
-fn exchange<C: Connection>(
-    face: &mut Face,
-    connection: &mut C,
-    desk: &mut Desk<'_>,
-) -> Result<Reply, AnswerFault> {
-    let at = desk.moment;
-    connection.exchange(face, &mut always(at), desk, &mut Unlogged, at)
-}
-
-/// Serves the next `count` of these arrivals at noon.
-fn serves<L: Arrivals>(
-    rt: &impl Runtime,
+/// So many of these connections are served with this desk.
+fn serves_with<L: Arrivals, M: Moments>(
+    rt: &(impl Abort + Alloc<A = Global>),
     arrivals: &mut L,
     count: u32,
-    desk: &mut Desk<'_>,
+    moments: &mut M,
+    desk: &mut Noting,
 ) -> Result<(), ClockOutOfRange> {
-    let mut moments = always(noon(rt));
-    serve_on(arrivals, count, &mut moments, &mut new_face(rt), desk)
+    let mut face = Face::new(rt.alloc()).expect(rt, "a face");
+    serve_on(arrivals, count, moments, &mut face, desk)
 }
 
-/// A client that sends a whole request, and then ends.
-const WHOLE: &[Step<'static>] = &[Step::Bytes(0, REQUEST), Step::End(0)];
+/// So many of these connections are served, and how many requests the desk is asked at noon.
+fn serves<L: Arrivals, M: Moments>(
+    rt: &(impl Abort + Alloc<A = Global>),
+    arrivals: &mut L,
+    count: u32,
+    moments: &mut M,
+) -> (Result<(), ClockOutOfRange>, u64) {
+    let mut desk = Noting::new(rt.alloc(), moment(rt, NOON));
+    let outcome = serves_with(rt, arrivals, count, moments, &mut desk);
+    (outcome, desk.asked)
+}
 
 /// Failing clients, refused requests, and commands of the office between them.
 static FAILING: [Wire<'static>; 10] = [
-    Wire::Client(WHOLE),
-    Wire::Command(Some(b"an order")),
+    Wire::Whole(REQUEST),
+    Wire::Command(b"an order"),
     Wire::Absent,
-    Wire::Client(&[Step::Fails(0)]),
-    Wire::Command(None),
-    Wire::Command(Some(b"another order")),
-    Wire::Client(&[Step::Bytes(0, b"x"), Step::End(0)]),
-    Wire::Deaf(WHOLE),
-    Wire::Client(WHOLE),
-    Wire::Client(WHOLE),
+    Wire::Broken,
+    Wire::Cut,
+    Wire::Command(b"another order"),
+    Wire::Whole(b"x"),
+    Wire::Deaf(REQUEST),
+    Wire::Whole(REQUEST),
+    Wire::Whole(REQUEST),
 ];
 
-/// The number of clients to serve, and of waits for an arrival. Then the requests and the commands
-/// that reach the desk, and the bytes of these commands. Commands don't count, and the one before
-/// the last client that is served is the last.
-static COUNTS: [(u32, u64, u64, u64, usize); 7] = [
-    (0, 0, 0, 0, 0),
-    (1, 1, 1, 0, 0),
-    (2, 3, 1, 1, 8),
-    (3, 4, 1, 1, 8),
-    (4, 7, 1, 2, 21),
-    (5, 8, 2, 2, 21),
-    (6, 9, 3, 2, 21),
+/// How many of these clients are served, how often is waited for one, and how many of them reach
+/// the desk, of the commands too. Commands don't count, and the one before the last client that is
+/// served is the last.
+type Count = (u32, u64, u64, u64);
+
+static COUNTS: [Count; 7] = [
+    (0, 0, 0, 0),
+    (1, 1, 1, 0),
+    (2, 3, 1, 1),
+    (3, 4, 1, 1),
+    (4, 7, 1, 2),
+    (5, 8, 2, 2),
+    (6, 9, 3, 2),
 ];
+
+fn serves_so_many(
+    rt: &(impl Abort + Alloc<A = Global>),
+    (count, waited, asked, commanded): &Count,
+) {
+    let mut arrivals = Script::new(&FAILING);
+    let mut desk = Noting::new(rt.alloc(), moment(rt, NOON));
+    let served = serves_with(rt, &mut arrivals, *count, &mut noon(rt), &mut desk);
+    let returned = (served, arrivals.waited, desk.asked, desk.commanded);
+    expect_row(rt, &returned, &(Ok(()), *waited, *asked, *commanded), count);
+}
 
 // Failing clients count, and the server goes on after a refused request. Each command is carried
 // out once, with its own bytes; one that doesn't come whole isn't.
 #[test]
 fn serves_as_many_as_asked(rt: HostRuntime) {
-    for (count, waited, asked, commanded, bytes) in &COUNTS {
-        let journal = Journal::new(rt.alloc());
-        let mut arrivals = Script::new(&journal, &FAILING);
-        let mut desk = desk_at_noon(&rt);
-        let served = serves(&rt, &mut arrivals, *count, &mut desk);
-        let returned = (arrivals.waited, desk.asked, desk.commanded, desk.bytes);
-        let wanted = (*waited, *asked, *commanded, *bytes);
-        expect_row(&rt, &(served, returned), &(Ok(()), wanted), count);
+    for row in &COUNTS {
+        serves_so_many(&rt, row);
+    }
+    let mut desk = Noting::new(rt.alloc(), moment(&rt, NOON));
+    let served = serves_with(
+        &rt,
+        &mut Script::new(&FAILING),
+        6,
+        &mut noon(&rt),
+        &mut desk,
+    );
+    expect_eq(&rt, &(served, desk.bytes), &(Ok(()), 21));
+}
+
+/// The next client of a listener.
+fn client_at<'a, C: time::Clock>(
+    listener: &'a TcpListener,
+    clock: &'a C,
+    patience: Duration,
+) -> Option<Accepted<'a, ClientSocket<'a, C>, C>> {
+    match Listening::new(listener, None, clock, patience).next() {
+        Arrival::Client(client) => Some(client),
+        Arrival::Command(_) | Arrival::Nobody => None,
     }
 }
 
 static WITH_REQUESTS: [Wire<'static>; 4] = [
     Wire::Absent,
-    Wire::Client(WHOLE),
-    Wire::Client(WHOLE),
-    Wire::Client(WHOLE),
+    Wire::Whole(REQUEST),
+    Wire::Whole(REQUEST),
+    Wire::Whole(REQUEST),
 ];
 
-// The clock shows one moment, and then none.
 #[test]
 fn stops_without_a_moment(rt: HostRuntime) {
-    let journal = Journal::new(rt.alloc());
-    let mut arrivals = Script::new(&journal, &WITH_REQUESTS);
-    let clock = clocks::noons(1);
-    let mut moments = clocks::clock_in(&rt, "UTC0", &clock);
-    let mut desk = desk_at_noon(&rt);
-    let mut face = new_face(&rt);
-    let served = serve_on(&mut arrivals, 4, &mut moments, &mut face, &mut desk);
-    expect_eq(&rt, &served, &Err(ClockOutOfRange));
-    expect_eq(&rt, &(arrivals.waited, desk.asked), &(3, 1));
+    let mut arrivals = Script::new(&WITH_REQUESTS);
+    let served = serves(&rt, &mut arrivals, 4, &mut noons(&rt, 1));
+    expect_eq(&rt, &served, &(Err(ClockOutOfRange), 1));
+    expect_eq(&rt, &arrivals.waited, &3);
     expect_shown(&rt, &ClockOutOfRange, "clock out of range");
 }

@@ -1,8 +1,10 @@
-//! A reader and a writer over memory.
+//! A reader, a writer and a responder over memory.
 
 ghost use Rattle.std.specs.Prelude.{◌≤◌};
 
-use club_http::{Inlet, Outlet};
+use club_core::{Reply, Request};
+use club_http::{Inlet, Outlet, Responder, Words};
+use club_values::Moment;
 
 /// Gives a few bytes a call; at its end it gives none, or fails.
 #[derive(Drop)]
@@ -63,23 +65,35 @@ pub struct Narrow {
     len: usize,
     step: usize,
     limit: usize,
-    pub stalls: bool,
+    stalls: bool,
     pub calls: u64,
     pub failures: u64,
     ghost within: { len ≤ 512 },
 }
 
 impl Narrow {
-    pub fn new(step: usize, limit: usize) -> Narrow {
+    fn with(step: usize, limit: usize, stalls: bool) -> Narrow {
         Narrow {
             bytes: [0; ROOM],
             len: 0,
             step,
             limit,
-            stalls: false,
+            stalls,
             calls: 0,
             failures: 0,
         }
+    }
+
+    pub fn new(step: usize) -> Narrow {
+        Narrow::with(step, ROOM, false)
+    }
+
+    pub fn failing(limit: usize) -> Narrow {
+        Narrow::with(ROOM, limit, false)
+    }
+
+    pub fn stalled() -> Narrow {
+        Narrow::with(ROOM, 0, true)
     }
 
     pub fn written_bytes(&self) -> &[u8] {
@@ -109,5 +123,36 @@ impl Outlet for Narrow {
         self.bytes[self.len..self.len + n].copy_from_slice(&bytes[..n]);
         self.len += n;
         Some(n)
+    }
+}
+
+/// Gives one reply to all requests, and counts them.
+#[derive(Drop)]
+pub struct Counting {
+    reply: Reply,
+    pub asked: u64,
+    pub last: Option<Request>,
+}
+
+impl Counting {
+    pub fn new(reply: Reply) -> Counting {
+        Counting {
+            reply,
+            asked: 0,
+            last: None,
+        }
+    }
+}
+
+impl Responder for Counting {
+    ghost use Rattle.std.specs.Prelude.{◌≡◌, Some};
+
+    ghost answers = { λ _ _ request old reply new.
+        (reply ≡ old.reply) × (new.last ≡ Some request) };
+
+    fn ask(&mut self, _moment: Moment, words: &Words<'_>) -> Reply {
+        self.asked = self.asked.saturating_add(1);
+        self.last = Some(words.request);
+        self.reply
     }
 }

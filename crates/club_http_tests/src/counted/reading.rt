@@ -1,19 +1,26 @@
 //! How requests are read: in as few calls as the reader allows, and none once they are whole.
 
 use super::doubles::Pieces;
-use super::{BOOKING, Ended, IS_BAD, NO_REQUEST, booked, returns};
+use super::{BOOKING, ExchangeResult, IS_BAD, returns};
 use crate::bodies::LONGEST;
-use crate::expect::{Runtime, expect_eq, join};
-use std::ops::Range;
+use crate::expect::expect_eq;
+use crate::rows::join;
+use std::alloc::Global;
+use std::process::Abort;
 use test_kit::Piece;
 
 /// How a text is read of a reader that fails at the call after its end: at most so many bytes come
 /// in a call, so many calls are made, and so many bytes stay with the reader.
 type Reading = (usize, u64, usize);
 
-fn is_read(rt: &impl Runtime, text: &str, (step, calls, left): &Reading, want: &Ended) {
+fn is_read(
+    rt: &(impl Abort + Alloc<A = Global>),
+    text: &str,
+    (step, calls, left): &Reading,
+    returned: &ExchangeResult,
+) {
     let mut reader = Pieces::new(text.as_bytes(), *step, true);
-    returns(rt, &mut reader, want);
+    returns(rt, &mut reader, returned);
     expect_eq(rt, &(reader.calls, reader.left.len()), &(*calls, *left));
 }
 
@@ -58,20 +65,30 @@ static ENDLESS: [Reading; 4] = [
     (200_000, 1, 3_360),
 ];
 
-fn is_read_so(rt: &impl Runtime, pieces: &[Piece], readings: &[Reading], want: &Ended) {
+fn are_read(rt: &(impl Abort + Alloc<A = Global>), rows: &[Read]) {
+    for (pieces, reading) in rows {
+        let text = join(rt, pieces);
+        is_read(rt, text.as_str(), reading, &ExchangeResult::Booked);
+    }
+}
+
+fn is_read_so(
+    rt: &(impl Abort + Alloc<A = Global>),
+    pieces: &[Piece],
+    readings: &[Reading],
+    returned: &ExchangeResult,
+) {
     let text = join(rt, pieces);
     for reading in readings {
-        is_read(rt, text.as_str(), reading, want);
+        is_read(rt, text.as_str(), reading, returned);
     }
 }
 
 /// The request is read whole, and no call comes after: the reader would fail.
 #[test]
 fn reads_no_further_than_the_request(rt: HostRuntime) {
-    for (pieces, reading) in &BOOKINGS {
-        is_read_so(&rt, pieces, &[*reading], &booked(&rt));
-    }
-    is_read_so(&rt, &LONGEST, &LONGEST_READINGS, &booked(&rt));
+    are_read(&rt, &BOOKINGS);
+    is_read_so(&rt, &LONGEST, &LONGEST_READINGS, &ExchangeResult::Booked);
 }
 
 #[test]
@@ -81,24 +98,31 @@ fn endless_head(rt: HostRuntime) {
 
 /// How a request of so many bytes is read, so many a call, with five bytes after it.
 fn by_steps(len: usize, step: usize) -> Reading {
-    let calls = len.div_ceil(step.max(1));
+    let behind_first = step.max(1) - 1;
+    let calls = (len.min(20_000) + behind_first.min(20_000)) / (behind_first + 1);
     let taken = calls.saturating_mul(step);
-    let left = len.saturating_add(5).saturating_sub(taken);
-    (step, calls as u64, left)
+    (
+        step,
+        calls as u64,
+        len.saturating_add(5).saturating_sub(taken),
+    )
 }
 
 /// The text is a request and five bytes after it.
-fn is_read_by_steps(rt: &impl Runtime, text: &str, steps: Range<usize>, want: &Ended) {
+fn is_read_by_steps(
+    rt: &(impl Abort + Alloc<A = Global>),
+    text: &str,
+    step: usize,
+    returned: &ExchangeResult,
+) {
     let len = text.len().saturating_sub(5);
-    for step in steps {
-        is_read(rt, text, &by_steps(len, step), want);
-    }
+    is_read(rt, text, &by_steps(len, step), returned);
 }
 
 /// So many more bytes that the end of the head is at each place of four.
 static FIELDS: [&str; 4] = ["", "A: \r\n", "A: b\r\n", "A: bc\r\n"];
 
-fn with_field(rt: &impl Runtime, field: &str) -> String {
+fn with_field(rt: &(impl Abort + Alloc<A = Global>), field: &str) -> String {
     let text = format!(in rt.alloc();
         "PUT /slots/court-1/2026-05-01/18/bookings/7 HTTP/1.1\r\n{field}\
         Authorization: Bearer AgEJ\r\nContent-Length: 12\r\n\r\n{{\"guests\":2}}GET /"
@@ -106,12 +130,18 @@ fn with_field(rt: &impl Runtime, field: &str) -> String {
     text.expect(rt, "memory")
 }
 
+fn is_booked_with(rt: &(impl Abort + Alloc<A = Global>), field: &str) {
+    let text = with_field(rt, field);
+    for step in 1..180 {
+        is_read_by_steps(rt, text.as_str(), step, &ExchangeResult::Booked);
+    }
+}
+
 /// Wherever the calls split a head, its end and its body, it is the same request.
 #[test]
 fn splits_a_request(rt: HostRuntime) {
     for field in &FIELDS {
-        let text = with_field(&rt, field);
-        is_read_by_steps(&rt, text.as_str(), 1..180, &booked(&rt));
+        is_booked_with(&rt, field);
     }
 }
 
@@ -126,19 +156,25 @@ static PARTS: [&str; 7] = [
     "GET /\r\n\r\r\r\n\r\nGET /",
 ];
 
+fn is_no_head(rt: &(impl Abort + Alloc<A = Global>), text: &str) {
+    for step in 1..20 {
+        is_read_by_steps(rt, text, step, &IS_BAD);
+    }
+}
+
 /// The first CR LF CR LF ends the head, and nothing before it does.
 #[test]
 fn begins_the_end_of_a_head_again(rt: HostRuntime) {
     for text in &PARTS {
-        is_read_by_steps(&rt, text, 1..20, &IS_BAD);
+        is_no_head(&rt, text);
     }
 }
 
 /// Cut by an end of the input it is a bad request; cut by a failure nothing is written.
-fn is_cut(rt: &impl Runtime, bytes: &[u8]) {
+fn is_cut(rt: &(impl Abort + Alloc<A = Global>), bytes: &[u8]) {
     returns(rt, &mut Pieces::new(bytes, 7, false), &IS_BAD);
     let mut reader = Pieces::new(bytes, 7, true);
-    returns(rt, &mut reader, &NO_REQUEST);
+    returns(rt, &mut reader, &ExchangeResult::NoRequest);
     expect_eq(rt, &reader.failures, &1);
 }
 

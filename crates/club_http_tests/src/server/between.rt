@@ -2,12 +2,46 @@
 //! with its time. No contract states how long a server waits, nor whose turn it is, nor that a
 //! stream is closed before the log has its line.
 
-use super::doubles::{Script, Step, Wire};
-use super::journal::{Call, Entries, Journal};
-use super::{REQUEST, always, desk_at_noon, new_face};
-use crate::desk::Desk;
-use crate::expect::{Runtime, expect_row, noon};
-use desk_server::serve_logged;
+use super::doubles::Letter;
+use super::journal::{Call, Entries, HandSet, Journal, Recorded, Recorder, Step};
+use super::{REQUEST, noon};
+use crate::expect::expect_eq;
+use crate::rows::expect_row;
+use club_core::{Refusal, Reply};
+use club_http::Face;
+use desk_server::{Accepted, Arrival, Arrivals, serve_logged};
+use std::alloc::Global;
+use std::process::Abort;
+use std::time::Duration;
+
+/// One client, and then nobody.
+#[derive(Drop)]
+struct Once<'a> {
+    client: Option<Accepted<'a, Recorded<'a>, HandSet>>,
+    waited: u64,
+    failures: u64,
+}
+
+impl<'a> Arrivals for Once<'a> {
+    type Client = Accepted<'a, Recorded<'a>, HandSet>;
+
+    type Command = Letter<'a>;
+
+    ghost waited = { λ once. once.waited };
+
+    ghost failures = { λ once. once.failures };
+
+    fn next(&mut self) -> Arrival<Accepted<'a, Recorded<'a>, HandSet>, Letter<'a>> {
+        self.waited = self.waited.saturating_add(1);
+        match self.client.take() {
+            Some(client) => Arrival::Client(client),
+            None => {
+                self.failures = self.failures.saturating_add(1);
+                Arrival::Nobody
+            }
+        }
+    }
+}
 
 /// What comes to a server that has a patience of ten seconds, the milliseconds that a command
 /// takes, and the calls.
@@ -23,7 +57,7 @@ const REST: &[u8] = b"ET /account HTTP/1.1\r\nAuthorization: Bearer AgEJ\r\n\r\n
 static ROWS: [Row; 6] = [
     // Its request is there: no command goes before it.
     Row {
-        steps: &[Step::Bytes(0, REQUEST), Step::Command(0, Some(b"an order"))],
+        steps: &[Step::Bytes(0, REQUEST), Step::Command(0, b"an order")],
         command_takes: 0,
         calls: &[
             (0, Call::Began),
@@ -39,7 +73,7 @@ static ROWS: [Row; 6] = [
     Row {
         steps: &[
             Step::Bytes(1_000, b"G"),
-            Step::Command(500, Some(b"an order")),
+            Step::Command(500, b"an order"),
             Step::Bytes(2_000, REST),
         ],
         command_takes: 100,
@@ -62,9 +96,9 @@ static ROWS: [Row; 6] = [
     // A silent client holds up no command, and is cut off in its time.
     Row {
         steps: &[
-            Step::Command(3_000, Some(b"an order")),
+            Step::Command(3_000, b"an order"),
             Step::Gone(1_000),
-            Step::Command(2_000, Some(b"another order")),
+            Step::Command(2_000, b"another order"),
         ],
         command_takes: 0,
         calls: &[
@@ -86,7 +120,7 @@ static ROWS: [Row; 6] = [
     },
     // A command that takes all its time cuts a client off, unless its request is there by then.
     Row {
-        steps: &[Step::Command(1_000, Some(b"an order"))],
+        steps: &[Step::Command(1_000, b"an order")],
         command_takes: 20_000,
         calls: &[
             (0, Call::Began),
@@ -100,10 +134,7 @@ static ROWS: [Row; 6] = [
         ],
     },
     Row {
-        steps: &[
-            Step::Command(1_000, Some(b"an order")),
-            Step::Bytes(0, REQUEST),
-        ],
+        steps: &[Step::Command(1_000, b"an order"), Step::Bytes(0, REQUEST)],
         command_takes: 20_000,
         calls: &[
             (0, Call::Began),
@@ -122,7 +153,7 @@ static ROWS: [Row; 6] = [
     Row {
         steps: &[
             Step::Bytes(0, b"x"),
-            Step::Command(0, Some(b"an order")),
+            Step::Command(0, b"an order"),
             Step::End(0),
         ],
         command_takes: 0,
@@ -145,22 +176,40 @@ static ROWS: [Row; 6] = [
     },
 ];
 
-fn plays(rt: &impl Runtime, row: &Row) {
-    let journal = Journal::new(rt.alloc());
-    let wires = [Wire::Client(row.steps)];
-    let mut arrivals = Script::new(&journal, &wires);
-    let mut desk = Desk {
-        journal: Some(&journal),
-        command_takes: row.command_takes,
-        ..desk_at_noon(rt)
+/// The server of one client, with what comes.
+fn serve_steps<'a>(
+    rt: &(impl Abort + Alloc<A = Global>),
+    journal: &'a Journal,
+    steps: &'a [Step<'a>],
+    command_takes: u64,
+) {
+    let stream = Recorded::new(journal, steps);
+    let client = Accepted::new(stream, &journal.clock, Duration::from_secs(10));
+    let mut arrivals = Once {
+        client: Some(client),
+        waited: 0,
+        failures: 0,
     };
-    let mut moments = always(noon(rt));
-    let mut face = new_face(rt);
-    let log = &mut Entries(&journal);
-    let served = serve_logged(&mut arrivals, 1, &mut moments, &mut face, &mut desk, log);
+    let reply = Reply::Refused(Refusal::Unavailable);
+    let mut desk = Recorder::new(journal, rt.alloc(), reply).that_takes(0, command_takes);
+    let mut face = Face::new(rt.alloc()).expect(rt, "a face");
+    let mut log = Entries(journal);
+    let served = serve_logged(
+        &mut arrivals,
+        1,
+        &mut noon(rt),
+        &mut face,
+        &mut desk,
+        &mut log,
+    );
+    expect_eq(rt, &served.is_ok(), &true);
+}
+
+fn plays(rt: &(impl Abort + Alloc<A = Global>), row: &Row) {
+    let journal = Journal::new(rt.alloc());
+    serve_steps(rt, &journal, row.steps, row.command_takes);
     let calls = journal.calls(rt.alloc());
     expect_row(rt, &calls.as_slice(), &row.calls, &row.calls);
-    expect_row(rt, &served, &Ok(()), &row.calls);
 }
 
 #[test]

@@ -1,12 +1,18 @@
 //! A connection is closed before its line is in the log: whoever reads the line may rely on it.
 
-use super::{always, desk_at_noon, new_face};
-use crate::expect::{Runtime, expect_eq, noon};
+use super::doubles::Noting;
+use super::noon;
+use crate::expect::expect_eq;
+use crate::rows::moment;
 use crate::sockets::{client_of, loopback_listener};
+use club_http::Face;
 use desk_server::{Fate, Listening, Log, serve_logged};
+use std::alloc::Global;
 use std::io::{ErrorKind, Read};
-use std::net::TcpStream;
-use std::time::Duration;
+use std::net::{Net, TcpListener, TcpStream};
+use std::process::Abort;
+use std::time::{Clock, Duration};
+use test_kit::moments::NOON;
 
 /// A log that looks at each line whether the client's connection is over.
 #[derive(Drop)]
@@ -49,19 +55,32 @@ impl Log for Closings {
 /// before it is closed.
 static CUT: [&[u8]; 3] = [b"", b"G", b"GET /account HTTP/1.1\r\nHost: club\r\n"];
 
-fn closes_before_its_line(rt: &impl Runtime, sent: &[u8]) {
+// The next connection of the listener is served with this log; whether the server came to its end.
+fn serves_with<'x>(
+    rt: &'x (impl Abort + Alloc<A = Global> + Clock),
+    listener: &'x TcpListener,
+    log: &mut Closings,
+) -> bool {
+    let mut arrivals = Listening::new(listener, None, rt, Duration::from_millis(20));
+    let mut face = Face::new(rt.alloc()).expect(rt, "a face");
+    let mut moments = noon(rt);
+    let mut desk = Noting::new(rt.alloc(), moment(rt, NOON));
+    let served = serve_logged(&mut arrivals, 1, &mut moments, &mut face, &mut desk, log);
+    served.is_ok()
+}
+
+fn closes_before_its_line(
+    rt: &(impl Abort + Alloc<A = Global> + Clock + Net<Listener = TcpListener, Stream = TcpStream>),
+    sent: &[u8],
+) {
     let listener = loopback_listener(rt);
-    let log = &mut Closings {
+    let mut log = Closings {
         client: client_of(rt, &listener, sent),
         lines: 0,
         closed: 0,
     };
-    let mut arrivals = Listening::new(&listener, None, rt, Duration::from_millis(20));
-    let mut moments = always(noon(rt));
-    let mut face = new_face(rt);
-    let mut desk = desk_at_noon(rt);
-    let served = serve_logged(&mut arrivals, 1, &mut moments, &mut face, &mut desk, log);
-    expect_eq(rt, &(served, log.lines, log.closed), &(Ok(()), 1, 1));
+    let served = serves_with(rt, &listener, &mut log);
+    expect_eq(rt, &(served, log.lines, log.closed), &(true, 1, 1));
 }
 
 #[test]

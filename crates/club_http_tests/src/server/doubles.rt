@@ -1,52 +1,68 @@
-//! Connections, moments and clocks over memory.
+//! Connections, moments, clocks and a responder over memory.
 
 ghost use Rattle.std.specs.Prelude.{◌≤◌, length, IfSome};
 ghost use Rattle.desk_server.specs.Limits.{moved};
 
-use super::journal::{Call, Journal};
+use club_clock::Moments;
+use club_core::{Refusal, Reply};
+use club_http::Responder;
+use club_values::Moment;
 use desk_server::{
-    Accepted, Answer, Arrival, Arrivals, Carried, ClientStream, Handover, Office, TimedStream,
-    Waited, Woken,
+    Accepted, Answer, Arrival, Arrivals, Carried, ClientStream, Handover, Office, RequestLine,
+    TimedStream, Waited, Woken,
 };
+use http_request::Words;
+use std::alloc::Global;
 use std::cell::Cell;
 use std::io::{self, ErrorKind, Read, Write};
 use std::time::{Clock, Duration};
-
-/// The next event for a server that waits for a client, and the milliseconds until it comes.
-#[derive(Clone, Copy, Drop)]
-pub enum Step<'a> {
-    /// Bytes of the client.
-    Bytes(u64, &'a [u8]),
-    /// A command with these bytes, or one that doesn't come whole.
-    Command(u64, Option<&'a [u8]>),
-    /// A command that was gone before it was accepted.
-    Gone(u64),
-    /// The end of what the client sends.
-    End(u64),
-    /// The client's reader fails.
-    Fails(u64),
-}
 
 /// What comes of waiting for an arrival.
 #[derive(Clone, Copy, Drop)]
 pub enum Wire<'a> {
     /// Nobody: waiting failed.
     Absent,
-    /// A connection of the office with these bytes, or one whose command doesn't come whole.
-    Command(Option<&'a [u8]>),
-    /// A client.
-    Client(&'a [Step<'a>]),
-    /// One whose writer fails.
-    Deaf(&'a [Step<'a>]),
+    /// A connection of the office with these bytes.
+    Command(&'a [u8]),
+    /// One whose command doesn't come whole.
+    Cut,
+    /// A client whose reader fails.
+    Broken,
+    /// One that sends these bytes, and then ends.
+    Whole(&'a [u8]),
+    /// One that sends these bytes, and whose writer fails.
+    Deaf(&'a [u8]),
+    /// One that sends its bytes in pieces, with commands between them, and then ends.
+    Pieces(&'a [Piece<'a>]),
 }
 
-/// Fails at each write.
-#[derive(Drop)]
-pub struct Broken;
+/// What comes next of a client, or beside it.
+#[derive(Clone, Copy, Drop)]
+pub enum Piece<'a> {
+    /// Some of its bytes.
+    Bytes(&'a [u8]),
+    /// A connection of the office with these bytes.
+    Command(&'a [u8]),
+    /// One whose command doesn't come whole.
+    Cut,
+    /// One that was gone before it was accepted.
+    Gone,
+    /// Its reader fails.
+    Broken,
+}
 
-impl Write for Broken {
-    fn write(&mut self, _bytes: &[u8]) -> io::Result<usize> {
-        Err(io::Error::from(ErrorKind::BrokenPipe))
+/// Takes what is written, or fails at each write.
+#[derive(Drop)]
+pub struct Taken {
+    pub fails: bool,
+}
+
+impl Write for Taken {
+    fn write(&mut self, bytes: &[u8]) -> io::Result<usize> {
+        if self.fails {
+            return Err(io::Error::from(ErrorKind::BrokenPipe));
+        }
+        Ok(bytes.len())
     }
 
     fn flush(&mut self) -> io::Result<()> {
@@ -54,36 +70,36 @@ impl Write for Broken {
     }
 }
 
-/// The stream of a client over memory, which notes its calls.
+/// The stream of a client over memory.
+#[derive(Drop)]
 pub struct Played<'a> {
-    journal: &'a Journal,
-    steps: &'a [Step<'a>],
-    deaf: bool,
-    // how many of its steps have come
+    wire: Wire<'a>,
+    // how many of its pieces have come
     came: usize,
 }
 
-fn milliseconds(limit: Duration) -> u64 {
-    u64::try_from(limit.as_millis()).unwrap_or(u64::MAX)
-}
-
 impl<'a> Played<'a> {
-    // The next step, if it comes within the limit; else the limit passes.
-    fn next_within(&self, limit: Duration) -> Option<Step<'a>> {
-        let most = milliseconds(limit);
-        let next = self.steps.get(self.came).copied();
-        let after = match next {
-            Some(Step::Bytes(after, _) | Step::Command(after, _)) => after,
-            Some(Step::Gone(after) | Step::End(after) | Step::Fails(after)) => after,
-            None => u64::MAX,
-        };
-        self.journal.clock.advance(after.min(most));
-        if after <= most { next } else { None }
+    fn new(wire: Wire<'a>) -> Played<'a> {
+        Played { wire, came: 0 }
+    }
+
+    // The next piece; `None` at its end.
+    fn next(&self) -> Option<Piece<'a>> {
+        match self.wire {
+            Wire::Pieces(pieces) => pieces.get(self.came).copied(),
+            Wire::Whole(bytes) | Wire::Deaf(bytes) if self.came == 0 => Some(Piece::Bytes(bytes)),
+            Wire::Broken => Some(Piece::Broken),
+            _ => None,
+        }
+    }
+
+    fn take(&mut self) {
+        self.came = self.came.saturating_add(1);
     }
 }
 
 /// How a read of all that comes at once ends.
-fn read_from(bytes: &[u8], room: &mut [u8]) -> Waited
+pub fn read_from(bytes: &[u8], room: &mut [u8]) -> Waited
     ensures { IfSome (moved result) (λ n. n ≤ length room.new) }
 {
     let mut left = bytes;
@@ -104,63 +120,41 @@ impl TimedStream for Played<'_> {
 
     ghost writes = { λ _ _ _ _. Unit {0} };
 
-    // The step that was waited for is there.
-    fn read_within(&mut self, limit: Duration, room: &mut [u8]) -> Waited {
-        self.journal.note(Call::Read(milliseconds(limit)));
-        match self.steps.get(self.came) {
-            Some(Step::Bytes(_, bytes)) => {
-                self.came = self.came.saturating_add(1);
+    fn read_within(&mut self, _limit: Duration, room: &mut [u8]) -> Waited {
+        match self.next() {
+            Some(Piece::Bytes(bytes)) => {
+                self.take();
                 read_from(bytes, room)
             }
-            Some(Step::End(_)) => Waited::Moved(0),
-            _ => Waited::Failed,
+            Some(_) => Waited::Failed,
+            None => Waited::Moved(0),
         }
     }
 
-    fn write_within(&mut self, limit: Duration, bytes: &[u8]) -> Waited {
-        if self.deaf {
-            return Waited::Failed;
+    fn write_within(&mut self, _limit: Duration, bytes: &[u8]) -> Waited {
+        match self.wire {
+            Wire::Deaf(_) => Waited::Failed,
+            _ => Waited::Moved(bytes.len()),
         }
-        self.journal
-            .note(Call::Wrote(milliseconds(limit), bytes.len()));
-        Waited::Moved(bytes.len())
     }
 }
 
 impl<'a> ClientStream for Played<'a> {
     type Command = Letter<'a>;
 
-    fn wait_within(&mut self, limit: Duration, command_first: bool) -> Woken<Letter<'a>> {
-        let left = milliseconds(limit);
-        self.journal.note(if command_first {
-            Call::WaitedCommandFirst(left)
-        } else {
-            Call::WaitedBytesFirst(left)
-        });
-        let woken = match self.next_within(limit) {
-            Some(Step::Command(_, bytes)) => Woken::Command(Letter(bytes)),
-            Some(Step::Gone(_)) => Woken::Nobody,
+    fn wait_within(&mut self, _limit: Duration, _command_first: bool) -> Woken<Letter<'a>> {
+        let woken = match self.next() {
+            Some(Piece::Command(bytes)) => Woken::Command(Letter(Some(bytes))),
+            Some(Piece::Cut) => Woken::Command(Letter(None)),
+            Some(Piece::Gone) => Woken::Nobody,
             _ => return Woken::Client,
         };
-        self.came = self.came.saturating_add(1);
+        self.take();
         woken
     }
 
     fn end_writing(&mut self) -> bool {
-        self.journal.note(Call::EndedWriting);
-        true
-    }
-}
-
-impl Drop for Played<'_> {
-    fn drop(self) {
-        let Played {
-            journal,
-            steps: _,
-            deaf: _,
-            came: _,
-        } = self;
-        journal.note(Call::Closed);
+        false
     }
 }
 
@@ -180,38 +174,29 @@ impl Handover for Letter<'_> {
     }
 }
 
-/// Arrivals in turn, each of them with the journal's clock and a patience of ten seconds.
+/// The clock of clients over memory.
+pub static STOPPED: Stopped = Stopped(Some(Duration::ZERO));
+
+/// Arrivals in turn.
 #[derive(Drop)]
 pub struct Script<'a> {
-    journal: &'a Journal,
     wires: &'a [Wire<'a>],
     pub waited: u64,
     failures: u64,
 }
 
 impl<'a> Script<'a> {
-    pub fn new(journal: &'a Journal, wires: &'a [Wire<'a>]) -> Script<'a> {
+    pub fn new(wires: &'a [Wire<'a>]) -> Script<'a> {
         Script {
-            journal,
             wires,
             waited: 0,
             failures: 0,
         }
     }
-
-    fn client(&self, steps: &'a [Step<'a>], deaf: bool) -> Accepted<'a, Played<'a>, HandSet> {
-        let stream = Played {
-            journal: self.journal,
-            steps,
-            deaf,
-            came: 0,
-        };
-        Accepted::new(stream, &self.journal.clock, Duration::from_secs(10))
-    }
 }
 
 impl<'a> Arrivals for Script<'a> {
-    type Client = Accepted<'a, Played<'a>, HandSet>;
+    type Client = Accepted<'a, Played<'a>, Stopped>;
 
     type Command = Letter<'a>;
 
@@ -219,7 +204,7 @@ impl<'a> Arrivals for Script<'a> {
 
     ghost failures = { λ script. script.failures };
 
-    fn next(&mut self) -> Arrival<Accepted<'a, Played<'a>, HandSet>, Letter<'a>> {
+    fn next(&mut self) -> Arrival<Accepted<'a, Played<'a>, Stopped>, Letter<'a>> {
         let place = self.waited as usize;
         self.waited = self.waited.saturating_add(1);
         match self.wires.get(place) {
@@ -227,10 +212,38 @@ impl<'a> Arrivals for Script<'a> {
                 self.failures = self.failures.saturating_add(1);
                 Arrival::Nobody
             }
-            Some(Wire::Command(bytes)) => Arrival::Command(Letter(*bytes)),
-            Some(Wire::Client(steps)) => Arrival::Client(self.client(steps, false)),
-            Some(Wire::Deaf(steps)) => Arrival::Client(self.client(steps, true)),
+            Some(Wire::Command(bytes)) => Arrival::Command(Letter(Some(bytes))),
+            Some(Wire::Cut) => Arrival::Command(Letter(None)),
+            Some(wire) => {
+                let stream = Played::new(*wire);
+                Arrival::Client(Accepted::new(stream, &STOPPED, Duration::from_secs(10)))
+            }
         }
+    }
+}
+
+/// Gives a moment so many times, and then none.
+#[derive(Drop)]
+pub struct Countdown {
+    moment: Moment,
+    left: u32,
+}
+
+impl Countdown {
+    pub fn new(moment: Moment, left: u32) -> Countdown {
+        Countdown { moment, left }
+    }
+}
+
+impl Moments for Countdown {
+    ghost gives = { λ _ _ _. Unit {0} };
+
+    fn now(&mut self) -> Option<Moment> {
+        if self.left == 0 {
+            return None;
+        }
+        self.left -= 1;
+        Some(self.moment)
     }
 }
 
@@ -248,50 +261,96 @@ impl Clock for Stopped {
     }
 }
 
-/// A clock that is set by hand, and advances while the server sleeps, and by a step each time that
-/// it is read.
+/// Shows so many microseconds more each time.
 #[derive(Drop)]
-pub struct HandSet {
-    microseconds: Cell<u64>,
+pub struct Ticking {
+    shown: Cell<u64>,
     step: u64,
-    /// The number of readings that are left.
-    pub readable: Cell<u64>,
 }
 
-impl HandSet {
+impl Ticking {
     /// Shows these microseconds, and one step more, at first.
-    pub fn new(from: u64, step: u64) -> HandSet {
-        HandSet {
-            microseconds: Cell::new(from),
+    pub fn new(from: u64, step: u64) -> Ticking {
+        Ticking {
+            shown: Cell::new(from),
             step,
-            readable: Cell::new(u64::MAX),
+        }
+    }
+
+    fn tick(&self) -> Duration {
+        let now = self.shown.get().saturating_add(self.step);
+        self.shown.set(now);
+        Duration::from_micros(now)
+    }
+}
+
+impl Clock for Ticking {
+    fn monotonic(&self) -> io::Result<Duration> {
+        Ok(self.tick())
+    }
+
+    fn since_1970(&self) -> io::Result<Duration> {
+        Ok(self.tick())
+    }
+}
+
+/// A clock that advances by milliseconds while the server waits for a client, and while it sleeps.
+/// It can be read so many times. It counts how often clients were waited for.
+#[derive(Drop)]
+pub struct Running {
+    shown: Cell<u64>,
+    readable: Cell<u64>,
+    reads: Cell<u64>,
+    writes: Cell<u64>,
+}
+
+impl Running {
+    pub fn new(readable: u64) -> Running {
+        Running {
+            shown: Cell::new(0),
+            readable: Cell::new(readable),
+            reads: Cell::new(0),
+            writes: Cell::new(0),
         }
     }
 
     /// The milliseconds that have passed.
     pub fn elapsed(&self) -> u64 {
-        self.microseconds.get() / 1_000
+        self.shown.get()
     }
 
-    pub fn advance(&self, milliseconds: u64) {
-        self.add(milliseconds.saturating_mul(1_000));
+    /// How often the clock can be read still.
+    pub fn readable(&self) -> u64 {
+        self.readable.get()
     }
 
-    fn add(&self, microseconds: u64) {
-        let shown = self.microseconds.get().saturating_add(microseconds);
-        self.microseconds.set(shown);
+    /// How often a client was read.
+    pub fn reads(&self) -> u64 {
+        self.reads.get()
+    }
+
+    /// How often a client was written to.
+    pub fn writes(&self) -> u64 {
+        self.writes.get()
+    }
+
+    // Waits so long, or until the limit, and returns whether that was long enough.
+    fn waits(&self, pause: u64, limit: Duration) -> bool {
+        let most = u64::try_from(limit.as_millis()).unwrap_or(u64::MAX);
+        let shown = self.elapsed().saturating_add(pause.min(most));
+        self.shown.set(shown);
+        pause <= most
     }
 }
 
-impl Clock for HandSet {
+impl Clock for Running {
     fn monotonic(&self) -> io::Result<Duration> {
         let readable = self.readable.get();
         self.readable.set(readable.saturating_sub(1));
         if readable == 0 {
             return Err(io::Error::from(ErrorKind::Unsupported));
         }
-        self.add(self.step);
-        Ok(Duration::from_micros(self.microseconds.get()))
+        Ok(Duration::from_millis(self.elapsed()))
     }
 
     fn since_1970(&self) -> io::Result<Duration> {
@@ -299,7 +358,7 @@ impl Clock for HandSet {
     }
 
     fn sleep(&self, duration: Duration) {
-        self.advance(milliseconds(duration));
+        let _ = self.waits(u64::MAX, duration);
     }
 }
 
@@ -307,27 +366,31 @@ impl Clock for HandSet {
 /// pause. Signals interrupt so many of the waits for it, each at its half. It ends after the last.
 #[derive(Drop)]
 pub struct Slow<'a> {
-    pub clock: &'a HandSet,
-    /// The milliseconds before each byte.
-    pub pause: u64,
-    pub bytes: &'a [u8],
+    clock: &'a Running,
+    pause: u64,
+    bytes: &'a [u8],
     pub interruptions: u32,
-    /// The number of reads, or of writes.
-    pub calls: u64,
 }
 
-impl Slow<'_> {
-    // Waits for the pause, or until the limit, and returns whether the pause is over; `None` if a
-    // signal interrupted it.
+impl<'a> Slow<'a> {
+    /// A client with these bytes, and so many milliseconds before each.
+    pub fn new(clock: &'a Running, pause: u64, bytes: &'a [u8]) -> Slow<'a> {
+        Slow {
+            clock,
+            pause,
+            bytes,
+            interruptions: 0,
+        }
+    }
+
+    // Waits for the pause, and returns whether it is over; `None` if a signal interrupted it.
     fn wait(&mut self, limit: Duration) -> Option<bool> {
-        let most = milliseconds(limit);
         if self.interruptions > 0 {
             self.interruptions -= 1;
-            self.clock.advance(most.min(self.pause / 2));
+            let _ = self.clock.waits(self.pause / 2, limit);
             return None;
         }
-        self.clock.advance(most.min(self.pause));
-        Some(self.pause <= most)
+        Some(self.clock.waits(self.pause, limit))
     }
 
     // Sends its next byte, if there is one.
@@ -357,7 +420,7 @@ impl TimedStream for Slow<'_> {
     ghost writes = { λ _ _ _ _. Unit {0} };
 
     fn read_within(&mut self, limit: Duration, room: &mut [u8]) -> Waited {
-        self.calls = self.calls.saturating_add(1);
+        self.clock.reads.set(self.clock.reads().saturating_add(1));
         if self.bytes.is_empty() {
             return Waited::Moved(0);
         }
@@ -369,11 +432,61 @@ impl TimedStream for Slow<'_> {
     }
 
     fn write_within(&mut self, limit: Duration, bytes: &[u8]) -> Waited {
-        self.calls = self.calls.saturating_add(1);
+        self.clock.writes.set(self.clock.writes().saturating_add(1));
         match self.wait(limit) {
             None => Waited::Interrupted,
             Some(true) => Waited::Moved(bytes.len().min(1)),
             Some(false) => Waited::Failed,
+        }
+    }
+}
+
+/// Answers all requests as out of memory, and counts those at its moment, and the commands and
+/// their bytes.
+#[derive(Drop)]
+pub struct Noting {
+    alloc: Global,
+    moment: Moment,
+    pub asked: u64,
+    pub commanded: u64,
+    pub bytes: usize,
+}
+
+impl Noting {
+    pub fn new(alloc: Global, moment: Moment) -> Noting {
+        Noting {
+            alloc,
+            moment,
+            asked: 0,
+            commanded: 0,
+            bytes: 0,
+        }
+    }
+}
+
+impl Responder for Noting {
+    ghost answers = { λ _ _ _ _ _ _. Unit {0} };
+
+    fn ask(&mut self, moment: Moment, _words: &Words<'_>) -> Reply {
+        if moment == self.moment {
+            self.asked = self.asked.saturating_add(1);
+        }
+        Reply::Refused(Refusal::Unavailable)
+    }
+}
+
+impl Office for Noting {
+    ghost commands = { λ _ _ _ _. Unit {0} };
+
+    fn command(&mut self, bytes: &[u8]) -> Answer {
+        self.commanded = self.commanded.saturating_add(1);
+        self.bytes = self.bytes.saturating_add(bytes.len());
+        Answer {
+            carried: Carried {
+                line: RequestLine::of(b"office credit "),
+                status: 1,
+            },
+            text: String::new(self.alloc),
         }
     }
 }
