@@ -25,7 +25,7 @@ def refusal(text, /, **values):
 
 
 class NothingLeft(Fault):
-    """A refusal because everything is done already. An interrupted command that is given again is complete then."""
+    """A refusal because everything is done already. If an interrupted command is given again and gets this refusal, it is complete."""
 
 
 class Doubtful(Fault):

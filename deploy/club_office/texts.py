@@ -302,8 +302,8 @@ TEXTS = {
     "report heat boat": ("Boats by weekday and hour", "Boote nach Wochentag und Stunde"),
     "report heat room": ("Rooms by weekday and hour", "Räume nach Wochentag und Stunde"),
     "report heat note": (
-        "Percentage of the open slots that were used: {share} in all, and {before} in {period}.",
-        "Prozent der offenen Zeiten, die genutzt wurden: {share} insgesamt, {before} in {period}.",
+        "Each cell is the percentage of the open slots that were used. Over all hours it is {share}; in {period} it was {before}.",
+        "Jedes Feld zeigt, wie viel Prozent der offenen Zeiten genutzt wurden. Über alle Stunden sind es {share}, in {period} waren es {before}.",
     ),
     "report months": ("Points kept, by month", "Verbrauchte Punkte nach Monaten"),
     "report facilities": ("Each court, boat and room", "Jeder Platz, jedes Boot, jeder Raum"),
