@@ -7,7 +7,7 @@ gate's.
   tests/times.py                 the whole gate
   tests/times.py club_core ..    `rt ci club_core ..`: these crates, and those below them
 Times are read from /proc once a second, so a process may count up to a second less than it took. Running the programs and tests isn't counted.
-Seconds vary by a quarter with the machine's other work.
+The measured times vary by about 25 percent, depending on the machine's other work.
 """
 # pytestmark = [mark.proofs, mark.alone, mark.timeout(36000)]
 

@@ -40,7 +40,7 @@ def connected(server):
 
 
 def replied(server, pieces, pause):
-    """Sends pieces with a pause after each, then reads the reply."""
+    """Sends pieces with a pause between them, then reads the reply."""
     with connected(server) as client:
         for place, piece in enumerate(pieces):
             time.sleep(pause if place else 0)

@@ -101,7 +101,7 @@ class CodeFile:
         return self.book.constant(self, name)
 
     def clauses(self, name, owner=None):
-        """Returns the clauses of a function, as (label, text, place), and the place of its head."""
+        """Returns the place of a function's `fn` line, and its clauses as (`requires` or `ensures`, label, text, place)."""
         for found in re.finditer(rf"^ *(?:pub(?:\([a-z]+\))? )?(?:final )?(?:extern \"C\" )?fn {name}\b", self.text, re.MULTILINE):
             head = self.block_around(found.start())[0]
             if owner and not re.search(rf"\b{owner}\b", head.split(" for ")[-1]):

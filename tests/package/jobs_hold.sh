@@ -3,8 +3,8 @@
 #
 # The test copies a running club, and checks which copies are kept.
 #
-# It copies a running club and a file that isn't one, kills a copying, and runs two at once. The kept copies, on each day of three years, are
-# those of the rule in Python. Health is checked for a desk that is well, and with faults.
+# It copies a running club, and tries to copy a file that isn't a club. It kills a copy job at work, and runs two copy jobs at once. The kept
+# copies, on each day of three years, are those of the rule in Python. Health is checked for a desk that is well, and with faults.
 #
 # The jobs are run by hand without systemd, with the test's own mailer. A killed job leaves nothing that confuses the next one.
 # pytestmark = [mark.package, mark.needs("clubdesk passtool"), mark.wants("curl sqlite3 openssl procps")]
