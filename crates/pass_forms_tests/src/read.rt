@@ -2,7 +2,7 @@
 
 use crate::calls::{open_v1, open_v2, read};
 use crate::rows::{Fields, Piece, expect_eq, expect_pass, join};
-use pass_forms::{Field, FieldSource, Form, FormFault};
+use pass_forms::{Field, FieldSource, Form, FormFault, Pass};
 use pass_json::JsonFields;
 use std::process::Abort;
 
@@ -49,13 +49,21 @@ fn walks<'a>(rt: &impl Abort, form: Form, bytes: &'a [u8], want: &Fields<'a>) {
     }
 }
 
-fn is_read(rt: &(impl Abort + AllocGlobal), form: Form, (pieces, want): &Row) {
-    let bytes = join(rt, pieces);
-    walks(rt, form, &bytes, want);
-    let pass = read(rt.alloc(), form, &bytes).expect(rt, "a pass");
-    expect_pass(rt, &pass, want);
+fn walks_in_memory<'a>(rt: &impl Abort, pass: &'a Pass, want: &Fields<'a>) {
     expect_fields_twice(rt, &mut pass.fields(), want);
-    expect_fields_twice(rt, &mut JsonFields::over(&pass), want);
+}
+
+fn walks_in_json<'a>(rt: &impl Abort, pass: &'a Pass, want: &Fields<'a>) {
+    expect_fields_twice(rt, &mut JsonFields::over(pass), want);
+}
+
+fn is_read(rt: &(impl Abort + AllocGlobal), form: Form, row: &Row) {
+    let bytes = join(rt, row.0);
+    walks(rt, form, &bytes, &row.1);
+    let pass = read(rt.alloc(), form, &bytes).expect(rt, "a pass");
+    expect_pass(rt, &pass, &row.1);
+    walks_in_memory(rt, &pass, &row.1);
+    walks_in_json(rt, &pass, &row.1);
 }
 
 pub(crate) fn are_read(rt: &(impl Abort + AllocGlobal), form: Form, rows: &[Row]) {

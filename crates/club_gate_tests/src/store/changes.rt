@@ -240,11 +240,15 @@ fn expect_accounts<C: ClubStore>(rt: &impl Abort, store: &mut C, row: usize, see
 
 /// The key with its older root. There is no second one.
 fn expect_keys<C: ClubStore>(rt: &impl Abort, store: &mut C, row: usize, seen: &Seen) {
-    let want = seen.key.map(|kept| key(rt, &kept));
     let amy_1 = name(rt, "amy-1");
-    let bare = want.map(|key| key.row());
+    let (bare, older) = match seen.key {
+        Some(kept) => {
+            let want = key(rt, &kept);
+            (Some(want.row()), want.older)
+        }
+        None => (None, None),
+    };
     expect_row(rt, &row, &store.key_row(&amy_1), &Ok(bare));
-    let older = want.and_then(|key| key.older);
     expect_row(rt, &row, &store.older_root(&amy_1), &Ok(older));
     let amy_2 = name(rt, "amy-2");
     expect_row(rt, &row, &store.key_row(&amy_2), &Ok(None));
