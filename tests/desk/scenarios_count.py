@@ -49,7 +49,7 @@ READERS = {
     "end_to_end_tests/tasks": dict.fromkeys(("BOOKS", "EXCHANGES", "CANCELS", "BOOKS_AND_CANCELS", "ADDS_A_KEY", "CLOSES", "OPENS",
                                              "SETS_A_QUOTA", "DEBITS", "SETS_A_FACILITY", "CANCELS_FOR_A_MEMBER", "ROTATES", "MAKES_TABLES", "MIGRATES",
                                              "ADDS_THE_INDEX"), rows.of_crash),
-    "clubdesk_tests/commands": {"COMMANDS": rows.of_runs_in_turn, "PASSES_OF_KEYS": rows.of_runs},
+    "clubdesk_tests/commands": dict.fromkeys(("MEMBERS", "FACILITIES", "SLOTS_AND_SHEETS", "LOOKS", "KEYS", "PASSES_OF_KEYS"), rows.of_runs),
 }
 
 # Reasons why a module's rows stay where they are, also for the unread rows of a module above.
@@ -69,9 +69,9 @@ STAYS = {
     "club_http_tests/counted": "counted calls of readers and writers", "club_http_tests/server": "sockets, clocks, logs and the door",
     "club_http_tests/replies": "room after a reply",
     "end_to_end_tests/failing_ends": "readers and writers that fail, and cut input", "end_to_end_tests/refused_memory": "refused memory",
-    "end_to_end_tests/front": "requests after a failure",
-    "end_to_end_tests/desk": "the club that the crashes begin with", "end_to_end_tests/tables": "the statements that read the tables",
-    "end_to_end_tests/torn": "ways in which a write is torn",
+    "end_to_end_tests/messages": "requests after a failure",
+    "end_to_end_tests/events": "the club that the crashes begin with", "end_to_end_tests/tables": "the statements that read the tables",
+    "end_to_end_tests/torn": "ways in which a write is torn", "end_to_end_tests/texts": "the answers of a disk that fails",
     "clubdesk_tests": "runs of the program: the door, logs, clocks, odd files, input and refused output",
     "clubdesk_tests/commands": "shapes of arguments",
     "command_line_tests": "arguments of the programs, and passtool's reports", "pass_forms_tests": "readers and writers of passes",

@@ -87,24 +87,20 @@ def whole(club, data, moment, wanted, kinds):
 # ---- commands of the office
 
 
-def club_of_runs():
-    """Makes the club of the runs: a member, a court and a key, with which three persons are booked."""
+def club_of_files():
+    """Makes the club of the runs over files: a closed slot, a booked one, and a member with the most points."""
     club = rules.Club()
-    for words in (("add-member", "amy", 5), ("credit", "amy", 10_000), ("add-facility", "court-1", "court", 4, 200, 8, 22), ("add-key", "amy-1", "amy", ROOT)):
+    for words in (("add-member", "amy", 5), ("credit", "amy", 10_000), ("add-facility", "court-1", "court", 4, 200, 8, 22), ("add-key", "amy-1", "amy", ROOT),
+                  ("add-member", "bea", 5), ("close-slot", "court-1", 20574, 19)):
         club.command(words)
-    club.ask(lines.Pass("amy-1", ROOT.hex()).text("v2"), rules.Request("book", ("court-1", 20574, 18), 7, 2), NOON)
+    club.members["bea"].credited = rules.MOST_POINTS
+    club.ask(lines.Pass("amy-1", ROOT.hex()).text("v2"), rules.Request("book", ("court-1", 20574, 20), 1, 0), NOON)
     return club
 
 
 def of_runs(value):
     """Reads rows of a command's words and its output, each on that club."""
-    return [run_facts(club_of_runs(), it) for it in value]
-
-
-def of_runs_in_turn(value):
-    """Reads such rows, one after the other on one club."""
-    club = club_of_runs()
-    return [run_facts(club, it) for it in value]
+    return [run_facts(club_of_files(), it) for it in value]
 
 
 def run_facts(club, row):

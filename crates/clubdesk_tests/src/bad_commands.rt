@@ -13,40 +13,61 @@ use std::time::Clock;
 /// Whole: the count of its arguments, no root, and its arguments, each with a byte after it.
 const WHOLE: &[u8] = b"5\0\0clubdesk\0add-member\0club\0amy\05\0";
 
-/// Bytes and their status: 2 for no command, 3 for a value that can't be one. The whole command is
-/// carried out, and once.
-static COMMANDS: [(&[u8], u8); 16] = [
-    (b"4\0\0clubdesk\0add-member\0club\0amy\05\0", 2),
-    (b"6\0\0clubdesk\0add-member\0club\0amy\05\0", 2),
-    (b"05\0\0clubdesk\0add-member\0club\0amy\05\0", 2),
-    (b"five\0\0clubdesk\0add-member\0club\0amy\05\0", 2),
-    (b"5\0\0clubdesk\0add-member\0club\0am\xff\05\0", 2),
-    (b"5\0\0clubdesk\0add-member\0club\0amy\05\0\0", 2),
-    (b"0\0\0", 2),
-    (b"1\0\0clubdesk\0", 2),
-    (b"2\0\0clubdesk\0fly\0", 2),
-    (b"2\0\0clubdesk\0--help\0", 2),
-    (b"2\0\0clubdesk\0--version\0", 2),
-    (b"5\0\0clubdesk\0serve\0club\0--port\x000\0", 2),
-    (b"5\0\0clubdesk\0add-member\0club\0amy\0none\0", 3),
-    (b"5\0\0clubdesk\0add-member\0club\0\xc3\x84\05\0", 3),
-    (WHOLE, 0),
-    (WHOLE, 1),
+/// Bytes that are no command: status 2.
+static NO_COMMANDS: [&[u8]; 12] = [
+    b"4\0\0clubdesk\0add-member\0club\0amy\05\0",
+    b"6\0\0clubdesk\0add-member\0club\0amy\05\0",
+    b"05\0\0clubdesk\0add-member\0club\0amy\05\0",
+    b"five\0\0clubdesk\0add-member\0club\0amy\05\0",
+    b"5\0\0clubdesk\0add-member\0club\0am\xff\05\0",
+    b"5\0\0clubdesk\0add-member\0club\0amy\05\0\0",
+    b"0\0\0",
+    b"1\0\0clubdesk\0",
+    b"2\0\0clubdesk\0fly\0",
+    b"2\0\0clubdesk\0--help\0",
+    b"2\0\0clubdesk\0--version\0",
+    b"5\0\0clubdesk\0serve\0club\0--port\x000\0",
 ];
 
-// Hands over a command that is cut at each byte, and then those of the table.
-fn hand_over<S: ClubStore + Drop>(rt: &(impl Abort + Alloc<A = Global> + Clock), store: S) {
-    let mut desk = OfficeDesk::new(rt.alloc(), rt, store);
+/// Commands with a value that can't be one: status 3.
+static BAD_VALUES: [&[u8]; 2] = [
+    b"5\0\0clubdesk\0add-member\0club\0amy\0none\0",
+    b"5\0\0clubdesk\0add-member\0club\0\xc3\x84\05\0",
+];
+
+// Ends the test unless the bytes are answered with a status.
+fn expect_status<S: ClubStore, C: Clock>(
+    rt: &impl Abort,
+    desk: &mut OfficeDesk<'_, S, C>,
+    bytes: &[u8],
+    want: u8,
+) {
+    expect_eq(rt, &desk.command(bytes).carried.status, &want);
+}
+
+// Hands over a command cut at each byte, other bytes that are none, and at last the command twice.
+fn hand_over<S: ClubStore, C: Clock>(rt: &impl Abort, desk: &mut OfficeDesk<'_, S, C>) {
     for length in 0..WHOLE.len() {
-        expect_eq(rt, &desk.command(&WHOLE[..length]).carried.status, &2);
+        expect_status(rt, desk, &WHOLE[..length], 2);
     }
-    for (bytes, want) in &COMMANDS {
-        expect_eq(rt, &desk.command(bytes).carried.status, want);
+    for bytes in &NO_COMMANDS {
+        expect_status(rt, desk, bytes, 2);
     }
+    for bytes in &BAD_VALUES {
+        expect_status(rt, desk, bytes, 3);
+    }
+    expect_status(rt, desk, WHOLE, 0);
+    expect_status(rt, desk, WHOLE, 1);
+}
+
+// The same at a desk over this store.
+fn hand_over_to<S: ClubStore + Drop>(rt: &(impl Abort + Alloc<A = Global> + Clock), store: S) {
+    let mut desk = OfficeDesk::new(rt.alloc(), rt, store);
+    hand_over(rt, &mut desk);
 }
 
 #[test]
 fn refuses_bytes_that_are_no_command(rt: HostRuntime) -> Result<(), Fail> {
-    hand_over(&rt, Store::open_in_memory(rt.alloc())?);
+    hand_over_to(&rt, Store::open_in_memory(rt.alloc())?);
     Ok(())
 }

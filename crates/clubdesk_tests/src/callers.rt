@@ -1,27 +1,12 @@
-//! The input and the writer of a run, the clients of its server, and the clock of its machine.
+//! The writer of a run, with clients that come by the line of its server, and the clock of its
+//! machine.
 
 use crate::runs::Run;
+use crate::terminal::Full;
 use std::cell::Cell;
 use std::io::{self, ErrorKind, Read, Write};
 use std::net::TcpStream;
 use std::time::{Clock, Duration};
-
-/// The input of a run.
-#[derive(Clone, Copy)]
-pub enum Input<'a> {
-    Bytes(&'a [u8]),
-    /// Each read of it fails.
-    Broken,
-}
-
-impl Read for Input<'_> {
-    fn read(&mut self, room: &mut [u8]) -> io::Result<usize> {
-        match self {
-            Input::Bytes(left) => left.read(room),
-            Input::Broken => Err(io::Error::from(ErrorKind::ConnectionReset)),
-        }
-    }
-}
 
 /// Where a server listens, before the port.
 const LOOPBACK: &str = "127.0.0.1:";
@@ -35,27 +20,32 @@ const BESIDE: &str = "127.0.0.2";
 #[derive(Drop)]
 pub struct Caller<'a> {
     rt: &'a HostRuntime,
-    asked: Run<'a>,
-    written: Vec<u8>,
+    requests: &'a [&'a str],
+    output: Full,
     clients: Vec<TcpStream>,
 }
 
 impl<'a> Caller<'a> {
-    pub fn new(rt: &'a HostRuntime, asked: Run<'a>) -> Caller<'a> {
+    /// The writer and the clients of a run.
+    pub fn new(rt: &'a HostRuntime, asked: &Run<'a>) -> Caller<'a> {
         Caller {
             rt,
-            asked,
-            written: Vec::new(rt.alloc()),
+            requests: asked.requests,
+            output: Full {
+                room: asked.room,
+                flushes: asked.flushes,
+                taken: Vec::new(rt.alloc()),
+            },
             clients: Vec::new(rt.alloc()),
         }
     }
 
     /// What was written, but for the line by which clients came.
     pub fn written_bytes(&self) -> &[u8] {
-        self.written.as_slice()
+        self.output.taken.as_slice()
     }
 
-    // The port of a server's line.
+    // The port of the line.
     fn port(&self) -> Option<u16> {
         let line = str::from_utf8(self.written_bytes()).ok()?;
         let address = line.strip_prefix("listening on ")?.strip_suffix("\n")?;
@@ -73,10 +63,24 @@ impl<'a> Caller<'a> {
         Ok(client)
     }
 
-    /// The replies to the clients in turn. A connection that is closed with its request unread may
-    /// end with an error.
+    // A client for each request.
+    fn call(&mut self, port: u16) -> io::Result<()> {
+        for request in self.requests {
+            let client = self.send(port, request)?;
+            self.clients.push(client)?;
+        }
+        Ok(())
+    }
+
+    /// What came back to each in turn; nothing if no client was there. A connection that is closed
+    /// with its request unread may end with an error.
     pub fn reply(self) -> Vec<u8> {
-        let Caller { rt, clients, .. } = self;
+        let Caller {
+            rt,
+            requests: _,
+            output: _,
+            clients,
+        } = self;
         let mut reply = Vec::new(rt.alloc());
         for mut client in clients {
             let _ = client.read_to_end(&mut reply);
@@ -87,43 +91,27 @@ impl<'a> Caller<'a> {
 
 impl Write for Caller<'_> {
     fn write(&mut self, bytes: &[u8]) -> io::Result<usize> {
-        let room = self.asked.room.saturating_sub(self.written.len());
-        if room == 0 {
-            return Err(io::Error::from(ErrorKind::StorageFull));
-        }
-        let count = bytes.len().min(room);
-        let (front, _) = bytes.split_at(count);
-        match self.written.extend_from_slice(front) {
-            Ok(()) => Ok(count),
-            Err(_) => Err(io::Error::from(ErrorKind::OutOfMemory)),
-        }
+        self.output.write(bytes)
     }
 
     fn flush(&mut self) -> io::Result<()> {
-        if !self.asked.flushes {
-            return Err(io::Error::from(ErrorKind::BrokenPipe));
+        self.output.flush()?;
+        if let Some(port) = self.port() {
+            self.call(port)?;
+            self.output.taken.clear();
         }
-        let Some(port) = self.port() else {
-            return Ok(());
-        };
-        for request in self.asked.requests {
-            let client = self.send(port, request)?;
-            self.clients.push(client)?;
-        }
-        self.written.clear();
         Ok(())
     }
 }
 
 /// The clock of a machine. It shows one second, counted since 1970 began, or it can't be read. The
-/// first two readings of the time since its start are 0, as a connection's limit and its span in
-/// the log begin. Later ones are `later` microseconds. Sleeps add to each.
+/// time since its start is none when it is read for the first two times, as a connection's limit
+/// and its span in the log begin, and so many microseconds from then on.
 #[derive(Drop)]
 pub struct Machine {
     second: Option<u64>,
     later: u64,
     read: Cell<u64>,
-    slept: Cell<u64>,
 }
 
 impl Machine {
@@ -132,35 +120,24 @@ impl Machine {
             second,
             later,
             read: Cell::new(0),
-            slept: Cell::new(0),
         }
     }
 
-    /// The milliseconds that were slept by it.
-    pub fn slept(&self) -> u64 {
-        self.slept.get()
+    // The second that it shows.
+    fn second(&self) -> io::Result<u64> {
+        self.second.ok_or(io::Error::from(ErrorKind::Unsupported))
     }
 }
 
 impl Clock for Machine {
     fn monotonic(&self) -> io::Result<Duration> {
-        let _ = self.since_1970()?;
+        let _ = self.second()?;
         let read = self.read.get();
         self.read.set(read.saturating_add(1));
-        let slept = self.slept.get().saturating_mul(1_000);
-        let later = if read < 2 { 0 } else { self.later };
-        Ok(Duration::from_micros(slept.saturating_add(later)))
+        Ok(Duration::from_micros(if read < 2 { 0 } else { self.later }))
     }
 
     fn since_1970(&self) -> io::Result<Duration> {
-        match self.second {
-            Some(second) => Ok(Duration::from_secs(second)),
-            None => Err(io::Error::from(ErrorKind::Unsupported)),
-        }
-    }
-
-    fn sleep(&self, duration: Duration) {
-        let millis = u64::try_from(duration.as_millis()).unwrap_or(u64::MAX);
-        self.slept.set(self.slept().saturating_add(millis));
+        Ok(Duration::from_secs(self.second()?))
     }
 }

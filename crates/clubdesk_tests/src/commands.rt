@@ -1,62 +1,261 @@
-//! Commands over a club in memory. Each opens it and closes it once. Other rows are in the
-//! scenarios.
+//! Each command and each of its refusals, each over a new club in a file, which the command opens
+//! and closes once.
 
-use crate::memory::{Scene, play, play_row};
-use crate::runs::Row;
-use crate::servers::OFFICE;
+use crate::clubs::expect_over_clubs;
+use crate::expect::expect_eq;
+use crate::runs::{ROOM, Row, run_line};
 use std::test::Fail;
-use test_kit::exchanges::BOOK_7;
 
-// After amy's booking of three persons for 600 points.
-static COMMANDS: [Row; 19] = [
-    Row("add-member", "bea 99", "0 done\n"),
+static MEMBERS: [Row; 17] = [
+    Row("add-member", "cy 5", "0 done\n"),
+    Row("add-member", "cy 99", "0 done\n"),
+    Row("add-member", "cy 100", "1 refused: out of range"),
+    Row("add-member", "amy 100", "1 refused: out of range"),
     Row("add-member", "amy 5", "1 refused: exists"),
-    Row("credit", "bea 1000000", "0 done\n"),
+    Row("credit", "amy 1", "0 done\n"),
+    Row("credit", "amy 1000000", "0 done\n"),
+    Row("credit", "amy 0", "1 refused: out of range"),
     Row("credit", "amy 1000001", "1 refused: out of range"),
-    Row("debit", "amy 9401", "1 refused: out of range"),
-    Row("debit", "amy 9400", "0 done\n"),
-    Row("set-quota", "zed 99", "1 refused: unknown"),
+    Row("credit", "zed 0", "1 refused: out of range"),
+    Row("credit", "zed 1", "1 refused: unknown"),
+    Row("credit", "bea 1", "1 refused: out of range"),
     Row("set-quota", "amy 0", "0 done\n"),
+    Row("set-quota", "amy 99", "0 done\n"),
+    Row("set-quota", "amy 100", "1 refused: out of range"),
+    Row("set-quota", "zed 100", "1 refused: out of range"),
+    Row("set-quota", "zed 99", "1 refused: unknown"),
+];
+
+// Amy has 10,000 points, and booked for 200.
+static DEBITS: [Row; 8] = [
+    Row("debit", "amy 1", "0 done\n"),
+    Row("debit", "amy 9800", "0 done\n"),
+    Row("debit", "amy 9801", "1 refused: out of range"),
+    Row("debit", "amy 0", "1 refused: out of range"),
+    Row("debit", "bea 1000000", "0 done\n"),
+    Row("debit", "bea 1000001", "1 refused: out of range"),
+    Row("debit", "zed 0", "1 refused: out of range"),
+    Row("debit", "zed 1", "1 refused: unknown"),
+];
+
+#[test]
+fn debits(rt: HostRuntime) -> Result<(), Fail> {
+    expect_over_clubs(&rt, 1, &DEBITS)
+}
+
+#[test]
+fn members(rt: HostRuntime) -> Result<(), Fail> {
+    expect_over_clubs(&rt, 1, &MEMBERS)
+}
+
+static FACILITIES: [Row; 10] = [
+    Row("add-facility", "b boat 1 0 0 24", "0 done\n"),
     Row("add-facility", "b room 50 9999 23 24", "0 done\n"),
+    Row("add-facility", "b boat 0 0 0 24", "1 refused: out of range"),
     Row(
-        "set-facility",
-        "court-1 2 200 8 22",
-        "1 refused: slot in use",
-    ),
-    Row("set-facility", "court-1 3 250 9 21", "0 done\n"),
-    Row("close-slot", "court-1 2026-05-01 19", "0 done\n"),
-    Row("open-slot", "court-1 2026-05-01 19", "0 done\n"),
-    Row(
-        "show-slot",
-        "court-1 2026-05-01 18",
-        "0 facility court-1\nday 2026-05-01\nhour 18\nkind court\nprice 250\nplaces 3\n\
-        taken 3\nclosed no\n",
+        "add-facility",
+        "b boat 51 0 0 24",
+        "1 refused: out of range",
     ),
     Row(
-        "show-account",
-        "amy-1 --at 2026-05-01T18:00 --zone EST5",
-        "0 member amy\nbalance 0\nquota 0\nopen 0\nspent 600\nrevoked no\nolder root none\n",
+        "add-facility",
+        "b boat 1 10000 0 24",
+        "1 refused: out of range",
     ),
-    Row("cancel-booking", "amy-1 7", "0 done\n"),
-    Row("cancel-booking", "amy-1 8", "1 refused: unknown"),
-    Row("revoke-key", "amy-1", "0 done\n"),
+    Row("add-facility", "b boat 1 0 8 8", "1 refused: out of range"),
+    Row("add-facility", "b boat 1 0 9 8", "1 refused: out of range"),
+    Row("add-facility", "b boat 1 0 0 25", "1 refused: out of range"),
     Row(
-        "sheet",
-        "2026-05-01",
-        "0 Day sheet 2026-05-01\nNo bookings.\n",
+        "add-facility",
+        "court-1 court 0 200 8 22",
+        "1 refused: out of range",
+    ),
+    Row(
+        "add-facility",
+        "court-1 court 4 200 8 22",
+        "1 refused: exists",
     ),
 ];
 
-// The club is made in four runs and serves a booking in one.
 #[test]
-fn each_command(rt: HostRuntime) -> Result<(), Fail> {
-    let scene = Scene {
-        requests: &[BOOK_7],
-        after: &COMMANDS,
-        ..Scene::after(&OFFICE)
-    };
-    let serve = Row("serve", "--port 0 --count 1 --at 2026-04-20T12:00", "0 ");
-    play_row(&rt, &scene, &serve)?.expect_openings(24, 24)
+fn facilities(rt: HostRuntime) -> Result<(), Fail> {
+    expect_over_clubs(&rt, 1, &FACILITIES)
+}
+
+static FACILITIES_CHANGED: [Row; 9] = [
+    Row("set-facility", "court-1 1 0 0 24", "0 done\n"),
+    Row("set-facility", "court-1 50 9999 9 10", "0 done\n"),
+    Row(
+        "set-facility",
+        "court-1 0 200 8 22",
+        "1 refused: out of range",
+    ),
+    Row(
+        "set-facility",
+        "court-1 51 200 8 22",
+        "1 refused: out of range",
+    ),
+    Row(
+        "set-facility",
+        "court-1 4 10000 8 22",
+        "1 refused: out of range",
+    ),
+    Row(
+        "set-facility",
+        "court-1 4 200 8 8",
+        "1 refused: out of range",
+    ),
+    Row(
+        "set-facility",
+        "court-1 4 200 8 25",
+        "1 refused: out of range",
+    ),
+    Row(
+        "set-facility",
+        "court-2 4 200 8 25",
+        "1 refused: out of range",
+    ),
+    Row("set-facility", "court-2 4 200 8 22", "1 refused: unknown"),
+];
+
+#[test]
+fn facilities_changed(rt: HostRuntime) -> Result<(), Fail> {
+    expect_over_clubs(&rt, 1, &FACILITIES_CHANGED)
+}
+
+static SLOTS_AND_SHEETS: [Row; 12] = [
+    Row("close-slot", "court-1 2026-05-01 18", "0 done\n"),
+    Row("close-slot", "court-2 2026-05-01 07", "1 refused: unknown"),
+    Row(
+        "close-slot",
+        "court-1 2026-05-01 07",
+        "1 refused: out of range",
+    ),
+    Row(
+        "close-slot",
+        "court-1 2026-05-01 22",
+        "1 refused: out of range",
+    ),
+    Row("close-slot", "court-1 2026-05-01 19", "1 refused: exists"),
+    Row(
+        "close-slot",
+        "court-1 2026-05-01 20",
+        "1 refused: slot in use",
+    ),
+    // It is closed, open, and booked.
+    Row("open-slot", "court-1 2026-05-01 19", "0 done\n"),
+    Row("open-slot", "court-1 2026-05-01 18", "0 done\n"),
+    Row("open-slot", "court-1 2026-05-01 20", "0 done\n"),
+    Row("open-slot", "court-2 2026-05-01 18", "1 refused: unknown"),
+    Row(
+        "sheet",
+        "2026-05-02",
+        "0 Day sheet 2026-05-02\nNo bookings.\n",
+    ),
+    Row(
+        "sheet",
+        "2026-05-01",
+        "0 Day sheet 2026-05-01\n\
+        court-1                  20:00 amy-1                            1  1    200\n\
+        Total bookings 1, persons 1, charge 200\n",
+    ),
+];
+
+#[test]
+fn slots_and_sheets(rt: HostRuntime) -> Result<(), Fail> {
+    expect_over_clubs(&rt, 1, &SLOTS_AND_SHEETS)
+}
+
+static CANCELLATIONS: [Row; 4] = [
+    Row("cancel-booking", "amy-1 1", "0 done\n"),
+    Row("cancel-booking", "amy-1 2", "1 refused: unknown"),
+    Row("cancel-booking", "amy-2 1", "1 refused: unknown"),
+    Row("cancel-booking", "amy 1", "1 refused: unknown"),
+];
+
+#[test]
+fn cancellations(rt: HostRuntime) -> Result<(), Fail> {
+    expect_over_clubs(&rt, 1, &CANCELLATIONS)
+}
+
+// Amy booked one place of court-1 at 20 for 200 points.
+static LOOKS: [Row; 8] = [
+    Row(
+        "show-account",
+        "amy-1 --at 2026-05-01T19:59",
+        "0 member amy\nbalance 9800\nquota 5\nopen 1\nspent 200\nrevoked no\nolder root none\n",
+    ),
+    Row(
+        "show-account",
+        "amy-1 --at 2026-05-01T20:00 --zone EST5",
+        "0 member amy\nbalance 9800\nquota 5\nopen 0\nspent 200\nrevoked no\nolder root none\n",
+    ),
+    Row(
+        "show-account",
+        "amy --at 2026-04-20T12:00",
+        "1 refused: unknown",
+    ),
+    Row("show-account", "amy-2", "1 refused: unknown"),
+    Row(
+        "show-slot",
+        "court-1 2026-05-01 20",
+        "0 facility court-1\nday 2026-05-01\nhour 20\nkind court\nprice 200\nplaces 4\n\
+        taken 1\nclosed no\n",
+    ),
+    Row(
+        "show-slot",
+        "court-1 2026-05-01 19",
+        "0 facility court-1\nday 2026-05-01\nhour 19\nkind court\nprice 200\nplaces 4\n\
+        taken 0\nclosed yes\n",
+    ),
+    Row(
+        "show-slot",
+        "court-1 2026-05-01 08",
+        "0 facility court-1\nday 2026-05-01\nhour 8\nkind court\nprice 200\nplaces 4\n\
+        taken 0\nclosed no\n",
+    ),
+    Row("show-slot", "court-2 2026-05-01 20", "1 refused: unknown"),
+];
+
+#[test]
+fn shown(rt: HostRuntime) -> Result<(), Fail> {
+    expect_over_clubs(&rt, 1, &LOOKS)
+}
+
+// The pass of amy-1 was computed by a program of another language.
+static KEYS: [Row; 7] = [
+    Row("revoke-key", "amy-1", "0 done\n"),
+    Row("revoke-key", "amy-2", "1 refused: unknown"),
+    Row(
+        "add-key",
+        "k bob 00112233445566778899aabbccddeeff",
+        "1 refused: unknown",
+    ),
+    Row(
+        "add-key",
+        "amy-1 bob 00112233445566778899aabbccddeeff",
+        "1 refused: unknown",
+    ),
+    Row(
+        "add-key",
+        "amy-1 amy 00112233445566778899aabbccddeeff",
+        "1 refused: exists",
+    ),
+    Row(
+        "rotate-key",
+        "k 00112233445566778899aabbccddeeff 2026-04-25T00:00",
+        "1 refused: unknown",
+    ),
+    Row(
+        "rotate-key",
+        "amy-1 00112233445566778899aabbccddeeff 2026-04-25T00:00",
+        "1 refused: exists",
+    ),
+];
+
+#[test]
+fn keys(rt: HostRuntime) -> Result<(), Fail> {
+    expect_over_clubs(&rt, 1, &KEYS)
 }
 
 // The passes were computed by a program of another language.
@@ -93,10 +292,7 @@ static PASSES_OF_KEYS: [Row; 5] = [
 
 #[test]
 fn passes_of_keys(rt: HostRuntime) -> Result<(), Fail> {
-    for row in &PASSES_OF_KEYS {
-        play_row(&rt, &Scene::after(&OFFICE), row)?.expect_openings(5, 5)?;
-    }
-    Ok(())
+    expect_over_clubs(&rt, 1, &PASSES_OF_KEYS)
 }
 
 // Arguments are checked before a club is opened.
@@ -112,17 +308,12 @@ static WORDS: [Row; 3] = [
 
 #[test]
 fn arguments(rt: HostRuntime) -> Result<(), Fail> {
-    for row in &WORDS {
-        play_row(&rt, &Scene::after(&[]), row)?.expect_openings(0, 0)?;
-    }
-    Ok(())
+    expect_over_clubs(&rt, 0, &WORDS)
 }
 
 #[test]
 fn version(rt: HostRuntime) -> Result<(), Fail> {
-    let played = play(&rt, &Scene::after(&[]), "clubdesk --version")?;
-    if played.output.returned.as_str() != "0 clubdesk 0.1.0\n" {
-        return Err("another version".into());
-    }
+    let ended = run_line(&rt, "clubdesk --version", ROOM)?;
+    expect_eq(&rt, &ended.output.returned.as_str(), &"0 clubdesk 0.1.0\n");
     Ok(())
 }

@@ -1,14 +1,19 @@
-//! The door of a server: its file, who may make it, and files that can't have one.
+//! The door of a server: its file, and commands by it, from the first byte to the answer.
 
 use crate::expect::expect_eq;
-use crate::files::AMY;
-use crate::runs::{ClubFile, Row, play_at};
+use crate::runs::{Row, expect_rows, new_path, remove};
 use clubdesk_files::{FileDoor, may_make_door};
 use desk_server::Door;
 use std::fs;
 use std::os::unix::fs::{FileTypeExt, MetadataExt, symlink};
 use std::os::unix::net::UnixStream;
 use std::test::Fail;
+
+static AMY: [Row; 1] = [Row("add-member", "amy 5", "0 done\n")];
+
+fn door_of(rt: &HostRuntime, path: &str) -> Result<String, Fail> {
+    Ok(format!(in rt.alloc(); "{path}-office")?)
+}
 
 // The mode of a socket; `None` if there is none.
 fn socket_mode(rt: &HostRuntime, path: &str) -> Option<u32> {
@@ -27,37 +32,45 @@ const OWN: Option<u32> = Some(0o600);
 // dropped: by itself, and not by the one that was there before.
 #[test]
 fn a_door_beside_its_file(rt: HostRuntime) -> Result<(), Fail> {
-    let club = ClubFile::new(&rt, "door")?;
-    club.play(&AMY)?;
-    let place = club.path_with("-office")?;
-    let door = FileDoor::make(&rt, club.path())?;
+    let path = new_path(&rt, "door")?;
+    expect_rows(&rt, path.as_str(), &AMY)?;
+    let place = door_of(&rt, path.as_str())?;
+    let door = FileDoor::make(&rt, path.as_str())?;
     expect_eq(&rt, &socket_mode(&rt, place.as_str()), &OWN);
-    let again = FileDoor::make(&rt, club.path())?;
+    let again = FileDoor::make(&rt, path.as_str())?;
     drop(door);
-    let client = UnixStream::connect(&rt, place.as_str());
-    expect_eq(&rt, &client.is_ok(), &true);
+    expect_eq(
+        &rt,
+        &UnixStream::connect(&rt, place.as_str()).is_ok(),
+        &true,
+    );
     expect_eq(&rt, &again.listener().is_some(), &true);
     drop(again);
     expect_eq(&rt, &socket_mode(&rt, place.as_str()), &None);
+    remove(&rt, path.as_str());
     Ok(())
 }
 
-// A door stands beside its file however long their folder's path is: the folder's name alone has
-// more bytes than a socket's address may.
+// A folder whose name alone has more bytes than a socket's address may.
+fn new_folder(rt: &HostRuntime) -> Result<String, Fail> {
+    let path = new_path(rt, "deep")?;
+    let folder = format!(in rt.alloc(); "{path}-{:0>120}", 0)?;
+    fs::create_dir(rt, folder.as_str())?;
+    Ok(folder)
+}
+
+// A door stands beside its file however long their folder's path is.
 #[test]
 fn a_door_in_a_folder_of_a_long_name(rt: HostRuntime) -> Result<(), Fail> {
-    let beside = ClubFile::new(&rt, "deep")?;
-    let folder = format!(in rt.alloc(); "{}-{:0>120}", beside.path(), 0)?;
-    fs::create_dir(&rt, folder.as_str())?;
-    let path = format!(in rt.alloc(); "{folder}/club")?;
-    play_at(&rt, path.as_str(), &AMY)?;
-    let place = format!(in rt.alloc(); "{path}-office")?;
+    let folder = new_folder(&rt)?;
+    let path = format!(in rt.alloc(); "{}/club", folder.as_str())?;
+    expect_rows(&rt, path.as_str(), &AMY)?;
+    let place = door_of(&rt, path.as_str())?;
     let door = FileDoor::make(&rt, path.as_str())?;
     expect_eq(&rt, &socket_mode(&rt, place.as_str()), &OWN);
     drop(door);
     expect_eq(&rt, &socket_mode(&rt, place.as_str()), &None);
-    fs::remove_file(&rt, path.as_str())?;
-    fs::remove_file(&rt, format!(in rt.alloc(); "{path}-wal")?.as_str())?;
+    remove(&rt, path.as_str());
     fs::remove_dir(&rt, folder.as_str())?;
     Ok(())
 }
@@ -65,38 +78,40 @@ fn a_door_in_a_folder_of_a_long_name(rt: HostRuntime) -> Result<(), Fail> {
 // A file or a folder at the door's name stays, and there is no door.
 #[test]
 fn no_door_over_a_file(rt: HostRuntime) -> Result<(), Fail> {
-    let club = ClubFile::new(&rt, "no-door")?;
-    club.play(&AMY)?;
-    let place = club.path_with("-office")?;
+    let path = new_path(&rt, "no-door")?;
+    expect_rows(&rt, path.as_str(), &AMY)?;
+    let place = door_of(&rt, path.as_str())?;
     fs::write(&rt, place.as_str(), b"x")?;
-    expect_eq(&rt, &FileDoor::make(&rt, club.path()).is_err(), &true);
+    expect_eq(&rt, &FileDoor::make(&rt, path.as_str()).is_err(), &true);
     expect_eq(&rt, &fs::read(&rt, place.as_str())?.len(), &1);
     fs::remove_file(&rt, place.as_str())?;
     fs::create_dir(&rt, place.as_str())?;
-    expect_eq(&rt, &FileDoor::make(&rt, club.path()).is_err(), &true);
+    expect_eq(&rt, &FileDoor::make(&rt, path.as_str()).is_err(), &true);
     fs::remove_dir(&rt, place.as_str())?;
+    remove(&rt, path.as_str());
     Ok(())
 }
-
-static NO_DOOR: [Row; 1] = [Row("add-member", "bob 5", "5 storage failed")];
 
 // A link at the door's name stays, also one to a socket: no door is made, and none is used.
 #[test]
 fn no_door_over_a_link(rt: HostRuntime) -> Result<(), Fail> {
-    let club = ClubFile::new(&rt, "linked-door")?;
-    club.play(&AMY)?;
-    let door = FileDoor::make(&rt, club.path())?;
-    let place = club.path_with("-office")?;
-    let elsewhere = club.path_with("-elsewhere")?;
+    let path = new_path(&rt, "linked-door")?;
+    expect_rows(&rt, path.as_str(), &AMY)?;
+    let door = FileDoor::make(&rt, path.as_str())?;
+    let place = door_of(&rt, path.as_str())?;
+    let elsewhere = format!(in rt.alloc(); "{path}-elsewhere")?;
     fs::rename(&rt, place.as_str(), elsewhere.as_str())?;
     symlink(&rt, elsewhere.as_str(), place.as_str())?;
-    expect_eq(&rt, &FileDoor::make(&rt, club.path()).is_err(), &true);
-    club.play(&NO_DOOR)?;
+    expect_eq(&rt, &FileDoor::make(&rt, path.as_str()).is_err(), &true);
+    expect_rows(&rt, path.as_str(), &NO_DOOR)?;
     fs::remove_file(&rt, place.as_str())?;
     drop(door);
     fs::remove_file(&rt, elsewhere.as_str())?;
+    remove(&rt, path.as_str());
     Ok(())
 }
+
+static NO_DOOR: [Row; 1] = [Row("add-member", "bob 5", "5 storage failed")];
 
 /// Users, the owner of the file, the user of the command; and whether the user may make the door.
 static MAKERS: [(u32, u32, u32, bool); 6] = [
@@ -115,8 +130,7 @@ fn who_may_make_a_door(rt: HostRuntime) {
     }
 }
 
-static NO_SERVER: [Row; 3] = [
-    Row("add-member", "amy 5", "0 done\n"),
+static NO_SERVER: [Row; 2] = [
     Row("serve", "--port 0 --count 1", "5 storage failed"),
     Row("add-member", "amy 5", "1 refused: exists"),
 ];
@@ -124,6 +138,10 @@ static NO_SERVER: [Row; 3] = [
 // A file may have a name that is too long for a door: then it has no server, and commands open it.
 #[test]
 fn a_file_of_a_long_name(rt: HostRuntime) -> Result<(), Fail> {
-    let name = format!(in rt.alloc(); "long-{:0>90}", 0)?;
-    ClubFile::new(&rt, name.as_str())?.play(&NO_SERVER)
+    let path = new_path(&rt, "long")?;
+    let path = format!(in rt.alloc(); "{path}-{:0>90}", 0)?;
+    expect_rows(&rt, path.as_str(), &AMY)?;
+    expect_rows(&rt, path.as_str(), &NO_SERVER)?;
+    remove(&rt, path.as_str());
+    Ok(())
 }

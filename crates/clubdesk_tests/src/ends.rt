@@ -1,62 +1,49 @@
 //! Ends that aren't the office's: a writer that fails, and a port in use.
 
+use crate::clubs::expect_over_clubs;
 use crate::expect::expect_eq;
-use crate::memory::{Scene, play, play_row};
-use crate::runs::{ClubFile, Row, Run, Work, do_work, expect_output};
+use crate::memory::{Scene, play};
+use crate::runs::{Row, expect_output, expect_rows, new_path, remove, run_command};
 use std::net::TcpListener;
 use std::test::Fail;
 
 /// How a command ends whose writer fails.
 const FULL: &str = "7 input or output failed";
 
-// Runs of a command over a file, the room of the writer, which is less than they write, and another
-// run after each. A key whose pass couldn't be printed is kept. A server whose first line can't be
-// written serves nobody.
-static SHORT: [(Row, usize, Row); 3] = [
-    (
-        Row("add-member", "amy 5", FULL),
-        0,
-        Row("add-member", "amy 5", "1 refused: exists"),
-    ),
-    (
-        Row(
-            "add-key",
-            "amy-1 amy 00112233445566778899aabbccddeeff",
-            FULL,
-        ),
-        40,
-        Row(
-            "add-key",
-            "amy-1 amy 00112233445566778899aabbccddeeff",
-            "1 refused: exists",
-        ),
-    ),
-    (
-        Row("serve", "--port 0 --count 1 --log", FULL),
-        5,
-        Row(
-            "sheet",
-            "2026-05-01",
-            "0 Day sheet 2026-05-01\nNo bookings.\n",
-        ),
-    ),
-];
+// Fails unless a command fails with its writer once that has taken this much, which is less than it
+// writes, and logs nothing.
+fn expect_full(
+    rt: &HostRuntime,
+    path: &str,
+    command: &str,
+    arguments: &str,
+    room: usize,
+) -> Result<(), Fail> {
+    let output = run_command(rt, path, command, arguments, room)?.output;
+    let row = Row(command, arguments, FULL);
+    expect_output(rt, &row, output.returned.as_str())?;
+    if output.taken == room && output.log.is_empty() {
+        return Ok(());
+    }
+    Err("wrote more or less than its writer takes, or logged".into())
+}
 
-// Each fails with its writer once that is full, and logs nothing.
+static KEY_EXISTS: [Row; 1] = [Row(
+    "add-key",
+    "amy-1 amy 00112233445566778899aabbccddeeff",
+    "1 refused: exists",
+)];
+
+// A key whose pass couldn't be printed is kept, and its pass can be minted.
 #[test]
 fn a_failing_writer(rt: HostRuntime) -> Result<(), Fail> {
-    let club = ClubFile::new(&rt, "full")?;
-    for (row, room, after) in &SHORT {
-        let line = format!(in rt.alloc(); "clubdesk {} {} {}", row.0, club.path(), row.1)?;
-        let asked = Run {
-            room: *room,
-            ..Run::of(line.as_str())
-        };
-        let output = do_work(&rt, Work::Run(asked))?;
-        expect_output(&rt, row, output.returned.as_str())?;
-        expect_eq(&rt, &(output.taken, output.log.len()), &(*room, 0));
-        club.play(&[*after])?;
-    }
+    let path = new_path(&rt, "full")?;
+    let path = path.as_str();
+    expect_full(&rt, path, "add-member", "amy 5", 0)?;
+    let arguments = "amy-1 amy 00112233445566778899aabbccddeeff";
+    expect_full(&rt, path, "add-key", arguments, 40)?;
+    expect_rows(&rt, path, &KEY_EXISTS)?;
+    remove(&rt, path);
     Ok(())
 }
 
@@ -70,10 +57,10 @@ fn unflushed(rt: &HostRuntime, line: &str, after: &[Row<'_>]) -> Result<usize, F
     };
     let output = play(rt, &scene, line)?.output;
     expect_output(rt, &Row(line, "", FULL), output.returned.as_str())?;
-    if !output.log.is_empty() {
-        return Err("logged".into());
+    if output.log.is_empty() {
+        return Ok(output.taken);
     }
-    Ok(output.taken)
+    Err("logged".into())
 }
 
 // Runs, the bytes of their texts, and a command after each.
@@ -110,5 +97,15 @@ fn a_port_in_use(rt: HostRuntime) -> Result<(), Fail> {
     let port = listener.local_addr()?.port();
     let arguments = format!(in rt.alloc(); "--port {port} --count 1")?;
     let row = Row("serve", arguments.as_str(), FULL);
-    play_row(&rt, &Scene::after(&[]), &row)?.expect_openings(1, 1)
+    expect_over_clubs(&rt, 1, &[row])
+}
+
+// A server whose first line can't be written serves nobody.
+#[test]
+fn a_server_with_no_output(rt: HostRuntime) -> Result<(), Fail> {
+    let path = new_path(&rt, "silent")?;
+    let arguments = "--port 0 --count 1 --log";
+    expect_full(&rt, path.as_str(), "serve", arguments, 5)?;
+    remove(&rt, path.as_str());
+    Ok(())
 }

@@ -1,10 +1,18 @@
 //! Roots from standard input, over a club in memory.
 
-use crate::callers::Input;
-use crate::memory::{Scene, play, play_row};
+use crate::memory::{Scene, expect_scene, line_of, play};
 use crate::runs::Row;
-use crate::servers::OFFICE;
+use crate::terminal::Input;
 use std::test::Fail;
+
+static CLUB: [Row; 2] = [
+    Row("add-member", "amy 5", "0 done\n"),
+    Row(
+        "add-key",
+        "amy-1 amy 00112233445566778899aabbccddeeff",
+        "0 AgEJY2x1Yi1kZXNrAglrZXk6YW15LTEAAAYgDsU-vMVpq3Ex5_BQk6D5VX6TimC0IfCk7Dn6nv7TIJk\n",
+    ),
+];
 
 const ADDS: &str = "amy-2 amy --root-stdin";
 
@@ -42,6 +50,10 @@ static ROOTS: [(&[u8], Row); 4] = [
     ),
 ];
 
+// 64 zero bytes, and what may stand after them.
+const LONGEST: &str = "0000000000000000000000000000000000000000000000000000000000000000\
+    0000000000000000000000000000000000000000000000000000000000000000";
+
 static NO_ROOTS: [&[u8]; 8] = [
     b"",
     b"\n",
@@ -54,14 +66,17 @@ static NO_ROOTS: [&[u8]; 8] = [
     b"\xff0112233445566778899aabbccddeeff\n",
 ];
 
-// Four runs made the club. The command opens it `openings` times more.
-fn ends_so(rt: &HostRuntime, row: &Row<'_>, input: Input<'_>, openings: u64) -> Result<(), Fail> {
-    let scene = Scene {
+// The club, and this input.
+fn scene_of(input: Input<'_>) -> Scene<'_> {
+    Scene {
         input,
-        ..Scene::after(&OFFICE)
-    };
-    let openings = openings.saturating_add(4);
-    play_row(rt, &scene, row)?.expect_openings(openings, openings)
+        ..Scene::after(&CLUB)
+    }
+}
+
+// The club was made by two runs; the command opens it so often more.
+fn ends_so(rt: &HostRuntime, row: &Row<'_>, input: Input<'_>, openings: u64) -> Result<(), Fail> {
+    expect_scene(rt, &scene_of(input), row, openings.saturating_add(2))
 }
 
 #[test]
@@ -80,11 +95,9 @@ fn no_roots(rt: HostRuntime) -> Result<(), Fail> {
         ends_so(&rt, &Row("add-key", ADDS, "3 bad value"), input, 0)?;
         ends_so(&rt, &Row("rotate-key", ROTATES, "3 bad value"), input, 0)?;
     }
-    let row = Row("add-key", ADDS, "7 input or output failed");
-    ends_so(&rt, &row, Input::Broken, 0)
+    Ok(())
 }
 
-// Text after a root of 64 bytes, and the beginning of the run's output.
 static BEHIND_THE_LONGEST: [(&str, &str); 5] = [
     ("", "0 "),
     ("\n", "0 "),
@@ -93,20 +106,33 @@ static BEHIND_THE_LONGEST: [(&str, &str); 5] = [
     ("\n0", "3 bad value"),
 ];
 
+// Fails unless a run returned a text that begins so.
+fn expect_front(rt: &HostRuntime, returned: &str, front: &str) -> Result<(), Fail> {
+    if returned.starts_with(front) {
+        return Ok(());
+    }
+    Err(format!(in rt.alloc(); "{returned}")?.into())
+}
+
+fn ends_with(rt: &HostRuntime, behind: &str, front: &str) -> Result<(), Fail> {
+    let text = format!(in rt.alloc(); "{LONGEST}{behind}")?;
+    let scene = scene_of(Input::Bytes(text.as_bytes()));
+    let line = line_of(rt, &Row("add-key", ADDS, front))?;
+    let played = play(rt, &scene, line.as_str())?;
+    expect_front(rt, played.output.returned.as_str(), front)
+}
+
 // A root has 64 bytes at most, and nothing is cut off.
 #[test]
 fn long_roots(rt: HostRuntime) -> Result<(), Fail> {
-    let longest = "00".repeat(rt.alloc(), 64)?;
     for (behind, front) in &BEHIND_THE_LONGEST {
-        let text = format!(in rt.alloc(); "{longest}{behind}")?;
-        let scene = Scene {
-            input: Input::Bytes(text.as_bytes()),
-            ..Scene::after(&OFFICE)
-        };
-        let output = play(&rt, &scene, "clubdesk add-key club amy-2 amy --root-stdin")?.output;
-        if !output.returned.as_str().starts_with(front) {
-            return Err(format!(in rt.alloc(); "{behind}: {}", output.returned)?.into());
-        }
+        ends_with(&rt, behind, front)?;
     }
     Ok(())
+}
+
+#[test]
+fn an_input_that_fails(rt: HostRuntime) -> Result<(), Fail> {
+    let row = Row("add-key", ADDS, "7 input or output failed");
+    ends_so(&rt, &row, Input::Broken, 0)
 }

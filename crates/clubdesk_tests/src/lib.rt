@@ -6,9 +6,15 @@ mod arriving;
 #[cfg(test)]
 mod bad_commands;
 #[cfg(test)]
+mod beside;
+#[cfg(test)]
 mod callers;
 #[cfg(test)]
+mod clubs;
+#[cfg(test)]
 mod commands;
+#[cfg(test)]
+mod corrections;
 #[cfg(test)]
 mod door;
 #[cfg(test)]
@@ -41,3 +47,7 @@ mod runs;
 mod served;
 #[cfg(test)]
 mod servers;
+#[cfg(test)]
+mod shown;
+#[cfg(test)]
+mod terminal;

@@ -1,12 +1,23 @@
 //! Runs over a database at a long path, and the values at the edges that they show.
 
-use crate::runs::{ClubFile, Row, play_at};
+use crate::runs::{Row, expect_rows, new_path, remove};
 use crate::servers::OFFICE;
+use std::alloc::AllocError;
 use std::test::Fail;
 
-// A rotated key's account, and a slot in the last hour. The pass was computed by a program of
-// another language.
-static EDGES: [Row; 4] = [
+/// A path of about so many letters, which leads to the same file.
+fn lengthened(rt: &HostRuntime, path: &str, len: usize) -> Result<String, AllocError> {
+    let mut long = String::new(rt.alloc());
+    for _ in 0..len.saturating_sub(path.len()) / 2 {
+        long.push_str("/.")?;
+    }
+    long.push_str(path)?;
+    Ok(long)
+}
+
+// A rotated key's account, and a slot in the last hour, before and after it is closed. The pass was
+// computed by a program of another language.
+static EDGES: [Row; 6] = [
     Row(
         "rotate-key",
         "amy-1 ffeeddccbbaa99887766554433221100 2099-12-31T23:59",
@@ -25,14 +36,21 @@ static EDGES: [Row; 4] = [
         "0 facility hall\nday 2026-05-01\nhour 23\nkind room\nprice 9999\nplaces 50\ntaken 0\n\
         closed no\n",
     ),
+    Row("close-slot", "hall 2026-05-01 23", "0 done\n"),
+    Row(
+        "show-slot",
+        "hall 2026-05-01 23",
+        "0 facility hall\nday 2026-05-01\nhour 23\nkind room\nprice 9999\nplaces 50\ntaken 0\n\
+        closed yes\n",
+    ),
 ];
 
-// The path leads to the file of a short one.
 #[test]
 fn at_a_path_of_4000_letters(rt: HostRuntime) -> Result<(), Fail> {
-    let club = ClubFile::new(&rt, "long")?;
-    let dots = "/.".repeat(rt.alloc(), 4_000usize.saturating_sub(club.path().len()) / 2)?;
-    let long = format!(in rt.alloc(); "{dots}{}", club.path())?;
-    play_at(&rt, long.as_str(), &OFFICE)?;
-    play_at(&rt, long.as_str(), &EDGES)
+    let path = new_path(&rt, "long")?;
+    let long = lengthened(&rt, path.as_str(), 4_000)?;
+    expect_rows(&rt, long.as_str(), &OFFICE)?;
+    expect_rows(&rt, long.as_str(), &EDGES)?;
+    remove(&rt, path.as_str());
+    Ok(())
 }

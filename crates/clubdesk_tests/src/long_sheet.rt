@@ -52,6 +52,20 @@ const HOURS: u32 = 20;
 
 const EACH: u32 = 3;
 
+/// The number of a key's booking in an hour.
+fn number_of(hour: u32, place: u32) -> u32 {
+    999_999_000 + hour.saturating_mul(EACH).saturating_add(place) % 1_000
+}
+
+/// The request that books under a number at an hour of 2026-05-01.
+fn request(rt: &HostRuntime, pass: &str, hour: u32, number: u32) -> Result<String, AllocError> {
+    format!(in rt.alloc();
+        "PUT /slots/a-facility-of-24-letters/2026-05-01/{hour:02}/bookings/{number} HTTP/1.1\r\n\
+        Host: club\r\nAuthorization: Bearer {pass}\r\n\
+        Content-Length: 12\r\n\r\n{{\"guests\":0}}"
+    )
+}
+
 /// The requests of a key in an hour, and their rows of the sheet.
 fn book_hour(
     rt: &HostRuntime,
@@ -60,14 +74,10 @@ fn book_hour(
     requests: &mut Vec<String>,
     sheet: &mut String,
 ) -> Result<(), AllocError> {
-    let (key, pass) = (holder.key, holder.pass);
+    let key = holder.key;
     for place in 0..EACH {
-        let number = 999_999_000 + hour.saturating_mul(EACH).saturating_add(place) % 1_000;
-        requests.push(format!(in rt.alloc();
-            "PUT /slots/a-facility-of-24-letters/2026-05-01/{hour:02}/bookings/{number} \
-            HTTP/1.1\r\nHost: club\r\nAuthorization: Bearer {pass}\r\n\
-            Content-Length: 12\r\n\r\n{{\"guests\":0}}"
-        )?)?;
+        let number = number_of(hour, place);
+        requests.push(request(rt, holder.pass, hour, number)?)?;
         let row = format!(in rt.alloc();
             "a-facility-of-24-letters {hour:02}:00 {key} {number}  1      0\n"
         )?;

@@ -1,7 +1,8 @@
 //! A database in memory, and runs of the program over it.
 
-use crate::callers::{Input, Machine};
+use crate::callers::Machine;
 use crate::runs::{Output, Row, Run, expect_output, run_on, run_over};
+use crate::terminal::{Input, NO_INPUT};
 use club_core::{ClubStore, StoreFault};
 use club_store::Store;
 use desk_server::{Databases, Door, Reached, Unlogged, Visit};
@@ -13,39 +14,16 @@ use std::test::Fail;
 use test_kit::exchanges::BOOK_7;
 
 /// The name of the database.
-const NAME: &str = "club";
+pub const NAME: &str = "club";
 
 /// What a server answers to a command: the status and the text, or nothing.
 pub type ServerAnswer<'a> = Option<(u8, &'a str)>;
 
-/// Counts of the events at a database.
-#[derive(Drop)]
-pub struct Notes {
-    opened: Cell<u64>,
-    closed: Cell<u64>,
-    /// The closings before a server's door was removed.
-    removed: Cell<Option<u64>>,
-    /// The bytes of the command that was handed over last.
-    handed: Cell<usize>,
+/// A door by which nobody comes. When it is removed, it notes how often the database was closed.
+pub struct ShutDoor<'a> {
+    closed: &'a Cell<u64>,
+    removed: &'a Cell<Option<u64>>,
 }
-
-impl Notes {
-    fn new() -> Notes {
-        Notes {
-            opened: Cell::new(0),
-            closed: Cell::new(0),
-            removed: Cell::new(None),
-            handed: Cell::new(0),
-        }
-    }
-}
-
-fn count(cell: &Cell<u64>) {
-    cell.set(cell.get().saturating_add(1));
-}
-
-/// A door without visitors.
-pub struct ShutDoor<'a>(&'a Notes);
 
 impl Door for ShutDoor<'_> {
     fn listener(&self) -> Option<&UnixListener> {
@@ -55,8 +33,8 @@ impl Door for ShutDoor<'_> {
 
 impl Drop for ShutDoor<'_> {
     fn drop(self) {
-        let ShutDoor(notes) = self;
-        notes.removed.set(Some(notes.closed.get()));
+        let ShutDoor { closed, removed } = self;
+        removed.set(Some(closed.get()));
     }
 }
 
@@ -65,14 +43,14 @@ impl Drop for ShutDoor<'_> {
 pub struct Greeted<'a> {
     rt: &'a HostRuntime,
     answer: ServerAnswer<'a>,
-    notes: &'a Notes,
+    handed: &'a Cell<usize>,
 }
 
 impl Visit for Greeted<'_> {
     ghost gives = { λ _ _ _. Unit {0} };
 
     fn give(self, command: &[u8]) -> Option<(u8, String)> {
-        self.notes.handed.set(command.len());
+        self.handed.set(command.len());
         let (status, text) = self.answer?;
         Some((status, format!(in self.rt.alloc(); "{text}").ok()?))
     }
@@ -86,7 +64,35 @@ struct InMemory<'a, S: ClubStore + Drop> {
     store: Option<S>,
     fault: Option<StoreFault>,
     server: Option<ServerAnswer<'a>>,
-    notes: &'a Notes,
+    opened: u64,
+    closed: &'a Cell<u64>,
+    handed: &'a Cell<usize>,
+    removed: &'a Cell<Option<u64>>,
+}
+
+impl<'a, S: ClubStore + Drop> InMemory<'a, S> {
+    // A database that nobody opened yet, and if its closings and the bytes handed over are counted,
+    // and the closings before a door was removed.
+    fn new(
+        rt: &'a HostRuntime,
+        store: S,
+        fault: Option<StoreFault>,
+        server: Option<ServerAnswer<'a>>,
+        closed: &'a Cell<u64>,
+        handed: &'a Cell<usize>,
+        removed: &'a Cell<Option<u64>>,
+    ) -> InMemory<'a, S> {
+        InMemory {
+            rt,
+            store: Some(store),
+            fault,
+            server,
+            opened: 0,
+            closed,
+            handed,
+            removed,
+        }
+    }
 }
 
 impl<'a, S: ClubStore + Drop> Databases for InMemory<'a, S> {
@@ -104,7 +110,7 @@ impl<'a, S: ClubStore + Drop> Databases for InMemory<'a, S> {
 
     // Nobody opens it while it is open.
     fn open(&mut self, name: &str) -> Result<S, StoreFault> {
-        count(&self.notes.opened);
+        self.opened = self.opened.saturating_add(1);
         if name != NAME {
             return Err(StoreFault::Storage);
         }
@@ -119,7 +125,7 @@ impl<'a, S: ClubStore + Drop> Databases for InMemory<'a, S> {
             Some(answer) => Ok(Reached::Served(Greeted {
                 rt: self.rt,
                 answer,
-                notes: self.notes,
+                handed: self.handed,
             })),
             None => match self.open(name) {
                 Ok(store) => Ok(Reached::Opened(store)),
@@ -129,13 +135,16 @@ impl<'a, S: ClubStore + Drop> Databases for InMemory<'a, S> {
     }
 
     fn close(&mut self, store: S) {
-        count(&self.notes.closed);
+        self.closed.set(self.closed.get().saturating_add(1));
         self.store = Some(store);
     }
 
     fn make_door(&self, name: &str) -> Result<ShutDoor<'a>, StoreFault> {
         if name == NAME {
-            Ok(ShutDoor(self.notes))
+            Ok(ShutDoor {
+                closed: self.closed,
+                removed: self.removed,
+            })
         } else {
             Err(StoreFault::Storage)
         }
@@ -172,7 +181,7 @@ impl<'a> Scene<'a> {
             commands,
             second: Some(0),
             later: 0,
-            input: Input::Bytes(b""),
+            input: NO_INPUT,
             flushes: true,
             requests: &[],
             after: &[],
@@ -180,48 +189,43 @@ impl<'a> Scene<'a> {
     }
 }
 
-/// The output of a run, and the counts of its database, with those before and after the run.
+/// How a run ended; and how often its database was opened and closed, before and after the run too,
+/// how many bytes of a command were handed over last, and how often the database was closed when a
+/// server's door was removed.
 #[derive(Drop)]
-pub struct Played {
+pub struct SceneOutcome {
     pub output: Output,
-    notes: Notes,
+    opened: u64,
+    closed: u64,
+    pub handed: usize,
+    removed: Option<u64>,
 }
 
-impl Played {
-    /// Fails unless the database was opened and closed that many times.
-    pub fn expect_openings(&self, opened: u64, closed: u64) -> Result<(), Fail> {
-        if self.notes.opened.get() == opened && self.notes.closed.get() == closed {
-            return Ok(());
-        }
-        Err("opened or closed too often or too seldom".into())
-    }
-
-    /// Fails unless a command of this length was handed over.
-    pub fn expect_handed(&self, bytes: usize) -> Result<(), Fail> {
-        if self.notes.handed.get() == bytes {
-            return Ok(());
-        }
-        Err("handed over more or less".into())
-    }
-}
-
-// The line of a command over the database.
-fn line_of(rt: &HostRuntime, row: &Row<'_>) -> Result<String, AllocError> {
+/// The line of a command over the database.
+pub fn line_of(rt: &HostRuntime, row: &Row<'_>) -> Result<String, AllocError> {
     let Row(command, arguments, _) = row;
     format!(in rt.alloc(); "clubdesk {command} {NAME} {arguments}")
 }
 
-// Runs commands over the database. Each ends as its row expects.
+// Runs the command of a row over the database. It ends as that expects.
+fn expect_row_in<D: Databases>(
+    rt: &HostRuntime,
+    databases: &mut D,
+    row: &Row<'_>,
+) -> Result<(), Fail> {
+    let line = line_of(rt, row)?;
+    let machine = Machine::new(Some(0), 0);
+    let output = run_over(rt, &machine, databases, Run::of(line.as_str()))?;
+    expect_output(rt, row, output.returned.as_str())
+}
+
 fn expect_in<D: Databases>(
     rt: &HostRuntime,
     databases: &mut D,
     rows: &[Row<'_>],
 ) -> Result<(), Fail> {
     for row in rows {
-        let line = line_of(rt, row)?;
-        let machine = Machine::new(Some(0), 0);
-        let output = run_over(rt, &machine, databases, Run::of(line.as_str()))?;
-        expect_output(rt, row, output.returned.as_str())?;
+        expect_row_in(rt, databases, row)?;
     }
     Ok(())
 }
@@ -246,64 +250,100 @@ fn run_scene<D: Databases>(
     Ok(output)
 }
 
-// Plays a scene at a database in a store. All that is done with the store is in functions over any
-// store, which are proved sooner.
+// Plays a scene at a database in a store.
 fn play_over<S: ClubStore + Drop>(
     rt: &HostRuntime,
     store: S,
     scene: &Scene<'_>,
     line: &str,
-) -> Result<Played, Fail> {
-    let notes = Notes::new();
-    let mut databases = InMemory {
+) -> Result<SceneOutcome, Fail> {
+    let closed = Cell::new(0);
+    let handed = Cell::new(0);
+    let removed = Cell::new(None);
+    let mut databases = InMemory::new(
         rt,
-        store: Some(store),
-        fault: scene.fault,
-        server: scene.server,
-        notes: &notes,
-    };
+        store,
+        scene.fault,
+        scene.server,
+        &closed,
+        &handed,
+        &removed,
+    );
     let output = run_scene(rt, &mut databases, scene, line)?;
-    drop(databases);
-    Ok(Played { output, notes })
+    Ok(SceneOutcome {
+        output,
+        opened: databases.opened,
+        closed: closed.get(),
+        handed: handed.get(),
+        removed: removed.get(),
+    })
 }
 
-/// Plays a scene with a run on this line.
-pub fn play(rt: &HostRuntime, scene: &Scene<'_>, line: &str) -> Result<Played, Fail> {
+/// Plays a scene with a run on this line. All that is done with the store is in functions over any
+/// store, which are proved sooner.
+pub fn play(rt: &HostRuntime, scene: &Scene<'_>, line: &str) -> Result<SceneOutcome, Fail> {
     play_over(rt, Store::open_in_memory(rt.alloc())?, scene, line)
 }
 
 /// Plays a scene with the command of a row, which ends as that expects.
-pub fn play_row(rt: &HostRuntime, scene: &Scene<'_>, row: &Row<'_>) -> Result<Played, Fail> {
+pub fn play_row(rt: &HostRuntime, scene: &Scene<'_>, row: &Row<'_>) -> Result<SceneOutcome, Fail> {
     let line = line_of(rt, row)?;
     let played = play(rt, scene, line.as_str())?;
     expect_output(rt, row, played.output.returned.as_str())?;
     Ok(played)
 }
 
-const SERVE: &str = "--port 0 --count 1 --at 2026-04-20T12:00";
+/// Fails unless the database was opened and closed so often.
+pub fn expect_openings(played: &SceneOutcome, opened: u64, closed: u64) -> Result<(), Fail> {
+    if played.opened == opened && played.closed == closed {
+        return Ok(());
+    }
+    Err("opened or closed too often or too seldom".into())
+}
+
+/// Fails unless the command of a row ends as that expects, with so many openings, of which each was
+/// closed.
+pub fn expect_scene(
+    rt: &HostRuntime,
+    scene: &Scene<'_>,
+    row: &Row<'_>,
+    openings: u64,
+) -> Result<(), Fail> {
+    expect_openings(&play_row(rt, scene, row)?, openings, openings)
+}
 
 /// Openings that fail, and how the run ends.
-static FAILING: [(StoreFault, Row); 4] = [
+static FAILING: [(StoreFault, Row<'static>); 4] = [
     (
         StoreFault::Memory,
         Row("sheet", "2026-05-01", "4 out of memory"),
     ),
-    (StoreFault::Memory, Row("serve", SERVE, "4 out of memory")),
+    (
+        StoreFault::Memory,
+        Row("serve", "--port 0 --count 1", "4 out of memory"),
+    ),
     (
         StoreFault::Storage,
         Row("sheet", "2026-05-01", "5 storage failed"),
     ),
-    (StoreFault::Storage, Row("serve", SERVE, "5 storage failed")),
+    (
+        StoreFault::Storage,
+        Row("serve", "--port 0 --count 1", "5 storage failed"),
+    ),
 ];
+
+fn fails_to_open(rt: &HostRuntime, fault: StoreFault, row: &Row<'_>) -> Result<(), Fail> {
+    let scene = Scene {
+        fault: Some(fault),
+        ..Scene::after(&[])
+    };
+    expect_openings(&play_row(rt, &scene, row)?, 1, 0)
+}
 
 #[test]
 fn openings_that_fail(rt: HostRuntime) -> Result<(), Fail> {
     for (fault, row) in &FAILING {
-        let scene = Scene {
-            fault: Some(*fault),
-            ..Scene::after(&[])
-        };
-        play_row(&rt, &scene, row)?.expect_openings(1, 0)?;
+        fails_to_open(&rt, *fault, row)?;
     }
     Ok(())
 }
@@ -311,14 +351,14 @@ fn openings_that_fail(rt: HostRuntime) -> Result<(), Fail> {
 /// A writer that looks how often a database was closed when it is written to first.
 #[derive(Drop)]
 struct Watching<'a> {
-    notes: &'a Notes,
+    closed: &'a Cell<u64>,
     found: Option<u64>,
 }
 
 impl Write for Watching<'_> {
     fn write(&mut self, bytes: &[u8]) -> io::Result<usize> {
         if self.found.is_none() {
-            self.found = Some(self.notes.closed.get());
+            self.found = Some(self.closed.get());
         }
         Ok(bytes.len())
     }
@@ -334,24 +374,26 @@ fn watch_over<S: ClubStore + Drop>(
     store: S,
     line: &str,
 ) -> Result<Option<u64>, Fail> {
-    let notes = Notes::new();
-    let mut databases = InMemory {
-        rt,
-        store: Some(store),
-        fault: None,
-        server: None,
-        notes: &notes,
-    };
+    let closed = Cell::new(0);
+    let handed = Cell::new(0);
+    let removed = Cell::new(None);
+    let mut databases = InMemory::new(rt, store, None, None, &closed, &handed, &removed);
     let mut writer = Watching {
-        notes: &notes,
+        closed: &closed,
         found: None,
     };
+    let asked = Run::of(line);
     let log = &mut Unlogged;
-    let ended = run_on(rt, rt, &mut databases, &Run::of(line), &mut writer, log)?;
+    let ended = run_on(rt, rt, &mut databases, &asked, &mut writer, log)?;
     if ended.status != 0 {
         return Err("a run that failed".into());
     }
     Ok(writer.found)
+}
+
+// The same of a new database in memory.
+fn watch(rt: &HostRuntime, line: &str) -> Result<Option<u64>, Fail> {
+    watch_over(rt, Store::open_in_memory(rt.alloc())?, line)
 }
 
 /// A command, and a sheet.
@@ -364,7 +406,7 @@ static ANSWERED: [&str; 2] = [
 #[test]
 fn closed_before_the_answer_is_written(rt: HostRuntime) -> Result<(), Fail> {
     for line in &ANSWERED {
-        if watch_over(&rt, Store::open_in_memory(rt.alloc())?, line)? != Some(1) {
+        if watch(&rt, line)? != Some(1) {
             return Err("written to while the database was open".into());
         }
     }
@@ -380,9 +422,10 @@ fn a_door_is_removed_before_the_database_is_closed(rt: HostRuntime) -> Result<()
         requests: &[BOOK_7],
         ..Scene::after(&AMY)
     };
-    let played = play_row(&rt, &scene, &Row("serve", SERVE, "0 "))?;
-    played.expect_openings(2, 2)?;
-    if played.notes.removed.get() != Some(1) {
+    let line = "clubdesk serve club --port 0 --count 1 --at 2026-04-20T12:00";
+    let played = play(&rt, &scene, line)?;
+    expect_openings(&played, 2, 2)?;
+    if played.removed != Some(1) {
         return Err("the door was there when the database was closed".into());
     }
     Ok(())

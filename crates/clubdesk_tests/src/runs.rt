@@ -1,11 +1,13 @@
-//! Runs of the program, as texts, and the files that they are over.
+//! Runs of the program, as texts.
 
-use crate::callers::{Caller, Input};
-use crate::served::serve_over;
+use crate::callers::Caller;
+use crate::served::{serve_and_drop, serve_removed};
+use crate::terminal::{Input, NO_INPUT};
+use club_core::StoreFault;
 use club_http::WriteOutlet;
 use clubdesk_commands::run_process;
 use clubdesk_files::{DatabasesUser, run_over_files};
-use desk_server::{Databases, Log, LogLines};
+use desk_server::{Databases, Log, LogLines, Reached};
 use std::alloc::AllocError;
 use std::io::Write;
 use std::net::TcpListener;
@@ -19,6 +21,9 @@ use test_kit::Process;
 #[derive(Clone, Copy)]
 pub struct Row<'a>(pub &'a str, pub &'a str, pub &'a str);
 
+/// Room for all that a command writes.
+pub const ROOM: usize = 65_536;
+
 /// A run of the program: its line of arguments, its input, how much it may write, whether that can
 /// be flushed, and the requests of the clients of its server.
 #[derive(Clone, Copy)]
@@ -31,12 +36,12 @@ pub struct Run<'a> {
 }
 
 impl<'a> Run<'a> {
-    /// A run on this line, with no input, with room for all that it writes, and with no clients.
+    /// A run on this line, with no input and no clients.
     pub fn of(line: &'a str) -> Run<'a> {
         Run {
             line,
-            input: Input::Bytes(b""),
-            room: 65_536,
+            input: NO_INPUT,
+            room: ROOM,
             flushes: true,
             requests: &[],
         }
@@ -54,6 +59,7 @@ pub struct Output {
 }
 
 impl Output {
+    /// Nothing.
     fn none(rt: &HostRuntime) -> Output {
         Output {
             returned: String::new(rt.alloc()),
@@ -62,6 +68,67 @@ impl Output {
             log: Vec::new(rt.alloc()),
         }
     }
+
+    // The result of a run that ended so.
+    fn of(
+        rt: &HostRuntime,
+        ended: &Ended,
+        caller: Caller<'_>,
+        log: Vec<u8>,
+    ) -> Result<Output, AllocError> {
+        Ok(Output {
+            returned: output_text(rt, ended, caller.written_bytes())?,
+            taken: caller.written_bytes().len(),
+            reply: caller.reply(),
+            log,
+        })
+    }
+}
+
+/// How a run ended, and how often it opened and closed a database.
+#[derive(Drop)]
+pub struct RunOutcome {
+    pub output: Output,
+    pub opened: u64,
+    pub closed: u64,
+}
+
+/// A path of this process alone, for a file that isn't there yet.
+pub fn new_path(rt: &HostRuntime, name: &str) -> Result<String, Fail> {
+    let folder = env::temp_dir(rt)?;
+    let folder = folder.as_str();
+    let id = process::id(rt.process());
+    Ok(format!(in rt.alloc(); "{folder}/clubdesk-{name}-{id}")?)
+}
+
+/// The path of a database's log.
+pub fn log_of(rt: &HostRuntime, path: &str) -> Result<String, AllocError> {
+    format!(in rt.alloc(); "{path}-wal")
+}
+
+/// Removes a database, of which the file or its log may be gone already.
+pub fn remove(rt: &HostRuntime, path: &str) {
+    let _ = fs::remove_file(rt, path);
+    if let Ok(log) = log_of(rt, path) {
+        let _ = fs::remove_file(rt, log.as_str());
+    }
+}
+
+/// The status of a run, with what it wrote or the line of its fault.
+fn output_text(rt: &HostRuntime, ended: &Ended, written: &[u8]) -> Result<String, AllocError> {
+    let status = ended.status;
+    let printed = ended.printed.as_str();
+    match status {
+        0 => match str::from_utf8(written) {
+            Ok(text) => format!(in rt.alloc(); "{status} {text}"),
+            Err(_) => format!(in rt.alloc(); "{status} no text"),
+        },
+        2 => format!(in rt.alloc(); "{status} {printed}"),
+        _ => match printed.strip_suffix('\n') {
+            Some(line) => format!(in rt.alloc(); "{status} {line}"),
+            None => format!(in rt.alloc(); "{status} no line"),
+        },
+    }
 }
 
 /// How a process of the program ended: its status, and what it printed on standard error.
@@ -69,23 +136,6 @@ impl Output {
 pub struct Ended {
     pub status: u8,
     pub printed: String,
-}
-
-impl Ended {
-    /// The status of a run, with what it wrote or the line of its fault.
-    fn text(&self, rt: &HostRuntime, written: &[u8]) -> Result<String, AllocError> {
-        let status = self.status;
-        let text = match status {
-            0 => str::from_utf8(written).unwrap_or("no text"),
-            2 => self.printed.as_str(),
-            _ => self
-                .printed
-                .as_str()
-                .strip_suffix('\n')
-                .unwrap_or("no line"),
-        };
-        format!(in rt.alloc(); "{status} {text}")
-    }
 }
 
 /// How a run of the program ends, with this writer and this log.
@@ -115,16 +165,11 @@ pub fn run_over<C: Clock, D: Databases>(
     databases: &mut D,
     asked: Run<'_>,
 ) -> Result<Output, AllocError> {
-    let mut caller = Caller::new(rt, asked);
+    let mut caller = Caller::new(rt, &asked);
     let mut log = Vec::new(rt.alloc());
     let mut lines = LogLines::new(WriteOutlet::new(&mut log), machine);
     let ended = run_on(rt, machine, databases, &asked, &mut caller, &mut lines)?;
-    Ok(Output {
-        returned: ended.text(rt, caller.written_bytes())?,
-        taken: caller.written_bytes().len(),
-        reply: caller.reply(),
-        log,
-    })
+    Output::of(rt, &ended, caller, log)
 }
 
 /// What is done over databases in files.
@@ -132,13 +177,70 @@ pub fn run_over<C: Clock, D: Databases>(
 pub enum Work<'a> {
     /// The program runs.
     Run(Run<'a>),
-    /// A server answers one request over the database at a path, and drops that without a word, as
-    /// one that is killed. The file may be removed once it is open.
-    Serve {
-        path: &'a str,
-        listener: &'a TcpListener,
-        is_removed: bool,
-    },
+    /// A server answers one request, over the database at a path, and drops that.
+    Serve(&'a str, &'a TcpListener),
+    /// The same, but the file is removed once it is open.
+    ServeRemoved(&'a str, &'a TcpListener),
+}
+
+// A server that drops its database writes nothing of its own.
+fn work_over<D: Databases>(
+    rt: &HostRuntime,
+    databases: &mut D,
+    work: Work<'_>,
+) -> Result<Output, Fail> {
+    match work {
+        Work::Run(asked) => Ok(run_over(rt, rt, databases, asked)?),
+        Work::Serve(path, listener) => {
+            serve_and_drop(rt, databases, path, listener)?;
+            Ok(Output::none(rt))
+        }
+        Work::ServeRemoved(path, listener) => {
+            serve_removed(rt, databases, path, listener)?;
+            Ok(Output::none(rt))
+        }
+    }
+}
+
+/// Databases whose openings and closings are counted.
+#[derive(Drop)]
+struct Counted<'d, D> {
+    databases: &'d mut D,
+    opened: u64,
+    closed: u64,
+}
+
+impl<D: Databases> Databases for Counted<'_, D> {
+    type Store = D::Store;
+
+    type Door = D::Door;
+
+    type Visit = D::Visit;
+
+    ghost opens = { λ _ _ _ _. Unit {0} };
+
+    ghost reaches = { λ _ _ _ _. Unit {0} };
+
+    ghost closes = { λ _ _ _. Unit {0} };
+
+    fn open(&mut self, name: &str) -> Result<D::Store, StoreFault> {
+        self.opened = self.opened.saturating_add(1);
+        self.databases.open(name)
+    }
+
+    fn reach(&mut self, name: &str) -> Result<Reached<D::Store, D::Visit>, StoreFault> {
+        self.opened = self.opened.saturating_add(1);
+        self.databases.reach(name)
+    }
+
+    fn close(&mut self, store: D::Store) {
+        self.closed = self.closed.saturating_add(1);
+        self.databases.close(store);
+    }
+
+    fn make_door(&self, name: &str) -> Result<D::Door, StoreFault> {
+        self.databases.make_door(name)
+    }
 }
 
 /// What is done, over whichever databases.
@@ -149,29 +251,50 @@ struct Worker<'x> {
 }
 
 impl DatabasesUser for Worker<'_> {
-    type Outcome = Result<Output, Fail>;
+    type Outcome = Result<RunOutcome, Fail>;
 
     ghost outcomes = { λ _ _. Unit {0} };
 
-    fn run_over<D: Databases>(self, databases: &mut D) -> Result<Output, Fail> {
-        let rt = self.rt;
-        match self.work {
-            Work::Run(asked) => Ok(run_over(rt, rt, databases, asked)?),
-            Work::Serve {
-                path,
-                listener,
-                is_removed,
-            } => {
-                serve_over(rt, databases.open(path)?, path, listener, is_removed)?;
-                Ok(Output::none(rt))
-            }
-        }
+    fn run_over<D: Databases>(self, databases: &mut D) -> Result<RunOutcome, Fail> {
+        let mut counted = Counted {
+            databases,
+            opened: 0,
+            closed: 0,
+        };
+        let output = work_over(self.rt, &mut counted, self.work)?;
+        Ok(RunOutcome {
+            output,
+            opened: counted.opened,
+            closed: counted.closed,
+        })
     }
 }
 
 /// Does this over databases in files.
-pub fn do_work<'x>(rt: &'x HostRuntime, work: Work<'x>) -> Result<Output, Fail> {
+pub fn do_work<'x>(rt: &'x HostRuntime, work: Work<'x>) -> Result<RunOutcome, Fail> {
     run_over_files(rt, Worker { rt, work })
+}
+
+/// Runs the program on a line of arguments over databases in files, to a writer with this much
+/// room.
+pub fn run_line(rt: &HostRuntime, line: &str, room: usize) -> Result<RunOutcome, Fail> {
+    let asked = Run {
+        room,
+        ..Run::of(line)
+    };
+    do_work(rt, Work::Run(asked))
+}
+
+/// Runs a command over the database in a file.
+pub fn run_command(
+    rt: &HostRuntime,
+    path: &str,
+    command: &str,
+    arguments: &str,
+    room: usize,
+) -> Result<RunOutcome, Fail> {
+    let line = format!(in rt.alloc(); "clubdesk {command} {path} {arguments}")?;
+    run_line(rt, line.as_str(), room)
 }
 
 /// Fails unless a run ended as its row expects.
@@ -183,53 +306,11 @@ pub fn expect_output(rt: &HostRuntime, row: &Row<'_>, returned: &str) -> Result<
     Err(format!(in rt.alloc(); "{command} {arguments}: {returned}")?.into())
 }
 
-/// Runs commands over the database at a path one after the other. Each ends as its row expects.
-pub fn play_at(rt: &HostRuntime, path: &str, rows: &[Row<'_>]) -> Result<(), Fail> {
+/// Runs commands over a file one after the other. Each ends as its row expects.
+pub fn expect_rows(rt: &HostRuntime, path: &str, rows: &[Row<'_>]) -> Result<(), Fail> {
     for row in rows {
-        let line = format!(in rt.alloc(); "clubdesk {} {path} {}", row.0, row.1)?;
-        let output = do_work(rt, Work::Run(Run::of(line.as_str())))?;
-        expect_output(rt, row, output.returned.as_str())?;
+        let ended = run_command(rt, path, row.0, row.1, ROOM)?;
+        expect_output(rt, row, ended.output.returned.as_str())?;
     }
     Ok(())
-}
-
-/// A file of this process alone for a database. It isn't there at first, and is removed in the end.
-pub struct ClubFile<'a> {
-    rt: &'a HostRuntime,
-    path: String,
-}
-
-impl<'a> ClubFile<'a> {
-    pub fn new(rt: &'a HostRuntime, name: &str) -> Result<ClubFile<'a>, Fail> {
-        let folder = env::temp_dir(rt)?;
-        let folder = folder.as_str();
-        let id = process::id(rt.process());
-        let path = format!(in rt.alloc(); "{folder}/clubdesk-{name}-{id}")?;
-        Ok(ClubFile { rt, path })
-    }
-
-    pub fn path(&self) -> &str {
-        self.path.as_str()
-    }
-
-    /// A path that begins with the file's.
-    pub fn path_with(&self, end: &str) -> Result<String, AllocError> {
-        format!(in self.rt.alloc(); "{}{end}", self.path)
-    }
-
-    /// Runs commands over it one after the other. Each ends as its row expects.
-    pub fn play(&self, rows: &[Row<'_>]) -> Result<(), Fail> {
-        play_at(self.rt, self.path(), rows)
-    }
-}
-
-impl Drop for ClubFile<'_> {
-    // The file or its log may be gone already.
-    fn drop(self) {
-        let ClubFile { rt, path } = self;
-        let _ = fs::remove_file(rt, path.as_str());
-        if let Ok(log) = format!(in rt.alloc(); "{path}-wal") {
-            let _ = fs::remove_file(rt, log.as_str());
-        }
-    }
 }

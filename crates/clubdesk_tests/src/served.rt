@@ -6,25 +6,26 @@ use club_core::ClubStore;
 use club_http::Face;
 use club_values::Moment;
 use clubdesk_commands::OfficeDesk;
-use desk_server::{Listening, serve_on};
+use desk_server::{Databases, Listening, serve_on};
 use std::fs;
 use std::io::{Read, Write};
 use std::net::{TcpListener, TcpStream};
 use std::test::Fail;
 use std::time::Duration;
 
-/// Serves one request at noon of 2026-04-20 over the store in a file, and drops it, as a server
-/// that is killed. The file may be removed before that.
-pub fn serve_over<'x, S: ClubStore + Drop>(
+// A client that has sent this to a listener.
+fn client_of(rt: &HostRuntime, listener: &TcpListener, request: &str) -> Result<TcpStream, Fail> {
+    let mut client = TcpStream::connect(rt, listener.local_addr()?)?;
+    client.write_all(request.as_bytes())?;
+    Ok(client)
+}
+
+// Serves one request at noon of 2026-04-20.
+fn serve_at<'x, S: ClubStore + Drop>(
     rt: &'x HostRuntime,
-    store: S,
-    path: &str,
     listener: &'x TcpListener,
-    is_removed: bool,
+    store: S,
 ) -> Result<(), Fail> {
-    if is_removed {
-        fs::remove_file(rt, path)?;
-    }
     let mut face = Face::new(rt.alloc())?;
     let moment = Moment::read(b"2026-04-20T12:00").ok_or("moment")?;
     let mut desk = OfficeDesk::new(rt.alloc(), rt, store);
@@ -37,31 +38,57 @@ pub fn serve_over<'x, S: ClubStore + Drop>(
     Ok(())
 }
 
-/// The bytes of the reply to a request, by a server over the database in a file, which it drops.
-/// The file may be removed before the request is read.
-pub fn reply_before_a_kill(
+/// The same over a database that is opened for it, and dropped, as by a server that is killed.
+pub fn serve_and_drop<D: Databases>(
     rt: &HostRuntime,
+    databases: &mut D,
     path: &str,
+    listener: &TcpListener,
+) -> Result<(), Fail> {
+    serve_at(rt, listener, databases.open(path)?)
+}
+
+/// The same, but the file is removed once it is open.
+pub fn serve_removed<D: Databases>(
+    rt: &HostRuntime,
+    databases: &mut D,
+    path: &str,
+    listener: &TcpListener,
+) -> Result<(), Fail> {
+    let store = databases.open(path)?;
+    fs::remove_file(rt, path)?;
+    serve_at(rt, listener, store)
+}
+
+// The bytes of the reply to a request that a client sends to the listener of a server.
+fn reply_by(
+    rt: &HostRuntime,
+    listener: &TcpListener,
+    server: Work<'_>,
     request: &str,
-    is_removed: bool,
 ) -> Result<Vec<u8>, Fail> {
-    let listener = TcpListener::bind(rt, "127.0.0.1:0")?;
-    let mut client = TcpStream::connect(rt, listener.local_addr()?)?;
-    client.write_all(request.as_bytes())?;
-    let server = Work::Serve {
-        path,
-        listener: &listener,
-        is_removed,
-    };
+    let mut client = client_of(rt, listener, request)?;
     do_work(rt, server)?;
     let mut reply = Vec::new(rt.alloc());
     client.read_to_end(&mut reply)?;
     Ok(reply)
 }
 
-/// Fails unless a request gets this reply, by a run of the server at the same moment, which closes
-/// the database.
-pub fn expect_reply(rt: &HostRuntime, path: &str, request: &str, wanted: &str) -> Result<(), Fail> {
+/// The bytes of the reply to a request, by a server over the database in a file, which it drops.
+pub fn reply_before_a_kill(rt: &HostRuntime, path: &str, request: &str) -> Result<Vec<u8>, Fail> {
+    let listener = TcpListener::bind(rt, "127.0.0.1:0")?;
+    reply_by(rt, &listener, Work::Serve(path, &listener), request)
+}
+
+/// The same of a server whose file was removed before the request came.
+pub fn reply_without_a_file(rt: &HostRuntime, path: &str, request: &str) -> Result<Vec<u8>, Fail> {
+    let listener = TcpListener::bind(rt, "127.0.0.1:0")?;
+    reply_by(rt, &listener, Work::ServeRemoved(path, &listener), request)
+}
+
+/// The bytes of the reply to a request, by a run of the server at the same moment, which closes the
+/// database.
+pub fn reply_to(rt: &HostRuntime, path: &str, request: &str) -> Result<Vec<u8>, Fail> {
     let line = format!(in rt.alloc();
         "clubdesk serve {path} --port 0 --count 1 --at 2026-04-20T12:00"
     )?;
@@ -69,10 +96,6 @@ pub fn expect_reply(rt: &HostRuntime, path: &str, request: &str, wanted: &str) -
         requests: &[request],
         ..Run::of(line.as_str())
     };
-    let reply = do_work(rt, Work::Run(asked))?.reply;
-    let text = str::from_utf8(&reply).unwrap_or("no text");
-    if text == wanted {
-        return Ok(());
-    }
-    Err(format!(in rt.alloc(); "{text}")?.into())
+    let ended = do_work(rt, Work::Run(asked))?;
+    Ok(ended.output.reply)
 }

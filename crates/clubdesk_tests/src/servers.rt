@@ -1,9 +1,8 @@
-//! Runs by a clock of the test's, over a club in memory: servers, and accounts that are shown. A
-//! program of another language computed the moments, from the zones' own database.
+//! Runs of the server over a club in memory, by a clock of the test's. What clocks show was
+//! computed by a program of another language, from the zones' own database.
 
-use crate::memory::{Scene, play, play_row};
-use crate::runs::Row;
-use std::alloc::AllocError;
+use crate::memory::{Scene, expect_openings, play};
+use crate::runs::{Output, Row};
 use std::test::Fail;
 use std::time::Clock;
 use test_kit::exchanges::{BOOK_7, BOOKED_7};
@@ -20,8 +19,14 @@ pub(crate) static OFFICE: [Row; 4] = [
     ),
 ];
 
-/// The sheet of the day once the booking is made.
-pub(crate) static BOOKED: [Row; 1] = [Row(
+/// What comes of the booking: how the run ends, the reply, and the sheet of the day afterwards.
+struct Outcome {
+    end: &'static str,
+    reply: &'static str,
+    sheet: &'static [Row<'static>],
+}
+
+const BOOKED: &[Row<'static>] = &[Row(
     "sheet",
     "2026-05-01",
     "0 Day sheet 2026-05-01\n\
@@ -29,166 +34,161 @@ pub(crate) static BOOKED: [Row; 1] = [Row(
     Total bookings 1, persons 3, charge 600\n",
 )];
 
-static NO_BOOKINGS: [Row; 1] = [Row(
+const SERVED: Outcome = Outcome {
+    end: "0 ",
+    reply: BOOKED_7,
+    sheet: BOOKED,
+};
+
+const NOTHING: &[Row<'static>] = &[Row(
     "sheet",
     "2026-05-01",
     "0 Day sheet 2026-05-01\nNo bookings.\n",
 )];
 
-/// A run of the server for the booking. The machine's clock shows a second, if it can be read. The
-/// sheet is that of the day, after the run.
-#[derive(Clone, Copy)]
-struct Serving<'a> {
-    second: Option<u64>,
-    options: &'a str,
-    output: &'static str,
-    reply: &'static str,
-    sheet: &'static [Row<'static>],
-    log: &'a str,
-}
+/// The slot has begun.
+const NOT_BOOKABLE: Outcome = Outcome {
+    end: "0 ",
+    reply: "HTTP/1.1 409 Conflict\r\nContent-Type: application/json\r\nContent-Length: 34\r\n\
+        Connection: close\r\n\r\n{\"fault\":16,\"text\":\"not bookable\"}",
+    sheet: NOTHING,
+};
 
-const NOT_BOOKABLE: &str =
-    "HTTP/1.1 409 Conflict\r\nContent-Type: application/json\r\nContent-Length: 34\r\n\
-    Connection: close\r\n\r\n{\"fault\":16,\"text\":\"not bookable\"}";
+/// The clock shows no moment: no byte comes back.
+const OUT_OF_RANGE: Outcome = Outcome {
+    end: "6 clock out of range",
+    reply: "",
+    sheet: NOTHING,
+};
 
-impl<'a> Serving<'a> {
-    /// The run that a row has, with semicolons between its parts. The second may be `none`. The
-    /// booking is served, or not bookable because the slot has begun; or the clock is out of range.
-    /// In the log `$` stands for the method and path of the booking.
-    fn of(row: &'a str) -> Option<Serving<'a>> {
-        let (second, rest) = row.split_once("; ")?;
-        let (options, rest) = rest.split_once("; ")?;
-        let (outcome, log) = rest.split_once(";")?;
-        let (output, reply, sheet): (_, _, &'static [Row<'static>]) = match outcome {
-            "served" => ("0 ", BOOKED_7, &BOOKED),
-            "not bookable" => ("0 ", NOT_BOOKABLE, &NO_BOOKINGS),
-            "out of range" => ("6 clock out of range", "", &NO_BOOKINGS),
-            _ => return None,
-        };
-        Some(Serving {
-            second: second.parse().ok(),
-            options,
-            output,
-            reply,
-            sheet,
-            log: log.strip_prefix(' ').unwrap_or(""),
-        })
-    }
+/// A run of the server for the booking: the second that the clock of the machine shows, if it can
+/// be read, the options of the server, what comes of it, and the log.
+struct Serving(Option<u64>, &'static str, &'static Outcome, &'static str);
 
-    /// The text of the log.
-    fn log_text(&self, rt: &HostRuntime) -> Result<String, AllocError> {
-        match self.log.split_once('$') {
-            Some((moment, rest)) => format!(in rt.alloc();
-                "{moment}PUT /slots/court-1/2026-05-01/18/bookings/7{rest}\n"
-            ),
-            None if self.log.is_empty() => Ok(String::new(rt.alloc())),
-            None => format!(in rt.alloc(); "{}\n", self.log),
-        }
-    }
-}
+/// The microseconds that a connection takes, but if its server has a patience.
+const SPAN: u64 = 1_533;
 
-// The microseconds that a connection takes, by the options of its server.
+/// Those that it takes there, and those if the patience is an hour.
+const LONG_SPAN: u64 = 4_000_000;
+
+const SPAN_OF_AN_HOUR: u64 = 3_599_000_000;
+
+// The span of a connection, by the options of its server.
 fn later_in(options: &str) -> u64 {
     if options.contains("--patience 3600") {
-        3_599_000_000
+        SPAN_OF_AN_HOUR
     } else if options.contains("--patience") {
-        4_000_000
+        LONG_SPAN
     } else {
-        1_533
+        SPAN
     }
+}
+
+// Fails unless the run ended so.
+fn expect_ended(rt: &HostRuntime, serving: &Serving, ended: &Output) -> Result<(), Fail> {
+    let Serving(_, options, outcome, log) = serving;
+    let reply = ended.reply.as_slice() == outcome.reply.as_bytes();
+    let logged = ended.log.as_slice() == log.as_bytes();
+    if reply && logged && ended.returned.as_str() == outcome.end {
+        return Ok(());
+    }
+    let (end, log) = (
+        &ended.returned,
+        str::from_utf8(&ended.log).unwrap_or("no text"),
+    );
+    Err(format!(in rt.alloc(); "{options}: {end}, reply {reply}, log {log}")?.into())
 }
 
 // Over a new club, the booking is served, or not, and then the sheet of the day is printed, in six
 // runs.
-fn serves(rt: &HostRuntime, row: &str) -> Result<(), Fail> {
-    let serving = Serving::of(row).ok_or("no row")?;
-    let options = serving.options;
+fn serves(rt: &HostRuntime, serving: &Serving) -> Result<(), Fail> {
+    let Serving(second, options, outcome, _) = serving;
     let line = format!(in rt.alloc(); "clubdesk serve club --port 0 --count 1 {options}")?;
     let scene = Scene {
-        second: serving.second,
+        second: *second,
         later: later_in(options),
         requests: &[BOOK_7],
-        after: serving.sheet,
+        after: outcome.sheet,
         ..Scene::after(&OFFICE)
     };
     let played = play(rt, &scene, line.as_str())?;
-    let (output, log) = (&played.output, serving.log_text(rt)?);
-    let is_logged = output.log.as_slice() == log.as_bytes();
-    let has_replied = output.reply.as_slice() == serving.reply.as_bytes();
-    if output.returned.as_str() != serving.output || !is_logged || !has_replied {
-        let logged = str::from_utf8(&output.log).unwrap_or("no text");
-        return Err(format!(in rt.alloc(); "{row}: {}, {logged}", output.returned)?.into());
-    }
-    played.expect_openings(6, 6)
-}
-
-fn serves_each(rt: &HostRuntime, rows: &[&str]) -> Result<(), Fail> {
-    for row in rows {
-        serves(rt, row)?;
-    }
-    Ok(())
+    expect_ended(rt, serving, &played.output)?;
+    expect_openings(&played, 6, 6)
 }
 
 /// Whatever the machine's clock shows, if it can be read.
-static AT: [&str; 6] = [
-    "none; --at 2026-04-20T12:00; served;",
-    "none; --at 2026-04-20T12:00 --log; served; 2026-04-20T12:00 $ 200 0",
-    "1777658400; --log --at 2026-05-01T17:59 --zone CET-1CEST,M3.5.0,M10.5.0/3; served; \
-        2026-05-01T17:59 $ 200 1533",
-    "1777658399; --at 2026-05-01T18:00; not bookable;",
-    "1777658399; --at 2026-05-01T18:00 --log; not bookable; 2026-05-01T18:00 $ 409 1533",
-    "946684799; --at 2026-04-20T12:00; served;",
+static AT: [Serving; 6] = [
+    Serving(None, "--at 2026-04-20T12:00", &SERVED, ""),
+    Serving(
+        None,
+        "--at 2026-04-20T12:00 --log",
+        &SERVED,
+        "2026-04-20T12:00 PUT /slots/court-1/2026-05-01/18/bookings/7 200 0\n",
+    ),
+    Serving(
+        Some(1_777_658_400),
+        "--log --at 2026-05-01T17:59 --zone CET-1CEST,M3.5.0,M10.5.0/3",
+        &SERVED,
+        "2026-05-01T17:59 PUT /slots/court-1/2026-05-01/18/bookings/7 200 1533\n",
+    ),
+    Serving(
+        Some(1_777_658_399),
+        "--at 2026-05-01T18:00",
+        &NOT_BOOKABLE,
+        "",
+    ),
+    Serving(
+        Some(1_777_658_399),
+        "--at 2026-05-01T18:00 --log",
+        &NOT_BOOKABLE,
+        "2026-05-01T18:00 PUT /slots/court-1/2026-05-01/18/bookings/7 409 1533\n",
+    ),
+    Serving(Some(946_684_799), "--at 2026-04-20T12:00", &SERVED, ""),
 ];
 
 #[test]
 fn serves_at_a_fixed_moment(rt: HostRuntime) -> Result<(), Fail> {
-    serves_each(&rt, &AT)
+    for serving in &AT {
+        serves(&rt, serving)?;
+    }
+    Ok(())
 }
 
 /// A request that is there whole is served, even once its time is over. It waits four seconds, with
 /// a patience of three, four and five, and an hour less a second, with a patience of an hour.
-static PATIENT: [&str; 4] = [
-    "0; --at 2026-04-20T12:00 --log --patience 3; served; 2026-04-20T12:00 $ 200 4000000",
-    "0; --at 2026-04-20T12:00 --log --patience 4; served; 2026-04-20T12:00 $ 200 4000000",
-    "0; --patience 5 --at 2026-04-20T12:00 --log; served; 2026-04-20T12:00 $ 200 4000000",
-    "0; --at 2026-04-20T12:00 --patience 3600; served;",
+static PATIENT: [Serving; 4] = [
+    Serving(
+        Some(0),
+        "--at 2026-04-20T12:00 --log --patience 3",
+        &SERVED,
+        "2026-04-20T12:00 PUT /slots/court-1/2026-05-01/18/bookings/7 200 4000000\n",
+    ),
+    Serving(
+        Some(0),
+        "--at 2026-04-20T12:00 --log --patience 4",
+        &SERVED,
+        "2026-04-20T12:00 PUT /slots/court-1/2026-05-01/18/bookings/7 200 4000000\n",
+    ),
+    Serving(
+        Some(0),
+        "--patience 5 --at 2026-04-20T12:00 --log",
+        &SERVED,
+        "2026-04-20T12:00 PUT /slots/court-1/2026-05-01/18/bookings/7 200 4000000\n",
+    ),
+    Serving(
+        Some(0),
+        "--at 2026-04-20T12:00 --patience 3600",
+        &SERVED,
+        "",
+    ),
 ];
 
 #[test]
 fn serves_within_its_patience(rt: HostRuntime) -> Result<(), Fail> {
-    serves_each(&rt, &PATIENT)
-}
-
-/// Around 18:00 of 2026-05-01 in three zones.
-static BY_THE_CLOCK: [&str; 7] = [
-    "1777658399; --log; served; 2026-05-01T17:59 $ 200 1533",
-    "1777658400; --log; not bookable; 2026-05-01T18:00 $ 409 1533",
-    "1777658399; --zone UTC0; served;",
-    "1777651199; --zone CET-1CEST,M3.5.0,M10.5.0/3 --log; served; 2026-05-01T17:59 $ 200 1533",
-    "1777651200; --zone CET-1CEST,M3.5.0,M10.5.0/3 --log; not bookable; \
-        2026-05-01T18:00 $ 409 1533",
-    "1777651200; --zone CET-1CEST,M3.5.0,M10.5.0/3; not bookable;",
-    "1777672799; --zone EST5EDT,M3.2.0,M11.1.0 --log; served; 2026-05-01T17:59 $ 200 1533",
-];
-
-#[test]
-fn serves_by_the_clock(rt: HostRuntime) -> Result<(), Fail> {
-    serves_each(&rt, &BY_THE_CLOCK)
-}
-
-/// Beside the years 2000 to 2099, and a clock that can't be read.
-static BESIDE: [&str; 5] = [
-    "946684799; --log; out of range; - - - - 1533",
-    "4102444800; --zone UTC0; out of range;",
-    "4102441200; --log --zone CET-1CEST,M3.5.0,M10.5.0/3; out of range; - - - - 1533",
-    "none; --zone UTC0; out of range;",
-    "none; --log; out of range; - - - - 0",
-];
-
-// No byte comes back, and the club is unchanged.
-#[test]
-fn a_clock_out_of_range(rt: HostRuntime) -> Result<(), Fail> {
-    serves_each(&rt, &BESIDE)
+    for serving in &PATIENT {
+        serves(&rt, serving)?;
+    }
+    Ok(())
 }
 
 /// The beginning of the booking's request. Its client sends no more.
@@ -207,7 +207,7 @@ fn waits(rt: &HostRuntime, patience: u32, later: u64) -> Result<(), Fail> {
     let scene = Scene {
         later,
         requests: &[BEGINNING, BOOK_7],
-        after: &BOOKED,
+        after: BOOKED,
         ..Scene::after(&OFFICE)
     };
     let before = rt.monotonic()?;
@@ -229,51 +229,74 @@ fn waits_as_long_as_its_patience(rt: HostRuntime) -> Result<(), Fail> {
     Ok(())
 }
 
-const OUT_OF_RANGE: &str = "6 clock out of range";
-
-/// An account that is shown on a machine that shows this second, and how it ends. The zone is one
-/// hour before UTC in winter. A fixed moment wants no clock.
-static SHOWN: [(Option<u64>, Row); 5] = [
-    (
+/// Around 18:00 of 2026-05-01 in three zones.
+static BY_THE_CLOCK: [Serving; 7] = [
+    Serving(
         Some(1_777_658_399),
-        Row(
-            "show-account",
-            "amy-1",
-            "0 member amy\nbalance 10000\nquota 5\nopen 0\nspent 0\nrevoked no\nolder root none\n",
-        ),
+        "--log",
+        &SERVED,
+        "2026-05-01T17:59 PUT /slots/court-1/2026-05-01/18/bookings/7 200 1533\n",
     ),
-    (
-        Some(946_684_799),
-        Row("show-account", "amy-1", OUT_OF_RANGE),
+    Serving(
+        Some(1_777_658_400),
+        "--log",
+        &NOT_BOOKABLE,
+        "2026-05-01T18:00 PUT /slots/court-1/2026-05-01/18/bookings/7 409 1533\n",
     ),
-    (
-        Some(4_102_441_200),
-        Row(
-            "show-account",
-            "amy-1 --zone CET-1CEST,M3.5.0,M10.5.0/3",
-            OUT_OF_RANGE,
-        ),
+    Serving(Some(1_777_658_399), "--zone UTC0", &SERVED, ""),
+    Serving(
+        Some(1_777_651_199),
+        "--zone CET-1CEST,M3.5.0,M10.5.0/3 --log",
+        &SERVED,
+        "2026-05-01T17:59 PUT /slots/court-1/2026-05-01/18/bookings/7 200 1533\n",
     ),
-    (None, Row("show-account", "zed-1", OUT_OF_RANGE)),
-    (
-        None,
-        Row(
-            "show-account",
-            "amy-2 --at 2026-04-20T12:00",
-            "1 refused: unknown",
-        ),
+    Serving(
+        Some(1_777_651_200),
+        "--zone CET-1CEST,M3.5.0,M10.5.0/3 --log",
+        &NOT_BOOKABLE,
+        "2026-05-01T18:00 PUT /slots/court-1/2026-05-01/18/bookings/7 409 1533\n",
+    ),
+    Serving(
+        Some(1_777_651_200),
+        "--zone CET-1CEST,M3.5.0,M10.5.0/3",
+        &NOT_BOOKABLE,
+        "",
+    ),
+    Serving(
+        Some(1_777_672_799),
+        "--zone EST5EDT,M3.2.0,M11.1.0 --log",
+        &SERVED,
+        "2026-05-01T17:59 PUT /slots/court-1/2026-05-01/18/bookings/7 200 1533\n",
     ),
 ];
 
-// The club was made in four runs, and each run that shows an account opens it once.
 #[test]
-fn shows_accounts_by_a_clock(rt: HostRuntime) -> Result<(), Fail> {
-    for (second, row) in &SHOWN {
-        let scene = Scene {
-            second: *second,
-            ..Scene::after(&OFFICE)
-        };
-        play_row(&rt, &scene, row)?.expect_openings(5, 5)?;
+fn serves_by_the_clock(rt: HostRuntime) -> Result<(), Fail> {
+    for serving in &BY_THE_CLOCK {
+        serves(&rt, serving)?;
+    }
+    Ok(())
+}
+
+/// Beside the years 2000 to 2099, and a clock that can't be read.
+static BESIDE: [Serving; 5] = [
+    Serving(Some(946_684_799), "--log", &OUT_OF_RANGE, "- - - - 1533\n"),
+    Serving(Some(4_102_444_800), "--zone UTC0", &OUT_OF_RANGE, ""),
+    Serving(
+        Some(4_102_441_200),
+        "--log --zone CET-1CEST,M3.5.0,M10.5.0/3",
+        &OUT_OF_RANGE,
+        "- - - - 1533\n",
+    ),
+    Serving(None, "--zone UTC0", &OUT_OF_RANGE, ""),
+    Serving(None, "--log", &OUT_OF_RANGE, "- - - - 0\n"),
+];
+
+// No byte comes back, and the club is unchanged.
+#[test]
+fn a_clock_out_of_range(rt: HostRuntime) -> Result<(), Fail> {
+    for serving in &BESIDE {
+        serves(&rt, serving)?;
     }
     Ok(())
 }
