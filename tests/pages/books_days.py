@@ -364,7 +364,7 @@ def refusals_say_what_to_do(page, passes, between):
         page.run("useWords(WORDS, 'en')")
     check(all(len({fault for _, fault in of}) == 1 for of in sentences.values()), "two faults with one sentence", sentences)
     # The day shows a refusal of the pass only once.
-    for fault, status, words in [(9, 401, "doesn't know this pass"), (10, 403, "ended this pass"), (4, 401, "didn't arrive")]:
+    for fault, status, words in [(9, 401, "doesn't know this pass"), (10, 403, "revoked this pass"), (4, 401, "didn't arrive")]:
         between.fates["GET"] = [f'answer {status} {{"fault":{fault},"text":"x"}}'] * 200
         page.run("showDay()")
         page.when(f"shownText('day-fault').includes(\"{words}\")", "a refused pass", fault)

@@ -84,7 +84,7 @@ def devices(passes, front, server):
         page.run("byName('lost-part').open = true")
         unused = next(each for each in range(1, 1000) if each not in amounts("amy-phone"))
         before = amounts("amy-phone")
-        for asked, words in (("0", "A number from 1"), (unused, "never used this number"), (number, "Noted")):
+        for asked, words in (("0", "Give a number from 1"), (unused, "never used this number"), (number, "Noted")):
             page.run("""["number", "facility", "day", "hour"].forEach((name, place) => { byName(`lost-${name}`).value = arguments[place]; });
                 byName("lost").requestSubmit();""", *map(str, (asked, *slot[:3])))
             page.when(f"shownText('lost-news').includes('{words}')", "a booking by its number")

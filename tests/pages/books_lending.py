@@ -87,7 +87,7 @@ def lends(passes, front, between):
         page.press("Keep it", "notices")
         page.go(day(6))
         page.offer("court-1", 10)
-        has(page.run("return dialogText()"), "a slot after the pass's end", "Your pass ends before this slot", "you can't cancel it",
+        has(page.run("return dialogText()"), "a slot after the pass's end", "Your pass ends before this slot", "you can't cancel the booking",
             f"Until the end of {page_date(day(4), year=True)}.")
         page.press("Close")
         page.go(day(2))

@@ -74,15 +74,15 @@ def faulty_texts():
     guests = '{"i":"guests <= 1"}'
     return [
         # base64
-        ("!", 2, "“!” at place 1"), ("Ag EJ", 2, "a space or a line break at place 3"), ("AgEJ\nAgEJ", 2, "a space or a line break at place 5"),
-        ("\u00a0", 2, "a space or a line break at place 1"), ("A", 2, "breaks off"), ("Ag=E", 2, "“=” at place 3"), ("😀", 2, "“😀” at place 1"),
-        ("Bearer " + known, 2, "place 7"), ("https://club.example/" + known, 2, "“:” at place 6"),
-        (known.replace("_", "/").replace("-", "_"), 2, "two different alphabets"), (known + "==", 2, "isn't the right number"),
-        (known[:-1] + "d", 2, "ends with a character that can't be right"), ("====", 2, "isn't the right number"),
+        ("!", 2, "“!” at position 1"), ("Ag EJ", 2, "a space or a line break at position 3"), ("AgEJ\nAgEJ", 2, "a space or a line break at position 5"),
+        ("\u00a0", 2, "a space or a line break at position 1"), ("A", 2, "breaks off"), ("Ag=E", 2, "“=” at position 3"), ("😀", 2, "“😀” at position 1"),
+        ("Bearer " + known, 2, "position 7"), ("https://club.example/" + known, 2, "“:” at position 6"),
+        (known.replace("_", "/").replace("-", "_"), 2, "two different alphabets"), (known + "==", 2, "the wrong number of = signs"),
+        (known[:-1] + "d", 2, "ends with a character that can't be right"), ("====", 2, "the wrong number of = signs"),
         # no form
-        ("Aw", 2, "doesn't begin like a pass"), ("MDA", 2, "breaks off in the location"), ("Zw", 2, "doesn't begin like a pass"),
+        ("Aw", 2, "doesn't begin like any form"), ("MDA", 2, "breaks off in the location"), ("Zw", 2, "doesn't begin like any form"),
         # V1
-        (unpadded(v1 + b"x"), 2, "goes on behind the signature"), (unpadded(b"0003"), 2, "a length of 3"),
+        (unpadded(v1 + b"x"), 2, "continues after the signature"), (unpadded(b"0003"), 2, "a length of 3"),
         (unpadded(b"0003location http://mybank/\n"), 2, "a length of 3"), (unpadded(b"001Clocation"), 2, "“001C”"),
         (unpadded(v1.replace(b"001cloc", b"001Cloc")), 2, "“001C” where the length of the location should be"),
         (unpadded(v1.replace(b"location", b"Location")), 2, "“Location” where the location should be"),
@@ -90,18 +90,18 @@ def faulty_texts():
         (unpadded(v1.replace(b"cid ", b"vid ")), 2, "“vid” where a caveat or the signature should be"),
         (written("v1", replace(KEYID, signature=bytes(31))), 2, "31 bytes, not 32"),
         # V2
-        (unpadded(b"\2\2\x85\0keyid"), 2, "isn't spelled in the shortest way"),
-        (unpadded(v2.replace(b"\5keyid", b"\x85\0keyid")), 2, "isn't spelled in the shortest way"), (unpadded(v2 + b"\0"), 2, "goes on behind the signature"),
-        (unpadded(b"\2\2\xff\xff\xff\x7f"), 2, "more than the whole text"), (unpadded(b"\2"), 2, "breaks off in the identifier"),
+        (unpadded(b"\2\2\x85\0keyid"), 2, "isn't written in the shortest way"),
+        (unpadded(v2.replace(b"\5keyid", b"\x85\0keyid")), 2, "isn't written in the shortest way"), (unpadded(v2 + b"\0"), 2, "continues after the signature"),
+        (unpadded(b"\2\2\xff\xff\xff\x7f"), 2, "greater than that of the whole text"), (unpadded(b"\2"), 2, "breaks off in the identifier"),
         (unpadded(b"\2\6\1a"), 2, "something else where the identifier should be"),
         (unpadded(b"\2" + field(2, b"a") + field(4, b"a")), 2, "something else where the identifier should end"),
         (written("v2", replace(KEYID, signature=bytes(33))), 2, "33 bytes, not 32"), (unpadded(v2[:-40]), 2, "breaks off in"),
         # JSON
-        ("{", 2, "breaks off"), ("{}", 2, "Its i is missing"), ("[]", 2, "“[” at place 1"), ("{i", 2, "at place 2"), ('{"i":"keyid"}', 2, "Its s is missing"),
-        ("{" + S64 + "}", 2, "Its i is missing"), ("{" + SHORT + "x", 2, "more behind the end"),
-        ('{"i":"keyid","s64":"fN7nklEcW8b1KEhYBd_psk54XijiqZMB-dcRxgnjjg"}', 2, "31 bytes, not 32"), ("\ufeff{" + SHORT, 2, "at place 1"),
+        ("{", 2, "breaks off"), ("{}", 2, "Its i is missing"), ("[]", 2, "“[” at position 1"), ("{i", 2, "at position 2"), ('{"i":"keyid"}', 2, "Its s is missing"),
+        ("{" + S64 + "}", 2, "Its i is missing"), ("{" + SHORT + "x", 2, "more text after the end"),
+        ('{"i":"keyid","s64":"fN7nklEcW8b1KEhYBd_psk54XijiqZMB-dcRxgnjjg"}', 2, "31 bytes, not 32"), ("\ufeff{" + SHORT, 2, "at position 1"),
         (unpadded(b'{"\xff'), 2, "isn't text in UTF-8"), ('{"i":"a\nb",' + S64 + "}", 2, "text in quotes"),
-        ('{"i":"\\ud800",' + S64 + "}", 2, "half a character"), (nested(127), 2, "more than 127 brackets"),
+        ('{"i":"\\ud800",' + S64 + "}", 2, "half a character"), (nested(127), 2, "more than 127 nested brackets"),
         *((with_member('"v":' + it), 2, "isn't the whole number 2") for it in ("1", "2.0", "2e0", "-2", "null", '"2"')),
         (with_member('"v":1e999'), 2, "too large"), (with_member('"v":02'), 2, "a comma or }"), (with_member('"i64":"_w"'), 2, "i and i64 are both there"),
         (with_member('"c":null'), 2, "aren't a list"), (with_member('"c":{}'), 2, "aren't a list"), (with_member('"c":["a"]'), 2, "Caveat 1 isn't an object"),
@@ -115,7 +115,7 @@ def faulty_texts():
         (unpadded(b"\2" + field(2, b"a") + b"\0" + field(1, b"") + third_v2 + b"\0" + field(6, KEYID.signature)), 3, "Its caveat 1"),
         (with_member('"c":[{"i":"a"},{"i":"a","v":"b"}]'), 3, "Its caveat 2"), (with_member('"c":[{"i":"a","v64":"_w"}]'), 3, "Its caveat 1"),
         (with_member('"c":[{"i":"a","l":""}]'), 3, "Its caveat 1"), (with_member('"c":[{"i":"a","l64":""}]'), 3, "Its caveat 1"),
-        (many(65), 4, "It has 65 limits"), (many(64, third_v2), 3, "Its caveat 65"), (many(65, behind=b"\0"), 2, "goes on behind"),
+        (many(65), 4, "It has 65 limits"), (many(64, third_v2), 3, "Its caveat 65"), (many(65, behind=b"\0"), 2, "continues after"),
         (with_member('"c":[' + ",".join([guests] * 65) + "]"), 4, "It has 65 limits"),
         (with_member('"c":[' + ",".join([guests] * 65) + ",{}]"), 2, "Caveat 66's i is missing"),
         (with_member('"c":[' + ",".join([guests] * 65) + ',{"i":"x","v64":""}]'), 3, "Its caveat 66"), ("{" * 8193, 1, "8,193 bytes"),
@@ -272,7 +272,7 @@ def understands_as_passtool(page):
         # An argument can't hold a zero byte.
         wanted = "\0" not in text and is_understood_by_tool(text)
         check(limit["understood"] == wanted, "understood otherwise", repr(text), wanted, limit)
-        check(wanted or "isn't understood" in limit["words"], "a limit that isn't understood", limit)
+        check(wanted or "doesn't understand this limit" in limit["words"], "a limit that isn't understood", limit)
         understood += wanted
     check(understood < len(texts) < understood * 5, "texts of both kinds", understood)
     # Bytes that aren't text.

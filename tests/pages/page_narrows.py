@@ -142,7 +142,7 @@ def notes_say_what_matters(page):
     check("no name that the desk could know" in stranger["shown"], "a stranger's pass", stranger)
     check(stranger["facts"]["Identifier"] == "we used our secret key", "whose a stranger's pass is", stranger)
     text = page.run("return document.body.innerText")
-    for words in ["The desk counts every booking ever made with this pass", "ask the office to make them a pass of their own",
+    for words in ["The desk counts every booking ever made with this pass", "narrow a spare pass or a pass of their own",
                   "can also cancel bookings made with your pass", "Days and times are the club's"]:
         check(words in re.sub(r"\s+", " ", text), "the page doesn't say", words)
     print(f"{len(NOTES)} passes come with what matters of them")
