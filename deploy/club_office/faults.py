@@ -1,4 +1,4 @@
-"""The ways in which a command of the office can fail."""
+"""Failures of the office's commands."""
 
 from club_office.texts import say
 

@@ -23,7 +23,7 @@ def rotations(passes, front, between):
         between.fates.clear()
         page.comes("isn't known", "a pass that is refused meanwhile")
         page.view("bookings")
-        check("It isn't known whether this is booked" in page.run("return byName('to-come').innerText"), "a booking of which nothing is known")
+        check("It isn't known whether this is booked" in page.run("return byName('to-come').innerText"), "a booking in an unknown state")
         page.visit(f"#{new}", "isShown('day') && state.entries.every((each) => unfinished(each) === null && each.stopped === undefined)", "the new pass")
         check(same_record(page, "amy-son") == 1, "one booking")
         # A booking of another key waits for its own pass.
