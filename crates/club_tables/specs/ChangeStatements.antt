@@ -1,4 +1,4 @@
--- The statements that make each change, with the values of their parameters (ours).
+-- The statements that apply each change, with the values of their parameters (ours).
 use Rattle.std.specs.Prelude.{◌≡◌, ℕ, ℤ, pos, neg_ℤ, List, [], ◌∷◌, ◌++◌}
 use Rattle.sqlite_value.specs.{Order.Row, declared.value.Value.TheVariants.{Int, Text, Blob}}
 use Rattle.club_values.specs.declared.slot.Slot.{Slot}
@@ -12,7 +12,7 @@ use Rattle.club_tables.specs.{Transaction.BoundStatement, declared.texts.TheCons
 use Rattle.club_tables.specs.declared.texts.TheConstants.{REVOKE_KEY, PUT_OLDER_ROOT, SET_ROOT, CLOSE_SLOT, OPEN_SLOT, SET_QUOTA, ADD_BOOKING, CANCEL_BOOKING}
 use Rattle.club_tables.specs.declared.texts.TheConstants.{CHARGE, ADD_USED, ADD_TAKEN}
 
--- a new member, whose bookings have cost nothing
+-- inserts a new member, who has spent no points on bookings
 abbrev pub adding_member : Member → List BoundStatement
 adding_member member = (ADD_MEMBER.now, Text member.name ∷ whole member.credited ∷ whole member.quota ∷ []) ∷ []
 
@@ -28,7 +28,7 @@ giving_quota member quota = (SET_QUOTA.now, Text member ∷ whole quota ∷ []) 
 abbrev pub adding_facility : Facility → List BoundStatement
 adding_facility facility = (ADD_FACILITY.now, facility_values facility) ∷ []
 
--- a facility's name and its new numbers
+-- a facility's name, and its new places, price and hours
 abbrev pub numbers_values : List ℕ → ℕ → ℕ → ℕ → ℕ → Row
 numbers_values facility places price opens shuts = Text facility ∷ whole places ∷ whole price ∷ whole opens ∷ whole shuts ∷ []
 
@@ -44,39 +44,39 @@ revoking key = (REVOKE_KEY.now, Text key ∷ []) ∷ []
 abbrev pub closing : Slot → List BoundStatement
 closing slot = (CLOSE_SLOT.now, name_values slot) ∷ []
 
--- a slot that is opened, whether or not it was closed
+-- marks a slot as open, whether or not it was closed
 abbrev pub reopening : Slot → List BoundStatement
 reopening slot = (OPEN_SLOT.now, name_values slot) ∷ []
 
--- the older root is stored, and the key, whose root was this older one, gets a new root
+-- stores the older root, and sets a new root for the key if its current root is this older one
 abbrev pub rotating : Row → Row → List BoundStatement
 rotating put set = (PUT_OLDER_ROOT.now, put) ∷ (SET_ROOT.now, set) ∷ []
 
 abbrev pub replacing_root : List ℕ → List ℕ → OlderRoot → List BoundStatement
 replacing_root key root older = rotating (Text key ∷ older_root_values older) (Text key ∷ Blob root ∷ Blob older.root ∷ [])
 
--- the amount added to the total of the member who has this key
+-- the parameters for adding an amount to the points that a member with this key has spent
 abbrev pub used_values : List ℕ → ℤ → List ℕ → Row
 used_values member points key = Text member ∷ Int points ∷ Text key ∷ []
 
--- the amount added to that total for a booking of a slot
+-- the parameters for charging a member with this key for a booking of a slot
 abbrev pub charge_values : List ℕ → ℕ → List ℕ → Slot → Row
 charge_values member points key slot = Text member ∷ whole points ∷ Text key ∷ name_values slot
 
--- three statements, with the values of their parameters
+-- the three statements that insert a booking, with the values of their parameters
 abbrev pub booking_with : Row → Row → Row → List BoundStatement
 booking_with booking taken charge = (ADD_BOOKING.now, booking) ∷ (ADD_TAKEN.now, taken) ∷ (CHARGE.now, charge) ∷ []
 
 abbrev pub cancelling_with : Row → Row → Row → List BoundStatement
 cancelling_with booking used taken = (CANCEL_BOOKING.now, booking) ∷ (ADD_USED.now, used) ∷ (ADD_TAKEN.now, taken) ∷ []
 
--- a booking under a key of the member: its persons are added to its slot, and then the member is charged if the slot has the places
+-- inserts a booking under a key of the member, adds its persons to its slot, and then charges the member if the slot has enough places
 abbrev pub adding_booking : Booking → List ℕ → List BoundStatement
 adding_booking booking member =
     booking_with (booking_values booking) (name_values booking.slot ++ Int (pos (persons_taken booking)) ∷ [])
     (charge_values member (cost_of booking) booking.key booking.slot)
 
--- a booking of the member that is on record with these values is marked cancelled, and subtracted from the totals
+-- marks the member's booking with these values as cancelled, and subtracts it from the totals of the member and the slot
 abbrev pub cancelling : Booking → List ℕ → ℕ → List BoundStatement
 cancelling booking member refund =
     cancelling_with (booking_values booking ++ whole refund ∷ []) (used_values member (neg_ℤ (pos refund)) booking.key)

@@ -28,7 +28,7 @@ facility_values facility =
 abbrev pub key_values : Key → Row
 key_values key = Text key.name ∷ Text key.member ∷ Blob key.root ∷ flag key.revoked ∷ []
 
--- the columns that name a slot, and those of its use
+-- the columns that identify a slot; the next definitions have the columns of its use, and all columns
 abbrev pub name_values : Slot → Row
 name_values slot = Text slot.facility ∷ whole slot.day ∷ whole slot.hour ∷ []
 
@@ -38,7 +38,7 @@ use_values held = flag held.closed ∷ whole held.taken ∷ []
 abbrev pub slot_values : SlotRow → Row
 slot_values row = name_values row.slot ++ use_values row.held
 
--- the columns of an older root that are read; the next definition is its whole row
+-- the columns of an older root that a query returns; the next definition has all columns of its row
 abbrev pub older_root_values : OlderRoot → Row
 older_root_values older = Blob older.root ∷ whole older.until ∷ []
 
@@ -50,7 +50,7 @@ booking_values booking =
     Text booking.key ∷ whole booking.number ∷ Text booking.slot.facility ∷ whole booking.slot.day ∷ whole booking.slot.hour
     ∷ whole booking.guests ∷ whole booking.charge ∷ whole booking.left ∷ flag booking.cancelled ∷ whole booking.refund ∷ []
 
--- the row has these values, from an index on
+-- the row has these values, starting at this index
 abbrev pub HasFrom : ℕ → Row → Row → Type 0
 HasFrom at row [] = ⊤
 HasFrom at row (value ∷ values) = (column row at ≡ value) × HasFrom (at + 1) row values
@@ -70,20 +70,20 @@ abbrev pub integer_in : Value → Option ℤ
 integer_in (Int n) = Some n
 integer_in _ = None
 
--- a whole number, and 0 for any other value
+-- the whole number in a value; 0 if the value is of another type
 abbrev pub whole_in : Value → ℕ
 whole_in (Int (pos n)) = n
 whole_in _ = 0
 
--- the columns of a key's bookings that are read
+-- the columns that a query returns for the cost of a booking
 abbrev pub cost_values : Booking → Row
 cost_values booking = whole booking.charge ∷ whole booking.refund ∷ []
 
--- the cost of a row with charge and refund
+-- the cost of a row that consists of a charge and a refund
 abbrev pub cost_in : Row → ℕ
 cost_in row = whole_in (column row 0) - whole_in (column row 1)
 
--- the cost of a row with charge and refund; the charge is within its limit, and the refund is at most the charge
+-- the cost of a row that consists of a charge and a refund; the charge is within its limit, and the refund is at most the charge
 pub record IsCostIn (row : Row) (cost : ℕ) : Type 0 where
   pub charge : ℕ
   pub refund : ℕ

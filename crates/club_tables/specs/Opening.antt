@@ -14,27 +14,27 @@ use Rattle.club_core.specs.{Club.Club, Store.KeepsClub, declared.store.StoreFaul
 abbrev pub version_text : List ℕ
 version_text = VERSION.now
 
--- the statements that read a row by its key, over tables of version 1 and of version 2
+-- the statements that read a row by its key, for tables of version 1; the next definition is for version 2
 abbrev pub first_texts : List (List ℕ)
 first_texts = KEY.now ∷ MEMBER.now ∷ FACILITY.now ∷ SLOT.now ∷ BOOKING.now ∷ []
 
 abbrev pub texts_by_key : List (List ℕ)
 texts_by_key = KEY.now ∷ MEMBER.now ∷ FACILITY.now ∷ SLOT.now ∷ BOOKING.now ∷ OLDER_ROOT.now ∷ []
 
--- this text is a statement only if the bookings' index exists; it is prepared, and never run
+-- this text is a statement only if the bookings' index exists; an opening prepares the text, and never runs the statement
 abbrev pub index_text : List ℕ
 index_text = DROP_BOOKINGS_BY_KEY.now
 
--- the texts for version 2, and the index's text
+-- the texts for version 2, and the text that is a statement only if the index exists
 abbrev pub indexed_texts : List (List ℕ)
 indexed_texts = texts_by_key ++ index_text ∷ []
 
--- texts without parameters
+-- statements with these texts and no parameters
 abbrev pub batch : List (List ℕ) → List BoundStatement
 batch texts = map (λ (text : List ℕ). (text, [])) texts
 
--- the batch that creates the tables; the next definitions are the batch that migrates version 1 to version 2, and the one that creates the index of the
--- bookings
+-- The batch of statements that creates the tables. The next two definitions are the batch that migrates version 1 to version 2, and the batch that creates the
+-- index of the bookings.
 abbrev pub table_batch : List BoundStatement
 table_batch =
     batch (MAKE_DESK.now ∷ MAKE_MEMBERS.now ∷ MAKE_FACILITIES.now ∷ MAKE_KEYS.now ∷ MAKE_SLOTS.now ∷ MAKE_BOOKINGS.now
@@ -46,7 +46,7 @@ migration = batch (MAKE_OLD_ROOTS.now ∷ MAKE_BOOKINGS_BY_KEY.now ∷ SET_VERSI
 abbrev pub index_batch : List BoundStatement
 index_batch = batch (MAKE_BOOKINGS_BY_KEY.now ∷ [])
 
--- a batch that an opening may run: it creates the tables, migrates them, or creates the index
+-- a batch that an opening may run: it creates the tables, migrates tables of version 1, or creates the index
 abbrev pub IsOpeningBatch : List BoundStatement → Type 0
 IsOpeningBatch statements = (statements ≡ table_batch) ⊎ ((statements ≡ migration) ⊎ (statements ≡ index_batch))
 
@@ -55,11 +55,11 @@ pub record HasNoDesk (schema : Schema) : Type 0 where
   pub no_desk_name : is_used schema (codes "desk") ≡ false
   pub no_version_query : ¬ IsUnderstood schema VERSION.now
 
--- the text is a query that returns these rows
+-- the text is a query that returns these rows for this database
 abbrev pub YieldsRows : List ℕ → Database → List Row → Type 0
 YieldsRows sql db rows = (c : Compiled) × (understood db.schema sql ≡ Ok c) × Reads c.command db [] rows
 
--- the query for the version returned these rows; if a club was found, they hold the version of its tables
+-- the query for the version returned these rows; if the database represents a club, they hold the version of its tables
 pub record YieldsVersion {S : Type 0} (g : Ghosts S) (old new : Held S) (rows : List Row) : Type 0 where
   pub query : Asked g version_text [] old rows
   pub version_rows : YieldsRows version_text (state g old).now rows
@@ -67,35 +67,35 @@ pub record YieldsVersion {S : Type 0} (g : Ghosts S) (old new : Held S) (rows : 
       → (RepresentsVersion2 (state g new) club others × (rows ≡ version_values 2 ∷ []))
       ⊎ (RepresentsVersion1 (state g new) club others × (rows ≡ version_values 1 ∷ []))
 
--- each text is a statement over the tables
+-- each text is a statement over these tables
 abbrev pub Understands : {S : Type 0} → Ghosts S → List (List ℕ) → Held S → Type 0
 Understands g texts held = All (IsUnderstood (state g held).committed.schema) texts
 
--- tables of a version: one row holds the version, and each row can be read by its key
+-- tables of this version exist: one row holds the version, and each row can be read by its key
 pub record IsReady (version : ℕ) (texts : List (List ℕ)) (db : Database) : Type 0 where
   pub version_row : (row : Row) × YieldsRows VERSION.now db (row ∷ []) × HasValues row (version_values version)
   pub by_key : All (IsUnderstood db.schema) texts
 
--- tables of a version existed, and are unchanged
+-- tables of this version existed, and are unchanged
 pub record FoundReady (version : ℕ) (texts : List (List ℕ)) (old new : State) : Type 0 where
   pub ready : IsReady version texts new.committed
   pub same : new.committed ≡ old.committed
 
--- tables of a version existed, and this whole batch ran over them
+-- tables of this version existed, and all statements of this batch ran over them
 pub record Upgrade (version : ℕ) (texts : List (List ℕ)) (statements : List BoundStatement) {S : Type 0} (g : Ghosts S) (old new : Held S) : Type 0 where
   pub from : Held S
   pub found : FoundReady version texts (state g old) (state g from)
   pub same : (state g from).now ≡ (state g old).committed
   pub ran : Ran g 0 statements from (state g new).committed
 
--- each text was a statement over the tables, and this whole batch ran over them
+-- each text was a statement over the tables, and all statements of this batch ran over them
 abbrev pub HasRunOver : List (List ℕ) → List BoundStatement → {S : Type 0} → Ghosts S → Held S → Held S → Type 0
 HasRunOver texts statements {S} g old new =
     (from : Held S) × IsTrue (state g old).is_open × Understands g texts old
     × ((state g from).committed ≡ (state g old).committed)
     × ((state g from).now ≡ (state g old).committed) × Ran g 0 statements from (state g new).committed
 
--- tables of version 1 existed, and the whole migration ran over them
+-- tables of version 1 existed, and all statements of the migration ran over them
 abbrev pub Migrated : {S : Type 0} → Ghosts S → Held S → Held S → Type 0
 Migrated g old new = Upgrade 1 first_texts migration g old new
 
@@ -106,18 +106,18 @@ HasMigrated g old new = HasRunOver first_texts migration g old new
 abbrev pub AddsIndex : {S : Type 0} → Ghosts S → Held S → Held S → Type 0
 AddsIndex g old new = Upgrade 2 texts_by_key index_batch g old new
 
--- the index existed, and nothing was changed; or it was created after a read
+-- either the index existed and nothing was changed, or the index was created after a read
 abbrev pub HasOrGetsIndex : {S : Type 0} → Ghosts S → Held S → Held S → Type 0
 HasOrGetsIndex {S} g old new =
     (IsUnderstood (state g old).now.schema index_text × IsKept (state g old) (state g new))
     ⊎ ((from : Held S) × HasCleanDisk (state g from) × IsKept (state g old) (state g from) × Ran g 0 index_batch from (state g new).committed)
 
--- each text, including that of the index, was a statement, and nothing was changed; or each other text was a statement, and the index was created
+-- either each text, including that of the index, was a statement and nothing was changed; or the other texts were statements, and the index was created
 abbrev pub EnsuresIndex : {S : Type 0} → Ghosts S → Held S → Held S → Type 0
 EnsuresIndex g old new =
     (IsKept (state g old) (state g new) × Understands g indexed_texts new) ⊎ HasRunOver texts_by_key index_batch g old new
 
--- no version could be read, and the whole batch that creates the tables ran
+-- no version could be read, and all statements that create the tables ran
 pub record MadeAll {S : Type 0} (g : Ghosts S) (old new : Held S) : Type 0 where
   pub from : Held S
   pub same : (state g from).now ≡ (state g old).committed
@@ -135,14 +135,14 @@ abbrev pub OneOf : (List ℕ → Type 0) → List (List ℕ) → Type 0
 OneOf P [] = ⊥
 OneOf P (text ∷ texts) = P text ⊎ OneOf P texts
 
--- one of the texts wasn't a statement over these tables, or couldn't be prepared
+-- one of the texts wasn't a statement over these tables, or the database failed to prepare it
 pub record FailsToPrepareOne {S : Type 0} (g : Ghosts S) (texts : List (List ℕ)) (old new : Held S) (fault : StoreFault) : Type 0 where
   pub from : Held S
   pub after : IsAfterReadings g old from
   pub failure : OneOf (λ text. FailsToPrepare g text from new fault) texts
 
--- Why an opening fails. It runs out of memory while it reads the version or looks for the index. A batch that creates the tables, migrates them or creates the
--- index is refused. A row can't be read by its key, or the version is another one.
+-- The failures of an opening. Memory runs out while it reads the version or looks for the index. The database refuses a batch that creates the tables, migrates
+-- them, or creates the index. A row can't be read by its key, or the version is neither 1 nor 2.
 abbrev pub FailsToTake : {S : Type 0} → Ghosts S → Held S → Held S → StoreFault → Type 0
 FailsToTake g old new fault =
     ((fault ≡ Memory) × (FailsToAsk g (version_text, []) old new fault ⊎ FailsToPrepare g index_text old new fault))
@@ -150,21 +150,21 @@ FailsToTake g old new fault =
     ⊎ (OneOf (λ text. FailsToPrepare g text old new fault) texts_by_key
     ⊎ ((fault ≡ Storage) × (rows : List Row) × Asked g version_text [] old rows × (rows ≢ version_values 2 ∷ []) × (rows ≢ version_values 1 ∷ []))))
 
--- a fault of an opening
+-- a fault that an opening may return
 pub record IsOpeningFault {S : Type 0} (g : Ghosts S) (old new : Held S) (fault : StoreFault) : Type 0 where
   pub from : Held S
   pub after : IsAfterReadings g old from
   pub failure : FailsToTake g from new fault
 
--- ---- a step of an opening
+-- ---- steps of an opening
 
--- the property holds if the connection was idle and is open
+-- the relation holds if the connection was idle before and is open now
 abbrev pub WhenIdle : {S : Type 0} → Ghosts S → (Held S → Held S → Type 0) → Held S → Held S → Type 0
 WhenIdle g Done old new = IsTrue (state g new).is_open → IsIdle (state g old) → Done old new
 
--- A step over tables that represent a club by `Before`. If it succeeds, the tables represent the same club, with the index of the bookings, and `Done` relates
--- them to the tables before. If it fails, they represent the club as before, and the fault is one of `Fails`. A crash may leave the same states as before, or
--- one that a batch of an opening leaves.
+-- A step of an opening, over tables that represent a club by `Before`. After success, the tables represent the same club with the index of the bookings, and
+-- `Done` relates the old state to the new one. After a failure, they still represent the club by `Before`, and `Fails` holds for the fault. A crash may leave a
+-- state that was possible before the step, or a state that a batch of the opening leaves.
 pub record Opens {S : Type 0} (g : Ghosts S) (Before : Held S → Club → List Club → Type 0) (Done : Held S → Held S → Type 0)
     (Fails : Held S → Held S → StoreFault → Type 0) (old new : Held S) (result : Result (Unit {0}) StoreFault) : Type 0
   where
@@ -175,7 +175,7 @@ pub record Opens {S : Type 0} (g : Ghosts S) (Before : Held S → Club → List 
     pub fault : HasCleanDisk (state g new) → IfErr result (Fails old new)
     pub survives : Survives (state g old) (state g new) (MayCommit g 0 IsOpeningBatch old)
 
--- a step that runs a whole batch
+-- a step that runs all statements of a batch
 abbrev pub RunsBatch : {S : Type 0} → Ghosts S → (Held S → Club → List Club → Type 0) → List BoundStatement → Held S → Held S
     → Result (Unit {0}) StoreFault → Type 0
 RunsBatch g Before statements =

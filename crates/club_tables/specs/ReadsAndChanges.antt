@@ -26,8 +26,8 @@ version_2_in g held = RepresentsVersion2 (state g held)
 abbrev pub found_in : {S : Type 0} → Ghosts S → Held S → Club → List Club → Type 0
 found_in g held = IsFound (state g held)
 
--- A read-only call. Its result is true of the current club. The club, the possible crash states and an idle connection are unchanged. If the call fails, its
--- fault is that of a refused statement's error, or Storage if rows can't be decoded.
+-- A read-only call. Its result is correct for the current club. The club, the possible crash states and an idle connection are unchanged. The fault of a failed
+-- call is that of a refused statement's error, or Storage if the rows can't be decoded.
 pub record ReadsClub {S A : Type 0} (g : Ghosts S) (old new : Held S) (result : Result A StoreFault) (IsReturned : Club → A → Type 0) : Type 0 where
   pub returns : HasCleanDisk (state g new) → Returns (represents_in g) old result IsReturned
   pub kept : HasCleanDisk (state g new) → KeepsClub (represents_in g) old new
@@ -35,13 +35,13 @@ pub record ReadsClub {S A : Type 0} (g : Ghosts S) (old new : Held S) (result : 
   pub survives : Survives (state g old) (state g new) (λ _. ⊥)
   pub fault : HasCleanDisk (state g new) → IfErr result (IsReadFault g old new)
 
--- the statements were refused, or one of them inserted or updated fewer rows than it must
+-- the database refused the statements, or one of them inserted or updated fewer rows than it must
 pub record IsRunFault {S : Type 0} (g : Ghosts S) (fewest : ℕ) (statements : List BoundStatement) (old new : Held S) (fault : StoreFault) : Type 0 where
   pub from : Held S
   pub after : IsAfterReadings g old from
   pub failure : FailsToRun g fewest statements from new fault
 
--- the values of a change are within their limits, and a new key has no older root, which no statement writes
+-- the values of a change are within their limits; a new key has no older root, because inserting a key writes none
 abbrev pub InLimits : Change → Type 0
 InLimits (InsertMember member) = IsMember member
 InLimits (AddCredit name points) = points < 2 ^ 32
@@ -57,18 +57,18 @@ InLimits (MarkOpen slot) = IsSlot slot
 InLimits (InsertBooking booking member) = IsBooking booking
 InLimits (MarkCancelled booking member refund) = refund ≤ booking.charge
 
--- a fault of a change: one of its statements was refused, or inserted or updated no row, or its values are outside their limits
+-- the fault of a change: the database refused a statement, a statement inserted or updated no row, or a value is outside its limits
 abbrev pub IsChangeFault : {S : Type 0} → Ghosts S → Change → Held S → Held S → StoreFault → Type 0
 IsChangeFault g change old new fault = IsRunFault g 1 (statements_of change) old new fault ⊎ ((¬ InLimits change) × (fault ≡ Storage))
 
--- A change fits the club and is applied, or fails. If it fails, an idle connection is unchanged, but after a crash the effects of the change's statements may
--- be there if each inserted or updated a row.
+-- Either a change fits the club and is applied, or the call fails. A failed call leaves an idle connection unchanged. A crash may still leave the effects of
+-- the change's statements, if each of them inserted or updated a row.
 pub record ChangesClub {S : Type 0} (g : Ghosts S) (change : Change) (old new : Held S) (result : Result (Unit {0}) StoreFault) : Type 0 where
   pub was_clean : HasCleanDisk (state g new) → HasCleanDisk (state g old)
   pub effect : HasCleanDisk (state g new) → Changes (represents_in g) change old new result
   pub no_change : OnErr result (IsUntouched (state g old) (state g new))
   pub survives : Survives (state g old) (state g new) (MayCommit g 1 (AreStatementsOf change) old)
   pub fault : HasCleanDisk (state g new) → IfErr result (IsChangeFault g change old new)
-  -- if the change fits, each statement writes a row, so the change fails only because of an error
+  -- if the change fits, each statement writes a row, so only an error can make the change fail
   pub fault_if_fits : HasCleanDisk (state g new) → (club : Club) (others : List Club) → represents_in g old club others → FitsClub change club
       → IfErr result (IsRunFault g 0 (statements_of change) old new)

@@ -1,4 +1,4 @@
--- A day's bookings as rows (ours).
+-- The rows that show a day's bookings (ours).
 use Rattle.std.specs.{List.AllZip, Prelude.{◌≡◌, ℕ, List, map}}
 use Rattle.sqlite_value.specs.Order.{Row}
 use Rattle.club_rows.specs.{Rows.IsBooking, declared.booking.Booking.Booking}

@@ -7,7 +7,7 @@ use Rattle.club_core.specs.Club.{Club, IsSound, empty_club}
 use Rattle.club_tables.specs.Columns.{version_values, member_values, facility_values, key_values, slot_values, booking_values, older_values}
 use Rattle.club_tables.specs.{Schema.{no_schema, first_schema, unindexed_schema, club_schema}, Stored.{Rows, IsStoredAs}}
 
--- the trees of the tables
+-- the numbers of the tables' B-trees
 abbrev pub desk_tree : ℕ
 desk_tree = 0
 
@@ -33,12 +33,12 @@ olders_tree = 12
 abbrev pub IsRowOf : Row → Row → Type 0
 IsRowOf values row = (id : ℤ) × (row ≡ Int id ∷ values)
 
--- the rows are those of the list, in its order, with ascending rowids
+-- the rows are those of the list's elements, in the same order, with ascending rowids
 pub record Holds {X : Type 0} (values : X → Row) (rows : List Row) (xs : List X) : Type 0 where
   pub rising : IsTable rows
   pub same : AllZip (λ row x. IsRowOf (values x) row) rows xs
 
--- the trees of the tables of a version hold these rows and no others
+-- the trees of tables of this version hold these rows and no others
 pub record HoldsTrees (number : ℕ) (trees : Trees) (rows : Rows) : Type 0 where
   pub version : Holds version_values (trees desk_tree) (number ∷ [])
   pub members : Holds member_values (trees members_tree) rows.members
@@ -55,7 +55,7 @@ pub record HoldsRowsBy (tables : Schema) (number : ℕ) (trees : Trees) (db : Da
   -- the catalog lists this schema, and the rows obey it
   pub database : IsDatabase db
 
--- tables of version 2, with these indexes, hold these rows and no others
+-- tables of version 2, with the indexes of this schema, hold these rows and no others
 abbrev pub HoldsRowsWith : Schema → Database → Rows → Type 0
 HoldsRowsWith tables db = HoldsRowsBy tables 2 db.trees db
 
@@ -63,15 +63,15 @@ HoldsRowsWith tables db = HoldsRowsBy tables 2 db.trees db
 abbrev pub HoldsRows : Database → Rows → Type 0
 HoldsRows = HoldsRowsWith club_schema
 
--- the trees without rows for older roots
+-- the trees, without the rows of older roots
 abbrev pub without_olders : Trees → Trees
 without_olders trees tree = if tree == olders_tree then [] else trees tree
 
--- the tables of version 1 hold these rows and no others; they have no rows for older roots
+-- the tables of version 1 hold these rows and no others; version 1 has no rows for older roots
 abbrev pub HoldsRowsVersion1 : Database → Rows → Type 0
 HoldsRowsVersion1 db = HoldsRowsBy first_schema 1 (without_olders db.trees) db
 
--- tables of a form hold the rows of the club, which is sound, and no others
+-- tables of one form hold exactly the rows of the club, and the club is sound
 pub record HoldsClubBy (HoldThem : Database → Rows → Type 0) (db : Database) (club : Club) : Type 0 where
   pub rows : Rows
   pub holds_rows : HoldThem db rows
@@ -92,11 +92,11 @@ HoldsClubVersion1 = HoldsClubBy HoldsRowsVersion1
 abbrev pub IsBlank : Database → Club → Type 0
 IsBlank db club = (db.schema ≡ no_schema) × (club ≡ empty_club) × IsDatabase db
 
--- tables of version 2, with the index of the bookings or without it
+-- tables of version 2 hold the club, with or without the index of the bookings
 abbrev pub HoldsClubVersion2 : Database → Club → Type 0
 HoldsClubVersion2 db club = HoldsClub db club ⊎ HoldsClubUnindexed db club
 
--- tables of version 2, tables of version 1, or none
+-- tables of version 1 or 2 hold the club, or there are no tables and the club is empty
 abbrev pub HoldsClubAnyVersion : Database → Club → Type 0
 HoldsClubAnyVersion db club = HoldsClubVersion2 db club ⊎ (HoldsClubVersion1 db club ⊎ IsBlank db club)
 
@@ -105,18 +105,18 @@ abbrev pub IsLeftOf : Trees → List Club → Type 0
 IsLeftOf trees [] = ⊥
 IsLeftOf trees (club ∷ others) = ((db : Database) × (db.trees ≡ trees) × HoldsClubAnyVersion db club) ⊎ IsLeftOf trees others
 
--- An idle connection represents a club: the committed state holds it, no write is pending, and a crash recovers to it or to one of the others. Nothing is
--- claimed of a closed connection, or after the disk has returned bytes other than those written.
+-- An idle connection represents a club if the committed state holds it, no write is pending, and a crash leaves this club or one of the others. Nothing is
+-- claimed of a closed connection, or of a disk that has returned bytes other than those written.
 pub record RepresentsBy (IsHeld : Database → Club → Type 0) (state : State) (club : Club) (others : List Club) : Type 0 where
   pub held : HasCleanDisk state → IsTrue state.is_open → IsHeld state.committed club
   pub idle : HasCleanDisk state → IsTrue state.is_open → state.now ≡ state.committed
   pub left : HasCleanDisk state → (trees : Trees) → state.may_leave trees → IsLeftOf trees (club ∷ others)
 
--- the tables, of version 2 with the index of the bookings, represent the club
+-- tables of version 2, with the index of the bookings, represent the club
 abbrev pub Represents : State → Club → List Club → Type 0
 Represents = RepresentsBy HoldsClub
 
--- the tables of version 1 represent the club
+-- tables of version 1 represent the club
 abbrev pub RepresentsVersion1 : State → Club → List Club → Type 0
 RepresentsVersion1 = RepresentsBy HoldsClubVersion1
 
@@ -124,6 +124,6 @@ RepresentsVersion1 = RepresentsBy HoldsClubVersion1
 abbrev pub RepresentsVersion2 : State → Club → List Club → Type 0
 RepresentsVersion2 = RepresentsBy HoldsClubVersion2
 
--- the tables represent the club, or must still be indexed, migrated or created
+-- tables represent the club, but may lack the index or have version 1; or there are no tables yet and the club is empty
 abbrev pub IsFound : State → Club → List Club → Type 0
 IsFound = RepresentsBy HoldsClubAnyVersion

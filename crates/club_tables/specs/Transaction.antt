@@ -5,7 +5,7 @@ use Rattle.sqlite.specs.{Store.Ghosts, Tree.Trees, Values.bound, declared.error.
 use Rattle.club_core.specs.declared.store.StoreFault.{StoreFault, TheVariants.{Memory, Storage}}
 use Rattle.club_tables.specs.declared.transaction.Statement.{Statement}
 
--- out of memory maps to Memory, and every other error to Storage
+-- the out-of-memory error maps to Memory, and every other error maps to Storage
 abbrev pub fault_by : Error → StoreFault
 fault_by (SqliteFailure OutOfMemory) = Memory
 fault_by _ = Storage
@@ -31,7 +31,7 @@ IsKept old new = HasCleanDisk new → IsTrue new.is_open → IsTrue old.is_open 
 abbrev pub IsIdle : State → Type 0
 IsIdle state = IsTrue state.is_open → state.now ≡ state.committed
 
--- a connection that was idle is unchanged
+-- if the connection was idle, it is unchanged
 abbrev pub IsUntouched : State → State → Type 0
 IsUntouched old new = IsIdle old → IsKept old new
 
@@ -49,14 +49,14 @@ RanInTurn {S} g fewest (statement ∷ more) old new =
     (mid : Held S) × (count : ℕ) × Executes statement.0 statement.1 (state g old) (state g mid) (Ok count) × RanInTurn g fewest more mid new
     × (fewest ≤ count) × IsTrue (state g old).is_open
 
--- these statements ran in order, in their own transaction, each on at least this many rows, and left this database
+-- these statements ran in order, in their own transaction, and left this database; each inserted or updated at least this many rows
 pub record Ran {S : Type 0} (g : Ghosts S) (fewest : ℕ) (all : List BoundStatement) (old : Held S) (db : Database) : Type 0 where
   pub last : Held S
   pub was_open : 0 < length all → IsTrue (state g old).is_open
   pub turns : RanInTurn g fewest all (transaction_start old) last
   pub is : db ≡ (state g last).now
 
--- these trees may be there after a crash: statements of this kind, each on at least this many rows, left them over a connection in this state
+-- a crash may leave these trees: statements of this kind ran from this state and left them, and each inserted or updated at least this many rows
 pub record MayCommit {S : Type 0} (g : Ghosts S) (fewest : ℕ) (AreStatements : List BoundStatement → Type 0) (old : Held S) (trees : Trees) : Type 0 where
   pub from : Held S
   pub same : IsUntouched (state g old) (state g from)

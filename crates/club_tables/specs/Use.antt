@@ -1,11 +1,11 @@
--- The use of a slot, as rows (ours).
+-- The rows that show the use of a slot (ours).
 use Rattle.std.specs.Prelude.{◌≡◌, ◌⊎◌, List, [], ◌∷◌}
 use Rattle.sqlite_value.specs.Order.{Row}
 use Rattle.club_values.specs.declared.slot.Slot.{Slot}
 use Rattle.club_core.specs.{Basis.slot_use, Club.Club}
 use Rattle.club_tables.specs.{Columns.use_values, Stored.no_slot_use}
 
--- one row holds the slot's use, or there is no row and no use
+-- one row holds the slot's use; or there is no row, and the slot is open without persons
 abbrev pub ShowsUse : Club → Slot → List Row → Type 0
 ShowsUse club slot rows =
     (rows ≡ use_values (slot_use club slot) ∷ []) ⊎ ((rows ≡ []) × (slot_use club slot ≡ no_slot_use))

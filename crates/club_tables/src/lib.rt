@@ -1,5 +1,5 @@
-//! The tables of a club over a connection: their schema, their rows, and each statement that reads
-//! or writes them. Between calls, the connection isn't in a transaction.
+//! The tables of a club over a connection: their schema, their rows, and the statements that read
+//! and write the rows. Between calls, the connection isn't in a transaction.
 #![tactic(auto)]
 
 mod limits;

@@ -13,7 +13,7 @@ use club_rows::{
 };
 use club_values::Slot;
 
-/// The most places left after a booking, which has at least one person.
+/// The highest number of free places after a booking, which has at least one person.
 const MAX_LEFT: u32 = MAX_PLACES - 1;
 
 pub(crate) fn is_member(member: &Member) -> bool
@@ -36,7 +36,7 @@ pub(crate) fn is_facility(facility: &Facility) -> bool
         && u32::from(facility.shuts) <= LAST_HOUR
 }
 
-/// Returns whether the numbers are within the limits of a facility.
+/// Returns whether each number is within its limits for a facility.
 pub(crate) fn are_numbers(places: u8, price: u16, opens: u8, shuts: u8) -> bool
     ensures { result ≡ are_limits places price opens shuts }
 {
@@ -47,7 +47,7 @@ pub(crate) fn are_numbers(places: u8, price: u16, opens: u8, shuts: u8) -> bool
         && u32::from(shuts) <= LAST_HOUR
 }
 
-/// The types of a key's values keep them within their limits.
+/// A key's values are within their limits, because their types allow no others.
 pub(crate) fn key_within(key: &Key)
     ensures { IsKey key.now }
 {
@@ -60,7 +60,7 @@ pub(crate) fn key_within(key: &Key)
     }
 }
 
-/// The types of a slot's values keep them within their limits.
+/// A slot's values are within their limits, because their types allow no others.
 pub(crate) fn slot_within(slot: &Slot)
     ensures { IsSlot slot.now }
 {
@@ -69,7 +69,7 @@ pub(crate) fn slot_within(slot: &Slot)
     let _hour = slot.hour.number();
 }
 
-/// The types of a rotation's new root and moment keep them within their limits.
+/// A rotation's new root and moment are within their limits, because their types allow no others.
 pub(crate) fn rotation_within(rotation: &Rotation)
     ensures root { IsRoot rotation.now.root }
     ensures until { IsMoment rotation.now.older.until }

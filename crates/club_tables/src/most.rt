@@ -1,4 +1,4 @@
-//! Finds the most persons in rows, or nothing if a number is outside its limits.
+//! Finds the highest number of persons in rows. Returns `None` if a number is outside its limits.
 
 use crate::row::{FromRows, number_within};
 use club_rows::MAX_PLACES;

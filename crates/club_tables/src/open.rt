@@ -21,7 +21,7 @@ use sqlite::{Alter, Row};
 /// The current version of the tables.
 const VERSION: u8 = 2;
 
-/// The version without older roots.
+/// The first version, which has no table of older roots.
 const FIRST_VERSION: u8 = 1;
 
 /// Makes statements without parameters from these texts.
@@ -45,7 +45,7 @@ const TABLE_STATEMENTS: [Statement<'static>; 10] = statements![
     texts::ADD_VERSION,
 ];
 
-/// Returns whether the rows hold this version, and nothing else.
+/// Returns whether there is exactly one row, which holds this version.
 fn is_version(rows: &[Row], version: u8) -> bool
     ensures one { rows.now ≡ version_values version ∷ [] → IsTrue result }
     ensures only { IsTrue result → (row : _) × (rows.now ≡ row ∷ []) × HasValues row
@@ -58,8 +58,8 @@ fn is_version(rows: &[Row], version: u8) -> bool
 }
 
 impl<S: Alter> Tables<S> {
-    /// Reads the version of the tables. If that succeeds, tables of this version represent the
-    /// club.
+    /// Returns the rows that hold the version of the tables. If the call succeeds, the club is
+    /// represented by tables of that version.
     fn version(&mut self) -> Result<Vec<Row>, StoreFault>
         ensures ok { HasCleanDisk (state S.Store self.new) → IfOk result
             (λ rows. YieldsVersion S.Store self.old self.new rows.items) }
@@ -81,7 +81,7 @@ impl<S: Alter> Tables<S> {
         self.run(&TABLE_STATEMENTS)
     }
 
-    /// Prepares each text, and fails unless all of them are statements over the tables. Changes
+    /// Prepares each text, and fails unless every text is a statement over the tables. Changes
     /// nothing.
     fn prepare_all(&mut self, texts: &[&str]) -> Result<(), StoreFault>
         ensures kept { IsUntouched (state S.Store self.old) (state S.Store self.new) }
@@ -101,7 +101,7 @@ impl<S: Alter> Tables<S> {
         Ok(())
     }
 
-    /// Turns tables of version 1 into version 2, in one transaction: adds an empty table of older
+    /// Migrates tables of version 1 to version 2, in one transaction. Adds an empty table of older
     /// roots, and the index of the bookings.
     fn add_old_roots(&mut self) -> Result<(), StoreFault>
         ensures opens { RunsBatch S.Store (version_1_in S.Store) migration
@@ -116,8 +116,8 @@ impl<S: Alter> Tables<S> {
         ])
     }
 
-    /// Migrates tables of version 1, after checking that each of their rows can be read by its key.
-    /// If it fails, the tables are unchanged. After a crash they have version 1 or version 2.
+    /// Migrates tables of version 1, after checking that each row can be read by its key. A failed
+    /// call changes nothing. After a crash, the tables have version 1 or version 2.
     fn migrate(&mut self) -> Result<(), StoreFault>
         ensures opens { Opens S.Store (version_1_in S.Store)
             (λ from to. IsIdle (state S.Store from) → HasMigrated S.Store from to)
@@ -142,7 +142,7 @@ impl<S: Alter> Tables<S> {
         self.run(&statements![texts::MAKE_BOOKINGS_BY_KEY])
     }
 
-    /// Finds the index of the bookings, or creates it if it is missing.
+    /// Creates the index of the bookings if it is missing.
     fn ensure_index(&mut self) -> Result<(), StoreFault>
         ensures opens { Opens S.Store (version_2_in S.Store) (HasOrGetsIndex S.Store)
             (IsOpeningFault S.Store) self.old self.new result }
@@ -156,9 +156,9 @@ impl<S: Alter> Tables<S> {
         }
     }
 
-    /// Accepts tables of version 2, after checking that each of their rows can be read by its key,
-    /// and adds the index of the bookings if it is missing. If it fails, the tables are unchanged.
-    /// After a crash they are unchanged or have the index.
+    /// Accepts tables of version 2, after checking that each row can be read by its key. Adds the
+    /// index of the bookings if it is missing. A failed call changes nothing. After a crash, the
+    /// tables are unchanged or have the index.
     fn complete(&mut self) -> Result<(), StoreFault>
         ensures opens { Opens S.Store (version_2_in S.Store)
             (WhenIdle S.Store (EnsuresIndex S.Store)) (IsOpeningFault S.Store)
@@ -172,8 +172,8 @@ impl<S: Alter> Tables<S> {
         }
     }
 
-    /// Finds the tables. Migrates those of version 1, creates the index of the bookings if it is
-    /// missing, and creates all tables if the version can't be read.
+    /// Opens the tables. Migrates tables of version 1, and creates the index of the bookings if it
+    /// is missing. Creates all tables if the version can't be read.
     pub fn open(&mut self) -> Result<(), StoreFault>
         ensures opens { Opens S.Store (found_in S.Store) (WhenIdle S.Store (AcceptsTables S.Store))
             (IsOpeningFault S.Store) self.old self.new result }

@@ -1,4 +1,4 @@
-//! Builds the parameters of the statements that write.
+//! Builds the parameters of the statements.
 
 ghost use Rattle.std.specs.Prelude.{◌≡◌, ◌/◌, [], ◌∷◌, ◌++◌, pos, neg_ℤ};
 ghost use Rattle.sqlite.specs.Values.{bound};
@@ -16,7 +16,7 @@ use club_rows::{Booking, Facility, Key, Member, OlderRoot, Root};
 use club_values::{Moment, Name, Slot};
 use sqlite::types::ValueRef;
 
-/// Returns a truth value as 0 or 1.
+/// Returns 1 for true and 0 for false.
 fn bool_as_number(value: bool) -> i64
     ensures { result ≡ pos (truth value) }
 {
@@ -49,7 +49,7 @@ pub(crate) fn of_facility(facility: &Facility) -> [ValueRef<'_>; 6]
     ]
 }
 
-/// Returns a facility's name and its new numbers.
+/// Returns a facility's name, and its new places, price and hours.
 pub(crate) fn of_numbers(
     facility: &Name,
     places: u8,
@@ -80,7 +80,7 @@ pub(crate) fn of_key(key: &Key) -> [ValueRef<'_>; 4]
     ]
 }
 
-/// A new root for a key, and its former root with the moment until which that root stays good.
+/// A key's new root, and its former root with the moment until which the former root is valid.
 #[derive(Clone, Copy)]
 pub struct Rotation {
     pub key: Name,
@@ -88,7 +88,7 @@ pub struct Rotation {
     pub older: OlderRoot,
 }
 
-/// Returns a key's name, its older root, and until when that is good.
+/// Returns a key's name, its older root, and the moment until which the older root is valid.
 pub(crate) fn of_older_root(rotation: &Rotation) -> [ValueRef<'_>; 3]
     ensures { bound result ≡ TextValue rotation.now.key ∷ older_root_values rotation.now.older }
 {
@@ -129,7 +129,7 @@ pub(crate) fn of_booking(booking: &Booking) -> [ValueRef<'_>; 10]
     ]
 }
 
-/// Returns a member's name, and points to be added to its credit or taken off it.
+/// Returns a member's name, and the points to add to its credit or to subtract from it.
 pub(crate) fn of_credit(member: &Name, points: u32) -> [ValueRef<'_>; 2]
     ensures { bound result ≡ TextValue member.now ∷ whole points ∷ [] }
 {
@@ -188,8 +188,8 @@ pub(crate) fn of_charge<'a>(member: &'a Name, booking: &'a Booking) -> [ValueRef
     ]
 }
 
-/// Returns a member's name, a refund, and the booking's key. The refund is subtracted from what the
-/// member's bookings have cost.
+/// Returns a member's name, a negated refund, and the booking's key. Adding the negated refund
+/// lowers the points that the member has spent.
 pub(crate) fn of_return<'a>(
     member: &'a Name,
     booking: &'a Booking,
@@ -205,7 +205,7 @@ pub(crate) fn of_return<'a>(
     ]
 }
 
-/// Returns a slot, and the persons to add to it.
+/// Returns a slot's columns, and the number of persons to add to the slot.
 fn of_persons(slot: &Slot, persons: i64) -> [ValueRef<'_>; 4]
     ensures { bound result ≡ name_values slot.now ++ IntValue persons ∷ [] }
 {
@@ -217,7 +217,7 @@ fn of_persons(slot: &Slot, persons: i64) -> [ValueRef<'_>; 4]
     ]
 }
 
-/// Returns a booking's slot, and its persons, who are 0 if it is cancelled.
+/// Returns a booking's slot, and its number of persons, which is 0 if the booking is cancelled.
 pub(crate) fn of_places(booking: &Booking) -> [ValueRef<'_>; 4]
     ensures { bound result ≡ name_values booking.now.slot ++ IntValue
         (pos (persons_taken booking.now)) ∷ [] }
@@ -230,7 +230,7 @@ pub(crate) fn of_places(booking: &Booking) -> [ValueRef<'_>; 4]
     of_persons(&booking.slot, i64::from(persons))
 }
 
-/// Returns a booking's slot, and its persons, to be subtracted.
+/// Returns a booking's slot, and the negated number of its persons.
 pub(crate) fn of_freed(booking: &Booking) -> [ValueRef<'_>; 4]
     ensures { bound result ≡ name_values booking.now.slot ++ IntValue
         (neg_ℤ (pos (persons_of booking.now))) ∷ [] }
@@ -239,7 +239,7 @@ pub(crate) fn of_freed(booking: &Booking) -> [ValueRef<'_>; 4]
     of_persons(&booking.slot, -persons)
 }
 
-/// Returns the columns of a booking as it is on record, and its refund.
+/// Returns the columns of a booking before its cancellation, and its refund.
 pub(crate) fn of_refund(booking: &Booking, refund: u32) -> [ValueRef<'_>; 11]
     ensures { bound result ≡ booking_values booking.now ++ whole refund ∷ [] }
 {

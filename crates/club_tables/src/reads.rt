@@ -1,5 +1,5 @@
-//! Reads the rows of the club. These calls change nothing. A row outside its limits is a fault of
-//! storage.
+//! Reads the rows of the club. These calls change nothing. They fail with `Storage` if a row's
+//! value is outside its limits.
 
 ghost use Rattle.std.specs.Prelude.{◌≡◌, ◌↔◌, List, All, IsTrue, IfOk, IfErr, IfSome, option_map};
 ghost use Rattle.sqlite_value.specs.Order.{Row as Values};
@@ -30,7 +30,7 @@ use sqlite::types::ValueRef;
 use sqlite::{Alter, params};
 use std::alloc::Global;
 
-/// Returns whether a booking that was found has this key and number.
+/// Returns whether the booking has this key and number; `true` also if no booking was found.
 fn is_named(found: &Option<Booking>, key: &Name, number: BookingNumber) -> bool
     ensures { IsTrue result ↔ IfSome found.now
         (λ booking. (booking.key ≡ key.now) × (booking.number ≡ number)) }
@@ -60,7 +60,7 @@ impl<S: Alter> Tables<S> {
         }
     }
 
-    /// Returns the row of the key of this name; `None` if there is none.
+    /// Returns the row of the key with this name; `None` if no key has this name.
     pub fn key(&mut self, name: &Name) -> Result<Option<KeyRow>, StoreFault>
         ensures reads { ReadsClub S.Store self.old self.new result
             (λ club key. key ≡ option_map row_of_key (key_named name.now club)) }
@@ -71,7 +71,7 @@ impl<S: Alter> Tables<S> {
         self.answer(texts::KEY, &[ValueRef::Text(name.as_bytes())])
     }
 
-    /// Returns the older root of the key of this name; `None` if it was never rotated.
+    /// Returns the older root of the key with this name; `None` if the key was never rotated.
     pub fn older_root(&mut self, key: &Name) -> Result<Option<OlderRoot>, StoreFault>
         ensures reads { ReadsClub S.Store self.old self.new result
             (λ club older. older ≡ older_root_of key.now club) }
@@ -83,8 +83,8 @@ impl<S: Alter> Tables<S> {
         self.answer(texts::OLDER_ROOT, &[ValueRef::Text(key.as_bytes())])
     }
 
-    /// Returns the row of the member of this name, with the points that the member's bookings have
-    /// cost; `None` if there is none.
+    /// Returns the row of the member with this name, and the points that the member has spent on
+    /// bookings. Returns `None` if no member has this name.
     pub fn member(&mut self, name: &Name) -> Result<Option<MemberRow>, StoreFault>
         ensures reads { ReadsClub S.Store self.old self.new result
             (λ club row. row ≡ option_map (member_row club) (member_named name.now club)) }
@@ -95,7 +95,7 @@ impl<S: Alter> Tables<S> {
         self.answer(texts::MEMBER, &[ValueRef::Text(name.as_bytes())])
     }
 
-    /// Returns the facility of this name; `None` if there is none.
+    /// Returns the facility with this name; `None` if no facility has this name.
     pub fn facility(&mut self, name: &Name) -> Result<Option<Facility>, StoreFault>
         ensures reads { ReadsClub S.Store self.old self.new result
             (λ club facility. facility ≡ facility_named name.now club) }
@@ -106,7 +106,7 @@ impl<S: Alter> Tables<S> {
         self.answer(texts::FACILITY, &[ValueRef::Text(name.as_bytes())])
     }
 
-    /// Returns the use of a slot: the persons who booked it, and whether it is closed.
+    /// Returns the use of a slot: the number of persons who booked it, and whether it is closed.
     pub fn slot(&mut self, slot: &Slot) -> Result<SlotUse, StoreFault>
         ensures reads { ReadsClub S.Store self.old self.new result
             (λ club found. found ≡ slot_use club slot.now) }
@@ -116,8 +116,8 @@ impl<S: Alter> Tables<S> {
         self.answer(texts::SLOT, &of_slot(slot))
     }
 
-    /// Returns the most persons in any slot of the facility of this name, on any day; 0 if nobody
-    /// booked one.
+    /// Returns the highest number of persons in any slot of the facility with this name, on any
+    /// day. Returns 0 if nobody booked such a slot.
     pub fn most_taken(&mut self, facility: &Name) -> Result<u32, StoreFault>
         ensures reads { ReadsClub S.Store self.old self.new result
             (λ club most. most ≡ most_taken_in facility.now club.bookings) }
@@ -127,8 +127,8 @@ impl<S: Alter> Tables<S> {
         self.answer(texts::TAKEN, &[ValueRef::Text(facility.as_bytes())])
     }
 
-    /// Returns the booking of a key under a number; `None` if there is none. Returns `Storage` also
-    /// if SQLite returns another booking's row.
+    /// Returns a key's booking with this number; `None` if the key has no such booking. Fails with
+    /// `Storage` also if SQLite returns another booking's row.
     pub fn booking(
         &mut self,
         key: &Name,
@@ -176,7 +176,7 @@ impl<S: Alter> Tables<S> {
         bookings_in(alloc, &rows)
     }
 
-    /// Returns the points that a key has spent: what its bookings cost.
+    /// Returns the points that a key has spent: the total cost of its bookings.
     pub fn spent(&mut self, key: &Name) -> Result<u64, StoreFault>
         ensures reads { ReadsClub S.Store self.old self.new result
             (λ club spent. spent ≡ spent_under key.now club.bookings) }
@@ -186,7 +186,7 @@ impl<S: Alter> Tables<S> {
         self.answer(texts::COSTS_UNDER_KEY, &[ValueRef::Text(key.as_bytes())])
     }
 
-    /// Returns how many of a member's bookings aren't cancelled and begin later than the moment.
+    /// Returns the number of a member's bookings that aren't cancelled and begin after the moment.
     pub fn open_count(&mut self, member: &Name, moment: Moment) -> Result<u64, StoreFault>
         ensures reads { ReadsClub S.Store self.old self.new result
             (λ club count. count ≡ count_to_come moment (bookings_of member.now club)) }

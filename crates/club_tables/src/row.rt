@@ -1,5 +1,5 @@
-//! Decodes rows of the tables into rows of the club. Returns `None` if a value has another type or
-//! is outside its limits.
+//! Decodes rows of the tables into rows of the club. Decoding returns `None` if a value has another
+//! type or is outside its limits.
 
 ghost use Rattle.std.specs.Prelude.{◌≡◌, ◌≤◌, [], ◌∷◌, List, Err, None, Some, IfOk, option_map};
 ghost use Rattle.sqlite_value.specs.Order.{column};
@@ -19,11 +19,11 @@ use sqlite::Row;
 use sqlite::types::ValueRef;
 use std::alloc::Global;
 
-/// A member, with the points that the member's bookings have cost.
+/// A member, with the points that the member has spent on bookings.
 #[derive(Clone, Copy)]
 pub struct MemberRow {
     pub member: Member,
-    /// Charges less refunds, 0 to 999,999,999 points, which is at most what was credited.
+    /// Charges minus refunds: 0 to 999,999,999 points, and at most the credited points.
     pub used: u32,
 }
 
@@ -54,7 +54,7 @@ pub(crate) fn integer_at(row: &Row, at: usize) -> Option<i64>
     }
 }
 
-/// Returns the whole number in a column, from 0 to a limit.
+/// Returns the whole number in a column, if it is from 0 to `high`.
 pub(crate) fn number_within(row: &Row, at: usize, high: u32) -> Option<u32>
     ensures { Reads (λ n. (n ≤ high) × (column row.now at ≡ whole n)) result }
 {
@@ -62,8 +62,8 @@ pub(crate) fn number_within(row: &Row, at: usize, high: u32) -> Option<u32>
     if number <= high { Some(number) } else { None }
 }
 
-/// Decodes the use of a slot from the columns `closed` and `taken`. There are at most as many
-/// persons as a facility may have places.
+/// Decodes the use of a slot from the columns `closed` and `taken`. The number of persons is at
+/// most the highest number of places that a facility may have.
 fn slot_use_in(row: &Row) -> Option<SlotUse>
     ensures { Reads (IsUseIn row.now) result }
 {
@@ -75,7 +75,7 @@ fn slot_use_in(row: &Row) -> Option<SlotUse>
     Some(SlotUse { taken, closed })
 }
 
-/// A value that is decoded from a row of the tables.
+/// A value that can be decoded from a row of the tables.
 pub(crate) trait FromRow: Sized {
     ghost use Rattle.sqlite_value.specs.Order.{Row as Values};
     ghost use Rattle.club_values.specs.Reading.{Reads};
@@ -83,12 +83,12 @@ pub(crate) trait FromRow: Sized {
     // the row holds this value
     ghost yields: { Values → Self → Type 0 };
 
-    /// Decodes the row; returns `None` if a value has another type or is outside its limits.
+    /// Decodes the row. Returns `None` if a value has another type or is outside its limits.
     fn from_row(row: &Row) -> Option<Self>
         ensures { Reads (yields row.now) result };
 }
 
-/// A value that is decoded from all rows of a query.
+/// A value that can be decoded from all rows of a query.
 pub(crate) trait FromRows: Sized {
     ghost use Rattle.std.specs.Prelude.{List};
     ghost use Rattle.sqlite_value.specs.Order.{Row as Values};
@@ -97,7 +97,7 @@ pub(crate) trait FromRows: Sized {
     // the rows hold this value
     ghost holds: { List Values → Self → Type 0 };
 
-    /// Decodes the rows; returns `None` if they hold no such value.
+    /// Decodes the rows. Returns `None` if they can't be decoded.
     fn from_rows(rows: &[Row]) -> Option<Self>
         ensures { Reads (holds rows.now) result };
 }
@@ -107,7 +107,7 @@ impl<T: FromRow> FromRows for Option<T> {
 
     ghost holds = { IsFirst T.yields };
 
-    /// Returns the value of the first row; `None` if there is no row.
+    /// Decodes the first row. The decoded value is `None` if there is no row.
     fn from_rows(rows: &[Row]) -> Option<Option<T>> {
         match rows.first() {
             None => Some(None),
@@ -124,7 +124,7 @@ impl FromRows for SlotUse {
 
     ghost holds = { IsUse };
 
-    /// Returns the use of a slot. If there is no row, nothing is used.
+    /// Returns the use of a slot. Without a row, the slot is open and has no persons.
     fn from_rows(rows: &[Row]) -> Option<SlotUse> {
         match rows {
             [] => Some(SlotUse {
@@ -187,7 +187,6 @@ impl FromRow for Facility {
 
     ghost yields = { IsFacilityIn };
 
-    /// Returns a facility's row.
     fn from_row(row: &Row) -> Option<Facility> {
         let columns = FacilityColumns {
             name: text_at(row, 0)?,
@@ -206,7 +205,6 @@ impl FromRow for Booking {
 
     ghost yields = { IsBookingIn };
 
-    /// Returns a booking's row.
     fn from_row(row: &Row) -> Option<Booking> {
         let columns = BookingColumns {
             key: text_at(row, 0)?,
@@ -224,7 +222,7 @@ impl FromRow for Booking {
     }
 }
 
-/// Decodes the bookings of rows, in order. A row outside its limits is a fault of storage.
+/// Decodes each row into a booking, in order. Fails with `Storage` if a row is outside its limits.
 pub(crate) fn bookings_in(alloc: Global, rows: &[Row]) -> Result<Vec<Booking>, StoreFault>
     ensures are { IfOk result (λ bookings. AreBookings rows.now bookings.items) }
     ensures storage { result ≡ Err StoreFault.Storage → (bookings : List BookingRow) → ¬

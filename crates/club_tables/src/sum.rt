@@ -1,4 +1,4 @@
-//! Sums the costs of rows. There is no sum if a number is outside its limits.
+//! Adds up the costs in rows. Returns `None` if a number is outside its limits.
 
 ghost use Rattle.club_values.specs.Reading.{Reads};
 ghost use Rattle.club_tables.specs.Columns.{IsCostIn};
@@ -7,8 +7,8 @@ use crate::row::{FromRows, number_within};
 use club_rows::MAX_CHARGE;
 use sqlite::Row;
 
-/// Returns the charge of a row less its refund. The charge must be within its limit, and the refund
-/// at most the charge.
+/// Returns a row's charge minus its refund. Requires a charge within its limit, and a refund of at
+/// most the charge.
 fn cost_of(row: &Row) -> Option<u32>
     ensures { Reads (IsCostIn row.now) result }
 {
@@ -22,7 +22,7 @@ impl FromRows for u64 {
 
     ghost holds = { AreCosts };
 
-    /// Returns the total cost of rows with charge and refund.
+    /// Returns the total cost of rows that consist of a charge and a refund.
     fn from_rows(rows: &[Row]) -> Option<u64> {
         let mut sum = 0u64;
         for row in rows {

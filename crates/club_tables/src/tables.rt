@@ -1,5 +1,5 @@
-//! The tables over a connection. Runs a query, prepares a statement, and runs statements that write
-//! in one transaction.
+//! The tables over a connection. They run a query, prepare a statement, or run statements that
+//! write in one transaction.
 
 ghost use Rattle.std.specs.Prelude.{◌≡◌, false, map, IfOk, IfErr, OnOk};
 ghost use Rattle.sqlite.specs.{Held.state, State.{HasCleanDisk, Survives}, Values.bound};
@@ -13,7 +13,7 @@ use sqlite::{Alter, Connection, Row};
 use std::marker::Model;
 
 /// The tables of a club over a connection. Between calls, the connection isn't in a transaction.
-/// Contracts see the tables as the connection.
+/// Contracts describe the tables by their connection.
 #[derive(Drop)]
 pub struct Tables<S: Alter> {
     connection: Connection<S>,
@@ -53,7 +53,7 @@ impl<S: Alter> Tables<S> {
     ///
     /// # Errors
     ///
-    /// Fails if the database refused the query; `fault_of` maps its error.
+    /// Fails if the database refuses the query; `fault_of` maps the database's error.
     pub fn ask(&mut self, sql: &str, params: &[ValueRef<'_>]) -> Result<Vec<Row>, StoreFault>
         ensures asked { IfOk result (λ rows. HasCleanDisk (state S.Store self.new) →
             Asked S.Store sql.now (bound params.now) self.old rows.items) }
@@ -75,7 +75,7 @@ impl<S: Alter> Tables<S> {
     ///
     /// # Errors
     ///
-    /// Fails if the text isn't a statement or the database refused it; `fault_of` maps the error.
+    /// Fails if the text isn't a statement or the database refuses it; `fault_of` maps the error.
     pub fn prepare(&mut self, sql: &str) -> Result<(), StoreFault>
         ensures understood { HasCleanDisk (state S.Store self.new) → OnOk result
             (IsUnderstood (state S.Store self.old).now.schema sql.now) }
@@ -97,8 +97,8 @@ impl<S: Alter> Tables<S> {
     ///
     /// # Errors
     ///
-    /// Fails if the database refused one of them or the commit; `fault_of` maps the error. The
-    /// committed state is unchanged, but after a crash the effects of all statements may be there.
+    /// Fails if the database refuses a statement or the commit; `fault_of` maps the error. The
+    /// committed state is unchanged, but a crash may still leave the effects of all statements.
     pub fn run(&mut self, statements: &[Statement<'_>]) -> Result<(), StoreFault>
         ensures commits { Commits S.Store 0 (map bound_statement statements.now)
             self.old self.new result }
@@ -106,11 +106,11 @@ impl<S: Alter> Tables<S> {
         self.run_on_rows(statements, 0)
     }
 
-    /// Runs statements as `run` does. Each of them must insert or update a row.
+    /// Runs statements as `run` does. Each statement must insert or update a row.
     ///
     /// # Errors
     ///
-    /// Fails with `Storage` if a statement inserted or updated no row, and otherwise as `run` does.
+    /// Fails with `Storage` if a statement inserts or updates no row. Also fails as `run` does.
     pub fn write(&mut self, statements: &[Statement<'_>]) -> Result<(), StoreFault>
         ensures commits { Commits S.Store 1 (map bound_statement statements.now)
             self.old self.new result }
@@ -118,7 +118,7 @@ impl<S: Alter> Tables<S> {
         self.run_on_rows(statements, 1)
     }
 
-    /// Runs statements as `run` does. Each of them must insert or update at least `fewest` rows.
+    /// Runs statements as `run` does. Each statement must insert or update at least `fewest` rows.
     fn run_on_rows(&mut self, statements: &[Statement<'_>], fewest: usize) -> Result<(), StoreFault>
         ensures commits { Commits S.Store fewest (map bound_statement statements.now)
             self.old self.new result }

@@ -1,6 +1,6 @@
-//! The SQL of the tables and of the statements.
+//! The SQL texts that create the tables, and the SQL texts that read and write their rows.
 
-/// The version of the tables, in one row.
+/// Creates the table whose only row has the version of the tables.
 pub(crate) const MAKE_DESK: &str = "CREATE TABLE desk (version INTEGER NOT NULL) STRICT";
 
 pub(crate) const MAKE_MEMBERS: &str = "\
@@ -54,7 +54,7 @@ pub(crate) const MAKE_BOOKINGS: &str = "\
         PRIMARY KEY (pass_key, number)\
     ) STRICT";
 
-/// The root that a key had before its last rotation.
+/// Creates the table of older roots. An older root is the one before the key's last rotation.
 pub(crate) const MAKE_OLD_ROOTS: &str = "\
     CREATE TABLE old_roots (\
         pass_key TEXT NOT NULL PRIMARY KEY REFERENCES keys (name), \
@@ -62,21 +62,21 @@ pub(crate) const MAKE_OLD_ROOTS: &str = "\
         until INTEGER NOT NULL CHECK (until BETWEEN 15778080 AND 68374079)\
     ) STRICT";
 
-/// Finds the keys of a member without a scan over all keys.
+/// Creates an index that finds a member's keys without a scan over all keys.
 pub(crate) const MAKE_KEYS_BY_MEMBER: &str = "CREATE INDEX keys_by_member ON keys (member)";
 
-/// The sums over a key's bookings read this index alone, and skip bookings that are cancelled or
-/// begun.
+/// Creates an index on bookings. Sums over a key's bookings read only this index, and skip bookings
+/// that are cancelled or have begun.
 pub(crate) const MAKE_BOOKINGS_BY_KEY: &str = "\
     CREATE INDEX bookings_by_key \
     ON bookings (pass_key, cancelled, day, hour, number, charge, refund)";
 
-/// This text is a statement only if the index exists. It is prepared to test that, and never run.
+/// SQLite prepares this text only if the index exists. An opening never runs the statement.
 pub(crate) const DROP_BOOKINGS_BY_KEY: &str = "DROP INDEX bookings_by_key";
 
 pub(crate) const ADD_VERSION: &str = "INSERT INTO desk (version) VALUES (2)";
 
-/// Turns version 1 into version 2, after the table of older roots was created.
+/// Sets version 2 in tables of version 1, after the table of older roots was created.
 pub(crate) const SET_VERSION: &str = "UPDATE desk SET version = 2";
 
 pub(crate) const VERSION: &str = "SELECT version FROM desk";
@@ -97,7 +97,7 @@ pub(crate) const SLOT: &str = "\
     FROM slots \
     WHERE facility = ?1 AND day = ?2 AND hour = ?3";
 
-/// Lists the persons of each slot of a facility that was booked or closed.
+/// Returns the number of persons in each slot that has a row, for one facility.
 pub(crate) const TAKEN: &str = "SELECT taken FROM slots WHERE facility = ?1";
 
 pub(crate) const BOOKING: &str = "\
@@ -109,24 +109,24 @@ pub(crate) const ADD_MEMBER: &str = "\
     INSERT INTO members (name, credited, quota, used) \
     VALUES (?1, ?2, ?3, 0)";
 
-/// Adds points to a member's credit, up to the maximum.
+/// Adds points to a member's credit, unless the credit would exceed the maximum.
 pub(crate) const ADD_CREDIT: &str = "\
     UPDATE members \
     SET credited = credited + ?2 \
     WHERE name = ?1 AND credited + ?2 <= 999999999";
 
-/// Takes points off a member's credit, if the member's bookings leave that many.
+/// Subtracts points from a member's credit, if the member has that many unspent points.
 pub(crate) const TAKE_CREDIT: &str = "\
     UPDATE members \
     SET credited = credited - ?2 \
     WHERE name = ?1 AND used + ?2 <= credited";
 
-/// Sets the most bookings that a member may have open.
+/// Sets the highest number of open bookings that a member may have.
 pub(crate) const SET_QUOTA: &str = "UPDATE members SET quota = ?2 WHERE name = ?1";
 
-/// Adds to what the bookings of a member have cost, after a booking was written and its persons
-/// were added to its slot. It does so only if the booking's key is the member's, the member has the
-/// points, and the slot has no more persons than its facility has places.
+/// Charges a member for a booking, after the booking was written and its persons were added to its
+/// slot. Changes no row unless the booking's key is the member's, the member has the points, and
+/// the slot's persons are at most the facility's places.
 pub(crate) const CHARGE: &str = "\
     UPDATE members \
     SET used = used + ?2 \
@@ -136,8 +136,8 @@ pub(crate) const CHARGE: &str = "\
     WHERE slots.facility = ?4 AND slots.day = ?5 AND slots.hour = ?6 \
     AND slots.taken <= facilities.places)";
 
-/// Adds to what the bookings of a member have cost, if the booking's key is the member's. A
-/// negative number refunds points.
+/// Adds to the points that a member has spent, if the booking's key is the member's. A negative
+/// number refunds points.
 pub(crate) const ADD_USED: &str = "\
     UPDATE members \
     SET used = used + ?2 \
@@ -147,7 +147,7 @@ pub(crate) const ADD_FACILITY: &str = "\
     INSERT INTO facilities (name, kind, places, price, opens, shuts) \
     VALUES (?1, ?2, ?3, ?4, ?5, ?6)";
 
-/// Gives a facility new numbers, if none of its slots has more persons than the new places.
+/// Sets a facility's places, price and hours, if no slot has more persons than the new places.
 pub(crate) const SET_NUMBERS: &str = "\
     UPDATE facilities \
     SET places = ?2, price = ?3, opens = ?4, shuts = ?5 \
@@ -160,14 +160,14 @@ pub(crate) const ADD_KEY: &str = "\
 
 pub(crate) const REVOKE_KEY: &str = "UPDATE keys SET revoked = 1 WHERE name = ?1";
 
-/// Inserts an older root, or replaces the one that the key has.
+/// Inserts the older root of a key, or replaces the one that is stored.
 pub(crate) const PUT_OLDER_ROOT: &str = "\
     INSERT INTO old_roots (pass_key, root, until) \
     VALUES (?1, ?2, ?3) \
     ON CONFLICT (pass_key) \
     DO UPDATE SET root = ?2, until = ?3";
 
-/// Sets the root of a key, if its current root is the last parameter.
+/// Sets a key's root, if the last parameter is its current root.
 pub(crate) const SET_ROOT: &str = "UPDATE keys SET root = ?2 WHERE name = ?1 AND root = ?3";
 
 /// Closes a slot that is open.
@@ -177,15 +177,15 @@ pub(crate) const CLOSE_SLOT: &str = "\
     ON CONFLICT (facility, day, hour) \
     DO UPDATE SET closed = 1 WHERE closed = 0";
 
-/// Opens a slot, which may already be open. The row refers to the slot's facility.
+/// Opens a slot, even if it is already open. The row refers to the slot's facility.
 pub(crate) const OPEN_SLOT: &str = "\
     INSERT INTO slots (facility, day, hour, closed, taken) \
     VALUES (?1, ?2, ?3, 0, 0) \
     ON CONFLICT (facility, day, hour) \
     DO UPDATE SET closed = 0";
 
-/// Adds to the persons of a slot. A negative number is for a cancelled booking. If the slot had no
-/// row, it is open.
+/// Adds to the number of persons in a slot. A cancellation adds a negative number. A slot that had
+/// no row is open.
 pub(crate) const ADD_TAKEN: &str = "\
     INSERT INTO slots (facility, day, hour, closed, taken) \
     VALUES (?1, ?2, ?3, 0, ?4) \
@@ -197,8 +197,8 @@ pub(crate) const ADD_BOOKING: &str = "\
     cancelled, refund) \
     VALUES (?1, ?2, ?3, ?4, ?5, ?6, ?7, ?8, ?9, ?10)";
 
-/// Marks a booking cancelled, if its row has the values of the first ten parameters and isn't
-/// cancelled.
+/// Marks a booking as cancelled, if its row has the values of the first ten parameters and isn't
+/// cancelled yet.
 pub(crate) const CANCEL_BOOKING: &str = "\
     UPDATE bookings \
     SET cancelled = 1, refund = ?11 \
@@ -214,14 +214,14 @@ pub(crate) const DAY: &str = "\
     WHERE day = ?1 AND cancelled = 0 \
     ORDER BY facility, hour, pass_key, number";
 
-/// The last parameter is the moment's day: slots of an earlier day have begun.
+/// The last parameter is the moment's day, since slots of earlier days have begun.
 pub(crate) const OPEN: &str = "\
     SELECT number \
     FROM keys JOIN bookings ON name = pass_key \
     WHERE member = ?1 AND cancelled = 0 AND day * 1440 + hour * 60 > ?2 AND day >= ?3";
 
-/// The statements that read a row by its key, over tables of version 1.
+/// The statements that read a row by its key, for tables of version 1.
 pub(crate) const FIRST_ROWS_BY_KEY: [&str; 5] = [KEY, MEMBER, FACILITY, SLOT, BOOKING];
 
-/// The statements that read a row by its key.
+/// The statements that read a row by its key, for tables of version 2.
 pub(crate) const ROWS_BY_KEY: [&str; 6] = [KEY, MEMBER, FACILITY, SLOT, BOOKING, OLDER_ROOT];

@@ -1,4 +1,4 @@
-//! A statement that writes, and the mapping of a database's error to a fault.
+//! A statement that writes to the tables, and the mapping of database errors to faults.
 
 ghost use Rattle.std.specs.Prelude.{◌≡◌};
 ghost use Rattle.club_tables.specs.Transaction.{fault_by};
@@ -7,7 +7,7 @@ use club_core::StoreFault;
 use sqlite::types::ValueRef;
 use sqlite::{Error, ErrorCode};
 
-/// Maps an error of the database to a fault: `Memory` if it ran out of memory, else `Storage`.
+/// Maps a database error to a fault: `Memory` if the database ran out of memory, else `Storage`.
 pub fn fault_of(error: Error) -> StoreFault
     ensures { result ≡ fault_by error }
 {
@@ -17,11 +17,11 @@ pub fn fault_of(error: Error) -> StoreFault
     }
 }
 
-/// A statement that writes, with the values of its parameters.
+/// A statement that writes to the tables, with the values of its parameters.
 #[derive(Clone, Copy)]
 pub struct Statement<'a> {
-    /// Its SQL.
+    /// The statement's SQL text.
     pub text: &'a str,
-    /// The values of its parameters, in order.
+    /// The values of the SQL parameters, in order.
     pub params: &'a [ValueRef<'a>],
 }

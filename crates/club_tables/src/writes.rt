@@ -41,8 +41,8 @@ impl<S: Alter> Tables<S> {
         self.write(&[Statement { text, params }])
     }
 
-    /// Inserts a member, whose bookings have cost nothing. Fails without effect if a number is
-    /// outside its limits, or a member of this name exists.
+    /// Inserts a member who has spent no points on bookings. Fails without effect if a number is
+    /// outside its limits, or a member with this name exists.
     pub fn insert_member(&mut self, member: &Member) -> Result<(), StoreFault>
         ensures commits { IsMember member.now → Commits S.Store 1 (adding_member member.now)
             self.old self.new result }
@@ -57,8 +57,8 @@ impl<S: Alter> Tables<S> {
         self.write_one(texts::ADD_MEMBER, &params::of_member(member))
     }
 
-    /// Inserts a facility. Fails without effect if a number is outside its limits, or a facility of
-    /// this name exists.
+    /// Inserts a facility. Fails without effect if a number is outside its limits, or a facility
+    /// with this name exists.
     pub fn insert_facility(&mut self, facility: &Facility) -> Result<(), StoreFault>
         ensures commits { IsFacility facility.now → Commits S.Store 1 (adding_facility facility.now)
             self.old self.new result }
@@ -73,8 +73,8 @@ impl<S: Alter> Tables<S> {
         self.write_one(texts::ADD_FACILITY, &params::of_facility(facility))
     }
 
-    /// Gives a facility new numbers. Fails without effect if a number is outside its limits, the
-    /// facility doesn't exist, or one of its slots has more persons than the new places.
+    /// Sets a facility's places, price and hours. Fails without effect if a number is outside its
+    /// limits, the facility doesn't exist, or a slot has more persons than the new places.
     pub fn replace_numbers(
         &mut self,
         facility: &Name,
@@ -99,8 +99,8 @@ impl<S: Alter> Tables<S> {
         self.write_one(texts::SET_NUMBERS, &numbers)
     }
 
-    /// Inserts a key. Fails without effect if the key has an older root, a key of this name exists,
-    /// or its member doesn't exist.
+    /// Inserts a key. Fails without effect if the key has an older root, a key with this name
+    /// exists, or the key's member doesn't exist.
     pub fn insert_key(&mut self, key: &Key) -> Result<(), StoreFault>
         ensures commits { key.now.older ≡ None → Commits S.Store 1 (adding_key key.now)
             self.old self.new result }
@@ -115,7 +115,7 @@ impl<S: Alter> Tables<S> {
     }
 
     /// Adds points to a member's credit. Fails without effect if the member doesn't exist, or the
-    /// credit would be above the maximum.
+    /// credit would exceed the maximum.
     pub fn add_credit(&mut self, member: &Name, points: u32) -> Result<(), StoreFault>
         ensures commits { Commits S.Store 1 (adding_credit member.now points)
             self.old self.new result }
@@ -125,8 +125,8 @@ impl<S: Alter> Tables<S> {
         self.write_one(texts::ADD_CREDIT, &params::of_credit(member, points))
     }
 
-    /// Takes points off a member's credit. Fails without effect if the member doesn't exist, or its
-    /// bookings leave fewer points.
+    /// Subtracts points from a member's credit. Fails without effect if the member doesn't exist,
+    /// or has fewer unspent points.
     pub fn take_credit(&mut self, member: &Name, points: u32) -> Result<(), StoreFault>
         ensures commits { Commits S.Store 1 (taking_credit member.now points)
             self.old self.new result }
@@ -137,7 +137,7 @@ impl<S: Alter> Tables<S> {
         self.write_one(texts::TAKE_CREDIT, &params::of_credit(member, points))
     }
 
-    /// Gives a member a new quota. Fails without effect if the quota is outside its limits, or the
+    /// Sets a member's quota. Fails without effect if the quota is outside its limits, or the
     /// member doesn't exist.
     pub fn replace_quota(&mut self, member: &Name, quota: u8) -> Result<(), StoreFault>
         ensures commits { quota ≤ quota_limit
@@ -154,7 +154,7 @@ impl<S: Alter> Tables<S> {
         self.write_one(texts::SET_QUOTA, &params::of_quota(member, quota))
     }
 
-    /// Marks a key revoked.
+    /// Marks a key as revoked.
     pub fn revoke_key(&mut self, key: &Name) -> Result<(), StoreFault>
         ensures commits { Commits S.Store 1 (revoking key.now) self.old self.new result }
         ensures makes { ChangesClub S.Store (MarkRevoked key.now) self.old self.new result }
@@ -163,8 +163,8 @@ impl<S: Alter> Tables<S> {
         self.write_one(texts::REVOKE_KEY, &[ValueRef::Text(key.as_bytes())])
     }
 
-    /// Gives a key a new root. Its former root becomes its older root, and replaces an earlier one.
-    /// Fails without effect if the key's root isn't the given former root.
+    /// Sets a key's root. The former root replaces any older root that is stored for the key. Fails
+    /// without effect if the given former root isn't the key's current root.
     pub fn replace_root(&mut self, rotation: &Rotation) -> Result<(), StoreFault>
         ensures commits { Commits S.Store 1
             (replacing_root rotation.now.key rotation.now.root rotation.now.older)
@@ -180,7 +180,7 @@ impl<S: Alter> Tables<S> {
         self.run_rotation(&put, &set)
     }
 
-    /// Stores a key's older root, and sets its root.
+    /// Stores a key's older root, and sets the key's current root.
     fn run_rotation(&mut self, put: &[ValueRef<'_>], set: &[ValueRef<'_>]) -> Result<(), StoreFault>
         ensures commits { Commits S.Store 1 (rotating (bound put.now) (bound set.now))
             self.old self.new result }
@@ -197,8 +197,8 @@ impl<S: Alter> Tables<S> {
         ])
     }
 
-    /// Marks a slot closed. Fails without effect if it is already closed, or its facility doesn't
-    /// exist.
+    /// Marks a slot as closed. Fails without effect if the slot is already closed, or its facility
+    /// doesn't exist.
     pub fn close_slot(&mut self, slot: &Slot) -> Result<(), StoreFault>
         ensures commits { Commits S.Store 1 (closing slot.now) self.old self.new result }
         ensures makes { ChangesClub S.Store (MarkClosed slot.now) self.old self.new result }
@@ -208,8 +208,8 @@ impl<S: Alter> Tables<S> {
         self.write_one(texts::CLOSE_SLOT, &params::of_slot(slot))
     }
 
-    /// Marks a slot open, which may already be open. Fails without effect if its facility doesn't
-    /// exist.
+    /// Marks a slot as open, even if it is already open. Fails without effect if the slot's
+    /// facility doesn't exist.
     pub fn open_slot(&mut self, slot: &Slot) -> Result<(), StoreFault>
         ensures commits { Commits S.Store 1 (reopening slot.now) self.old self.new result }
         ensures makes { ChangesClub S.Store (MarkOpen slot.now) self.old self.new result }
@@ -246,10 +246,10 @@ impl<S: Alter> Tables<S> {
         ])
     }
 
-    /// Inserts a booking under a key of the member, adds its persons to its slot, and adds its
-    /// charge to what the member's bookings have cost. Fails without effect if a value is outside
-    /// its limits, the key has a booking under this number, or the key is another member's. Fails
-    /// without effect also if points or places are missing.
+    /// Inserts a booking under one of the member's keys. Adds its persons to its slot, and its
+    /// charge to the points that the member has spent. Fails without effect if a value is outside
+    /// its limits, or the key has a booking with this number. Also fails without effect if the key
+    /// is another member's, or if points or places are missing.
     pub fn insert_booking(&mut self, booking: &Booking, member: &Name) -> Result<(), StoreFault>
         ensures commits { IsBooking booking.now
             → Commits S.Store 1 (adding_booking booking.now member.now) self.old self.new result }
@@ -268,8 +268,8 @@ impl<S: Alter> Tables<S> {
         self.run_booking(&row, &taken, &charge)
     }
 
-    /// Marks a booking cancelled, subtracts its refund from what its member's bookings have cost,
-    /// and subtracts its persons from its slot.
+    /// Marks a booking as cancelled. Subtracts its refund from the points that its member has
+    /// spent, and its persons from its slot.
     fn run_cancellation(
         &mut self,
         booking: &[ValueRef<'_>],
@@ -296,10 +296,10 @@ impl<S: Alter> Tables<S> {
         ])
     }
 
-    /// Marks a booking cancelled with its refund, pays the refund to the member, and frees the
-    /// places of the slot. Fails without effect if the refund is more than the charge. Fails
-    /// without effect also if the booking isn't on record with these values, is cancelled, or is
-    /// under another member's key.
+    /// Marks a booking as cancelled, stores its refund, pays the refund to the member, and frees
+    /// the slot's places. Fails without effect if the refund is more than the charge, or no stored
+    /// booking has these values. Also fails without effect if the booking is already cancelled, or
+    /// its key is another member's.
     pub fn cancel_booking(
         &mut self,
         booking: &Booking,
