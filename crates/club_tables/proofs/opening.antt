@@ -1,4 +1,4 @@
--- The tables as they are created, migrated and opened.
+-- How the tables are created, migrated and opened.
 
 pub mod MakesLemmas
 pub mod MakingLemmas

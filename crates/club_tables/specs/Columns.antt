@@ -70,7 +70,7 @@ abbrev pub integer_in : Value → Option ℤ
 integer_in (Int n) = Some n
 integer_in _ = None
 
--- the whole number in a value; 0 if the value is of another type
+-- the number in a value that is a whole number of at least 0; 0 for any other value
 abbrev pub whole_in : Value → ℕ
 whole_in (Int (pos n)) = n
 whole_in _ = 0

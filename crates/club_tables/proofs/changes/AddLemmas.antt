@@ -1,4 +1,4 @@
--- The effects on the tables of statements that insert a row, or insert or update the row of a slot or of an older root.
+-- The effects on the tables of two kinds of statements: those that insert a row, and those that insert or update the row of a slot or of an older root.
 use Rattle.club_tables.proofs.Common.{pos, List, [], map, ◌∷◌, ◌++◌, refl, sym, subst, ◌≡◌, ◌≢◌, ◌≤◌, ℕ, ◌/◌, ℤ, true, false, if◌then◌else◌, Some, Option}
 use Rattle.club_tables.proofs.Common.{length, ap, ◌∙◌, Bool, filter, slice_get, None, find, cond, AllPairs, option_map, AllByRecursion, bytes_eq}
 use Rattle.club_tables.proofs.Common.{bytes_eq-Decides, and-true, or-false, everything, Null, Int, Text, Table, Term, lit, col, op2, eval_all, Values, Insert}
@@ -25,7 +25,7 @@ pub each_weaker : {X : Type 0} {P Q : X → Type 0} → ((x : X) → P x → Q x
 each_weaker weaker [] h = tt
 each_weaker weaker (x ∷ xs) h = (weaker x h.0, each_weaker weaker xs h.1)
 
--- if at most one element passes, an element that passes is the one that is found
+-- if at most one element passes, a search finds every element that passes
 pub only_found : {X : Type 0} (q : X → Bool) (xs : List X) → length (filter q xs) ≤ 1 → AllByRecursion (λ x. q x ≡ true → find q xs ≡ Some x) xs
 only_found q [] low = tt
 only_found {X} q (x ∷ xs) low = (λ passes. rw passes refl, go (q x) low (only_found q xs))
@@ -37,7 +37,7 @@ only_found {X} q (x ∷ xs) low = (λ passes. rw passes refl, go (q x) low (only
         absurd (omega (arith, low, contains_counts q xs _ (All-contains_itself xs k d within) passes)))
     go false low more = more low
 
--- ---- a row comes last in its table
+-- ---- a new row comes last in its table
 
 added : {X : Type 0} (values : X → Row) {text : List ℕ} {at width : ℕ} {terms : List Term} → Means club_schema text (Insert at (Values terms width))
     → (table : Table) → slice_get club_schema.tables at ≡ Some table → table.is_counted ≡ false
@@ -116,7 +116,7 @@ booking_put rows booking =
     added booking_values booking_means booking_table refl refl refl (λ row. refl) _ booking refl (simp (cast_null, cast_int)) rows _ rows.bookings
     (λ old holds_rows. holds_rows.held.bookings) (λ old new holds_rows wrote held. on_bookings holds_rows wrote held)
 
--- ---- rows that are put by their keys
+-- ---- rows of slots that are inserted or updated by their keys
 
 abbrev target : Option (List ℕ)
 target = Some (1 ∷ 2 ∷ 3 ∷ [])
@@ -126,7 +126,7 @@ PutsSlot text terms more sets at =
     PutsRow slots_table.name slots_table.columns slots_table.uniques slots_table.checks slots_table.references slots_tree target 4 text terms more sets 6 at
     (first_clause (command_of (understood club_schema text)))
 
--- ---- a statement of this form
+-- ---- a statement that inserts or updates the row of a slot
 
 module _ {text : List ℕ} {terms more sets : List Term} {at : ℕ} (puts : PutsSlot text terms more sets at) (rows : Rows)
     (once : AllPairs (λ (a : SlotRow) (b : SlotRow). a.slot ≢ b.slot) rows.slots) (slot : Slot) (params : Row) (closed taken : Value)
@@ -135,7 +135,7 @@ module _ {text : List ℕ} {terms more sets : List Term} {at : ℕ} (puts : Puts
   abbrev is_of_slot : SlotRow → Bool
   is_of_slot row = same_slot row.slot slot
 
-  -- the values that the clause sees: of the row that it conflicts with, and of the new row at this rowid
+  -- the values that the ON CONFLICT clause reads: the parameters, the rowid of the conflicting row, and the new row at this rowid
   abbrev sees : Row → ℤ → Row
   sees there id = params ++ rowid there ∷ shown slot_table (Int id ∷ name_values slot ++ closed ∷ taken ∷ [])
 
@@ -162,7 +162,7 @@ module _ {text : List ℕ} {terms more sets : List Term} {at : ℕ} (puts : Puts
       (only_found is_of_slot rows.slots (one_passes _ is_of_slot rows.slots (λ x y a b apart. apart (a, b)) alone))) count executed in
       (on_slots holds_rows left.0 left.1, left.2)
 
-  -- if a row is written, the existing row passes the further tests
+  -- if a row is written, the existing row passes the tests of the ON CONFLICT clause
   slot_allowed : ((there : Row) (next : ℤ) → column (sees there next) at ≡ rowid there) → (allows : SlotRow → Bool)
       → ((id next : ℤ) (there : Row) (x : SlotRow) → list_all (holds (sees there next ∷ (Int id ∷ slot_values x) ∷ [])) more ≡ allows x)
       → (old new : State) (count : ℕ) → HoldsRows old.now rows → Executes text params old new (Ok count) → 1 ≤ count
@@ -192,7 +192,7 @@ close_puts = record { is = refl; plain = (refl, refl); aims = refl; by = refl }
 abbrev pub close_use : SlotUse → SlotUse
 close_use held = record held { closed = true }
 
--- whether a slot of this use is open
+-- the statement's test for an open slot
 open_is : (held : SlotUse) → (is_true (binary (Compare Eq Binary) (flag held.closed) (whole 0)) && true) ≡ not held.closed
 open_is held = and-true _ ∙ whole_equal (truth held.closed) 0 ∙ not_closed held.closed
   where
@@ -227,7 +227,7 @@ slot_was_open rows once slot old new count holds_rows executed some = go (row_of
         executed some x is in
         false_of x.held.closed was_open
 
--- ---- a slot is opened, closed or not
+-- ---- a slot is opened, whether or not it was closed
 
 open_puts : PutsSlot OPEN_SLOT.now (lit Null ∷ col 0 0 ∷ col 0 1 ∷ col 0 2 ∷ lit (Int (pos 0)) ∷ lit (Int (pos 0)) ∷ []) []
     (col 1 0 ∷ col 1 0 ∷ col 1 1 ∷ col 1 2 ∷ col 1 3 ∷ lit (Int (pos 0)) ∷ col 1 5 ∷ []) 3
@@ -300,7 +300,7 @@ module _ (key : List ℕ) (older : OlderRoot) where
   abbrev pub renewed : OlderRow → OlderRow
   renewed row = record row { older = if bytes_eq row.key key then older else row.older }
 
-  -- the row of the key gets this older root, or is inserted with it
+  -- the row of the key gets this older root, or a row with this older root is inserted
   abbrev pub put_older : List OlderRow → List OlderRow
   put_older rows = put_among older_values is_of renewed (record { key = key; older = older }) rows
 

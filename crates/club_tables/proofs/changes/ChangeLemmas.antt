@@ -1,4 +1,4 @@
--- The effects on the tables of the statements that change a row of a member or of a key.
+-- The effects on the tables of the statements that change the row of a member or of a key.
 use Rattle.club_tables.proofs.Common.{rules, ◌≡◌, ◌+◌, ◌≤◌, ℕ, ℤ, pos, Ok, Some, Bool, true, ◌&&◌, if◌then◌else◌, List, [], ◌∷◌, length, map, ◌≢◌, refl, sym}
 use Rattle.club_tables.proofs.Common.{ap, ◌∙◌, false, subst, filter, find, AllPairs, list_all, bytes_eq, and_parts, bytes_eq-Decides, and-true, or-true}
 use Rattle.club_tables.proofs.Common.{or-false, everything, Int, Text, Blob, Binary, Arith, Compare, Add, Eq, binary, cast_row, Row, Table, Term, col, op2}
@@ -23,12 +23,12 @@ pub wider_is : {X : Type 0} (p q : X → Bool) → Implies p q → (xs : List X)
     → (find q xs ≡ Some x) × (p x ≡ true)
 wider_is p q wide xs low x is = (sym (found_by_both p q xs (agree p q wide xs x low is)) ∙ is, (found p xs x is).1)
 
--- after a statement ran over tables that hold these rows, the relation holds
+-- the relation holds after the statement ran over tables with these rows
 abbrev pub WhenRan : BoundStatement → Rows → (State → State → ℕ → Type 0) → Type 1
 WhenRan statement rows P =
     (old new : State) (count : ℕ) → HoldsRows old.now rows → Executes statement.0 statement.1 old new (Ok count) → P old new count
 
--- the statement changes the elements that pass a test, which is at most the one that a wider test finds
+-- the statement changes the elements that pass a test; there is at most one, and a wider test finds it
 pub record FindsOne {X : Type 0} (values : X → Row) (p q : X → Bool) (xs : List X) (shown : Row → Row) (old new : State) (table : Table) (count : ℕ) : Type 0
   where
     pub finds : Finds values p xs shown old new table count
@@ -37,14 +37,14 @@ pub record FindsOne {X : Type 0} (values : X → Row) (p q : X → Bool) (xs : L
 
 module _ {X : Type 0} {values : X → Row} {p q : X → Bool} {xs : List X} {shown : Row → Row} {old new : State} {table : Table} {count : ℕ}
     (it : FindsOne values p q xs shown old new table count) where
-  -- if a row is written, the element exists and passes
+  -- if a row is written, the element exists and passes the test
   pub one_found : 1 ≤ count → (x : X) × (find q xs ≡ Some x) × (p x ≡ true)
   one_found some =
       let one = passes_one it.finds some in
       let is = wider_is p q it.wide xs it.low one.0 one.1 in
       (one.0, is.0, is.1)
 
-  -- if the element exists and passes, its row is written, and no other row is changed
+  -- if the element exists and passes the test, its row is written, and no other row is changed
   pub one_changed : {next : Rows} (x : X) → find q xs ≡ Some x → p x ≡ true → (change : X → X) → ((y : X) → q y ≡ false → change y ≡ y)
       → ((id : ℤ) → q x ≡ true → shown (Int id ∷ values x) ≡ Int id ∷ Int id ∷ values (change x))
       → ((id : ℤ) (y : X) → cast_row table (Int id ∷ values y) ≡ Int id ∷ values y)
@@ -59,12 +59,12 @@ module _ {X : Type 0} {values : X → Row} {p q : X → Bool} {xs : List X} {sho
       subst (λ z. q z ≡ true → shown (Int id ∷ values z) ≡ Int id ∷ Int id ∷ values (change z)) same (sets id) mine) casts it.low in
       (on it.finds.wrote held, some)
 
--- ---- keys by their names
+-- ---- keys that are found by their names
 
 abbrev pub AreKeysOnce : List Key → Type 0
 AreKeysOnce = AllPairs (λ (a : Key) (b : Key). a.name ≢ b.name)
 
--- a key of this name is stored
+-- a key with this name is stored
 abbrev pub StoresKey : List ℕ → List Key → Key → Type 0
 StoresKey name keys key = find (λ (key : Key). bytes_eq key.name name) keys ≡ Some key
 
@@ -76,22 +76,22 @@ name_of row = row.member.name
 abbrev pub AreNamedOnce : List MemberRow → Type 0
 AreNamedOnce = AllPairs (λ (a : MemberRow) (b : MemberRow). name_of a ≢ name_of b)
 
--- a member of this name is stored
+-- a member with this name is stored
 abbrev pub StoresMember : List ℕ → List MemberRow → MemberRow → Type 0
 StoresMember name members row = find (λ (row : MemberRow). bytes_eq (name_of row) name) members ≡ Some row
 
--- points are added to the credit of the member of this name, and `next` is applied to what its bookings have cost
+-- adds points to the credit of the member with this name; `used_row` applies `next` to the points that the member has spent
 abbrev pub credited_row : List ℕ → ℕ → MemberRow → MemberRow
 credited_row name points row = record row { member = credited_member name points row.member }
 
 abbrev pub used_row : List ℕ → (ℕ → ℕ) → MemberRow → MemberRow
 used_row name next row = record row { used = if bytes_eq row.member.name name then next row.used else row.used }
 
--- the member of this name gets a new quota
+-- sets the quota of the member with this name
 abbrev pub quota_row : List ℕ → ℕ → MemberRow → MemberRow
 quota_row name quota row = record row { member = member_with_quota name quota row.member }
 
--- `<=` of two whole numbers
+-- the result of `<=` for two whole numbers
 pub whole_to : (m n : ℕ) → is_true (binary (Compare Le Binary) (Int (pos m)) (Int (pos n))) ≡ nat_le m n
 unfolding binary
 whole_to m n =
@@ -230,7 +230,7 @@ module _ (rows : Rows) (once : AreNamedOnce rows.members) (name : List ℕ) wher
         let wide : Implies is_owner is_named = λ row passes. (and_parts (is_named row) is_owned passes).0 in
         search (rules, low_named)
 
-    -- if a row is written, the key is the member's
+    -- if a row is written, the key belongs to the member
     pub owner_found : AreKeysOnce rows.keys
         → WhenRan (ADD_USED.now, used_params) rows (λ old new count. 1 ≤ count → (k : Key) × StoresKey key rows.keys k × (k.member ≡ name))
     owner_found unique old new count holds_rows ran some =

@@ -30,7 +30,7 @@ charge_means : Means club_schema CHARGE.now (Update 1 (record { lets = []; body 
 unfolding understood everything
 charge_means = record { is = refl; plain = (refl, refl) }
 
--- a property of each row that follows from its element
+-- a property of each row follows from the element that the row stores
 each_zip : {X : Type 0} (values : X → Row) (P : Row → X → Type 0) → ((id : ℤ) (x : X) → P (Int id ∷ values x) x) → (rows : List Row) (xs : List X)
     → AllZip (λ row x. IsRowOf (values x) row) rows xs → AllZip P rows xs
 each_zip values P each [] [] same = tt
@@ -112,7 +112,7 @@ module _ (rows : Rows) (once : AreNamedOnce rows.members) (name : List ℕ) wher
         let wide : Implies is_charged is_named = λ row passes. (and_parts (is_named row) _ passes).0 in
         search (rules, low_named)
 
-    -- if a row is written, the member exists and has the points, the key is the member's, and the slot has the places
+    -- if a row is written, the member exists and has the points, the key is the member's, and the slot has enough places
     pub record Charged : Type 0 where
       pub row : MemberRow
       pub stores : StoresMember name rows.members row

@@ -1,4 +1,4 @@
--- If each statement of a change wrote a row, the change suits the club, and so fits it.
+-- If each statement of a change wrote a row, the change meets the preconditions in `Suits`, and so fits the club.
 use Rattle.club_tables.proofs.Common.{◌≡◌, ◌≢◌, ℕ, ◌+◌, ◌≤◌, Bool, true, false, ◌&&◌, ◌==◌, List, [], ◌∷◌, ◌++◌, map, Contains, All, refl, sym, ap, subst, ◌∙◌}
 use Rattle.club_tables.proofs.Common.{arith, true≢false, find, filter, slice_get, AllPairs, Some, bytes_eq, bytes_eq-Decides, unsigned_Decides, and_parts}
 use Rattle.club_tables.proofs.Common.{nat_le, nat_tests, AllByRecursion, All-from_recursion, All-contains, all_from_map, all_has, has_found, has_kept, Has}
@@ -17,7 +17,7 @@ use Rattle.club_rows.specs.Limits.{credited_limit}
 use Rattle.club_core.specs.declared.change.Change.{Change}
 use Rattle.club_laws.specs.SoundRuns.{Suits, SuitsBooking, SuitingChangesKeepSound}
 
--- two different names
+-- two names that compare as different are different
 differs : (a b : List ℕ) → bytes_eq a b ≡ false → b ≢ a
 differs a b other e = true≢false (sym ((bytes_eq-Decides a b).1 (sym e)) ∙ other)
 
@@ -37,7 +37,7 @@ unnumbered booking bookings apart =
 at_most : (m n : ℕ) → nat_le m n ≡ true → m ≤ n
 at_most m n h = grind (arith, nat_tests)
 
--- the conditions under which a slot has room
+-- the facts that follow if a slot has room
 room_parts : (row : SlotRow) (facility : Facility) (slot : Slot) → (bytes_eq facility.name slot.facility && (bytes_eq row.slot.facility slot.facility
     && (row.slot.day == slot.day && (row.slot.hour == slot.hour && nat_le row.held.taken facility.places)))) ≡ true
     → (facility.name ≡ slot.facility) × (row.slot ≡ slot) × (row.held.taken ≤ facility.places)

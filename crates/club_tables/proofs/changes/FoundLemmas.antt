@@ -18,12 +18,12 @@ contains_mapped f (x ∷ xs) y (suc k, low, is) =
     let later = contains_mapped f xs y (k, omega (arith, low), is) in
     (later.0, (suc later.1.0, omega (arith, later.1.1), later.1.2), later.2)
 
--- a smaller number can be subtracted
+-- adding the negative of a number subtracts that number, if the result isn't negative
 pub minus : (m r : ℕ) → r ≤ m → m < 2 ^ 63 → binary (Arith Add) (whole m) (Int (neg_ℤ (pos r))) ≡ whole (m - r)
 unfolding binary
 minus m r low small = search rules
 
--- no slot of a facility has more persons than a facility has places
+-- no slot has more persons than the highest number of places of a facility
 pub few_taken : (club : Club) → IsSound club → (slot : Slot) → Contains (map (λ (f : Facility). f.name) club.facilities) slot.facility
     → taken_in slot club.bookings ≤ places_limit
 few_taken club sound slot has =
@@ -68,7 +68,7 @@ facility_there club name named =
     let there = contains_mapped (λ (f : Facility). f.name) club.facilities name named in
     find_some is_of club.facilities (contains_counts is_of club.facilities there.0 there.1 ((bytes_eq-Decides there.0.name name).1 there.2))
 
--- a slot that may be closed is open
+-- if closing a slot fits the club, the slot is open
 pub still_open : (club : Club) (slot : Slot) → FitsClub (MarkClosed slot) club → is_closed slot club ≡ false
 still_open club slot fits =
     let apart = apart_last (λ (a : Slot) (b : Slot). a ≢ b) club.closed slot
@@ -79,7 +79,7 @@ still_open club slot fits =
     go [] apart = refl
     go (other ∷ slots) apart = rw (not_same other slot apart.0) (go slots apart.1)
 
--- the only element with a name, if names are unique
+-- if names are unique, a search by an element's name finds that element
 pub the_named : {X : Type 0} (name : X → List ℕ) (xs : List X) (x : X) → AllPairs (λ a b. name a ≢ name b) xs → Has xs x
     → find (λ y. bytes_eq (name y) (name x)) xs ≡ Some x
 the_named {X} name xs x unique has =
@@ -87,6 +87,6 @@ the_named {X} name xs x unique has =
     find_first is_of xs ∙ ap (λ ys. slice_get ys 0) (only (filter is_of xs) x (one_named name (name x) xs unique)
     (has_kept is_of xs x has ((bytes_eq-Decides (name x) (name x)).1 refl)))
 
--- a booking's persons and its cost are within bounds
+-- the number of persons of a booking is within its bound, and so is its cost
 pub few_persons : (booking : Booking) → IsBooking booking → persons_taken booking ≤ 50
 few_persons booking row = let guests : booking.guests ≤ 49 = row.guests in grind arith

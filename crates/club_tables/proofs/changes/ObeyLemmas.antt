@@ -26,12 +26,12 @@ not_true : (b : Bool) → not b ≡ true → b ≡ false
 not_true true h = absurd cc
 not_true false h = refl
 
--- ascending rowids differ
+-- two ascending rowids are different
 rising_differ : (a b : ℤ) → value_cmp (Int a) (Int b) ≡ Less → differ (Int b) (Int a) ≡ true
 unfolding binary
 rising_differ a b less = rw (value_cmp_total.antisymm (Int b) (Int a), less) refl
 
--- ---- keys of tables
+-- ---- primary keys of tables
 
 module _ {X : Type 0} (values : X → Row) (places : List ℕ) (same : X → X → Bool)
     (tests : (id id' : ℤ) (a b : X) → agree plain places (Int id ∷ values a) places (Int id' ∷ values b) ≡ same a b) where
@@ -58,7 +58,7 @@ module _ {X : Type 0} (values : X → Row) (places : List ℕ) (same : X → X �
           let apart : (same p.1 q.1 && true) ≡ false = rw (tests p.0 q.0 p.1 q.1, rising_differ q.0 p.0 below.0) at clash in
           (sym (and-true (same p.1 q.1)) ∙ apart, each rest below.1 (λ r has. in_all r (inr has)))
 
-  -- no element is the same as the last
+  -- no earlier element equals the last one
   unlike_last : (rows : List Row) (xs : List X) (x : X) → Holds values rows (xs ++ x ∷ [])
       → AllByRecursion (λ row. list_any (Clashes row) rows ≡ false) rows → AllByRecursion (λ y. same x y ≡ false) xs
   unlike_last rows xs x held none =
@@ -68,7 +68,7 @@ module _ {X : Type 0} (values : X → Row) (places : List ℕ) (same : X → X �
       (subst (λ rs. AllByRecursion (λ row. list_any (Clashes row) rs ≡ false) rs) it.rows_are none) in
       apart_last R xs x (subst (Apart R) (sym it.xs_are) (ascending-map R (λ q. q.1) it.pairs apart))
 
--- ---- parents
+-- ---- references to other tables
 
 any_zip : {X : Type 0} (values : X → Row) (hit : Row → Bool) (p : X → Bool) → ((id : ℤ) (x : X) → hit (Int id ∷ values x) ≡ p x) → (rows : List Row)
     (xs : List X) → AllZip (λ row x. IsRowOf (values x) row) rows xs → list_any hit rows ≡ list_any p xs
@@ -78,7 +78,7 @@ any_zip values hit p tested (r ∷ rows) [] same = absurd same
 any_zip values hit p tested (r ∷ rows) (x ∷ xs) same =
     rw (ap hit same.0.1 ∙ tested same.0.0 x, any_zip values hit p tested rows xs same.1) refl
 
--- a property of an element of the list
+-- if some element has this name, the list of names contains it
 named_among : {X : Type 0} (name : X → List ℕ) (n : List ℕ) (xs : List X) → list_any (λ x. bytes_eq (name x) n) xs ≡ true → Contains (map name xs) n
 named_among name n xs any = contains_had (map name xs) n (go xs any)
   where

@@ -1,4 +1,4 @@
--- The rows of the club after each change, as they are stored.
+-- The stored rows of the club after each change.
 use Rattle.club_tables.proofs.Common.{◌≡◌, ◌≢◌, ℕ, ◌+◌, Bool, true, false, not, ◌&&◌, ◌||◌, cond, if◌then◌else◌, List, [], ◌∷◌, ◌++◌, map, Option, Some, None}
 use Rattle.club_tables.proofs.Common.{Contains, refl, sym, ap, subst, ◌∙◌, arith, true≢false, rules, filter, find, sum_by, option_and_then, AllPairs}
 use Rattle.club_tables.proofs.Common.{option_map, AllByRecursion, list_any, bytes_eq, map-append, list_any-append, find-append, filter-append, option_or}
@@ -79,7 +79,7 @@ owned_more names owns keys key other =
     ∙ (elim (owns key) as (λ b. (list_any names (filter owns keys) || list_any names (cond b (key ∷ []) [])) ≡ list_any names (filter owns keys))
     [ true ↦ rw other (or-false _) | false ↦ or-false _ ])
 
--- adding a key without an older root changes no older root; an edit that keeps names changes the older root in the edited row
+-- a new key without an older root changes no older root; an edit that keeps the keys' names changes the older root of the edited row
 older_pushed : (name : List ℕ) (keys : List Key) (key : Key) → key.older ≡ None
     → option_and_then (λ (k : Key). k.older) (find (λ (k : Key). bytes_eq k.name name) (keys ++ key ∷ []))
     ≡ option_and_then (λ (k : Key). k.older) (find (λ (k : Key). bytes_eq k.name name) keys)
@@ -176,7 +176,7 @@ close_stored club rows stored slot =
     let once = slot_once slot close_use rows.slots stored.once in
     search rules
 
--- the slot that is opened isn't left in the list, and every other slot is
+-- the opened slot is removed from the list, and every other slot stays in it
 none_left : {X : Type 0} (p : X → Bool) (xs : List X) → list_any p (filter (λ x. not (p x)) xs) ≡ false
 none_left p [] = refl
 none_left p (x ∷ xs) = grind (arith, none_left p xs)
@@ -213,7 +213,7 @@ open_stored club rows stored slot =
 
 -- ---- bookings
 
--- the rows with changed bookings, and the changed totals of one member and one slot
+-- the rows after the bookings changed, and with them the totals of one member and one slot
 abbrev pub totals_rows : Rows → (List Booking → List Booking) → List ℕ → (ℕ → ℕ) → Slot → (ℕ → ℕ) → Rows
 totals_rows rows change member used slot taken = record rows {
   members = map (used_row member used) rows.members;
@@ -221,7 +221,7 @@ totals_rows rows change member used slot taken = record rows {
   slots = put_slot slot (take_use taken) rows.slots;
 }
 
--- the amount added if a test passes
+-- an amount is added only if a test passes
 added_if : (b : Bool) (all one more : ℕ) → more ≡ all + cond b one 0 → (if b then all + one else all) ≡ more
 added_if b all one more is = grind arith
 
@@ -241,7 +241,7 @@ taken_more club booking s =
     counted : (c b : Bool) (n : ℕ) → cond (not c && b) n 0 ≡ cond b (if c then 0 else n) 0
     counted c b n = grind arith
 
--- the use of a slot after its persons changed
+-- the use of a slot after its number of persons changed
 recounted_use : (club : Club) (s : Slot) (next : ℕ → ℕ) (b : Bool) (taken : ℕ)
     → taken ≡ (if b then next (taken_in s club.bookings) else taken_in s club.bookings)
     → (if b then take_use next (slot_use club s) else slot_use club s) ≡ record { taken = taken; closed = is_closed s club }

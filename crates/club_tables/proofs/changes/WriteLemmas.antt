@@ -35,7 +35,7 @@ module _ {S : Type 0} (g : Ghosts S) (all : List BoundStatement) (some : 0 < len
 
   module _ (next : Club) (Fits : Type 0) (sound_if : IsSound next → (db : Database) → HoldsClub (state g old).now club → Ran g 1 all old db
       → HoldsClub db next) (fits : (db : Database) → HoldsClub (state g old).now club → Ran g 1 all old db → Fits × HoldsClub db next) where
-    -- a change that was applied fits; after a failed change, only a change that fits may be there
+    -- an applied change fits the club; after a failed change, a crash can leave its effects only if it fits the club
     pub wrote : {E : Type 0} (r : Result (Unit {0}) E) → OnOk r (IsTrue (state g new).is_open × Ran g 1 all old (state g new).committed
         × ((state g new).now ≡ (state g new).committed)) → OnErr r (IsKept (state g old) (state g new))
         → IsSettled (state g new)

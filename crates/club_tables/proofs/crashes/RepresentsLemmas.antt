@@ -5,7 +5,7 @@ use Rattle.club_tables.proofs.Common.{State, HasCleanDisk, Survives, Shown, Held
 use Rattle.club_tables.proofs.Common.{key_values, booking_values, HoldsClub, Holds, RepresentsBy, Represents, keys_tree, bookings_tree, select, BoundStatement}
 use Rattle.club_tables.proofs.{Common.{Asked, IsKept, transaction_start}, statements.SelectLemmas.selected}
 
--- the state still represents the same club if a crash leaves one of these states, for any relation between a database and its club
+-- for any relation between a database and its club, the state still represents the same club if a crash leaves one of these states
 pub represents_by : (IsHeld : Database → Club → Type 0) (old new : State) → IsKept old new → (HasCleanDisk new → HasCleanDisk old) → (club : Club)
     (others next : List Club) → RepresentsBy IsHeld old club others
     → (HasCleanDisk new → (trees : Trees) → new.may_leave trees → IsLeftOf trees (club ∷ next)) → RepresentsBy IsHeld new club next
@@ -21,7 +21,7 @@ pub asked_open : {S : Type 0} (g : Ghosts S) (sql : List ℕ) (params : Row) (ol
 unfolding Shown
 asked_open g sql params old rows asked = search rules
 
--- the tables at the time of a query
+-- a query reads tables that hold the represented club
 pub asked_tables : {S : Type 0} {g : Ghosts S} {sql : List ℕ} {params : Row} {old : Held S} {rows : List Row} → Asked g sql params old rows
     → HasCleanDisk (state g old) → (club : Club) (others : List Club) → Represents (state g old) club others → HoldsClub (state g old).now club
 asked_tables {g = g} {sql = sql} {params = params} {old = old} {rows = rows} asked clean club others represents =
@@ -41,7 +41,7 @@ pub asked_reads : {S : Type 0} {g : Ghosts S} {sql : List ℕ} {params : Row} {o
 asked_reads {g = g} {sql = sql} {params = params} {old = old} {rows = rows} {schema = schema} asked asks over =
     reads_as sql params (state g (transaction_start old)) (state g asked.mid) schema over _ asks.is asks.plain asks.unlisted rows asked.shown
 
--- the rows of a query over one table show each element that passes, in some order
+-- the rows of a query over one table show the elements that pass, in some order
 pub asked_shows : {S : Type 0} {g : Ghosts S} {sql : List ℕ} {params : Row} {old : Held S} {rows : List Row} {tree : ℕ} {tests project : List Term}
     {names : List (List ℕ)} {club : Club} → Asked g sql params old rows → Asks club_schema sql (select (inner tree end) tests project) names
     → HoldsClub (state g old).now club → {X : Type 0} (values : X → Row) (p : X → Bool) (show : X → Row)

@@ -13,7 +13,7 @@ survives_as old new P Q s leaves = search rules
 pub kept_when_idle : (s : State) → IsUntouched s s
 kept_when_idle s rest clean is_open = (is_open, rest is_open, refl)
 
--- a state survives itself if nothing happened
+-- if nothing happened, a crash leaves what it could leave before
 pub survives_itself : (s : State) → Survives s s (λ _. ⊥)
 survives_itself s = record {
   clean = omega arith;
@@ -60,16 +60,16 @@ module _ {S : Type 0} (g : Ghosts S) (fewest : ℕ) where
       p) first next
 
 module _ {S : Type 0} (g : Ghosts S) where
-  -- reads after reads
+  -- reads that follow other reads
   pub after_then : (a b c : Held S) → IsAfterReadings g a b → IsAfterReadings g b c → IsAfterReadings g a c
   after_then a b c first next = search rules
 
-  -- one read
+  -- a single read
   pub after_one : (old new : Held S) → HasCleanDisk (state g new) → IsUntouched (state g old) (state g new) → Survives (state g old) (state g new) (λ _. ⊥)
       → IsAfterReadings g old new
   after_one old new clean same survives = record { same = same; clean = clean; fault_count = survives.counts }
 
-  -- an opening after a read
+  -- the fault of an opening after reads is also a fault since before the reads
   pub opened_after : (a b c : Held S) (fault : StoreFault) → IsAfterReadings g a b → IsOpeningFault g b c fault → IsOpeningFault g a c fault
   opened_after a b c fault first it = record { from = it.from; after = after_then a b it.from first it.after; failure = it.failure }
 
@@ -103,7 +103,7 @@ pub then_rolled : (old mid new : State) → Keeps old mid → IsRolledBack mid n
     × (new.committed ≡ old.committed)
 then_rolled old mid new kept back is_open = search rules
 
--- a commit that fails
+-- a commit that fails leaves the committed state unchanged
 pub commit_keeps : (old mid new : State) (e : Error) → Keeps old mid → IsTrue mid.in_transaction → FailsToCommit mid new e → IsTrue new.is_open
     → IsTrue old.is_open × (new.now ≡ old.committed) × (new.committed ≡ old.committed)
 commit_keeps old mid new e kept inside h is_open = grind arith

@@ -1,4 +1,4 @@
--- The meanings of the tables' texts, each over the tables created before it.
+-- The meanings of the texts that create the tables, each over the tables created before it.
 use Rattle.club_tables.proofs.Common.{◌≡◌, ℕ, List, [], ◌∷◌, false, refl, sym, ap, ◌∙◌, true≢false, Ghosts, Database, ExecutesIn, Held, state, BoundStatement}
 use Rattle.club_tables.proofs.Common.{Ran, is_ok, everything, Schema, Table, created, understood, no_schema, desk_table, members_table, facilities_table}
 use Rattle.club_tables.proofs.Common.{keys_table, slots_table, bookings_table, six_tables, old_roots_table, keys_by_member, first_schema, unindexed_schema}
@@ -6,7 +6,7 @@ use Rattle.club_tables.proofs.Common.{bookings_by_key, club_schema, MAKE_DESK, M
 use Rattle.club_tables.proofs.Common.{MAKE_KEYS_BY_MEMBER, MAKE_OLD_ROOTS, MAKE_BOOKINGS_BY_KEY, DROP_BOOKINGS_BY_KEY}
 use Rattle.club_tables.proofs.statements.MeansLemmas.{Makes, MakesIndex}
 
--- each text creates a table over those before it
+-- each text creates a table over the tables that the earlier texts created
 abbrev pub MakesEach : Schema → List (List ℕ × Table) → Type 0
 MakesEach schema [] = Unit {0}
 MakesEach schema (one ∷ more) = Makes schema one.0 one.1 × MakesEach (created schema one.1) more
@@ -55,12 +55,12 @@ pub never_ran : {S : Type 0} {g : Ghosts S} {old : Held S} {db : Database} {text
 unfolding ExecutesIn
 never_ran {text = text} ran has refused = true≢false (sym (ap is_ok ran.turns.2.1.is) ∙ ap (λ s. is_ok (understood s text)) has ∙ refused)
 
--- the index can be created only once, and dropped only if it exists
+-- the index can't be created twice, and can't be dropped if it doesn't exist
 pub indexes_again : (is_ok (understood club_schema MAKE_BOOKINGS_BY_KEY.now) ≡ false) × (is_ok (understood unindexed_schema DROP_BOOKINGS_BY_KEY.now) ≡ false)
 unfolding understood everything
 indexes_again = (refl, refl)
 
--- the first text is refused over the club's tables, over those without the index, and over those of version 1
+-- the first text is refused over the tables of version 2, with or without the index, and over the tables of version 1
 pub makes_again : (is_ok (understood club_schema MAKE_DESK.now) ≡ false) × (is_ok (understood unindexed_schema MAKE_DESK.now) ≡ false)
     × (is_ok (understood first_schema MAKE_DESK.now) ≡ false)
 unfolding understood everything

@@ -1,4 +1,4 @@
--- The batches that create the tables, migrate those of version 1, and create the index of the bookings.
+-- The batches that create the tables, migrate tables of version 1, and create the index of the bookings.
 use Rattle.club_tables.proofs.Common.{◌≡◌, pos, List, [], ◌∷◌, refl, sym, ap, subst, ◌∙◌, arith, ℕ, true, inl, inr, is_ok, rules, everything, Null, Int, Ghosts}
 use Rattle.club_tables.proofs.Common.{Term, lit, col, Values, Insert, Update, Database, understood, ExecutesIn, HasCleanDisk, Survives, Held, state, inner, end}
 use Rattle.club_tables.proofs.Common.{Table, IsSound, empty_club, Club, ADD_VERSION, SET_VERSION, DROP_BOOKINGS_BY_KEY, no_schema, desk_table, club_schema}
@@ -27,7 +27,7 @@ empty_is_stored : IsStoredAs empty_club no_rows
 empty_is_stored = search rules
 
 module _ {S : Type 0} (g : Ghosts S) (old : Held S) (db : Database) (ran : Ran g 0 table_batch old db) where
-  -- over a database without tables, the batch creates those of the empty club
+  -- over a database without tables, the batch creates the tables of the empty club
   pub made_tables : (state g old).now.schema ≡ no_schema → HoldsClub db empty_club
   made_tables has =
       let t1 = ran.turns in
@@ -77,7 +77,7 @@ module _ {S : Type 0} (g : Ghosts S) (old : Held S) (db : Database) (ran : Ran g
       subst (λ (d : Database). HoldsClub d empty_club) (sym (ran.is ∙ ap (λ h. (state g h).now) t10.3))
       (record { rows = no_rows; holds_rows = holds_rows; storage = empty_is_stored; sound = empty_is_sound })
 
-  -- the batch runs only if there is no version
+  -- the batch runs only if no version could be read
   pub makes_free : HasNoDesk (state g old).now.schema
   unfolding ExecutesIn
   makes_free = desk_made _ (ap is_ok ran.turns.2.1.is)
@@ -95,7 +95,7 @@ unfolding understood everything
 second_means = record { is = refl; plain = (refl, refl) }
 
 module _ {S : Type 0} (g : Ghosts S) (old : Held S) (db : Database) (ran : Ran g 0 migration old db) where
-  -- every row stays, and no key has an older root
+  -- the migration keeps every row, and no key has an older root
   migrated_rows : (rows : Rows) → HoldsRowsVersion1 (state g old).now rows → HoldsRows db rows
   migrated_rows rows holds_rows =
       let t1 = ran.turns in
@@ -138,7 +138,7 @@ holds_first g old db ran clean club others first =
 -- ---- the index of the bookings
 
 module _ {S : Type 0} (g : Ghosts S) (old : Held S) (db : Database) (ran : Ran g 0 index_batch old db) where
-  -- every row stays
+  -- the batch that creates the index keeps every row
   indexed_rows : (rows : Rows) → HoldsRowsWith unindexed_schema (state g old).now rows → HoldsRows db rows
   indexed_rows rows holds_rows =
       let t1 = ran.turns in

@@ -12,7 +12,7 @@ use Rattle.club_tables.proofs.statements.SelectLemmas.{selected, short_permutati
 abbrev pub IsSettled : State → Type 0
 IsSettled state = IsTrue state.is_open → (trees : Trees) → state.may_leave trees → trees ≡ state.committed.trees
 
--- a store that holds the club, and whose committed trees every crash leaves
+-- if the committed tables hold the club, and every crash leaves their trees, the tables represent the club
 pub settles : (now : State) (club : Club) (others : List Club) → (HasCleanDisk now → IsTrue now.is_open → HoldsClub now.committed club)
     → (HasCleanDisk now → IsTrue now.is_open) → now.now ≡ now.committed → IsSettled now → Represents now club others
 settles now club others held opens same settled = search rules
@@ -25,7 +25,7 @@ module _ {S : Type 0} (g : Ghosts S) (IsHeld : Database → Club → Type 0) (st
   earlier : HasCleanDisk (state g new) → HasCleanDisk (state g old)
   earlier = was_clean (state g old) (state g new) _ commits.survives
 
-  -- if the batch is refused, the tables are unchanged, and a crash leaves these or the ones that the batch leaves
+  -- if the batch is refused, the tables are unchanged, and a crash leaves these tables or the tables that the batch creates
   refused : IsKept (state g old) (state g new) → (club : Club) (others : List Club) → RepresentsBy IsHeld (state g old) club others
       → RepresentsBy IsHeld (state g new) club others
   refused kept club others before =
@@ -45,7 +45,7 @@ module _ {S : Type 0} (g : Ghosts S) (IsHeld : Database → Club → Type 0) (st
     survives = may_commit g 0 statements IsOpeningBatch are old new commits.survives;
   }
 
--- the tables that the whole batch leaves hold the club that was found
+-- after all statements of the batch ran, the tables hold the club that was found
 pub holds_found : {S : Type 0} (g : Ghosts S) (old : Held S) (db : Database) → Ran g 0 table_batch old db → HasCleanDisk (state g old)
     → (club : Club) (others : List Club) → IsFound (state g old) club others → HoldsClub db club
 holds_found g old db ran clean club others found =
@@ -58,12 +58,12 @@ holds_found g old db ran clean club others found =
       | inr (inr blank) ↦ subst (HoldsClub db) (sym blank.1) (made_tables g old db ran (ap (λ (d : Database). d.schema) now ∙ blank.0))
     ]
 
--- without tables there is no version
+-- a database without tables has no version
 no_version : is_ok (understood no_schema VERSION.now) ≡ false
 unfolding understood listing_schema everything
 no_version = refl
 
--- over these tables, the version's text is a query of the only row
+-- over these tables, the text for the version is a query of the table that has the version
 abbrev AsksVersion : Schema → Type 0
 AsksVersion schema = Asks schema VERSION.now (select (inner desk_tree end) [] (col 1 1 ∷ [])) (codes "version" ∷ [])
 
@@ -71,7 +71,7 @@ asks_version : AsksVersion club_schema × AsksVersion unindexed_schema × AsksVe
 unfolding understood everything
 asks_version = search rules
 
--- the row of this query is the version
+-- the query for the version returns the row with the version
 version_row : {S : Type 0} (g : Ghosts S) (old : Held S) (rows : List Row) → Asked g VERSION.now [] old rows → (schema : Schema) → AsksVersion schema
     → (db : Database) → (state g old).now ≡ db → db.schema ≡ schema → (version : ℕ) → Holds version_values (db.trees desk_tree) (version ∷ [])
     → rows ≡ version_values version ∷ []
@@ -82,7 +82,7 @@ version_row g old rows asked schema asks db now over version held =
     (asked_reads asked asks (ap (λ (d : Database). d.schema) now ∙ over)) in
     short_permutation (version_values version ∷ []) rows (omega arith) same
 
--- a database whose version was read has the tables of the club that was found
+-- if a version was read from a database, its tables hold the club that was found
 pub version_returned : {S : Type 0} (g : Ghosts S) (old : Held S) (rows : List Row) → HasCleanDisk (state g old) → Asked g VERSION.now [] old rows
     → (club : Club) (others : List Club) → IsFound (state g old) club others → (RepresentsVersion2 (state g old) club others × (rows ≡ version_values 2 ∷ []))
     ⊎ (RepresentsVersion1 (state g old) club others × (rows ≡ version_values 1 ∷ []))

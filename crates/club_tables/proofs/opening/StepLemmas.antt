@@ -6,7 +6,7 @@ use Rattle.club_tables.proofs.Common.{IsOpeningFault, Opens, YieldsRows, FoundRe
 use Rattle.club_tables.proofs.{Common.{IsUnderstood, VERSION, HasValues, version_values}, crashes.SurviveLemmas.{after_one, commits_after, was_clean}}
 use Rattle.std.proofs.Math.Seq.{take-suc, take_all}
 
--- a batch that is refused after a read
+-- the database refuses a batch after a read
 pub batch_failed : {S : Type 0} (g : Ghosts S) (statements : List BoundStatement) → IsOpeningBatch statements → (old mid new : Held S) (fault : StoreFault)
     → IsAfterReadings g old mid → FailsToRun g 0 statements mid new fault → IsOpeningFault g old new fault
 batch_failed g statements are old mid new fault first failed = record { from = mid; after = first; failure = inr (inl (statements, are, failed)) }
@@ -67,14 +67,14 @@ one_at P [] at d within here = absurd (omega arith)
 one_at P (text ∷ texts) zero d within here = inl here
 one_at P (text ∷ texts) (suc at) d within here = inr (one_at P texts at d (omega arith) here)
 
--- the property holds for one of more texts
+-- a property that holds for one of these texts holds for one of more texts
 pub one_more : (P : List ℕ → Type 0) (texts others : List (List ℕ)) → OneOf P texts → OneOf P (texts ++ others)
 one_more P [] others one = absurd one
 one_more P (text ∷ texts) others (inl here) = inl here
 one_more P (text ∷ texts) others (inr there) = inr (one_more P texts others there)
 
 module _ (db : Database) (texts : List (Bor (List ℕ))) where
-  -- one more text
+  -- one more text is a statement
   pub one_understood : (at : ℕ) (d : Bor (List ℕ)) (was : Database) → was ≡ db → at < length texts → All (IsUnderstood db.schema) (map text_at (take at texts))
       → IsUnderstood was.schema (get_or texts at d).now
       → All (IsUnderstood db.schema) (map text_at (take (at + 1) texts))

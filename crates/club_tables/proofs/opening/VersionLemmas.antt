@@ -1,4 +1,4 @@
--- The meanings of the texts for the version and for its table, over any tables.
+-- The meanings of two SQL texts over any tables: the query for the version, and the statement that creates the version's table.
 use Rattle.club_tables.proofs.Common.{◌≡◌, ℕ, List, [], false, Option, None, Ok, Err, inl, inr, refl, sym, subst, ap, ◌∙◌, true≢false, ◌∷◌, Bool, true, codes}
 use Rattle.club_tables.proofs.Common.{is_ok, if◌then◌else◌, cases_Bool, option_or, everything, Schema, Row, Reads, understood, reads_listing, listing_schema}
 use Rattle.club_tables.proofs.Common.{if_select, IsSourceOf, State, Shown, VERSION, MAKE_DESK, YieldsRows, HasNoDesk, arith}
@@ -23,11 +23,11 @@ abbrev formats_by : Checked Compiled → List (List ℕ)
 formats_by (Ok c) = c.formats
 formats_by (Err e) = []
 
--- the compiled query returns only its rows, and doesn't read the time
+-- the compiled query returns nothing besides its rows, and doesn't read the time
 abbrev IsBare : Checked Compiled → Type 0
 IsBare r = (returned_by r ≡ None) × (formats_by r ≡ [])
 
--- the version's text isn't a query on the list of the tables
+-- the text for the version isn't a query over SQLite's own list of tables
 pub version_unlisted : is_ok (if_select (compiled listing_schema VERSION.now)) ≡ false
 unfolding listing_schema everything
 version_unlisted = refl
@@ -56,7 +56,7 @@ version_understood schema c h = elim (cases_Bool (reads_listing schema VERSION.n
       (unlisted, bare.0, bare.1)
 ]
 
--- the rows shown for the version are the query's answer
+-- the rows that SQLite returned for the version are the answer of the query
 pub version_answered : (old new : State) (rows : List Row) → Shown VERSION.now [] old new rows → YieldsRows VERSION.now old.now rows
 unfolding Shown
 version_answered old new rows h =
@@ -65,9 +65,9 @@ version_answered old new rows h =
     let db : it.0 ≡ old.now = subst (λ b. IsSourceOf b old.now it.0) bare.0 it.1 in
     (h.0, h.1.is, subst (λ d. Reads h.0.command d [] rows) db it.2)
 
--- ---- the table of the version
+-- ---- the table that has the version
 
--- the result of compiling a text that was parsed or wasn't
+-- the result of compiling a text, from the result of parsing it
 abbrev compiled_of : Schema → Checked Parsed → Checked Compiled
 compiled_of schema r = and_then r (λ p. and_then (planned schema p) (λ plan. Ok (with_command p plan)))
 
@@ -76,7 +76,7 @@ stopped : (shown : Checked (Option Returning)) (e : CompileError) (p : Parsed) (
     ≡ false
 stopped shown e p formats = grind arith
 
--- a text whose command is refused is refused
+-- a text is refused if its command is refused
 unplanned : (schema : Schema) (p : Parsed) (e : CompileError) → ((base : ℕ) → command schema p.formats base p.statement ≡ Err e)
     → is_ok (compiled_of schema (Ok p)) ≡ false
 unfolding planned meaning
@@ -128,12 +128,12 @@ module _ (schema : Schema) (tables : table_named schema (codes "desk") ≡ None)
     | inr unlisted ↦ rw unlisted (not_compiled (first VERSION.now) version_reads)
   ]
 
--- the command that results, depending on whether an object has the name
+-- the resulting command, which depends on whether an object has the name
 abbrev makes_where : Bool → Option ℕ → Option ℕ → Checked Command
 makes_where kept same other =
     if kept then Err Unsupported else and_then (creates false (codes "desk") same other) (λ is_new. if is_new then Ok CreateTable else Ok Nothing)
 
--- the text creates the table if nothing has its name
+-- the text creates the table if no object has the table's name
 clubdesk_commands : (schema : Schema) (base : ℕ) → and_then (first MAKE_DESK.now) (λ p. command schema p.formats base p.statement)
     ≡ makes_where (is_attached schema (codes "desk")) (option_or (table_named schema (codes "desk")) (view_named schema (codes "desk")))
     (index_named schema (codes "desk"))
@@ -162,7 +162,7 @@ module _ (schema : Schema) where
   is_commanded (Ok p) (Err e) is h = absurd (true≢false (sym h ∙ unplanned schema p e is))
   is_commanded (Err e) (Err other) is h = absurd cc
 
-  -- if the table could be created, nothing had its name, and so there is no version
+  -- if the table could be created, no object had its name, and so there is no version
   pub desk_made : is_ok (understood schema MAKE_DESK.now) ≡ true → HasNoDesk schema
   unfolding compiled
   desk_made h =
