@@ -1,4 +1,4 @@
--- The effect of each change of the club on the tables.
+-- The effects on the tables of each change of the club.
 
 pub mod AddLemmas
 pub mod ChangeLemmas

@@ -1,4 +1,4 @@
--- Rows found by their keys, such as those of slots, after the row of one key is inserted or updated.
+-- Rows found by their keys, such as the rows of slots, after the row of one key is inserted or updated.
 use Rattle.club_tables.proofs.Common.{◌≡◌, ◌≢◌, Bool, true, false, cond, if◌then◌else◌, Option, Some, None, List, [], ◌∷◌, ◌++◌, map, refl, sym, ap, subst, ◌∙◌}
 use Rattle.club_tables.proofs.Common.{true≢false, ℤ, ◌==◌, find, option_map, AllPairs, unwrap_or, option_or, list_any, false_from_ne_true, or_parts}
 use Rattle.club_tables.proofs.Common.{find-append, list_any_at, bytes_eq, nat_list_eq_equiv, nat_eq_equiv, or-false, Value, Int, first_key, Table, conflicts}
@@ -34,7 +34,7 @@ module _ {X K : Type 0} (key_of : X → K) (same : K → K → Bool) (same_keys 
   lone rows once = apart_from_pairs IsLone rows (λ i j d less low both.
       once i j d less low (same_keys _ key both.0 ∙ sym (same_keys _ key both.1)))
 
-  -- the key's row is changed, or else this row is appended
+  -- the key's row is changed, or this row is appended if the key has no row
   module _ (changed : X → X) (kept : (x : X) → key_of (changed x) ≡ key_of x) (first : X) (of_key : key_of first ≡ key) where
     abbrev put : Bool → List X → List X
     put any rows = if any then map changed rows else rows ++ first ∷ []
@@ -51,7 +51,7 @@ module _ {X K : Type 0} (key_of : X → K) (same : K → K → Bool) (same_keys 
     found_changed : (name : K) (rows : List X) → named name (map changed rows) ≡ option_map changed (named name rows)
     found_changed name rows = find_mapped (λ (x : X). same (key_of x) name) changed rows ∙ (λ i. option_map changed (find (λ x. same (kept x i) name) rows))
 
-    -- the value shown for the row that is found, or for none, changes only for this key
+    -- the value shown for the found row, or for no row, changes only for this key
     module _ {V : Type 0} (shown : Option X → V) (next : V → V) (shows : (x : X) → is_of x ≡ true → shown (Some (changed x)) ≡ next (shown (Some x)))
         (stays : (x : X) → is_of x ≡ false → changed x ≡ x) (makes : shown (Some first) ≡ next (shown None)) where
       unchanged : (name : K) (rows : List X) → same key name ≡ false → (o : Option X) → named name rows ≡ o → shown (option_map changed o) ≡ shown o
@@ -114,7 +114,7 @@ module _ (slot : Slot) (change : SlotUse → SlotUse) where
   abbrev pub new_row : SlotRow
   new_row = record { slot = slot; held = change no_slot_use }
 
-  -- the row of the slot is changed, or inserted
+  -- the row of the slot is changed, or is inserted if it is missing
   abbrev pub put_slot : List SlotRow → List SlotRow
   put_slot rows = if list_any (λ (row : SlotRow). same_slot row.slot slot) rows then map changed rows else rows ++ new_row ∷ []
 

@@ -32,7 +32,7 @@ sum_picked w q (x ∷ xs) =
     (elim (q x) as (λ b. sum_by w (cond b (x ∷ filter q xs) (filter q xs)) ≡ cond b (w x) 0 + sum_by w (filter q xs))
     [ true ↦ sum_by-cons w x (filter q xs) | false ↦ omega arith ])
 
--- one more element
+-- the sum over a list with one more element
 pub sum_more : {X : Type 0} (w : X → ℕ) (q : X → Bool) (xs : List X) (x : X) → sum_by w (filter q (xs ++ x ∷ [])) ≡ sum_by w (filter q xs) + cond (q x) (w x) 0
 sum_more {X} w q xs x =
     let c : X → ℕ = λ y. cond (q y) (w y) 0 in
@@ -46,7 +46,7 @@ module _ {X : Type 0} (p : X → Bool) (f : X → X) (kept : (x : X) → p x ≡
   none_changed [] h = refl
   none_changed (x ∷ xs) h = let e = kept x h.0 in let more = none_changed xs h.1 in cc
 
-  -- the sum after the only element that passes has changed
+  -- the sum after the only element that passes was changed
   sum_changed : (c : X → ℕ) (xs : List X) (x : X) → Apart IsAlone xs → find p xs ≡ Some x → sum_by c (map f xs) + c x ≡ sum_by c xs + c (f x)
   sum_changed c [] x alone is = absurd cc
   sum_changed c (y ∷ xs) x alone is = go (sum_changed c xs x alone.1) (p y) refl is
@@ -66,9 +66,9 @@ module _ {X : Type 0} (p : X → Bool) (f : X → X) (kept : (x : X) → p x ≡
       let c : X → ℕ = λ y. cond (q y) (w y) 0 in
       omega (arith, sum_picked w q (map f xs), sum_picked w q xs, sum_changed c xs x alone is)
 
--- ---- whose a booking is
+-- ---- the owner of a booking
 
--- the owner of a key is the member whose name is in its row
+-- a key's owner is the member whose name is in the key's row
 pub owner_is : (club : Club) → IsSound club → (key member name : List ℕ) → IsOwnedBy member key club → is_key_of name club key ≡ bytes_eq name member
 owner_is club sound key member name owned =
     let names : Key → Bool = λ row. bytes_eq row.name key in

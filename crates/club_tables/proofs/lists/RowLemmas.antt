@@ -1,4 +1,4 @@
--- A row that is appended to those of a list.
+-- A row that is appended to the rows of a list.
 use Rattle.club_tables.proofs.Common.{◌≡◌, ℤ, pos, ◌+ℤ◌, List, [], ◌∷◌, ◌++◌, Less, refl, sym, ap, ◌∙◌, arith, int_cmp_is, AllByRecursion, AllZip, fold, Int}
 use Rattle.club_tables.proofs.Common.{value_cmp_total, value_cmp-Int, id_in, IsRowOf, Holds}
 use Rattle.std.proofs.lemmas.Int.{ints}
@@ -23,7 +23,7 @@ after = fold (λ _ r. id_in (rowid r) +ℤ pos 1)
 one_below : (r : Row) → IsKeyed r → value_cmp (rowid r) (Int (id_in (rowid r) +ℤ pos 1)) ≡ Less
 one_below r h = rw h.1 (value_cmp-Int h.0 (h.0 +ℤ pos 1) ∙ sym (int_cmp_is h.0 (h.0 +ℤ pos 1) Less (omega (arith, ints))))
 
--- each rowid is below the next one
+-- each rowid is less than the rowid of the next inserted row
 all_below : (z : ℤ) (rows : List Row) → IsTable rows → AllByRecursion IsKeyed rows → AllByRecursion (λ r. value_cmp (rowid r) (Int (after z rows)) ≡ Less) rows
 all_below z [] table keyed = tt
 all_below z (r ∷ []) table keyed = (one_below r keyed.0, tt)

@@ -11,7 +11,7 @@ use Rattle.std.proofs.{Common.int_cmp, lemmas.{List.Kept.AllPairs-filter, Map.Lo
 use Rattle.std.specs.Cmp.Lexicographic.{slice_cmp}
 use Rattle.club_core.specs.Sheet.{is_on, Precedes}
 
--- ---- the order of the sheet
+-- ---- the order of the day sheet
 
 abbrev sheet_cmp : Booking → Booking → Ordering
 sheet_cmp =
@@ -28,7 +28,7 @@ sheet_total =
 number_less : (m n : ℕ) → nat_cmp m n ≡ Less → m < n
 number_less m n h = ranked m n Less (sym h)
 
--- compare by the first part and, if those are equal, by the others
+-- two values are compared by their first parts and, if those are equal, by their other parts
 by_parts : {A B C : Type 0} (o p : Ordering) → (o ≡ Less → A) → (o ≡ Equal → B) → (B → is_gt p ≡ false → C) → is_gt (ordering_then o p) ≡ false
     → A ⊎ (B × C)
 by_parts Less p f g h fails = inl (f refl)
@@ -38,7 +38,7 @@ by_parts Greater p f g h fails = absurd cc
 abbrev Differ : Booking → Booking → Type 0
 Differ a b = ¬ ((a.key ≡ b.key) × (a.number ≡ b.number))
 
--- if two bookings have different names, the first precedes the second if it isn't greater
+-- if two bookings have different keys or numbers, the first precedes the second unless it compares as greater
 precedes : (a b : Booking) → is_gt (sheet_cmp a b) ≡ false → Differ a b → Precedes a b
 precedes a b fails differ =
     by_parts _ _ (λ h. h) (exact_bytes a.slot.facility b.slot.facility) (λ _.
@@ -48,7 +48,7 @@ precedes a b fails differ =
 
 -- ---- the statement
 
--- the sort key of the sheet
+-- the sort key of the day sheet
 abbrev sheet_key : Booking → Row
 sheet_key b = Text b.slot.facility ∷ whole b.slot.hour ∷ Text b.key ∷ whole b.number ∷ []
 

@@ -1,4 +1,4 @@
--- The most persons in a facility's slots, from rows and from bookings.
+-- The highest number of persons in a slot of a facility, from rows and from bookings.
 use Rattle.club_tables.proofs.Common.{◌≡◌, ◌≤◌, ◌+◌, ◌<◌, ℕ, Bool, true, false, ◌&&◌, not, None, Option, Some, List, [], ◌∷◌, ◌++◌, length, get_or, take, map}
 use Rattle.club_tables.proofs.Common.{refl, sym, ap, ◌∙◌, subst, filter, fold, max, sum_by, option_map, unwrap_or, bytes_eq, bytes_eq-Decides, and_parts, inl}
 use Rattle.club_tables.proofs.Common.{inr, arith, everything, Text, Row, column, select, is_given, inner, end, col, codes, IsPermutation, All-get_or, Has}
@@ -10,7 +10,7 @@ use Rattle.club_tables.proofs.{queries.KeyLemmas.same_slots, statements.SelectLe
 use Rattle.club_rows.specs.Limits.{places_limit}
 use Rattle.std.proofs.lemmas.List.{take_more, Folds.fold-map, Sorted.{Contains-permutation, IsPermutation-sym}, Sums.fold-append}
 
--- ---- the greatest of a number and of what a function gives for each element
+-- ---- the maximum of a number and the values of a function over a list
 
 module _ {X : Type 0} (f : X → ℕ) where
   abbrev pub greatest : ℕ → List X → ℕ
@@ -37,7 +37,7 @@ module _ {X : Type 0} (f : X → ℕ) where
       let two = below_all n (greatest n xs) ys (from_first n xs) (λ x h. each_below n xs x (had x h)) in
       omega (arith, one, two)
 
--- ---- by the rows of the slots
+-- ---- the highest number of persons, from the rows of the slots
 
 module _ (club : Club) (rows : Rows) (stored : IsStoredAs club rows) (facility : List ℕ) where
   abbrev is_of : SlotRow → Bool
@@ -84,7 +84,7 @@ module _ (club : Club) (rows : Rows) (stored : IsStoredAs club rows) (facility :
       few_by b.slot (has_filtered (is_at facility) club.bookings b has).1) in
       omega (arith, one, two)
 
-  -- the result of the statement
+  -- the rows that the statement returns have the highest number of persons
   pub most_by_answer : (answer : List Row) → IsPermutation (map shown (filter is_of rows.slots)) answer → most_in answer ≡ most
   most_by_answer answer same =
       let value = λ (row : Row). whole_in (column row 0) in
@@ -102,7 +102,7 @@ taken_shown g old facility rows clean asked club others represents =
     (asked_shows asked asks tables slot_values (is_of club tables.rows tables.storage facility) (shown club tables.rows tables.storage facility) (λ id row.
     and-true _ ∙ text_equal row.slot.facility facility) (λ id row. refl) tables.rows.slots tables.holds_rows.held.slots)
 
--- ---- a loop over the rows
+-- ---- a loop over the rows that computes the maximum
 
 pub most_more : (rows : List Row) (at : ℕ) (row : Row) → at < length rows → row ≡ get_or rows at row
     → most_in (take (at + 1) rows) ≡ max (most_in (take at rows)) (whole_in (column row 0))

@@ -5,18 +5,18 @@ use Rattle.club_tables.proofs.{Common.{ReadsClub, Asked, IsKept, BoundStatement,
 use Rattle.club_tables.proofs.crashes.SurviveLemmas.{kept_when_idle}
 use Rattle.club_tables.specs.Answers.{Answers}
 
--- a read without earlier reads
+-- the state of a connection before any read
 pub at_once : {S : Type 0} (g : Ghosts S) (held : Held S) → HasCleanDisk (state g held) → IsAfterReadings g held held
 at_once g held clean = record { same = kept_when_idle (state g held); clean = clean; fault_count = omega arith }
 
--- a read that can decode fewer rows
+-- a read that fails also fails if it can decode fewer rows
 pub fewer_read : {S : Type 0} (g : Ghosts S) (statement : BoundStatement) (P Q : List Row → Type 0) (old new : Held S) (fault : StoreFault)
     → ((rows : List Row) → Q rows → P rows) → FailsToRead g statement P old new fault → FailsToRead g statement Q old new fault
 fewer_read g statement P Q old new fault through (inl failed) = inl failed
 fewer_read g statement P Q old new fault through (inr it) =
     inr (record { rows = it.rows; query = it.query; unread = λ q. it.unread (through it.rows q); fault_is = it.fault_is })
 
--- a result that is true of the current club, from the rows of its statement
+-- the result of a read is correct for the current club if it is correct for the rows of the read's statement
 pub read_by : {S A : Type 0} (g : Ghosts S) (reading : Reading) (IsAnswer : List Row → A → Type 0) (old new : Held S) (result : Result A StoreFault)
     {IsShown : Club → List Row → Type 0} {IsReturned : Club → A → Type 0} → IsKept (state g old) (state g new)
     → Survives (state g old) (state g new) (λ _. ⊥)
@@ -38,7 +38,7 @@ read_by {A = A} g reading IsAnswer old new result {IsReturned = IsReturned} kept
           record { from = old; after = at_once g old (earlier clean); reading = reading; failure = failed }) (fails clean);
     }
 
--- an answer that is true of the current club, from its rows
+-- an answer is correct for the current club if it is correct for the rows of its statement
 pub read_answer : {S A : Type 0} {g : Ghosts S} (reading : Reading) {IsAnswer : List Row → A → Type 0} {old new : Held S} {result : Result A StoreFault}
     {IsShown : Club → List Row → Type 0} {IsReturned : Club → A → Type 0} → Answers g (reading_statement reading) IsAnswer old new result
     → IsKept (state g old) (state g new) → Survives (state g old) (state g new) (λ _. ⊥)

@@ -12,7 +12,7 @@ use Rattle.sqlite_schema.specs.declared.schema.Index.{Index}
 use Rattle.sqlite_catalog.specs.Change.{indexed}
 use Rattle.sqlite_rules.specs.Action.{Writes as ActionWrites}
 
--- a part that returned a value didn't stop early
+-- if a part returned a value, it didn't stop early
 pub went : {B E R : Type 0} {b : B} {Stops : E → Type 0} → ((stop : E) × Stops stop × (Ok b ≡ Err stop)) ⊎ R → R
 went (inl stopped) = absurd (let e = stopped.2 in cc)
 went (inr on) = on
@@ -78,7 +78,7 @@ indexes {schema = schema} {text = text} {at = at} {table = table} {index = index
 
 -- ---- a statement that writes rows of one table
 
--- the effect of the statement
+-- the effect of a statement that writes rows of one table
 pub record Leaves (schema : Schema) (new : State) (count : ℕ) (one : Written) : Type 0 where
   pub schema_is : new.now.schema ≡ schema
   pub trees_are : new.now.trees ≡ one.trees
@@ -115,7 +115,7 @@ wrote_rows {schema = schema} {text = text} {command = command} means at listed o
       done.1,
     )
 
--- an edit that triggers no reference is the whole change
+-- if an edit triggers no foreign key, the statement changes nothing else
 pub edited_alone : {schema : Schema} (old : State) {new : State} {count : ℕ} {one : Written} → Leaves schema new count one → (edit : Edit) (next : Trees)
     → works schema Enforced 0 edit.table.tree (taken_by old.now.trees edit) edit.news ≡ [] → ActionWrites schema Enforced old.now.trees edit (Ok next)
     → one.trees ≡ next → Wrote schema old.now new.now edit.table.tree × (new.now.trees edit.table.tree ≡ edited old.now.trees edit)

@@ -1,4 +1,4 @@
--- The meaning of a text for sqlite, and the tables after a statement that wrote to one of them.
+-- The meaning of a text for SQLite, and the tables after a statement that wrote to one of them.
 use Rattle.club_tables.proofs.Common.{◌≡◌, ◌≢◌, ℕ, List, Ok, Some, slice_get, false, Bool, true, ◌==◌, if◌then◌else◌, [], ◌∷◌, refl, sym, subst, ◌∙◌}
 use Rattle.club_tables.proofs.Common.{true≢false, ◌≤◌, AllByRecursion, unsigned_Decides, Table, Database, IsDatabase, Schema, Command, CreateTable, CreateIndex}
 use Rattle.club_tables.proofs.Common.{created, understood, IsPlain, command_of, statement_of, Trees, State, Executes, Facility, Key, Booking, club_schema}
@@ -30,13 +30,13 @@ pub record MakesIndex (schema : Schema) (text : List ℕ) (at : ℕ) (table : Ta
   pub whole : statement_of text (understood schema text) ≡ text
   pub defined : index_defined_by table text ≡ Ok index
 
--- a statement wrote to the table of this tree, and kept the others
+-- a statement wrote to the table of this tree, and kept the other tables
 pub record Wrote (tables : Schema) (old new : Database) (tree : ℕ) : Type 0 where
   pub schema : new.schema ≡ tables
   pub others : AllByRecursion (λ (t : Table). t.tree ≢ tree → new.trees t.tree ≡ old.trees t.tree) tables.tables
   pub sound : IsDatabase new
 
--- over tables that hold these rows, a statement writes a row, and then they hold the next rows
+-- over tables that hold the first rows, the statement writes a row and leaves tables that hold the second rows
 abbrev pub Steps : BoundStatement → Rows → Rows → Type 1
 Steps statement rows next =
     (old new : State) (count : ℕ) → HoldsRows old.now rows → Executes statement.0 statement.1 old new (Ok count) → HoldsRows new.now next × (1 ≤ count)
@@ -54,7 +54,7 @@ trees_kept {number = number} {rows = rows} kept held = record {
   olders = subst (λ rs. Holds older_values rs rows.olders) (sym kept.1.1.1.1.1.1.0) held.olders;
 }
 
--- the trees, with the tree of one table unchanged
+-- the new trees, but with the old tree of one table
 abbrev pub but : ℕ → Trees → Trees → Trees
 but tree old new at = if at == tree then old at else new at
 
