@@ -16,7 +16,7 @@ use Rattle.club_store.specs.Crash.{RepresentsOne, OneIsFound, HoldsOneOf, CrashL
 abbrev IsSettled : State → Type 0
 IsSettled state = (trees : Trees) → IsTrue state.is_open → state.may_leave trees → trees ≡ state.committed.trees
 
--- trees list only one schema
+-- no trees belong to two schemas
 pub schema_once : (one other : Schema) (trees : Trees) → IsSound one trees → IsSound other trees → one ≡ other
 schema_once one other trees p q =
     let read = reads (trees catalog_tree) one p.lists in
@@ -34,14 +34,14 @@ is_database db club (inl (inr unindexed)) = unindexed.holds_rows.database
 is_database db club (inr (inl first)) = first.holds_rows.database
 is_database db club (inr (inr blank)) = blank.2
 
--- the trees that a crash left are a database
+-- the trees that a crash left belong to a database
 pub left_is_sound : (trees : Trees) (clubs : List Club) → IsLeftOf trees clubs → (schema : Schema) × IsSound schema trees
 left_is_sound trees [] left = absurd left
 left_is_sound trees (club ∷ clubs) (inl here) = (here.0.schema, subst (IsSound here.0.schema) here.1 (is_database here.0 club here.2))
 left_is_sound trees (club ∷ clubs) (inr there) = left_is_sound trees clubs there
 
 module _ (now : State) (opened : Opens now) (live : IsLive now) (settled : IsSettled now) where
-  -- the connection that is opened holds the club that was left
+  -- the opened connection has the club that the crash left
   holds_left : (club : Club) → (db : Database) → db.trees ≡ now.committed.trees → HoldsClubAnyVersion db club → HoldsClubAnyVersion now.committed club
   holds_left club db same holds =
       subst (λ (d : Database). HoldsClubAnyVersion d club) (database_once db now.committed (is_database db club holds) (live opened.is_open).1 same) holds
@@ -65,7 +65,7 @@ module _ (now : State) (opened : Opens now) (live : IsLive now) (settled : IsSet
   one_found next keeps (club ∷ clubs) (inl here) = inl (keeps club [] (finds club (holds_left club here.0 here.1 here.2)))
   one_found next keeps (club ∷ clubs) (inr there) = inr (one_found next keeps clubs there)
 
--- the files that a crash leaves hold a database of one of the clubs
+-- files that a crash leaves hold a database of one of the clubs
 pub files_hold : {D : Type 0} {g : Ghosts D} (it : FileStore D g) (clubs : List Club) (left : Image) → CrashLeaves it clubs left → ∥ HoldsOneOf left clubs ∥₁
 files_hold it clubs left crash =
     let sound : AreDatabases (recovers it) = λ trees allowed. left_is_sound trees clubs (crash.one_of crash.clean trees allowed) in
@@ -95,7 +95,7 @@ new_is_blank start opened none found sound = elim found.reads [
   | inr new ↦ blank_if_unlisted opened.committed sound new.1.1
 ]
 
--- if only one club is possible, that club is represented
+-- if only one club is possible, the state represents that club
 pub the_one : (state : State) (club : Club) → RepresentsOne state (club ∷ []) → Represents state club []
 the_one state club (inl represents) = represents
 the_one state club (inr none) = absurd none

@@ -7,22 +7,22 @@ use Rattle.sqlite.specs.FileStore as file
 use Rattle.club_core.specs.Club.{Club}
 use Rattle.club_tables.specs.Tables.{IsLeftOf, Represents, IsFound}
 
--- after any crash the store is a database of one of these clubs
+-- after any crash, the store is a database of one of these clubs
 abbrev pub LeavesOneOf : {S : Type 0} → Ghosts S → S → List Club → Type 0
 LeavesOneOf g store clubs = IsClean (g.view store) → (trees : Trees) → g.recovers store trees → IsLeftOf trees clubs
 
--- a connection that was just opened, over a database of one of these clubs
+-- a newly opened connection, over a database of one of these clubs
 pub record IsOpenedOn (state : State) (clubs : List Club) : Type 0 where
   pub opening : Opens state
   pub live : IsLive state
   pub left : IsLeftOf state.committed.trees clubs
 
--- the state represents one of these clubs, and that club is recovered after every crash
+-- the state represents one of these clubs, and every crash recovers that club
 abbrev pub RepresentsOne : State → List Club → Type 0
 RepresentsOne state [] = ⊥
 RepresentsOne state (club ∷ clubs) = Represents state club [] ⊎ RepresentsOne state clubs
 
--- one of these clubs is found, and that club is recovered after every crash
+-- the state has one of these clubs, and every crash recovers that club
 abbrev pub OneIsFound : State → List Club → Type 0
 OneIsFound state [] = ⊥
 OneIsFound state (club ∷ clubs) = IsFound state club [] ⊎ OneIsFound state clubs
@@ -31,7 +31,7 @@ OneIsFound state (club ∷ clubs) = IsFound state club [] ⊎ OneIsFound state c
 abbrev pub HoldsOneOf : Image → List Club → Type 0
 HoldsOneOf image clubs = (trees : Trees) × HoldsDatabase image trees × IsLeftOf trees clubs
 
--- a crash may leave this image of a store's file and log; the store's possible crash states are these clubs
+-- a crash may leave this image of a store's file and log; these clubs are the store's possible crash states
 pub record CrashLeaves {D : Type 0} {g : disk.Ghosts D} (store : FileStore D g) (clubs : List Club) (left : Image) : Type 0 where
   pub clean : IsClean (file.view store)
   pub numbers : IsTrue (file.view store).is_numbered

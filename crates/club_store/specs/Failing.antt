@@ -10,7 +10,7 @@ pub record FailsToChange {S : Type 0} (g : Ghosts S) (change : Change) (old : He
   pub error_if_fits : (club : Club) (others : List Club) → represents_in g old club others → FitsClub change club
       → IsRunFault g 0 (statements_of change) old new fault
 
--- between the two states, a read or this change failed with this fault
+-- a read or this change failed with this fault, between the old state and the new one
 abbrev pub Fails : {S : Type 0} → Ghosts S → Option Change → Held S → StoreFault → Held S → Type 0
 Fails g None old fault new = IsReadFault g old new fault
 Fails g (Some change) old fault new = FailsToChange g change old fault new

@@ -12,22 +12,22 @@ use Rattle.club_tables.specs.Transaction.{MayCommit, IsKept, fault_by}
 use Rattle.club_store.specs.{Crash.{HoldsOneOf, IsOpenedOn, RepresentsOne, OneIsFound}, Held.busy, declared.remains.Remains.Remains}
 use Rattle.club_store.specs.declared.remains.Remains.TheVariants as remains
 
--- the possible crash states are those from before the opening, and the one that its batch left
+-- the possible crash states are those from before the opening, and the state that the opening's batch left
 abbrev pub SurvivesOpening : {S : Type 0} → Ghosts S → Held S → Held S → Type 0
 SurvivesOpening g old new = Survives (state g old) (state g new) (MayCommit g 0 IsOpeningBatch old)
 
--- A connection that is returned because its tables aren't accepted. The same club is found in it, and it still holds the same database if it isn't in a
--- transaction. The possible crash states are those from before the opening, and the one that its batch left.
+-- A connection that an opening returns because it doesn't accept the tables. The connection still has the same club, and the same database if it isn't in a
+-- transaction. The possible crash states are those from before the opening, and the state that the opening's batch left.
 pub record IsHandedBack {S : Type 0} (g : Ghosts S) (old new : Held S) : Type 0 where
   pub clean : HasCleanDisk (state g new) → HasCleanDisk (state g old)
   pub kept : HasCleanDisk (state g new) → KeepsClub (found_in g) old new
   pub mode : new.in_transaction ≡ old.in_transaction
   pub same_database : old.in_transaction ≡ false → IsKept (state g old) (state g new)
   pub survives : SurvivesOpening g old new
-  -- a database that a crash left with one of these clubs is found to hold exactly that club
+  -- if a crash left a database with one of these clubs, the connection has exactly that club
   pub again : HasCleanDisk (state g new) → (clubs : List Club) → IsOpenedOn (state g old) clubs → OneIsFound (state g new) clubs
 
--- the files held a database, its tables were accepted, and the store represents the club that was found in it
+-- the files held a database, its tables were accepted, and the store represents the club of that database
 pub record OpensFrom {D : Type 0} {g : disk.Ghosts D} (start : Image) (now : Held (FileStore D g)) : Type 0 where
   pub was : Held (FileStore D g)
   pub opening : IsOpened was
@@ -35,49 +35,49 @@ pub record OpensFrom {D : Type 0} {g : disk.Ghosts D} (start : Image) (now : Hel
   pub acceptance : IsTrue (file_state now).is_open → AcceptsTables over_files was now
   pub survives : SurvivesOpening over_files was now
   pub represents : (club : Club) (others : List Club) → IsFound (file_state was) club others → Represents (file_state now) club others
-  -- files that a crash left with one of these clubs are opened as exactly that club
+  -- if a crash left files with one of these clubs, the store represents exactly that club
   pub again : (clubs : List Club) → HoldsOneOf start clubs → RepresentsOne (file_state now) clubs
   -- a new file gets the tables of the empty club
   pub fresh : start.db ≡ [] → Represents (file_state now) empty_club []
 
--- why a database in memory isn't opened: there is no memory for it, or its tables can't be made
+-- the reasons why a database in memory isn't opened: memory ran out, or its tables can't be created
 abbrev pub IsMemoryFault : StoreFault → Type 0
 IsMemoryFault fault = (fault ≡ Memory) ⊎ ((was : _) × (now : _) × IsEmpty (state over_memory was) × IsOpeningFault over_memory was now fault)
 
--- The fault of a file that isn't opened is that of the error. Nothing is left if there was no file or no memory; otherwise the file and its log were refused.
+-- The fault of a file that isn't opened, from its error. Nothing remains if the file didn't exist or memory ran out; else the file and its log were refused.
 pub record IsFileFault {D : Type 0} {g : disk.Ghosts D} (start : Image) (rest : Option (Leftover D g)) (fault : StoreFault) : Type 0 where
   pub error : Error
   pub without_files : rest ≡ None → (error ≡ SqliteFailure CannotOpen) ⊎ (error ≡ SqliteFailure OutOfMemory)
   pub cause : IfSome rest (λ left. (files : Files D) × (image_of g files ≡ start) × (IsCleanLeft left → FailsToOpenFiles files left error))
   pub fault_is : fault ≡ fault_by error
 
--- the fault of a connection whose tables aren't accepted
+-- the fault of a connection with tables that an opening doesn't accept
 pub record IsTablesFault {D : Type 0} {g : disk.Ghosts D} (start : Image) (now : Held (FileStore D g)) (fault : StoreFault) : Type 0 where
   pub was : Held (FileStore D g)
   pub opening : HasCleanDisk (file_state was) → IsOpened was × FindsIn start (file_state was)
   pub failure : HasCleanDisk (file_state now) → IsOpeningFault over_files was now fault
 
--- the fault of a file that another program has open, that isn't opened, or whose tables aren't accepted
+-- the fault of a file that isn't opened: another program has it open, the engine refuses it, or its tables aren't accepted
 abbrev pub FailsFrom : {D : Type 0} {g : disk.Ghosts D} → Image → Remains D g → StoreFault → Type 0
 FailsFrom start remains.Held fault = fault ≡ fault_by busy
 FailsFrom start (remains.Files rest) fault = IsFileFault start rest fault
 FailsFrom start (remains.Connection now) fault = IsTablesFault start now fault
 
--- the remains of files that weren't opened and held this image; the engine's contract says what a crash may leave of them
+-- the remains of files that held this image and weren't opened; the engine's contract says what a crash may leave of these files
 pub record IsLeftOfFiles {D : Type 0} {g : disk.Ghosts D} (start : Image) (left : Leftover D g) : Type 0 where
   pub files : Files D
   pub held : image_of g files ≡ start
   pub one_outcome : (image : Image) → outcomes g files.log files.db image → image ≡ start
   pub leaves : IsCleanLeft left → LeavesFiles files left
 
--- the returned connection to a file whose tables aren't accepted: the file's club is found in it
+-- the returned connection to a file whose tables aren't accepted; the connection still has the file's club
 pub record IsLeftOpen {D : Type 0} {g : disk.Ghosts D} (start : Image) (now : Held (FileStore D g)) : Type 0 where
   pub was : Held (FileStore D g)
   pub opening : HasCleanDisk (file_state was) → IsOpened was × FindsIn start (file_state was)
   pub back : IsHandedBack over_files was now
   pub again : HasCleanDisk (file_state now) → (clubs : List Club) → HoldsOneOf start clubs → OneIsFound (file_state now) clubs
 
--- the remains of files that held this image, if they aren't opened
+-- the remains of files that held this image and weren't opened
 abbrev pub LeavesFrom : {D : Type 0} {g : disk.Ghosts D} → Image → Remains D g → Type 0
 LeavesFrom start remains.Held = Unit {0}
 LeavesFrom start (remains.Files rest) = IfSome rest (IsLeftOfFiles start)

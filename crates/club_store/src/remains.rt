@@ -8,7 +8,7 @@ use sqlite_disk::Disk;
 /// The connection or the files that a failed opening returns.
 #[derive(Drop)]
 pub enum Remains<D: Disk> {
-    /// Nothing: another program has the file open.
+    /// No remains: another program has the file open.
     Held,
     /// The file and its log, which weren't opened; `None` if they didn't exist.
     Files(Option<Leftover<D>>),
@@ -16,7 +16,7 @@ pub enum Remains<D: Disk> {
     Connection(Connection<FileStore<D>>),
 }
 
-/// Returns what is left of a file that wasn't opened, depending on the error.
+/// Returns the remains of a file that wasn't opened. The error decides which remains there are.
 pub(crate) fn remains_of<D: Disk>(error: &Error, left: Option<Leftover<D>>) -> Remains<D>
     ensures { IsRemainsOf error.now left result }
 {

@@ -37,7 +37,7 @@ use std::marker::Model;
 use std::rt::HostRuntime;
 
 /// The tables of a club over a connection. Between calls, the connection isn't in a transaction.
-/// Contracts see it as the connection.
+/// Contracts describe the store by its connection.
 #[derive(Drop)]
 pub struct Store<S: Alter> {
     pub(crate) tables: Tables<S>,
@@ -73,8 +73,8 @@ impl Store<MemStore> {
 
 impl<Q: Start> Store<FileStore<FileFrom<Q>>> {
     /// Opens the tables in the file at a path, and creates the file if it is missing. `start`
-    /// represents the contents of the file and its log. On failure, it returns the fault with the
-    /// connection that `adopt` refused or with the files that weren't opened. It returns only the
+    /// represents the contents of the file and its log. On failure, returns the fault with the
+    /// connection that `adopt` refused, or with the files that weren't opened. Returns only the
     /// fault if another program has the file open. The path `:memory:` names no file and fails with
     /// `Storage`.
     pub fn open_file(
@@ -104,10 +104,10 @@ impl<Q: Start> Store<FileStore<FileFrom<Q>>> {
 }
 
 impl<S: Alter + Drop> Store<S> {
-    /// Takes over a connection whose database has the tables of a club. An empty database gets the
-    /// tables of an empty club, and version 1 is migrated. On failure nothing is changed, and it
-    /// returns the fault with the connection. The fault is `Storage` for another version, other
-    /// tables, or a connection in a transaction.
+    /// Takes over a connection whose database has the tables of a club. Creates the tables of an
+    /// empty club in an empty database, and migrates tables of version 1. On failure, changes
+    /// nothing, and returns the fault with the connection. The fault is `Storage` for another
+    /// version, other tables, or a connection in a transaction.
     pub fn adopt(
         alloc: Global,
         connection: Connection<S>,
@@ -144,9 +144,9 @@ impl<S: Alter + Drop> Store<S> {
         }
     }
 
-    /// Consumes the connection, and returns the engine's store below it. After a crash that store
-    /// holds the current club or one of the possible crash states. This covers a crash during a
-    /// call, which is a disk that fails from that point on.
+    /// Consumes the connection, and returns the engine's store below it. After a crash, the
+    /// engine's store holds the current club or one of the possible crash states. A crash during a
+    /// call is also covered: the disk then fails from that point on.
     pub fn into_store(self) -> S
         ensures was_clean { IsClean (S.Store.view result) → HasCleanDisk (state S.Store self) }
         ensures numbered { IsClean (S.Store.view result) → IsTrue
@@ -162,15 +162,15 @@ impl<S: Alter + Drop> Store<S> {
 }
 
 impl<S: Alter> Store<S> {
-    /// Returns the connection, unchanged.
+    /// Returns the connection, which is unchanged.
     pub fn into_connection(self) -> Connection<S>
         ensures { result ≡ self }
     {
         self.tables.into_connection()
     }
 
-    /// Returns the key of this name; `None` if there is none. A row outside its limits is a fault
-    /// of storage.
+    /// Returns the key with this name; `None` if no key has this name. Fails with `Storage` if the
+    /// row is outside its limits.
     pub fn key(&mut self, name: &Name) -> Result<Option<Key>, StoreFault>
         ensures reads { ReadsClub S.Store self.old self.new result
             (λ club key. key ≡ key_named name.now club) }
@@ -183,8 +183,8 @@ impl<S: Alter> Store<S> {
         Ok(Some(Key::new(row, older)))
     }
 
-    /// Returns the member of this name; `None` if there is none. A row outside its limits is a
-    /// fault of storage.
+    /// Returns the member with this name; `None` if no member has this name. Fails with `Storage`
+    /// if the row is outside its limits.
     pub fn member(&mut self, name: &Name) -> Result<Option<Member>, StoreFault>
         ensures reads { ReadsClub S.Store self.old self.new result
             (λ club member. member ≡ member_named name.now club) }
@@ -196,8 +196,8 @@ impl<S: Alter> Store<S> {
         }
     }
 
-    /// Returns the member of this name with its balance, in points; `None` if there is none. A row
-    /// outside its limits is a fault of storage.
+    /// Returns the member with this name and its balance, in points; `None` if no member has this
+    /// name. Fails with `Storage` if the row is outside its limits.
     pub fn account(&mut self, member: &Name) -> Result<Option<MemberAccount>, StoreFault>
         ensures reads { ReadsClub S.Store self.old self.new result
             (λ club account. account ≡ account_named member.now club) }
@@ -212,8 +212,8 @@ impl<S: Alter> Store<S> {
         }
     }
 
-    /// Returns how many of a member's bookings are open at a moment: not cancelled, in slots that
-    /// begin later.
+    /// Returns the number of a member's open bookings at a moment. A booking is open if it isn't
+    /// cancelled and its slot begins later.
     pub fn open_count(&mut self, member: &Name, moment: Moment) -> Result<u64, StoreFault>
         ensures reads { ReadsClub S.Store self.old self.new result
             (λ club count. count ≡ count_to_come moment (bookings_of member.now club)) }
@@ -221,7 +221,7 @@ impl<S: Alter> Store<S> {
         self.tables.open_count(member, moment)
     }
 
-    /// Returns the points that a key has spent.
+    /// Returns the points that a key has spent: the total cost of its bookings.
     pub fn spent(&mut self, key: &Name) -> Result<u64, StoreFault>
         ensures reads { ReadsClub S.Store self.old self.new result
             (λ club spent. spent ≡ spent_under key.now club.bookings) }
@@ -229,8 +229,8 @@ impl<S: Alter> Store<S> {
         self.tables.spent(key)
     }
 
-    /// Returns the facility of this name; `None` if there is none. A row outside its limits is a
-    /// fault of storage.
+    /// Returns the facility with this name; `None` if no facility has this name. Fails with
+    /// `Storage` if the row is outside its limits.
     pub fn facility(&mut self, name: &Name) -> Result<Option<Facility>, StoreFault>
         ensures reads { ReadsClub S.Store self.old self.new result
             (λ club facility. facility ≡ facility_named name.now club) }
@@ -239,8 +239,8 @@ impl<S: Alter> Store<S> {
         self.tables.facility(name)
     }
 
-    /// Returns the most persons in any slot of the facility of this name, on any day; 0 if nobody
-    /// booked one.
+    /// Returns the highest number of persons in any slot of the facility with this name, on any
+    /// day. Returns 0 if nobody booked such a slot.
     pub fn most_taken(&mut self, facility: &Name) -> Result<u32, StoreFault>
         ensures reads { ReadsClub S.Store self.old self.new result
             (λ club most. most ≡ most_taken_in facility.now club.bookings) }
@@ -248,7 +248,7 @@ impl<S: Alter> Store<S> {
         self.tables.most_taken(facility)
     }
 
-    /// Returns the use of a slot: the persons who booked it, and whether it is closed.
+    /// Returns the use of a slot: the number of persons who booked it, and whether it is closed.
     pub fn slot(&mut self, slot: &Slot) -> Result<SlotUse, StoreFault>
         ensures reads { ReadsClub S.Store self.old self.new result
             (λ club found. found ≡ slot_use club slot.now) }
@@ -266,8 +266,8 @@ impl<S: Alter> Store<S> {
         self.tables.day(self.alloc, day)
     }
 
-    /// Returns the facility of a request's slot; `None` if it is unknown or the request has no
-    /// slot.
+    /// Returns the facility of a request's slot; `None` if the facility is unknown or the request
+    /// has no slot.
     fn facility_for(&mut self, request: &Request) -> Result<Option<Facility>, StoreFault>
         ensures reads { ReadsClub S.Store self.old self.new result
             (λ club facility. facility ≡ (state_of club (request_slot request.now)).facility) }
@@ -279,7 +279,7 @@ impl<S: Alter> Store<S> {
         }
     }
 
-    /// Returns the use of a request's slot. Without a slot, nothing is used.
+    /// Returns the use of a request's slot; without a slot, an open slot without persons.
     fn use_for(&mut self, request: &Request) -> Result<SlotUse, StoreFault>
         ensures reads { ReadsClub S.Store self.old self.new result
             (λ club found. found ≡ (state_of club (request_slot request.now)).held) }
@@ -293,8 +293,8 @@ impl<S: Alter> Store<S> {
         }
     }
 
-    /// Returns the booking of a key under the request's number; `None` if there is no number, or no
-    /// booking.
+    /// Returns the key's booking with the request's number; `None` if the request has no number or
+    /// the key has no such booking.
     fn booking_for(&mut self, key: &Name, request: &Request) -> Result<Option<Booking>, StoreFault>
         ensures reads { ReadsClub S.Store self.old self.new result
             (λ club found. found ≡ option_and_then
@@ -308,10 +308,10 @@ impl<S: Alter> Store<S> {
         }
     }
 
-    /// Returns the key of this name with its older root, and its view of a request at a moment. The
-    /// view has what the key has spent, its booking under the number, its member's row, balance and
-    /// open bookings, and the slot's state. Returns `None` if the key is unknown. A row outside its
-    /// limits is a fault of storage.
+    /// Returns the key with this name and its older root, and the view of a request at a moment.
+    /// The view has the key's spent points and its booking with the request's number; the member's
+    /// row, balance and open bookings; and the slot's state. Returns `None` if the key is unknown.
+    /// Fails with `Storage` if a row is outside its limits.
     pub fn view(
         &mut self,
         key: &Name,
@@ -348,16 +348,16 @@ impl<S: Alter> Store<S> {
         Ok(Some(KeyView { key, view }))
     }
 
-    /// Applies a change that fits the club, in one transaction: its values are those of the club's
-    /// rows, and the club after it is sound. Fails without effect if the change doesn't fit. If the
-    /// call fails for another reason, the club is unchanged, but after a crash the store may hold
-    /// the changed club.
+    /// Applies a change in one transaction. The change must fit the club: its values are those of
+    /// the club's rows, and the changed club is sound. A change that doesn't fit fails without
+    /// effect. If the call fails for another reason, the club is unchanged, but a crash may still
+    /// leave the changed club.
     ///
     /// # Errors
     ///
-    /// Fails if the database refused a statement or the commit. A change that doesn't fit has a
+    /// Fails if the database refuses a statement or the commit. A change that doesn't fit has a
     /// value outside its limits, or a statement that breaks a rule of the tables or writes no row.
-    /// It fails with `Storage`, unless memory was refused first.
+    /// Such a change fails with `Storage`, unless memory was refused first.
     pub fn apply(&mut self, change: &Change) -> Result<(), StoreFault>
         ensures makes { ChangesClub S.Store change.now self.old self.new result }
     {
@@ -395,8 +395,8 @@ impl<S: Alter> Store<S> {
         }
     }
 
-    /// Returns the booking of a key under a number; `None` if there is none. A row outside its
-    /// limits is a fault of storage.
+    /// Returns a key's booking with this number; `None` if the key has no such booking. Fails with
+    /// `Storage` if the row is outside its limits.
     pub fn booking(
         &mut self,
         key: &Name,
@@ -425,7 +425,7 @@ impl<S: Alter> Store<S> {
         self.tables.add_credit(member, points)
     }
 
-    /// Takes points off a member's credit, in one transaction. Fails as `apply` does.
+    /// Subtracts points from a member's credit, in one transaction. Fails as `apply` does.
     pub fn take_credit(&mut self, member: &Name, points: u32) -> Result<(), StoreFault>
         ensures makes { ChangesClub S.Store (TakeCredit member.now points)
             self.old self.new result }
@@ -433,7 +433,7 @@ impl<S: Alter> Store<S> {
         self.tables.take_credit(member, points)
     }
 
-    /// Gives a member a new quota, in one transaction. Fails as `apply` does.
+    /// Sets a member's quota, in one transaction. Fails as `apply` does.
     pub fn replace_quota(&mut self, member: &Name, quota: u8) -> Result<(), StoreFault>
         ensures makes { ChangesClub S.Store (ReplaceQuota member.now quota)
             self.old self.new result }
@@ -448,7 +448,7 @@ impl<S: Alter> Store<S> {
         self.tables.insert_facility(facility)
     }
 
-    /// Gives a facility new numbers, in one transaction. Fails as `apply` does.
+    /// Sets a facility's places, price and hours, in one transaction. Fails as `apply` does.
     pub fn replace_numbers(
         &mut self,
         facility: &Name,
@@ -464,23 +464,23 @@ impl<S: Alter> Store<S> {
             .replace_numbers(facility, places, price, opens, shuts)
     }
 
-    /// Inserts a key, in one transaction. Fails as `apply` does, and with `Storage` if the key has
-    /// an older root.
+    /// Inserts a key, in one transaction. Fails as `apply` does. Also fails with `Storage` if the
+    /// key has an older root.
     pub fn insert_key(&mut self, key: &Key) -> Result<(), StoreFault>
         ensures makes { ChangesClub S.Store (InsertKey key.now) self.old self.new result }
     {
         self.tables.insert_key(key)
     }
 
-    /// Marks a key revoked, in one transaction. Fails as `apply` does.
+    /// Marks a key as revoked, in one transaction. Fails as `apply` does.
     pub fn revoke_key(&mut self, key: &Name) -> Result<(), StoreFault>
         ensures makes { ChangesClub S.Store (MarkRevoked key.now) self.old self.new result }
     {
         self.tables.revoke_key(key)
     }
 
-    /// Gives a key a new root, in one transaction. Its former root becomes its older root, is good
-    /// until the moment, and replaces any earlier older root. Fails as `apply` does.
+    /// Sets a key's root, in one transaction. The former root stays valid until the given moment,
+    /// and replaces any older root that is stored. Fails as `apply` does.
     pub fn replace_root(
         &mut self,
         key: &Name,
@@ -502,14 +502,14 @@ impl<S: Alter> Store<S> {
         self.tables.replace_root(&rotation)
     }
 
-    /// Marks a slot closed, in one transaction. Fails as `apply` does.
+    /// Marks a slot as closed, in one transaction. Fails as `apply` does.
     pub fn close_slot(&mut self, slot: &Slot) -> Result<(), StoreFault>
         ensures makes { ChangesClub S.Store (MarkClosed slot.now) self.old self.new result }
     {
         self.tables.close_slot(slot)
     }
 
-    /// Marks a slot open, in one transaction. Fails as `apply` does.
+    /// Marks a slot as open, in one transaction. Fails as `apply` does.
     pub fn open_slot(&mut self, slot: &Slot) -> Result<(), StoreFault>
         ensures makes { ChangesClub S.Store (MarkOpen slot.now) self.old self.new result }
     {

@@ -11,14 +11,14 @@ use Rattle.club_store.specs.{Crash.{CrashLeaves, IsOpenedOn, LeavesOneOf, Repres
 use Rattle.club_tables.specs.{ReadsAndChanges.sound_in, Tables.Represents}
 use Rattle.club_gate.specs.Runs.{IsWithinOneEvent, MayBeLeft, DeskResponse, club_left}
 
--- The state represents exactly one of these clubs, and no crash leaves another. An accepted repeat gets the same reply.
+-- The state represents exactly one of these clubs, and no crash leaves another club. An accepted repeat of a request gets the same reply.
 pub record RecoversOne (state : State) (clubs : List Club) (events : List machine.Event) (returned : List DeskResponse) : Type 0 where
   pub club : Club
   pub among : Contains clubs club
   pub represents : Represents state club []
   pub again : RepeatsServedReplies club events returned
 
--- Suppose that a store could recover to these clubs. A store that is opened on the files that a crash left of it recovers exactly one of them.
+-- Suppose that a store could recover to these clubs. A store that is opened on the files after a crash recovers exactly one of the clubs.
 abbrev pub SurvivesCrash : {D E : Type 0} {d : disk.Ghosts D} {e : disk.Ghosts E} → FileStore D d → Held (FileStore E e) → List Club
     → List machine.Event → List DeskResponse → Type 0
 SurvivesCrash before after clubs events returned =
@@ -28,14 +28,14 @@ SurvivesCrash before after clubs events returned =
 abbrev pub CrashMayLeave : {D : Type 0} {d : disk.Ghosts D} → FileStore D d → Image → Type 0
 CrashMayLeave store left = IsClean (file.view store) × (file.state store).may_leave left
 
--- A store is opened on a file and a log of this image by `Store::adopt`, over a connection that was opened on them.
+-- A store that `Store::adopt` opened, over a connection to a file and a log of this image.
 pub record IsAdoptedFrom {E : Type 0} {e : disk.Ghosts E} (start : Image) (now : Held (FileStore E e)) : Type 0 where
   pub was : Held (FileStore E e)
   pub opening : IsOpened was
   pub found : FindsIn start (file_state was)
   pub again : (clubs : List Club) → IsOpenedOn (file_state was) clubs → RepresentsOne (file_state now) clubs
 
--- a store is opened on a file and a log of this image by `Store::open_file` or `Store::adopt`
+-- a store that `Store::open_file` or `Store::adopt` opened on a file and a log of this image
 abbrev pub IsReopened : {E : Type 0} {e : disk.Ghosts E} → Image → Held (FileStore E e) → Type 0
 IsReopened start now = OpensFrom start now ⊎ IsAdoptedFrom start now
 
@@ -53,7 +53,7 @@ pub record RecoversAfterRun {E : Type 0} {e : disk.Ghosts E} (opened : Held (Fil
   pub again : IsWithinOneEvent (club_left club events returned) now → RepeatsServedReplies now events returned
   pub represents : sound_in over_files opened now []
 
--- Every store that is opened on the file and log that a crash may leave of this store, after a run from this club.
+-- After a run from this club and a crash, every store that is opened on the file and log that the crash left recovers as `RecoversAfterRun` says.
 abbrev pub OpensAgain : {D E : Type 0} {d : disk.Ghosts D} → disk.Ghosts E → FileStore D d → Club → List Club → List machine.Event → List DeskResponse → Type 0
 OpensAgain {E = E} e store club others events returned =
     (left : Image) (opened : Held (FileStore E e)) → CrashMayLeave store left → IsReopened left opened

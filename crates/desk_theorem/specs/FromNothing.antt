@@ -12,23 +12,23 @@ use Rattle.club_gate.specs.declared.event.EventReply.{EventReply}
 abbrev pub InMemory : Type 0
 InMemory = Held MemStore
 
--- a read (`None`) or a change in memory failed with this fault
+-- a read or a change in memory failed with this fault; `None` stands for a read
 abbrev pub fails_in_memory : Option Change → InMemory → StoreFault → InMemory → Type 0
 fails_in_memory = Fails over_memory
 
--- the events were handled in order: each was answered by a step, or the store itself failed during it
+-- the events were handled in order: a step answered each event, or the store itself failed during the event
 abbrev pub AreHandledInMemory : InMemory → List Event → List EventReply → InMemory → Type 0
 AreHandledInMemory = AreHandled (λ held. HasCleanDisk (state over_memory held)) (sound_in over_memory) fails_in_memory
 
--- the tables of an empty club in memory handled the events
+-- a desk over the tables of an empty club in memory handled the events
 pub record HandlesFromNothing (events : List Event) (replies : List EventReply) : Type 0 where
   pub start : InMemory
   pub last : InMemory
   pub empty : Represents (state over_memory start) empty_club []
   pub handled : AreHandledInMemory start events replies last
 
--- The tables handled the events and then a request. If the reply is `Unavailable`, either the store itself failed, at a read or at the request's change; or the
--- text is JSON, and the store is unchanged.
+-- A desk handled the events and then a request. If the reply is `Unavailable`, there are two cases. The store itself failed, at a read or at the request's
+-- change. Or the text is JSON, and the store is unchanged.
 pub record RepliesFromNothing (events : List Event) (replies : List EventReply) (text : List ℕ) (request : Request) (moment : ℕ) (reply : Reply)
     : Type 0 where
   pub run : HandlesFromNothing events replies

@@ -19,8 +19,8 @@ use sqlite::{Alter, FileFrom, FileStore, Start};
 use sqlite_disk::Disk;
 
 /// The crash law. Reopening the files after a crash recovers exactly one of the clubs that the old
-/// store could recover to. If each of these clubs repeats the replies to served requests, so does
-/// the recovered one. Every later crash recovers the same club.
+/// store could recover to. If all of these clubs repeat the replies to served requests, so does the
+/// recovered club. Every later crash recovers the same club.
 pub fn served_survives_a_crash<D: Disk, Q: Start>(
     before: &FileStore<D>,
     after: &Store<FileStore<FileFrom<Q>>>,
@@ -32,8 +32,8 @@ pub fn served_survives_a_crash<D: Disk, Q: Start>(
     one_club_recovered(before, after);
 }
 
-// Runs a list of events at a desk over any store of the engine, and returns the responses and the
-// store. Making these calls in a function over a file would double the time of its proof.
+// Runs a list of events at a desk over any store of the engine. Returns the responses and the
+// store. If a function over a file made these calls, its proof would take twice as long.
 fn run_to_end<S: Alter + Drop>(
     mut desk: Desk<Store<S>>,
     events: &[Event],
@@ -57,18 +57,18 @@ fn run_to_end<S: Alter + Drop>(
 }
 
 /// Runs a list of events at a desk over a file, and returns the responses and the store. The
-/// machine may crash during the run or after it; a crash during a call is a disk that fails from
-/// that point on. A store that is then opened on the files, over a disk `E`, has the changes of all
+/// machine may crash during the run or after it. In a crash during a call, the disk fails from that
+/// point on. A store that is then opened on the files, over a disk `E`, has the changes of all
 /// answered events.
 ///
 /// # Errors
 ///
-/// Fails if there was no memory for the replies. Then no event was answered.
+/// Fails if there was no memory for the replies. In this case, no event was answered.
 pub fn run_and_leave<D: Disk + Drop, E: Disk>(
     desk: Desk<Store<FileStore<D>>>,
     events: &[Event],
 ) -> Result<(Vec<EventReply>, FileStore<D>), StoreFault>
-    // The replies are those of the machine to the events that didn't fail.
+    // The replies are those of the specified machine to the events that didn't fail.
     ensures answered { IfOk result (λ left. IsClean (file.view left.1)
         → (club : Club) (others : List Club)
         → sound_in over_files desk club others
@@ -76,9 +76,9 @@ pub fn run_and_leave<D: Disk + Drop, E: Disk>(
         → IsAnsweredRun club seen (responses_of left.0.items)) }
     // After any crash, a store opened by `open_file` or `adopt` holds the club of the answered
     // events, or that club after one event that failed since the last change. If the run changed
-    // nothing, it may also hold a club that a crash could have left before the run. A repeat of a
-    // served request gets the same reply and changes nothing, in the club of the answered events
-    // and in each other club one event away from it.
+    // nothing, the store may also hold a club that a crash could have left before the run. A repeat
+    // of a served request gets the same reply and changes nothing, in the club of the answered
+    // events and in each other club one event away from it.
     ensures again { IfOk result (λ left. (club : Club) (others : List Club)
         → sound_in over_files desk club others
         → (seen : List machine.Event) → AreEventsOf events.now seen

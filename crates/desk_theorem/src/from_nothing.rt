@@ -1,4 +1,4 @@
-//! A desk over an empty database in memory. No clause has a precondition on the desk or its tables.
+//! A desk over an empty database in memory. No clause requires anything of the desk or its tables.
 
 ghost use Rattle.std.specs.Prelude.{IfErr, IfOk, List};
 ghost use Rattle.club_core.specs.Club.{empty_club};
@@ -19,12 +19,12 @@ use std::alloc::Global;
 ///
 /// # Errors
 ///
-/// Fails if there was no memory before the first event, or the tables couldn't be made.
+/// Fails if there was no memory before the first event, or if the tables couldn't be created.
 pub fn run_from_nothing(alloc: Global, events: &[Event]) -> Result<Vec<EventReply>, StoreFault>
     ensures lawful { IfOk result (λ replies. (seen : List machine.Event)
         → AreEventsOf events.now seen
         → IsLawfulRun empty_club seen (responses_of replies.items)) }
-    // Each event was answered by one step, or the store failed during it, as with `ask` and
+    // One step answered each event, or the store failed during the event, as it can in `ask` and
     // `office`.
     ensures handled { IfOk result (λ replies. HandlesFromNothing events.now replies.items) }
     ensures fault { IfErr result IsMemoryFault }
@@ -50,7 +50,7 @@ pub struct RunAndReply {
 ///
 /// # Errors
 ///
-/// Fails if there was no memory before the first event, or the tables couldn't be made.
+/// Fails if there was no memory before the first event, or if the tables couldn't be created.
 pub fn reply_from_nothing(
     alloc: Global,
     events: &[Event],
@@ -60,17 +60,17 @@ pub fn reply_from_nothing(
     ensures run { IfOk result (λ returned. (seen : List machine.Event)
         → AreEventsOf events.now seen
         → IsLawfulRun empty_club seen (responses_of returned.replies.items)) }
-    // The request is answered from the club that the answered events leave.
+    // The reply is based on the club that the answered events leave.
     ensures lawful { IfOk result (λ returned. (seen : List machine.Event)
         → AreEventsOf events.now seen
         → IsLawful (club_left empty_club seen (responses_of returned.replies.items))
         words.now.pass.now words.now.request moment returned.reply) }
-    // Each event was answered by one step, or the store failed during it. If the reply is
+    // One step answered each event, or the store failed during the event. If the reply is
     // `Unavailable`, the store failed, or there was no memory for a text in JSON.
     ensures handled { IfOk result (λ returned. RepliesFromNothing events.now
         returned.replies.items words.now.pass.now words.now.request moment returned.reply) }
     ensures fault { IfErr result IsMemoryFault }
-    // Even without memory, a text that isn't JSON and isn't a pass is refused with its own fault.
+    // Even without memory, a text that is neither JSON nor a pass is refused with its own fault.
     ensures in_place { IfOk result
         (λ returned. RefusesByFormFault words.now.pass.now returned.reply) }
 {

@@ -39,7 +39,7 @@ first_returned show p xs rows low same =
     short_permutation (map show (filter p xs)) rows (omega (arith, length-map (filter p xs) show)) same
     ∙ ap (map show) (one_listed p xs low)
 
--- if names are unique, at most one element has a name
+-- if names are unique, at most one element has this name
 pub one_named : {X : Type 0} (name_of : X → List ℕ) (name : List ℕ) (xs : List X) → AllPairs (λ a b. name_of a ≢ name_of b) xs
     → length (filter (λ x. bytes_eq (name_of x) name) xs) ≤ 1
 one_named {X} name_of name xs unique =

@@ -49,7 +49,7 @@ day_after moment day hour low later =
     let reached : moment / 1440 ≤ day = omega arith in
     grind (arith, nat_tests)
 
--- the result of a multiplication, and below of an addition, if it fits in 64 bits
+-- the result of a multiplication that fits in 64 bits; the next lemma is for an addition
 product : (m n : ℕ) → m * n < 2 ^ 63 → binary (Arith Mul) (Int (pos m)) (Int (pos n)) ≡ Int (pos (m * n))
 unfolding binary
 product m n low = rw (lt-ltb (m * n) (2 ^ 63) low) refl
@@ -109,7 +109,7 @@ owned_count member test show club rows unique h =
 
 -- ---- the statements
 
--- the statement's test whether a booking's slot is still to come
+-- the statement's test that a booking's slot is still to come
 abbrev comes : ℕ → Booking → Bool
 comes moment b =
     not b.cancelled

@@ -149,7 +149,7 @@ pub pairs_from_apart : {X : Type 0} (R : X → X → Type 0) (xs : List X) → A
 pairs_from_apart R [] apart = λ i j d less low. absurd (omega arith)
 pairs_from_apart R (x ∷ xs) apart = AllPairs-cons R x xs (All-from_recursion (R x) xs apart.0) (pairs_from_apart R xs apart.1)
 
--- R holds for each pair of mapped values, the second of a later element
+-- R holds for the mapped values of each element and each later element
 pub pairs_mapped : {X Y : Type 0} (R : Y → Y → Type 0) (f : X → Y) (back : Y → X) (xs : List X) → AllPairs (λ a b. R (f a) (f b)) xs → AllPairs R (map f xs)
 pairs_mapped R f back xs pairs = pairs_from_apart R (map f xs) (ascending-map R f xs (apart_from_pairs (λ a b. R (f a) (f b)) xs pairs))
 
