@@ -144,9 +144,9 @@ impl<S: Alter + Drop> Store<S> {
         }
     }
 
-    /// Consumes the connection, and returns the engine's store below it. After a crash, the
-    /// engine's store holds the current club or one of the possible crash states. A crash during a
-    /// call is also covered: the disk then fails from that point on.
+    /// Consumes the connection, and returns the engine's store below the connection. After a crash,
+    /// the engine's store holds the current club or one of the possible crash states. A crash
+    /// during a call is also covered: the disk then fails from that point on.
     pub fn into_store(self) -> S
         ensures was_clean { IsClean (S.Store.view result) → HasCleanDisk (state S.Store self) }
         ensures numbered { IsClean (S.Store.view result) → IsTrue
@@ -479,8 +479,8 @@ impl<S: Alter> Store<S> {
         self.tables.revoke_key(key)
     }
 
-    /// Sets a key's root, in one transaction. The former root stays valid until the given moment,
-    /// and replaces any older root that is stored. Fails as `apply` does.
+    /// Sets a key's root, in one transaction. The former root becomes the older root, is valid
+    /// until the given moment, and replaces any earlier one. Fails as `apply` does.
     pub fn replace_root(
         &mut self,
         key: &Name,

@@ -1,5 +1,5 @@
-//! The tables over a connection. They run a query, prepare a statement, or run statements that
-//! write in one transaction.
+//! Calls on the tables over a connection: they run a query, prepare a statement, or run statements
+//! that write in one transaction.
 
 ghost use Rattle.std.specs.Prelude.{◌≡◌, false, map, IfOk, IfErr, OnOk};
 ghost use Rattle.sqlite.specs.{Held.state, State.{HasCleanDisk, Survives}, Values.bound};

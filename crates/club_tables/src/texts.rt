@@ -54,7 +54,7 @@ pub(crate) const MAKE_BOOKINGS: &str = "\
         PRIMARY KEY (pass_key, number)\
     ) STRICT";
 
-/// Creates the table of older roots. An older root is the one before the key's last rotation.
+/// Creates the table of older roots: the roots that keys had before their last rotation.
 pub(crate) const MAKE_OLD_ROOTS: &str = "\
     CREATE TABLE old_roots (\
         pass_key TEXT NOT NULL PRIMARY KEY REFERENCES keys (name), \
@@ -177,7 +177,7 @@ pub(crate) const CLOSE_SLOT: &str = "\
     ON CONFLICT (facility, day, hour) \
     DO UPDATE SET closed = 1 WHERE closed = 0";
 
-/// Opens a slot, even if it is already open. The row refers to the slot's facility.
+/// Opens a slot, even if it is already open. A foreign key requires that its facility exists.
 pub(crate) const OPEN_SLOT: &str = "\
     INSERT INTO slots (facility, day, hour, closed, taken) \
     VALUES (?1, ?2, ?3, 0, 0) \

@@ -163,8 +163,8 @@ impl<S: Alter> Tables<S> {
         self.write_one(texts::REVOKE_KEY, &[ValueRef::Text(key.as_bytes())])
     }
 
-    /// Sets a key's root. The former root replaces any older root that is stored for the key. Fails
-    /// without effect if the given former root isn't the key's current root.
+    /// Sets a key's root. The former root becomes the older root, and replaces any earlier one.
+    /// Fails without effect if the given former root isn't the key's current root.
     pub fn replace_root(&mut self, rotation: &Rotation) -> Result<(), StoreFault>
         ensures commits { Commits S.Store 1
             (replacing_root rotation.now.key rotation.now.root rotation.now.older)
