@@ -1,4 +1,4 @@
--- How the tables are created, migrated and opened.
+-- Lemmas on how an opening creates, migrates and accepts the tables.
 
 pub mod MakesLemmas
 pub mod MakingLemmas

@@ -1,4 +1,4 @@
--- The effects on the tables of two kinds of statements: those that insert a row, and those that insert or update the row of a slot or of an older root.
+-- The effects of statements that insert a row, or that insert or update the row of a slot or of an older root.
 use Rattle.club_tables.proofs.Common.{pos, List, [], map, ◌∷◌, ◌++◌, refl, sym, subst, ◌≡◌, ◌≢◌, ◌≤◌, ℕ, ◌/◌, ℤ, true, false, if◌then◌else◌, Some, Option}
 use Rattle.club_tables.proofs.Common.{length, ap, ◌∙◌, Bool, filter, slice_get, None, find, cond, AllPairs, option_map, AllByRecursion, bytes_eq}
 use Rattle.club_tables.proofs.Common.{bytes_eq-Decides, and-true, or-false, everything, Null, Int, Text, Table, Term, lit, col, op2, eval_all, Values, Insert}
