@@ -9,7 +9,7 @@ use Rattle.club_store.specs.declared.remains.Remains.TheVariants as remains
 abbrev pub busy : Error
 busy = SqliteFailure DatabaseBusy
 
--- The remains of a file that wasn't opened, by the error. Nothing remains if another program has the file open; else the engine's remains are returned.
+-- The remains of a file that wasn't opened, by the error. There are none if another program has the file open; else they are what the engine returns.
 pub data IsRemainsOf {D : Type 0} {g : disk.Ghosts D} (error : Error) (rest : Option (Leftover D g)) (left : Remains D g) : Type 0 where
   held : error ≡ busy → rest ≡ None → left ≡ remains.Held → IsRemainsOf error rest left
   files : (rest ≡ None → error ≢ busy) → left ≡ remains.Files rest → IsRemainsOf error rest left

@@ -44,7 +44,7 @@ pub record OpensFrom {D : Type 0} {g : disk.Ghosts D} (start : Image) (now : Hel
 abbrev pub IsMemoryFault : StoreFault → Type 0
 IsMemoryFault fault = (fault ≡ Memory) ⊎ ((was : _) × (now : _) × IsEmpty (state over_memory was) × IsOpeningFault over_memory was now fault)
 
--- The fault of a file that isn't opened, from its error. Nothing remains if the file didn't exist or memory ran out; else the file and its log were refused.
+-- The fault of a file that isn't opened, by the error. Nothing remains without a file or without memory; else the engine refused the file and its log.
 pub record IsFileFault {D : Type 0} {g : disk.Ghosts D} (start : Image) (rest : Option (Leftover D g)) (fault : StoreFault) : Type 0 where
   pub error : Error
   pub without_files : rest ≡ None → (error ≡ SqliteFailure CannotOpen) ⊎ (error ≡ SqliteFailure OutOfMemory)

@@ -43,7 +43,7 @@ pub record FailsToRun {S : Type 0} (g : Ghosts S) (fewest : ℕ) (all : List Bou
   pub fault_count : (state g mid).faults ≤ (state g new).faults
 
 -- Statements that run in their own transaction. Each must insert or update at least this many rows. Either all ran and were committed, or the committed state
--- is unchanged. In the second case, a crash may still leave their effects.
+-- is unchanged. In the second case, a crash may still leave the statements' effects.
 pub record Commits {S : Type 0} (g : Ghosts S) (fewest : ℕ) (all : List BoundStatement) (old new : Held S) (result : Result (Unit {0}) StoreFault)
     : Type 0
   where

@@ -141,8 +141,8 @@ pub record FailsToPrepareOne {S : Type 0} (g : Ghosts S) (texts : List (List ℕ
   pub after : IsAfterReadings g old from
   pub failure : OneOf (λ text. FailsToPrepare g text from new fault) texts
 
--- The failures of an opening. Memory runs out while it reads the version or looks for the index. The database refuses a batch that creates the tables, migrates
--- them, or creates the index. A row can't be read by its key, or the version is neither 1 nor 2.
+-- The failures of an opening. Memory runs out while the opening reads the version or looks for the index. The database refuses a batch that creates the tables,
+-- migrates them, or creates the index. A row can't be read by its key, or the version is neither 1 nor 2.
 abbrev pub FailsToTake : {S : Type 0} → Ghosts S → Held S → Held S → StoreFault → Type 0
 FailsToTake g old new fault =
     ((fault ≡ Memory) × (FailsToAsk g (version_text, []) old new fault ⊎ FailsToPrepare g index_text old new fault))

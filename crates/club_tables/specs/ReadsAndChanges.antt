@@ -26,8 +26,8 @@ version_2_in g held = RepresentsVersion2 (state g held)
 abbrev pub found_in : {S : Type 0} → Ghosts S → Held S → Club → List Club → Type 0
 found_in g held = IsFound (state g held)
 
--- A read-only call. Its result is correct for the current club. The club, the possible crash states and an idle connection are unchanged. The fault of a failed
--- call is that of a refused statement's error, or Storage if the rows can't be decoded.
+-- A read-only call. Its result is correct for the current club. The club, the possible crash states and an idle connection are unchanged. A failed call returns
+-- the fault of a refused statement's error, or Storage if the rows can't be decoded.
 pub record ReadsClub {S A : Type 0} (g : Ghosts S) (old new : Held S) (result : Result A StoreFault) (IsReturned : Club → A → Type 0) : Type 0 where
   pub returns : HasCleanDisk (state g new) → Returns (represents_in g) old result IsReturned
   pub kept : HasCleanDisk (state g new) → KeepsClub (represents_in g) old new

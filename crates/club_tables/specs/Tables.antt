@@ -71,7 +71,7 @@ without_olders trees tree = if tree == olders_tree then [] else trees tree
 abbrev pub HoldsRowsVersion1 : Database → Rows → Type 0
 HoldsRowsVersion1 db = HoldsRowsBy first_schema 1 (without_olders db.trees) db
 
--- tables of one form hold exactly the rows of the club, and the club is sound
+-- tables of the form `HoldThem` hold exactly the rows of the club, and the club is sound
 pub record HoldsClubBy (HoldThem : Database → Rows → Type 0) (db : Database) (club : Club) : Type 0 where
   pub rows : Rows
   pub holds_rows : HoldThem db rows

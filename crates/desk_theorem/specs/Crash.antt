@@ -44,8 +44,8 @@ abbrev pub leaves_sound_in : {S : Type 0} → Ghosts S → S → Club → List C
 leaves_sound_in g store club others =
     All IsSound (club ∷ others) × IsTrue (g.view store).is_numbered × LeavesOneOf g store (club ∷ others)
 
--- After a run and a crash, a reopened store holds exactly one club, and no further crash leaves another one. It is the club that the answered events leave, or
--- another possible crash state of the run. If it is that club or one event away from it, a repeat of a served request gets the same reply and changes nothing.
+-- After a run and a crash, a reopened store holds exactly one club, and no further crash leaves another one. This club is that of the answered events, or
+-- another crash state of the run. If it is the former, or one event away from the former, a repeat of a served request gets the same reply and changes nothing.
 pub record RecoversAfterRun {E : Type 0} {e : disk.Ghosts E} (opened : Held (FileStore E e)) (club : Club) (others : List Club) (events : List machine.Event)
     (returned : List DeskResponse) : Type 0 where
   pub now : Club

@@ -1,4 +1,4 @@
--- The statement for a debit. After it, the tables store the rows of the club after the debit.
+-- The statement for a debit. After the statement, the tables store the rows of the club after the debit.
 use Rattle.club_tables.proofs.Common.{rules, ◌≡◌, ◌+◌, ◌-◌, ◌≤◌, ◌<◌, ◌^◌, ℕ, pos, Bool, true, if◌then◌else◌, List, [], ◌∷◌, length, map, refl, sym, ap, ◌∙◌}
 use Rattle.club_tables.proofs.Common.{Some, subst, find, filter, Contains, All-contains, bytes_eq, and_parts, everything, Int, Text, Binary, Arith, Compare}
 use Rattle.club_tables.proofs.Common.{Add, Sub, binary, Row, Term, col, op2, inner, end, Update, understood, Club, IsSound, Member, member_named, MemberRow}

@@ -1,4 +1,4 @@
--- The statement that sets a facility's numbers. After it, the tables store the rows of the changed club.
+-- The statement that sets a facility's numbers. After the statement, the tables store the rows of the changed club.
 use Rattle.club_tables.proofs.Common.{rules, ◌≡◌, ◌≢◌, ◌≤◌, ◌<◌, ℕ, pos, min, Bool, true, false, not, ◌&&◌, None, Option, Some, List, [], ◌∷◌, length, map}
 use Rattle.club_tables.proofs.Common.{refl, sym, ap, ◌∙◌, subst, find, filter, list_all, option_map, unwrap_or, bytes_eq, bytes_eq-Decides, and_parts}
 use Rattle.club_tables.proofs.Common.{everything, Int, Text, Binary, Compare, Eq, binary, Row, Term, col, op2, holds, Query, inner, end, counted, Update}

@@ -22,7 +22,7 @@ module _ {S : Type 0} (g : Ghosts S) (all : List BoundStatement) (some : 0 < len
   held : (db : Database) → Ran g 1 all old db → HoldsClub (state g old).now club
   held db ran = subst (λ (d : Database). HoldsClub d club) (sym (represents.idle earlier (ran.was_open some))) (represents.held earlier (ran.was_open some))
 
-  -- nothing was committed
+  -- if nothing was committed, the connection still represents the club
   kept_as : (clubs : List Club) → ((trees : Trees) (db : Database) → Ran g 1 all old db → trees ≡ db.trees → IsLeftOf trees (club ∷ clubs))
       → ((trees : Trees) → IsLeftOf trees (club ∷ others) → IsLeftOf trees (club ∷ clubs)) → IsKept (state g old) (state g new)
       → Represents (state g new) club clubs

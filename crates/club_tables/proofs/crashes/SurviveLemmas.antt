@@ -28,7 +28,7 @@ pub untouched_then : (a b c : State) → (HasCleanDisk c → HasCleanDisk b) →
 untouched_then a b c earlier first next rest clean is_open = search rules
 
 module _ {S : Type 0} (g : Ghosts S) (fewest : ℕ) where
-  -- these statements may be committed
+  -- a crash may leave the effects of these statements
   pub may_commit : (all : List BoundStatement) (AreStatements : List BoundStatement → Type 0) → AreStatements all → (old new : Held S)
       → Survives (state g old) (state g new) (λ trees. (db : Database) × Ran g fewest all old db × (trees ≡ db.trees))
       → Survives (state g old) (state g new) (MayCommit g fewest AreStatements old)
@@ -40,12 +40,12 @@ module _ {S : Type 0} (g : Ghosts S) (fewest : ℕ) where
       let earlier = was_clean (state g old) (state g new) _ survives clean in
       search rules)
 
-  -- no statements were committed
+  -- a call that commits nothing
   pub commits_nothing : (AreStatements : List BoundStatement → Type 0) (old new : Held S) → Survives (state g old) (state g new) (λ _. ⊥)
       → Survives (state g old) (state g new) (MayCommit g fewest AreStatements old)
   commits_nothing AreStatements old new survives = search rules
 
-  -- some statements were committed, after a read
+  -- a call that may commit statements, after a read
   pub commits_after : (AreStatements : List BoundStatement → Type 0) (a b c : Held S) → IsUntouched (state g a) (state g b)
       → Survives (state g a) (state g b) (λ _. ⊥)
       → Survives (state g b) (state g c) (MayCommit g fewest AreStatements b)
@@ -69,7 +69,7 @@ module _ {S : Type 0} (g : Ghosts S) where
       → IsAfterReadings g old new
   after_one old new clean same survives = record { same = same; clean = clean; fault_count = survives.counts }
 
-  -- the fault of an opening after reads is also a fault since before the reads
+  -- the fault of an opening after reads also counts from the state before the reads
   pub opened_after : (a b c : Held S) (fault : StoreFault) → IsAfterReadings g a b → IsOpeningFault g b c fault → IsOpeningFault g a c fault
   opened_after a b c fault first it = record { from = it.from; after = after_then a b it.from first it.after; failure = it.failure }
 

@@ -23,7 +23,7 @@ same_names name a b p q = (bytes_eq-Decides a name).0 p ∙ sym ((bytes_eq-Decid
 pub both_tests : (a a' b b' : Bool) → a ≡ a' → b ≡ b' → (a && (b && true)) ≡ (a' && b')
 both_tests a a' b b' p q = let e = and-true b in cc
 
--- if at most one element passes, the elements that pass are the first one that does
+-- if at most one element passes, filtering the list gives the same element as searching it
 pub one_listed : {X : Type 0} (p : X → Bool) (xs : List X) → length (filter p xs) ≤ 1 → filter p xs ≡ option_to_list (find p xs)
 one_listed {X} p xs low = short (filter p xs) low ∙ ap option_to_list (sym (find_first p xs))
   where

@@ -84,7 +84,7 @@ module _ (club : Club) (rows : Rows) (stored : IsStoredAs club rows) (facility :
       few_by b.slot (has_filtered (is_at facility) club.bookings b has).1) in
       omega (arith, one, two)
 
-  -- the rows that the statement returns have the highest number of persons
+  -- the highest number in the statement's rows is the highest number of persons
   pub most_by_answer : (answer : List Row) → IsPermutation (map shown (filter is_of rows.slots)) answer → most_in answer ≡ most
   most_by_answer answer same =
       let value = λ (row : Row). whole_in (column row 0) in
