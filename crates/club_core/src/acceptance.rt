@@ -1,4 +1,4 @@
-//! Answers a request from its key's view: accepts or refuses the pass, then decides the request.
+//! Answers a request: accepts or refuses its pass, then decides the request from its key's view.
 
 ghost use Rattle.std.specs.{Option.option_copied, Prelude.{◌≡◌}};
 ghost use Rattle.club_core.specs.Answer.{answer_by_view};
@@ -11,11 +11,11 @@ use crate::view::View;
 use club_values::Moment;
 use pass_caveats::CaveatFault;
 
-/// Returns the answer to a parsed pass, with its change. `view` is the view of its key, or `None`
-/// if the club has no such key. `is_signed` says whether the pass is signed under a root of that
-/// key that is good at the moment. `fault` is its first caveat that isn't understood or denies the
-/// request. An unknown key and a wrong signature get the same refusal, and are tested before
-/// anything else.
+/// Returns the reply to a request with a parsed pass, and the change to apply. `view` is the view
+/// of the pass's key; it is `None` if the club has no such key. `is_signed` says whether the pass
+/// is signed under a root of that key that is valid at the moment. `fault` is the pass's first
+/// caveat that isn't understood or denies the request. An unknown key and a wrong signature are
+/// tested first, and get the same refusal.
 pub fn answer(
     view: Option<&View>,
     is_signed: bool,

@@ -8,12 +8,12 @@ use club_rows::Member;
 #[derive(Clone, Copy, Debug, PartialEq, Eq)]
 pub struct MemberAccount {
     pub member: Member,
-    /// The points credited to the member, less what its bookings cost.
+    /// The points credited to the member, minus what its bookings cost.
     pub balance: u32,
 }
 
 impl MemberAccount {
-    /// Returns the points that the bookings of all keys of the member have cost.
+    /// Returns how many points the member's bookings have cost, over all its keys.
     pub fn used(&self) -> u32
         ensures { result ≡ self.now.member.credited - self.now.balance }
     {

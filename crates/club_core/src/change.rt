@@ -3,8 +3,8 @@
 use club_rows::{Booking, Facility, Key, Member, Root};
 use club_values::{Moment, Name, Slot};
 
-/// A change of the club's rows. It carries the values that its decision found in the rows. A store
-/// can then apply it without reading first, and refuses it if the rows have other values.
+/// A change of the club's rows, with the row values that its decision was based on. A store applies
+/// it without a read beforehand, and refuses it if the rows have other values.
 #[derive(Clone, Copy, Debug, PartialEq, Eq)]
 pub enum Change {
     InsertMember(Member),
@@ -12,18 +12,18 @@ pub enum Change {
         member: Name,
         points: u32,
     },
-    /// Takes points from a member's credit, at most all of it.
+    /// Subtracts points from a member's credit, which must be at least that high.
     TakeCredit {
         member: Name,
         points: u32,
     },
-    /// Gives a member a new quota.
+    /// Replaces the quota of an existing member.
     ReplaceQuota {
         member: Name,
         quota: u8,
     },
     InsertFacility(Facility),
-    /// Gives an existing facility new places, a new price and new hours.
+    /// Replaces the places, price and opening hours of an existing facility.
     ReplaceNumbers {
         facility: Name,
         places: u8,
@@ -35,8 +35,8 @@ pub enum Change {
     MarkRevoked {
         key: Name,
     },
-    /// Gives a key that has the former root a new one. The former root becomes the older root, good
-    /// until the moment; any older root before that is dropped.
+    /// Replaces the root of a key whose current root is `former`. `former` becomes the older root,
+    /// valid before the moment `until`. A previous older root is dropped.
     ReplaceRoot {
         key: Name,
         former: Root,
@@ -44,15 +44,15 @@ pub enum Change {
         until: Moment,
     },
     MarkClosed(Slot),
-    /// Marks a slot of an existing facility open, if it is closed.
+    /// Opens a slot of an existing facility. An open slot stays open.
     MarkOpen(Slot),
-    /// Inserts a booking under a key of the member.
+    /// Inserts a booking, whose key belongs to `member`.
     InsertBooking {
         booking: Booking,
         member: Name,
     },
-    /// Marks a booking under a key of the member cancelled, with its refund. The booking has the
-    /// values on record, and isn't cancelled.
+    /// Marks a booking cancelled, and records its refund. `booking` is the stored row, which isn't
+    /// cancelled yet. Its key belongs to `member`.
     MarkCancelled {
         booking: Booking,
         member: Name,

@@ -8,7 +8,7 @@ use club_values::{Kind, Moment, Name, Slot};
 use std::error::Error;
 use std::fmt;
 
-/// The most points of one credit or debit.
+/// The maximum number of points in one credit or debit.
 pub const MAX_POINTS: u32 = 1_000_000;
 
 /// A command of the office.
@@ -22,12 +22,12 @@ pub enum Command {
         member: Name,
         points: u32,
     },
-    /// Takes points off a member's balance, to correct a credit that was too high.
+    /// Subtracts points from a member's balance, to correct a credit that was too high.
     Debit {
         member: Name,
         points: u32,
     },
-    /// Gives a member a new quota. Its open bookings stay, even those above the quota.
+    /// Sets a member's quota. Open bookings stay, even if they exceed the new quota.
     SetQuota {
         member: Name,
         quota: u32,
@@ -40,8 +40,8 @@ pub enum Command {
         opens: u32,
         shuts: u32,
     },
-    /// Gives a facility new numbers. Its kind stays, and each booking keeps its slot, charge and
-    /// places left.
+    /// Sets the places, price and opening hours of a facility. Its kind doesn't change. Existing
+    /// bookings keep their slot, charge and places left.
     SetFacility {
         name: Name,
         places: u32,
@@ -57,21 +57,21 @@ pub enum Command {
     RevokeKey {
         name: Name,
     },
-    /// Gives a key a new root. Passes signed under its former root are accepted before the moment,
-    /// and refused at and after it.
+    /// Replaces a key's root. Passes signed under the former root are accepted before the moment
+    /// `until`, and refused from then on.
     RotateKey {
         name: Name,
         root: Root,
         until: Moment,
     },
-    /// Cancels the booking of a key under a number, even after its slot has begun, and refunds its
-    /// whole charge. A booking that is already cancelled stays as it is. The key may be revoked.
+    /// Cancels a key's booking, even after its slot has begun, and refunds its whole charge. A
+    /// booking that is already cancelled doesn't change. The key may be revoked.
     CancelBooking {
         key: Name,
         number: BookingNumber,
     },
     CloseSlot(Slot),
-    /// Opens a closed slot. A slot that is already open stays as it is.
+    /// Opens a closed slot. A slot that is already open stays open.
     OpenSlot(Slot),
 }
 
@@ -82,9 +82,9 @@ pub enum OfficeFault {
     Exists,
     /// No member, key or facility has the name, or the key has no booking under the number.
     Unknown,
-    /// A number is outside its limits, or an hour outside the opening hours.
+    /// A number is outside its limits, or an hour is outside the opening hours.
     OutOfRange,
-    /// The slot has bookings, or a slot of the facility has more persons than the new places.
+    /// The slot has bookings, or one of the facility's slots has more persons than the new places.
     SlotInUse,
 }
 
@@ -109,7 +109,7 @@ impl Error for OfficeFault {}
 impl Command {
     ghost use Rattle.club_core.specs.Events.{IsCommand};
 
-    /// Each name, slot and root of a command is within its limits.
+    /// Proves, by its contract, that each name, slot and root of a command is within its limits.
     pub fn within(&self)
         ensures { IsCommand self.now }
     {
@@ -146,8 +146,8 @@ impl Command {
 #[derive(Clone, Copy, Debug, PartialEq, Eq)]
 pub enum OfficeAnswer {
     Done,
-    /// A key was added, or got a new root. The signature of its passes follows from its name and
-    /// root.
+    /// A key was added, or its root was replaced. The name and the root determine the signatures of
+    /// the key's passes.
     NewKey { name: Name, root: Root },
     NotDone(OfficeFault),
 }
@@ -155,7 +155,7 @@ pub enum OfficeAnswer {
 impl OfficeAnswer {
     ghost use Rattle.club_core.specs.Run.{done_answer};
 
-    /// Returns the answer to a command that was carried out.
+    /// Returns the answer to a command that succeeded.
     pub fn done(command: &Command) -> OfficeAnswer
         ensures { result ≡ done_answer command.now }
     {

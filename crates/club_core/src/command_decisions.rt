@@ -1,5 +1,5 @@
-//! Decides the commands of the office from their views. The first condition that holds refuses the
-//! command.
+//! Decides the commands of the office from their views. Each decision tests its conditions in
+//! order. The first failed test refuses the command.
 
 ghost use Rattle.std.specs.Prelude.{◌≡◌, not, nat_lt};
 ghost use Rattle.club_rows.specs.Limits.{quota_limit};
@@ -257,17 +257,17 @@ fn open_slot(view: &CommandView, slot: &Slot) -> Result<Option<Change>, OfficeFa
     Ok(Some(Change::MarkOpen(*slot)))
 }
 
-/// Returns the change that a command makes, decided from its view. Returns `None` if there is
-/// nothing left to change.
+/// Returns the change that a command makes, decided from the command's view. Returns `None` if the
+/// command has nothing to change.
 ///
 /// # Errors
 ///
-/// - `OutOfRange`: a number or an hour is outside its limits, a credit would take the member's
+/// - `OutOfRange`: a number or an hour is outside its limits, a credit would raise the member's
 ///   points above their limit, or a debit is more than the balance.
 /// - `Unknown`: the command's member, key, facility or booking doesn't exist.
 /// - `Exists`: the new name is taken, the key already has the root, or the slot is already closed.
-/// - `SlotInUse`: the slot has bookings, or a slot of the facility has more persons than its new
-///   places.
+/// - `SlotInUse`: the slot has bookings, or one of the facility's slots has more persons than the
+///   new places.
 pub fn decide_command(view: &CommandView, command: &Command) -> Result<Option<Change>, OfficeFault>
     ensures { result ≡ command_verdict view.now command.now }
 {

@@ -1,5 +1,5 @@
-//! The four decisions, made after the pass is accepted. Each is a list of conditions: the first one
-//! that holds decides.
+//! Decides the four kinds of requests, after the pass was accepted. Each decision is a list of
+//! conditions. The first one that holds determines the reply.
 
 ghost use Rattle.std.specs.Prelude.{◌≡◌, Some};
 ghost use Rattle.club_rows.specs.Facility as facilities;
@@ -28,7 +28,7 @@ fn is_bookable(facility: &Facility, slot: &Slot, moment: Moment) -> bool
     facility.is_open_at(slot.hour) && now < start && start <= now + BOOKING_WINDOW
 }
 
-/// Shows a slot: its facility and its state, or `NoSuchFacility`.
+/// Shows a slot's facility and state, or refuses with `NoSuchFacility`.
 pub fn decide_view(view: &View, slot: &Slot) -> Verdict
     ensures { result ≡ shown_at view.now slot.now view.now.facility }
 {
@@ -45,8 +45,8 @@ pub fn decide_view(view: &View, slot: &Slot) -> Verdict
     }
 }
 
-/// Repeats a used number: returns the first reply if slot and guests are the same, else
-/// `NumberUsed`.
+/// Answers a booking under a number that the key has used. Returns the first reply if slot and
+/// guests are the same, else refuses with `NumberUsed`.
 fn repeat_booking(booking: &Booking, slot: &Slot, guests: Guests) -> Verdict
     ensures { result ≡ repeat_booking_verdict booking.now slot.now guests }
 {
@@ -61,7 +61,7 @@ fn repeat_booking(booking: &Booking, slot: &Slot, guests: Guests) -> Verdict
     })
 }
 
-/// Decides a booking under a new number at a known facility.
+/// Decides a booking under an unused number at a known facility.
 fn book_at(
     view: &View,
     facility: &Facility,
@@ -102,7 +102,7 @@ fn book_at(
     Verdict::new_booking(booking, &view.key.member)
 }
 
-/// Decides a booking. The verdict has the reply, and the booking to write if the request is served.
+/// Decides a booking. The verdict has the reply and, for a new booking, the row to insert.
 pub fn decide_book(
     view: &View,
     slot: &Slot,
@@ -119,7 +119,7 @@ pub fn decide_book(
     }
 }
 
-/// Decides a cancellation of a recorded booking, under a key of the member.
+/// Decides the cancellation of a recorded booking, whose key belongs to `member`.
 fn cancel_recorded(booking: &Booking, member: &Name, slot: &Slot, moment: Moment) -> Verdict
     ensures { result ≡ cancel_recorded_verdict booking.now member.now slot.now moment }
 {
@@ -139,8 +139,8 @@ fn cancel_recorded(booking: &Booking, member: &Name, slot: &Slot, moment: Moment
     Verdict::new_cancellation(booking, member, booking.refund_at(moment))
 }
 
-/// Decides a cancellation. The verdict has the reply, and the refund to write if the booking wasn't
-/// cancelled before.
+/// Decides a cancellation. The verdict has the reply and, if the booking wasn't cancelled before,
+/// the refund to record.
 pub fn decide_cancel(view: &View, slot: &Slot, moment: Moment) -> Verdict
     ensures { result ≡ cancel_verdict view.now slot.now moment }
 {
@@ -151,7 +151,7 @@ pub fn decide_cancel(view: &View, slot: &Slot, moment: Moment) -> Verdict
     }
 }
 
-/// Shows the account: the member's sums, and the points that the key has spent.
+/// Shows the member's balance, quota and open bookings, and the points that the key has spent.
 pub fn decide_account(view: &View) -> Verdict
     ensures { result ≡ account_verdict view.now }
 {

@@ -1,4 +1,4 @@
-//! Laws of the definitions, each the contract of a function that does nothing.
+//! Laws of the definitions. Each law is the contract of a function with an empty body.
 
 ghost use Rattle.club_core.specs.Examples.{BooksAndCancels, RepeatsAfterACancellation, ClosesASlot};
 ghost use Rattle.club_core.specs.Examples.{OpensASlot, DebitsAMember, SetsAQuota, SetsAFacility};
@@ -7,17 +7,17 @@ ghost use Rattle.club_core.specs.{Examples.CancelsUnderARevokedKey, Laws.Refusal
 ghost use Rattle.club_core.specs.Laws.{ViewsDecide, TestsTheSignature, OwnBookings, MostTaken};
 ghost use Rattle.club_core.specs.{Laws.{OneSheet, SomeSheet}, Looks.LooksNoFurther};
 
-/// A member books, sees the account, and cancels.
+/// An example: a member books, views the account, and cancels.
 pub fn books_and_cancels()
     ensures { BooksAndCancels }
 {}
 
-/// A repeated booking gets the first reply and charges nothing, even after it was cancelled.
+/// A repeated booking gets the first reply and charges nothing, even after its cancellation.
 pub fn repeats_after_a_cancellation()
     ensures { RepeatsAfterACancellation }
 {}
 
-/// A slot can be closed only while nobody has booked it; a closed slot can't be booked.
+/// A slot can be closed only while nobody has booked it. A closed slot can't be booked.
 pub fn closes_a_slot()
     ensures { ClosesASlot }
 {}
@@ -27,27 +27,27 @@ pub fn opens_a_slot()
     ensures { OpensASlot }
 {}
 
-/// A debit takes points off the balance, and never points that bookings cost.
+/// A debit lowers the balance. It is refused if it is more than the balance.
 pub fn debits_a_member()
     ensures { DebitsAMember }
 {}
 
-/// A new quota holds from the next booking on, and bookings above it stay.
+/// A new quota applies from the next booking on. Open bookings above it stay.
 pub fn sets_a_quota()
     ensures { SetsAQuota }
 {}
 
-/// New numbers of a facility hold from the next booking on. Bookings already made stay as they are.
+/// New numbers of a facility apply from the next booking on. Earlier bookings don't change.
 pub fn sets_a_facility()
     ensures { SetsAFacility }
 {}
 
-/// When the office cancels, it refunds the whole charge, even after the slot has begun.
+/// A cancellation by the office refunds the whole charge, even after the slot has begun.
 pub fn cancels_for_a_member()
     ensures { CancelsForAMember }
 {}
 
-/// A booking that its member cancelled keeps its refund.
+/// If the office cancels a booking that its member cancelled before, the member's refund stays.
 pub fn keeps_a_refund()
     ensures { KeepsARefund }
 {}
@@ -69,30 +69,30 @@ pub fn refusals_change_nothing()
     ensures { RefusalsChangeNothing }
 {}
 
-/// A request is answered from the view of the key that its pass names.
+/// The view of the key that a pass names decides the answer to the request.
 pub fn views_decide()
     ensures { ViewsDecide }
 {}
 
 /// An answer depends only on parts of the view. Caveats depend on the recorded booking, the
-/// facility and what the key has spent. Each decision depends on its own part.
+/// facility and the points spent by the key. Each kind of request depends on a part of its own.
 pub fn looks_no_further()
     ensures { LooksNoFurther }
 {}
 
-/// `is_signed_under` is true if and only if the pass is signed under a root of the key that is good
-/// at the moment.
+/// `is_signed_under` is true if and only if the pass is signed under a root of the key that is
+/// valid at the moment.
 pub fn tests_the_signature()
     ensures { TestsTheSignature }
 {}
 
-/// A member's bookings are enough to tell what its key has spent, and what the key booked under
-/// each number.
+/// The bookings of a key's member suffice to compute what the key has spent, and to find the key's
+/// booking under each number.
 pub fn own_bookings_suffice()
     ensures { OwnBookings }
 {}
 
-/// No slot of a facility has more persons than the maximum over its slots, and one slot reaches it.
+/// `most_taken_in` is the highest number of persons in any slot of the facility.
 #[tactic(auto, using(crate::proofs::MostTakenLemmas::most_taken))]
 pub fn most_taken_is_reached()
     ensures { MostTaken }

@@ -1,5 +1,5 @@
-//! The rules of the club: the view of its rows that decides a request or a command of the office,
-//! and the answer to each. Only the day sheet allocates memory.
+//! The rules of the club. They decide a request or a command of the office from a view of the
+//! club's rows. Only the day sheet allocates memory.
 #![tactic(auto)]
 
 mod acceptance;

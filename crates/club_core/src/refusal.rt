@@ -14,13 +14,13 @@ pub enum Resource {
     Account,
 }
 
-/// Why a request is refused. The causes are tested in this order, except that caveats are tested in
-/// the order of their positions. `Unavailable` can occur at any time.
+/// Why a request is refused. The causes are tested in this order, except that caveats are tested
+/// one by one, in the order of the pass. `Unavailable` can occur at any time.
 #[derive(Clone, Copy, Debug, PartialEq, Eq)]
 pub enum Refusal {
     BadRequest,
     NoSuchPath,
-    /// The path names this resource, which has other methods.
+    /// The resource that the path names doesn't support the method.
     MethodNotAllowed(Resource),
     NoPass,
     PassTooLong,
@@ -30,9 +30,9 @@ pub enum Refusal {
     /// The identifier names no key, or the signature is wrong.
     NotVerified,
     KeyRevoked,
-    /// The number of the caveat, from 1.
+    /// The position of the caveat in the pass, counted from 1.
     CaveatNotUnderstood(usize),
-    /// The number of the caveat, from 1.
+    /// The position of the caveat in the pass, counted from 1.
     CaveatDenies(usize),
     /// The key used the number before, for another booking.
     NumberUsed,
@@ -52,7 +52,7 @@ pub enum Refusal {
 impl Refusal {
     ghost use Rattle.club_core.specs.Refusal.{details_of, caveat_of_refusal};
 
-    /// Returns the fault's number in the reply, 1 to 22.
+    /// Returns the refusal's number in the reply, 1 to 22.
     pub fn number(self) -> u8
         ensures { result ≡ (details_of self).number }
     {
@@ -82,7 +82,7 @@ impl Refusal {
         }
     }
 
-    /// Returns the fault's text in the reply.
+    /// Returns the refusal's text in the reply.
     pub fn text(self) -> &'static str
         ensures { result.now ≡ (details_of self).text }
     {
@@ -112,7 +112,7 @@ impl Refusal {
         }
     }
 
-    /// Returns the number of the caveat that refuses, from 1.
+    /// Returns the position of the refusing caveat, counted from 1; `None` for other refusals.
     pub fn caveat(self) -> Option<usize>
         ensures { result ≡ caveat_of_refusal self }
     {

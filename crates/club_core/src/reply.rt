@@ -12,7 +12,7 @@ pub enum Reply {
         kind: Kind,
         price: u16,
         places: u8,
-        /// The persons who booked.
+        /// The number of persons who booked the slot.
         taken: u64,
         closed: bool,
     },
@@ -20,7 +20,7 @@ pub enum Reply {
         key: Name,
         number: BookingNumber,
         charge: u32,
-        /// The places left after the booking.
+        /// The places left in the slot after the booking.
         left: u8,
     },
     Cancelled {

@@ -28,7 +28,7 @@ pub enum Request {
     Account,
 }
 
-/// A slot is within its limits.
+/// Proves, by its contract, that a slot is within its limits.
 pub(crate) fn slot_within(slot: &Slot)
     ensures { IsSlot slot.now }
 {
@@ -41,7 +41,7 @@ impl Request {
     ghost use Rattle.club_core.specs.{Events.IsRequest, Request.{request_action, request_slot}};
     ghost use Rattle.club_core.specs.Request.{request_number, request_guests};
 
-    /// The slot, number and guests of a request are within their limits.
+    /// Proves, by its contract, that slot, number and guests of a request are within their limits.
     pub fn within(&self)
         ensures { IsRequest self.now }
     {
@@ -97,7 +97,7 @@ impl Request {
         }
     }
 
-    /// Returns the guests of a booking, else 0.
+    /// Returns the number of guests of a booking; 0 for other requests.
     pub fn guests(&self) -> u8
         ensures { result ≡ request_guests self.now }
     {

@@ -1,8 +1,8 @@
-//! The words of a request, before the pass is decoded.
+//! A request and the text of its pass, before the pass is decoded.
 
 use crate::request::Request;
 
-/// The words of a request as they were sent: the text of the pass, and the request.
+/// A request as it was sent: the text of its pass, and what it asks for.
 #[derive(Clone, Copy)]
 pub struct SentWords<'a> {
     pub pass: &'a [u8],

@@ -3,7 +3,7 @@
 /// The use of a slot: its persons, and whether it is closed.
 #[derive(Clone, Copy, Debug, PartialEq, Eq)]
 pub struct SlotUse {
-    /// The persons booked into the slot.
+    /// The number of persons booked into the slot.
     pub taken: u32,
     /// Whether the slot is closed.
     pub closed: bool,

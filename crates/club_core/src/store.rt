@@ -33,8 +33,8 @@ impl fmt::Display for StoreFault {
 
 impl Error for StoreFault {}
 
-/// A store of the rows of a club. Its promises hold while its disk is clean, which means that the
-/// disk returns what was written and nobody else writes to it.
+/// A store of a club's rows. Its promises hold while its disk is clean. A disk is clean if it
+/// returns what was written, and nobody else writes to it.
 pub trait ClubStore {
     ghost use Rattle.std.specs.Prelude.{◌≡◌, ◌∷◌, All, IfErr, List, Option, Some, option_map};
     ghost use Rattle.club_core.specs.Basis.{account_named, slot_use};
@@ -45,54 +45,54 @@ pub trait ClubStore {
     ghost use Rattle.club_core.specs.declared.{change.Change.Change, store.StoreFault.StoreFault};
     ghost use Rattle.club_rows.specs.Key.{row_of_key};
 
-    // the current club, and the other possible crash states: the clubs that the store may recover
-    // to after a crash
+    // the store contains the current club, and after a crash may recover to one of the other clubs
+    // in the list (the possible crash states)
     ghost represents: { Self → Club → List Club → Type 0 };
 
     // whether the disk has been clean so far
     ghost disk_is_clean: { Self → Type 0 };
 
-    // between the two states, a read (`None`) or this change failed with this fault
+    // a call that reads (`None`) or makes this change failed with this fault between the two states
     ghost fails: { Option Change → Self → StoreFault → Self → Type 0 };
 
-    /// Returns the row of the key of this name; `None` if there is none.
+    /// Returns the row of the key with this name; `None` if there is no such key.
     fn key_row(&mut self, name: &Name) -> Result<Option<KeyRow>, StoreFault>
         ensures { ReadsStore disk_is_clean represents fails self.old self.new result
             (λ club row. row ≡ option_map row_of_key (key_named name.now club)) };
 
-    /// Returns the older root of the key of this name; `None` if it was never rotated.
+    /// Returns the older root of the key with this name; `None` if the key was never rotated.
     fn older_root(&mut self, name: &Name) -> Result<Option<OlderRoot>, StoreFault>
         ensures { ReadsStore disk_is_clean represents fails self.old self.new result
             (λ club older. older ≡ older_root_of name.now club) };
 
-    /// Returns the facility of this name; `None` if there is none.
+    /// Returns the facility with this name; `None` if there is no such facility.
     fn facility(&mut self, name: &Name) -> Result<Option<Facility>, StoreFault>
         ensures { ReadsStore disk_is_clean represents fails self.old self.new result
             (λ club facility. facility ≡ facility_named name.now club) };
 
-    /// Returns how much of a slot is taken. Nothing is taken if nobody booked or closed it.
+    /// Returns the number of persons in a slot, and whether the slot is closed.
     fn slot(&mut self, slot: &Slot) -> Result<SlotUse, StoreFault>
         ensures { ReadsStore disk_is_clean represents fails self.old self.new result
             (λ club found. found ≡ slot_use club slot.now) };
 
-    /// Returns the most persons in any slot of the facility of this name, on any day; 0 if nobody
-    /// booked one.
+    /// Returns the highest number of persons in any slot of the facility with this name, on any
+    /// day; 0 if it has no bookings.
     fn most_taken(&mut self, facility: &Name) -> Result<u32, StoreFault>
         ensures { ReadsStore disk_is_clean represents fails self.old self.new result
             (λ club most. most ≡ most_taken_in facility.now club.bookings) };
 
-    /// Returns the booking of a key under a number; `None` if there is none.
+    /// Returns the key's booking under a number; `None` if there is no such booking.
     fn booking(&mut self, key: &Name, number: BookingNumber) -> Result<Option<Booking>, StoreFault>
         ensures { ReadsStore disk_is_clean represents fails self.old self.new result
             (λ club booking. booking ≡ booking_under key.now number club.bookings) };
 
-    /// Returns the member of this name with its balance; `None` if there is none.
+    /// Returns the member with this name and its balance; `None` if there is no such member.
     fn account(&mut self, member: &Name) -> Result<Option<MemberAccount>, StoreFault>
         ensures { ReadsStore disk_is_clean represents fails self.old self.new result
             (λ club account. account ≡ account_named member.now club) };
 
-    /// Returns how many of a member's bookings are open: not cancelled, in slots that begin after
-    /// the moment.
+    /// Returns the number of a member's open bookings. An open booking isn't cancelled, and its
+    /// slot begins after the moment.
     fn open_count(&mut self, member: &Name, moment: Moment) -> Result<u64, StoreFault>
         ensures { ReadsStore disk_is_clean represents fails self.old self.new result
             (λ club count. count ≡ count_to_come moment (bookings_of member.now club)) };
@@ -107,10 +107,9 @@ pub trait ClubStore {
         ensures { ReadsStore disk_is_clean represents fails self.old self.new result
             (λ club rows. AreRowsOf club day rows.items) };
 
-    /// Applies a change that fits the club: its values are those of the club's rows, and the club
-    /// after it is sound. Fails without effect if the change doesn't fit. If the call fails for
-    /// another reason, the club is unchanged, but after a crash the store may recover to the
-    /// changed club.
+    /// Applies a change. The change must match the values of the club's rows, and the changed club
+    /// must be sound, or else the call fails without effect. If the call fails for another reason,
+    /// the club is unchanged, but a crash may then leave the changed club.
     fn apply(&mut self, change: &Change) -> Result<(), StoreFault>
         ensures was_clean { disk_is_clean self.new → disk_is_clean self.old }
         ensures changed { disk_is_clean self.new →
@@ -118,7 +117,7 @@ pub trait ClubStore {
         ensures failed { disk_is_clean self.new → IfErr result
             (λ fault. fails (Some change.now) self.old fault self.new) };
 
-    // the current club is sound, and so is each possible crash state
+    // the current club and each possible crash state are sound
     ghost sound: { (store : Self) (club : Club) (others : List Club)
         → represents store club others
         → All IsSound (club ∷ others) };

@@ -9,7 +9,7 @@ use club_values::Moment;
 use pass_caveats::Ask;
 
 /// The rows and sums that decide a request: its key and member with their sums, and the state of
-/// the slot that it names.
+/// the requested slot.
 #[derive(Clone, Copy, Debug, PartialEq, Eq)]
 pub struct View {
     pub key: KeyRow,
@@ -18,19 +18,19 @@ pub struct View {
     pub member: Member,
     /// The member's balance in points.
     pub balance: u32,
-    /// The number of the member's bookings in slots that begin after the moment.
+    /// The number of the member's open bookings, whose slots begin after the moment.
     pub open_count: u64,
     /// The slot's facility; `None` if it is unknown or the request names no slot.
     pub facility: Option<Facility>,
-    /// The persons who booked the slot.
+    /// The number of persons who booked the slot.
     pub taken: u64,
     /// Whether the slot is closed.
     pub closed: bool,
-    /// The key's booking under the request's number.
+    /// The key's booking under the request's number; `None` if there is none.
     pub booking: Option<Booking>,
 }
 
-/// A key with its older root, and its view of a request.
+/// A key with its older root, and the view of a request under that key.
 #[derive(Clone, Copy, Debug, PartialEq, Eq)]
 pub struct KeyView {
     pub key: Key,
@@ -40,7 +40,7 @@ pub struct KeyView {
 impl View {
     ghost use Rattle.club_core.specs.Answer.{ask_of, owed_at};
 
-    /// Returns a view with the key's row alone: no booking, no facility, and all sums 0.
+    /// Returns a view that has only the key's row: no booking, no facility, and all sums 0.
     pub fn of_key(key: &KeyRow) -> View
         ensures { result ≡ bare_view key.now }
     {
@@ -61,15 +61,15 @@ impl View {
         }
     }
 
-    /// Returns whether a booking under the number would be a new one at a known facility.
+    /// Returns whether the booking number is unused and the facility is known.
     pub fn books_anew(&self) -> bool
         ensures { result ≡ is_new self.now }
     {
         self.booking.is_none() && self.facility.is_some()
     }
 
-    /// Returns the points that the request would charge: those of a booking under a new number at a
-    /// known facility, else 0.
+    /// Returns the points that the request would charge. Only a booking under an unused number at a
+    /// known facility charges points.
     fn points_owed(&self, request: &Request) -> u32
         ensures { result ≡ owed_at request.now (is_some self.now.booking) self.now.facility }
     {
@@ -79,7 +79,7 @@ impl View {
         }
     }
 
-    /// Returns the request at a moment, as caveats see it.
+    /// Returns what caveats can test about the request at a moment.
     pub fn ask(&self, request: &Request, moment: Moment) -> Ask
         ensures { result ≡ ask_of self.now request.now moment }
     {
