@@ -5,7 +5,7 @@ use Rattle.std.specs.{List.list_any, Prelude.{◌&&◌, ◌==◌, filter, find, 
 use Rattle.club_rows.specs.declared.{booking.Booking.Booking, key.Key.Key}
 use Rattle.club_core.specs.{Club.{Club, is_key_of}, Laws.OwnBookings, Sums.{cost_of, is_under}}
 
--- filtering by a weaker test first doesn't change the result of a stricter one
+-- filtering by a weaker test first doesn't change the result of the stricter test
 filter_twice : (strict wide : Booking → Bool) (bookings : List Booking) → ((b : Booking) → strict b ≡ true → wide b ≡ true) →
     filter strict (filter wide bookings) ≡ filter strict bookings
 filter_twice strict wide [] h = refl
@@ -16,7 +16,7 @@ find_twice : (strict wide : Booking → Bool) (bookings : List Booking) → ((b 
 find_twice strict wide [] h = refl
 find_twice strict wide (b ∷ bookings) h = grind (arith, find_twice strict wide bookings h, h b)
 
--- a key of the list belongs to its member
+-- a key of the list belongs to the list's member
 is_among : (keys : List Key) (key : Key) (i : ℕ) → i < length keys → get_or keys i key ≡ key
     → list_any (λ (k : Key). bytes_eq k.name key.name) (filter (λ (k : Key). bytes_eq k.member key.member) keys) ≡ true
 is_among [] key i lt e = absurd (omega arith)

@@ -8,19 +8,19 @@ use Rattle.club_core.specs.declared.{refusal.Refusal.Refusal, reply.Reply.{Reply
 abbrev pub IsServed : Reply → Type 0
 IsServed reply = (refusal : Refusal) → reply ≢ Refused refusal
 
--- the caveat allows the request; a caveat that isn't understood allows none
+-- the caveat is understood and allows the request
 abbrev pub IsAllowedBy : Ask → Option Caveat → Type 0
 IsAllowedBy ask None = ⊥
 IsAllowedBy ask (Some caveat) = Permits caveat ask
 
--- the pass is accepted for the request: it is signed under a root of the basis's key that is good at the moment, the key isn't revoked, and each
--- of its caveats allows the request
+-- The pass is accepted for the request. It is signed under a root of the basis's key that is valid at the moment.
+-- The key isn't revoked, and each caveat of the pass allows the request.
 pub record IsAcceptedPass (pass : Pass) (request : Request) (moment : ℕ) (basis : Basis) : Type 0 where
   pub signed : IsSignedUnder pass basis.key moment
   pub not_revoked : basis.key.revoked ≡ false
   pub permission : All (IsAllowedBy (ask_of (view_of basis request moment) request moment)) pass.caveats
 
--- the text is a pass that names a key of the club, and it is accepted
+-- the text is a pass that names a key of the club, and the pass is accepted for the request
 pub record IsAcceptedIn (club : Club) (words : Words) (moment : ℕ) : Type 0 where
   pub pass : Pass
   pub basis : Basis
@@ -28,8 +28,8 @@ pub record IsAcceptedIn (club : Club) (words : Words) (moment : ℕ) : Type 0 wh
   pub known : basis_of club words ≡ Some basis
   pub acceptance : IsAcceptedPass pass words.request moment basis
 
--- the text is a pass that allows the request: it names a key of the club that isn't revoked, it is signed under a root of that key
--- that is good at the moment, and each of its caveats allows the request
+-- The text is a pass that entitles its holder to the request. It names a key of the club that isn't revoked. It is
+-- signed under a root of that key that is valid at the moment. Each of its caveats allows the request.
 pub record IsEntitled (club : Club) (words : Words) (moment : ℕ) : Type 0 where
   pub pass : Pass
   pub basis : Basis

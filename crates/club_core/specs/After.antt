@@ -7,21 +7,21 @@ use Rattle.club_core.specs.{Club.Club, Sums.is_under, declared.change.Change.{Ch
 use Rattle.club_core.specs.declared.change.Change.TheVariants.{ReplaceNumbers, InsertKey, MarkRevoked, ReplaceRoot, MarkClosed, MarkOpen, ReplaceQuota}
 use Rattle.club_core.specs.declared.change.Change.TheVariants.{InsertBooking, MarkCancelled}
 
--- a member's row after the member of this name was credited points
+-- a member's row after a credit for the member with this name; other rows don't change
 abbrev pub credited_member : List ℕ → ℕ → Member → Member
 credited_member name points member =
     record member { credited = if bytes_eq member.name name then member.credited + points else member.credited }
 
--- a member's row after the member of this name was debited points
+-- a member's row after a debit of the member with this name; other rows don't change
 abbrev pub debited_member : List ℕ → ℕ → Member → Member
 debited_member name points member =
     record member { credited = if bytes_eq member.name name then member.credited - points else member.credited }
 
--- a member's row after the member of this name got a new quota
+-- a member's row after a new quota for the member with this name; other rows don't change
 abbrev pub member_with_quota : List ℕ → ℕ → Member → Member
 member_with_quota name quota member = record member { quota = if bytes_eq member.name name then quota else member.quota }
 
--- a facility's row after the facility of this name got new places, a new price and new hours; its kind stays
+-- a facility's row after new places, a new price and new hours for the facility with this name; its kind and other rows don't change
 abbrev pub facility_with_numbers : List ℕ → ℕ → ℕ → ℕ → ℕ → Facility → Facility
 facility_with_numbers name places price opens shuts facility = record facility {
   places = if bytes_eq facility.name name then places else facility.places;
@@ -30,36 +30,36 @@ facility_with_numbers name places price opens shuts facility = record facility {
   shuts = if bytes_eq facility.name name then shuts else facility.shuts;
 }
 
--- a key's row after the key of this name was revoked
+-- a key's row after the key with this name was revoked; other rows don't change
 abbrev pub revoked_key : List ℕ → Key → Key
 revoked_key name key = record key { revoked = key.revoked || bytes_eq key.name name }
 
 abbrev pub good_until : ℕ → List ℕ → OlderRoot
 good_until until root = record { root = root; until = until }
 
--- a key's row after the key of this name was rotated: the row's root becomes the older one, and the new root takes its place
+-- a key's row after a rotation of the key with this name: its former root becomes the older root; other rows don't change
 abbrev pub rotated_key : List ℕ → List ℕ → ℕ → Key → Key
 rotated_key name root until key = record key {
   root = if bytes_eq key.name name then root else key.root;
   older = if bytes_eq key.name name then Some (good_until until key.root) else key.older;
 }
 
--- whether a cancellation under this key and number marks the booking
+-- whether a cancellation under this key and number cancels the booking: it matches and isn't cancelled
 abbrev pub is_marked : List ℕ → ℕ → Booking → Bool
 is_marked key number booking = is_under key booking && booking.number == number && not booking.cancelled
 
--- a booking after a cancellation under this key and number
+-- a booking's row after a cancellation under this key and number; other rows don't change
 abbrev pub cancelled_booking : List ℕ → ℕ → ℕ → Booking → Booking
 cancelled_booking key number refund booking = record booking {
   cancelled = booking.cancelled || is_marked key number booking;
   refund = if is_marked key number booking then refund else booking.refund;
 }
 
--- the closed slots except this one
+-- all closed slots except this one
 abbrev pub closed_but : Slot → List Slot → List Slot
 closed_but slot closed = filter (λ (other : Slot). not (same_slot other slot)) closed
 
--- the club after a change: a row is appended, a row is removed, or the rows that the change names are changed
+-- the club after a change, which appends a row, removes a row, or edits the rows that it names
 abbrev pub after : Change → Club → Club
 after (InsertMember member) club = record club { members = club.members ++ member ∷ [] }
 after (AddCredit name points) club = record club { members = map (credited_member name points) club.members }

@@ -1,5 +1,5 @@
--- The answer to a request (ours): first the pass is accepted or refused, then the request is decided. The answer depends only on the
--- words, the moment and the view, and so on the basis of the view.
+-- The answer to a request (ours): first the pass is accepted or refused, then the request is decided. The answer
+-- depends only on the request and its pass, the moment, and the view, which is computed from the basis.
 use Rattle.std.specs.Prelude.{ℕ, not, Bool, false, [], ◌∷◌, Option, Some, None, Result, Ok, Err, is_some, option_map}
 use Rattle.pass_caveats.specs.{Fault.first_fault_of, declared.{ask.Ask.Ask, fault.CaveatFault.{CaveatFault, TheVariants.{NotUnderstood, Denied}}}}
 use Rattle.club_rows.specs.{Facility.charge_of, declared.facility.Facility.Facility}
@@ -11,12 +11,12 @@ use Rattle.club_core.specs.declared.{refusal.Refusal.TheVariants.{CaveatNotUnder
 use Rattle.club_core.specs.declared.view.View.{View}
 use Rattle.club_core.specs.declared.request.Request.TheVariants as asked
 
--- the points that the request would charge: those of a booking under a new number at a known facility, else 0
+-- the points that the request would charge; only a booking under an unused number at a known facility charges any
 abbrev pub owed_at : Request → Bool → Option Facility → ℕ
 owed_at (asked.Book slot number guests) false (Some facility) = charge_of facility guests
 owed_at request recorded facility = 0
 
--- the part of a request that caveats see
+-- what caveats can test about a request
 abbrev pub ask_of : View → Request → ℕ → Ask
 ask_of view request moment = record {
   action = request_action request;
@@ -28,27 +28,27 @@ ask_of view request moment = record {
   spent = view.spent;
 }
 
--- the refusal of a text that isn't a pass
+-- the refusal for a text that isn't a pass
 abbrev pub form_refusal : PassFault → Refusal
 form_refusal TooLong = PassTooLong
 form_refusal Malformed = PassMalformed
 form_refusal ThirdParty = ThirdPartyCaveat
 form_refusal TooMany = TooManyCaveats
 
--- the first caveat at fault refuses the request; if there is none, the decision is the answer
+-- the refusal for the first caveat that isn't understood or denies the request; the decision's verdict if there is no such caveat
 abbrev pub after_caveats : Option CaveatFault → Verdict → Verdict
 after_caveats None verdict = verdict
 after_caveats (Some (NotUnderstood n)) verdict = refusal_verdict (CaveatNotUnderstood n)
 after_caveats (Some (Denied n)) verdict = refusal_verdict (CaveatDenies n)
 
--- the answer to a parsed pass, from its key's view, whether that key signed it, and its first caveat at fault
+-- the answer to a parsed pass, from its key's view, whether the key signed it, and the first caveat that refuses
 abbrev pub answer_by_view : Option View → Bool → Option CaveatFault → Request → ℕ → Verdict
 answer_by_view None is_signed fault request moment = refusal_verdict NotVerified
 answer_by_view (Some view) is_signed fault request moment =
     first_of (line_if (not is_signed) (refusal_verdict NotVerified) ∷ line_if view.key.revoked (refusal_verdict KeyRevoked) ∷ [])
     (after_caveats fault (verdict_of view request moment))
 
--- the answer to a text, from the rows that it names, if there are any
+-- the answer to a pass's text and a request, from the basis; no basis means that the pass names no key of the club
 abbrev pub answer_to : Result Pass PassFault → Request → ℕ → Option Basis → Verdict
 answer_to (Err fault) request moment basis = refusal_verdict (form_refusal fault)
 answer_to (Ok pass) request moment None = refusal_verdict NotVerified
@@ -56,10 +56,10 @@ answer_to (Ok pass) request moment (Some basis) =
     let view = view_of basis request moment in
     answer_by_view (Some view) (is_signed_under pass basis.key moment) (first_fault_of pass.caveats (ask_of view request moment)) request moment
 
--- the answer to the words of a request, from those rows
+-- the answer to a request, from the basis
 abbrev pub answer_by_basis : Words → ℕ → Option Basis → Verdict
 answer_by_basis words moment basis = answer_to words.pass words.request moment basis
 
--- a club's answer to a request at a moment: the reply and the change
+-- a club's answer to a request at a moment: the reply, and the change if there is one
 abbrev pub verdict_in : Club → Words → ℕ → Verdict
 verdict_in club words moment = answer_by_basis words moment (basis_of club words)

@@ -1,4 +1,4 @@
--- The rows that the answer to a request may depend on (the basis), and the figures computed from them that decide it (the view) (ours).
+-- The rows that the answer to a request may depend on (the basis), and the sums computed from them that decide it (the view) (ours).
 use Rattle.std.specs.Prelude.{ℕ, false, List, Option, Some, None, Result, Ok, Err, option_map, option_and_then}
 use Rattle.club_values.specs.declared.slot.Slot.{Slot}
 use Rattle.club_rows.specs.{Key.row_of_key, declared.{booking.Booking.Booking, facility.Facility.Facility, key.Key.Key, member.Member.Member}}
@@ -7,12 +7,12 @@ use Rattle.club_core.specs.{Request.{request_slot, request_number}, Sums.{taken_
 use Rattle.club_core.specs.declared.{account.MemberAccount.MemberAccount, pass_fault.PassFault.PassFault, request.Request.Request, slot_use.SlotUse.SlotUse}
 use Rattle.club_core.specs.declared.view.{KeyView.KeyView, View.View}
 
--- how much of a slot these bookings take, and whether the club closed it; if there is no slot, nothing is taken
+-- the number of persons whom these bookings bring into a slot, and whether the slot is closed; 0 and open if there is no slot
 abbrev pub slot_use_by : List Booking → Club → Option Slot → SlotUse
 slot_use_by bookings club None = record { taken = 0; closed = false }
 slot_use_by bookings club (Some slot) = record { taken = taken_in slot bookings; closed = is_closed slot club }
 
--- how much of the slot all bookings take
+-- the number of persons in a slot, and whether the slot is closed
 abbrev pub slot_use : Club → Slot → SlotUse
 slot_use club slot = slot_use_by club.bookings club (Some slot)
 
@@ -23,7 +23,7 @@ club_account club member = record { member = member; balance = balance_of member
 abbrev pub account_named : List ℕ → Club → Option MemberAccount
 account_named name club = option_map (club_account club) (member_named name club)
 
--- the state of a slot: its facility, if known, and how much of the slot is taken
+-- the state of a slot: its facility if known, its number of persons, and whether it is closed
 pub record SlotState : Type 0 where
   pub facility : Option Facility
   pub held : SlotUse
@@ -34,14 +34,14 @@ state_of club slot = record {
   held = slot_use_by club.bookings club slot;
 }
 
--- the key, its member's row, the bookings of all keys of that member, and the state of the slot
+-- the key, its member's row, the bookings of all that member's keys, and the state of the slot
 pub record Basis : Type 0 where
   pub key : Key
   pub member : Member
   pub bookings : List Booking
   pub state : SlotState
 
--- the basis of a request under a key; none if the club has no row for the key's member
+-- the basis of a request under a key; `None` if the club has no row for the key's member
 abbrev pub basis_under : Club → Request → Key → Option Basis
 basis_under club request key =
     option_map (λ (member : Member). record {
@@ -52,12 +52,12 @@ basis_under club request key =
     })
     (member_named key.member club)
 
--- the key that a text names: none if the text isn't a pass, or its identifier names no key
+-- the name of the key in a pass's identifier; `None` if the text isn't a pass or its identifier has no such name
 abbrev pub key_of : Result Pass PassFault → Option (List ℕ)
 key_of (Ok pass) = pass.key
 key_of (Err fault) = None
 
--- the basis of a request's words; none if they name no key of the club
+-- the basis of a request; `None` if its pass names no key of the club
 abbrev pub basis_of : Club → Words → Option Basis
 basis_of club words =
     option_and_then (basis_under club words.request)
@@ -77,16 +77,16 @@ view_of basis request moment = record {
   booking = option_and_then (λ (number : ℕ). booking_under basis.key.name number basis.bookings) (request_number request);
 }
 
--- a key's view for a request at a moment; none if the club has no such key
+-- a key's view for a request at a moment; `None` if the club has no such key
 abbrev pub view_in : Club → List ℕ → Request → ℕ → Option View
 view_in club key request moment =
     option_map (λ (basis : Basis). view_of basis request moment)
     (option_and_then (basis_under club request) (key_named key club))
 
--- the key of a basis, with its view
+-- a basis's key, with the key's view
 abbrev pub seen_of : Request → ℕ → Basis → KeyView
 seen_of request moment basis = record { key = basis.key; view = view_of basis request moment }
 
--- the key of this name, with its view of a request at a moment; none if the club has no such key
+-- the key with this name, and its view of a request at a moment; `None` if the club has no such key
 abbrev pub key_view_in : Club → List ℕ → Request → ℕ → Option KeyView
 key_view_in club key request moment = option_map (seen_of request moment) (option_and_then (basis_under club request) (key_named key club))

@@ -1,4 +1,4 @@
--- The club: its rows and their invariants (ours). It holds no totals.
+-- The club: its rows and their invariants (ours). It stores no sums.
 use Rattle.std.specs.{List.list_any, Prelude.{◌≡◌, ◌≢◌, ℕ, ◌≤◌, Bool, List, [], map, filter, find, sum_by, Option, All, AllPairs, Contains}, Str.bytes_eq}
 use Rattle.club_values.specs.declared.slot.Slot.{Slot}
 use Rattle.club_rows.specs.{Booking.same_slot, Rows.{IsMember, IsFacility, IsKey, IsSlot, IsBooking}, declared.booking.Booking.Booking}
@@ -16,7 +16,7 @@ pub record Club : Type 0 where
 abbrev pub empty_club : Club
 empty_club = record { members = []; facilities = []; keys = []; bookings = []; closed = [] }
 
--- the first row of this name; in a sound club it is the only one
+-- the first row with this name, which is the only one in a sound club
 abbrev pub member_named : List ℕ → Club → Option Member
 member_named name club = find (λ (member : Member). bytes_eq member.name name) club.members
 
@@ -48,7 +48,7 @@ pub record HasRows (club : Club) : Type 0 where
   pub bookings : All IsBooking club.bookings
   pub closed : All IsSlot club.closed
 
--- names are unique; a booking's name is its key and number
+-- names are unique, where a booking's name is its key with its number
 pub record HasUniqueNames (club : Club) : Type 0 where
   pub members : AllPairs (λ (a : Member) (b : Member). a.name ≢ b.name) club.members
   pub facilities : AllPairs (λ (a : Facility) (b : Facility). a.name ≢ b.name) club.facilities
@@ -56,14 +56,14 @@ pub record HasUniqueNames (club : Club) : Type 0 where
   pub bookings : AllPairs (λ (a : Booking) (b : Booking). ¬ ((a.key ≡ b.key) × (a.number ≡ b.number))) club.bookings
   pub closed : AllPairs (λ (a : Slot) (b : Slot). a ≢ b) club.closed
 
--- each name that a row refers to is the name of a row
+-- each name that a row refers to is the name of an existing row
 pub record HasReferences (club : Club) : Type 0 where
   pub keys : All (λ (key : Key). Contains (map (λ (m : Member). m.name) club.members) key.member) club.keys
   pub bookings : All (λ (booking : Booking). Contains (map (λ (k : Key). k.name) club.keys) booking.key) club.bookings
   pub facilities : All (λ (booking : Booking). Contains (map (λ (f : Facility). f.name) club.facilities) booking.slot.facility) club.bookings
   pub closed : All (λ (slot : Slot). Contains (map (λ (f : Facility). f.name) club.facilities) slot.facility) club.closed
 
--- the invariant of every club
+-- the invariants of the club
 pub record IsSound (club : Club) : Type 0 where
   pub rows : HasRows club
   pub unique : HasUniqueNames club

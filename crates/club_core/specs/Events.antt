@@ -12,7 +12,7 @@ IsRequest (asked.Book slot number guests) = IsSlot slot × IsBookingNumber numbe
 IsRequest (asked.Cancel slot number) = IsSlot slot × IsBookingNumber number
 IsRequest asked.Account = Unit {0}
 
--- the numbers have no limits here: `command_verdict` checks them
+-- each name, slot, booking number, root and moment of a command is within its limits; `command_verdict` checks the other numbers
 abbrev pub IsCommand : Command → Type 0
 IsCommand (AddMember name quota) = IsName name
 IsCommand (Credit member points) = IsName member
@@ -27,7 +27,7 @@ IsCommand (CancelBooking key number) = IsName key × IsBookingNumber number
 IsCommand (CloseSlot slot) = IsSlot slot
 IsCommand (OpenSlot slot) = IsSlot slot
 
--- each value of the event is within its limits; a request may come at any moment
+-- each value of the event is within its limits; the moment of a request has no limit
 abbrev pub IsEvent : Event → Type 0
 IsEvent (Asked words moment) = IsRequest words.request
 IsEvent (Commanded command) = IsCommand command

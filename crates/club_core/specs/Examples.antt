@@ -13,7 +13,7 @@ use Rattle.club_core.specs.declared.request.Request.TheVariants as asked
 abbrev pub root : List ℕ
 root = replicate 16 7
 
--- member amy with quota 5 and 10,000 points, her key amy-1, and court-1 with 4 places for 200 points, from 8 to 22
+-- Member amy has quota 5, 10,000 points and the key amy-1. Facility court-1 has 4 places for 200 points each, and is open from 8 to 22.
 abbrev pub opening : List Event
 opening =
     Commanded (AddMember (codes "amy") 5)
@@ -25,11 +25,11 @@ opening =
 abbrev pub opened_club : Club
 opened_club = club_after empty_club opening
 
--- court-1 on 2026-05-01
+-- the slot of court-1 on 2026-05-01 at this hour
 abbrev pub slot_at : ℕ → Slot
 slot_at hour = record { facility = codes "court-1"; day = 20574; hour = hour }
 
--- 2026-04-20T12:00; the next two are an hour before the slot at 18 begins, and a minute after it
+-- 2026-04-20T12:00; `soon` is an hour before the slot at 18 begins, and `late` a minute after
 abbrev pub noon : ℕ
 noon = 29_611_440
 
@@ -39,7 +39,7 @@ soon = 29_627_580
 abbrev pub late : ℕ
 late = 29_627_641
 
--- a request of the key amy-1, under a pass with these caveats
+-- a request under a pass of the key amy-1 that has these caveats
 abbrev pub ask_with : List (Option Caveat) → Request → ℕ → Event
 ask_with caveats request moment =
     Asked (record { pass = Ok (record { key = Some (codes "amy-1"); caveats = caveats; is_signed = λ _. true }); request = request }) moment
@@ -56,14 +56,14 @@ served_cancellation number refund = ToMember (Cancelled (codes "amy-1") number r
 abbrev pub account : ℕ → ℕ → ℕ → EventReply
 account balance count spent = ToMember (AccountShown (codes "amy") balance 5 count spent)
 
--- a member books, sees the account, and cancels
+-- a member books, views the account, and cancels
 abbrev pub BooksAndCancels : Type 0
 BooksAndCancels =
     replies_of opened_club
     (ask (asked.Book (slot_at 18) 7 2) noon ∷ ask asked.Account noon ∷ ask (asked.Cancel (slot_at 18) 7) noon ∷ [])
     ≡ served_booking 7 600 1 ∷ account 9_400 1 600 ∷ served_cancellation 7 600 ∷ []
 
--- a repeat returns the first reply and charges nothing, even after a cancellation and after the slot has begun
+-- a repeated request gets the first reply and charges nothing, even after a cancellation and after the slot has begun
 abbrev pub RepeatsAfterACancellation : Type 0
 RepeatsAfterACancellation =
     replies_of opened_club
@@ -75,7 +75,7 @@ RepeatsAfterACancellation =
     ∷ [])
     ≡ served_booking 7 600 1 ∷ served_cancellation 7 600 ∷ served_booking 7 600 1 ∷ ToMember (Refused refusals.NumberUsed) ∷ account 10_000 0 0 ∷ []
 
--- a slot can be closed only while nobody has booked it; a closed slot can't be booked
+-- a slot can be closed only while nobody has booked it, and a closed slot can't be booked
 abbrev pub ClosesASlot : Type 0
 ClosesASlot =
     replies_of opened_club
@@ -94,7 +94,7 @@ ClosesASlot =
     ∷ ToMember (Refused refusals.SlotClosed)
     ∷ []
 
--- a closed slot can be opened, and then booked again; opening an open one changes nothing, and a slot of an unknown facility can't be opened
+-- a closed slot can be opened and then booked again; opening an open slot changes nothing; a slot of an unknown facility can't be opened
 abbrev pub OpensASlot : Type 0
 OpensASlot =
     replies_of opened_club
@@ -117,7 +117,7 @@ OpensASlot =
     ∷ ToOffice (NotDone Unknown)
     ∷ []
 
--- a debit takes points off the balance, and never points that bookings cost
+-- a debit lowers the balance, and is refused if it is more than the balance
 abbrev pub DebitsAMember : Type 0
 DebitsAMember =
     replies_of opened_club
@@ -146,7 +146,7 @@ DebitsAMember =
     ∷ ToOffice (NotDone Unknown)
     ∷ []
 
--- a new quota holds from the next booking on, and bookings above it stay
+-- a new quota applies from the next booking on; open bookings above it stay
 abbrev pub SetsAQuota : Type 0
 SetsAQuota =
     replies_of opened_club
@@ -171,7 +171,7 @@ SetsAQuota =
     ∷ ToOffice (NotDone Unknown)
     ∷ []
 
--- new numbers hold from the next booking on; a booking keeps its charge, its places left and its hour, and each slot keeps its places
+-- new numbers apply from the next booking on; earlier bookings keep their charge, places left and hour; new places must suffice for each slot
 abbrev pub SetsAFacility : Type 0
 SetsAFacility =
     replies_of opened_club
@@ -204,7 +204,7 @@ SetsAFacility =
     ∷ ToOffice (NotDone Unknown)
     ∷ []
 
--- when the office cancels, it refunds the whole charge, even after the slot has begun; later, a repeated booking or cancellation is answered from the record
+-- a cancellation by the office refunds the whole charge, even after the slot has begun; later repeats get the recorded replies
 abbrev pub CancelsForAMember : Type 0
 CancelsForAMember =
     replies_of opened_club
@@ -233,7 +233,7 @@ CancelsForAMember =
     ∷ ToOffice (NotDone Unknown)
     ∷ []
 
--- a booking that its member cancelled keeps its refund
+-- if the office cancels a booking that its member cancelled before, the member's refund stays
 abbrev pub KeepsARefund : Type 0
 KeepsARefund =
     replies_of opened_club
@@ -256,7 +256,7 @@ CancelsUnderARevokedKey =
     ∷ [])
     ≡ served_booking 7 600 1 ∷ ToOffice Done ∷ ToOffice (NotDone SlotInUse) ∷ ToOffice Done ∷ ToOffice Done ∷ []
 
--- a pass that may spend 600 points may spend them again after a refund
+-- under a spend limit of 600 points, refunded points can be spent again
 abbrev pub KeepsASpendLimit : Type 0
 KeepsASpendLimit =
     let limited = ask_with (Some (Spend 600) ∷ []) in

@@ -17,17 +17,17 @@ RefusalsChangeNothing = (words : Words) (moment : ℕ) (basis : Option Basis) �
 abbrev pub OneSheet : Type 0
 OneSheet = (club : Club) (day : ℕ) (text other : List ℕ) → IsSheet club day text → IsSheet club day other → text ≡ other
 
--- words are answered from the view of the key that they name
+-- the view of the key that a pass names is the view that decides the request
 abbrev pub ViewsDecide : Type 0
 ViewsDecide = (club : Club) (words : Words) (moment : ℕ) (name : List ℕ) → key_of words.pass ≡ Some name →
     view_in club name words.request moment ≡ option_map (λ (basis : Basis). view_of basis words.request moment) (basis_of club words)
 
--- `is_signed_under` is true if and only if the pass is signed under a good root of the key
+-- `is_signed_under` is true if and only if the pass is signed under a valid root of the key
 abbrev pub TestsTheSignature : Type 0
 TestsTheSignature = (pass : Pass) (key : Key) (moment : ℕ) →
     IsTrue (is_signed_under pass key moment) ↔ IsSignedUnder pass key moment
 
--- a member's bookings are enough to tell what its key has spent and booked
+-- the bookings of a key's member suffice to compute what the key has spent, and to find its booking under each number
 pub record HasOwnBookings (club : Club) (key : Key) : Type 0 where
   pub spent : spent_under key.name (bookings_of key.member club) ≡ spent_under key.name club.bookings
   pub booking : (number : ℕ) → booking_under key.name number (bookings_of key.member club) ≡ booking_under key.name number club.bookings
@@ -35,7 +35,7 @@ pub record HasOwnBookings (club : Club) (key : Key) : Type 0 where
 abbrev pub OwnBookings : Type 0
 OwnBookings = (club : Club) (key : Key) → Contains club.keys key → HasOwnBookings club key
 
--- no slot of the facility has more than this many persons, and some slot has exactly this many, unless the number is 0
+-- no slot of the facility has more persons than `most`, and some slot has exactly `most` persons, unless `most` is 0
 pub record IsMostTaken (facility : List ℕ) (bookings : List Booking) (most : ℕ) : Type 0 where
   pub bound : (slot : Slot) → slot.facility ≡ facility → taken_in slot bookings ≤ most
   pub reached : (most ≡ 0) ⊎ ((slot : Slot) × (slot.facility ≡ facility) × (taken_in slot bookings ≡ most))

@@ -9,7 +9,7 @@ pub record Line (A : Type 0) : Type 0 where
 abbrev pub line_if : {A : Type 0} → Bool → A → Line A
 line_if fits answer = record { fits = fits; answer = answer }
 
--- the answer of the first line whose condition holds, or the last argument if none holds
+-- the answer of the first line whose condition holds, or the last argument if no condition holds
 abbrev pub first_of : {A : Type 0} → List (Line A) → A → A
 first_of [] last = last
 first_of (l ∷ lines) last = if l.fits then l.answer else first_of lines last

@@ -5,7 +5,7 @@ use Rattle.club_core.specs.declared.refusal.Refusal.TheVariants.{ThirdPartyCavea
 use Rattle.club_core.specs.declared.refusal.Refusal.TheVariants.{NumberUsed, NoSuchFacility, NoSuchBooking, NotBookable, SlotClosed, NoPlaces, QuotaReached}
 use Rattle.club_core.specs.declared.refusal.Refusal.TheVariants.{BalanceTooLow, SlotHasBegun, Unavailable}
 
--- the fault's number and the text
+-- a refusal's number and text in the reply
 pub record RefusalDetails : Type 0 where
   pub number : ℕ
   pub text : List ℕ
@@ -37,7 +37,7 @@ details_of BalanceTooLow = details 20 (codes "balance too low")
 details_of SlotHasBegun = details 21 (codes "slot has begun")
 details_of Unavailable = details 22 (codes "unavailable")
 
--- the number of the caveat that refuses
+-- the position of the refusing caveat, counted from 1; `None` for other refusals
 abbrev pub caveat_of_refusal : Refusal → Option ℕ
 caveat_of_refusal (CaveatNotUnderstood n) = Some n
 caveat_of_refusal (CaveatDenies n) = Some n

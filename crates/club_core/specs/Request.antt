@@ -17,7 +17,7 @@ request_guests (asked.Book slot number guests) = guests
 request_guests (asked.Cancel slot number) = 0
 request_guests asked.Account = 0
 
--- the slot that the request names
+-- the slot that the request names; `None` for the account
 abbrev pub request_slot : Request → Option Slot
 request_slot (asked.View slot) = Some slot
 request_slot (asked.Book slot number guests) = Some slot

@@ -11,12 +11,12 @@ pub data Event : Type 0 where
   Asked : (words : Words) (moment : ℕ) → Event
   Commanded : (command : Command) → Event
 
--- the response to an event: the reply to a request, or the answer to a command, whose type is a parameter
+-- the response to an event: the reply to a request, or the answer to a command; the answer's type is the parameter `O`
 pub data Response (O : Type 0) : Type 0 where
   ToMember : (reply : Reply) → Response O
   ToOffice : (answer : O) → Response O
 
--- the machine's response
+-- the response of the club's state machine
 abbrev pub EventReply : Type 0
 EventReply = Response OfficeAnswer
 
@@ -25,12 +25,12 @@ pub record Outcome : Type 0 where
   pub reply : EventReply
   pub club : Club
 
--- the club after a change, if there is one
+-- the club after a change; unchanged if there is none
 abbrev pub after_change : Option Change → Club → Club
 after_change None club = club
 after_change (Some change) club = after change club
 
--- the answer to a command that was carried out; for a new key or root, its name and root, which determine the signature
+-- the answer to a command that succeeded; a new key's or new root's answer has name and root, which determine the signature
 abbrev pub done_answer : Command → OfficeAnswer
 done_answer (AddMember name quota) = Done
 done_answer (Credit member points) = Done
@@ -45,7 +45,7 @@ done_answer (CancelBooking key number) = Done
 done_answer (CloseSlot slot) = Done
 done_answer (OpenSlot slot) = Done
 
--- a refused command leaves the club unchanged; one that finds nothing left to change succeeds and leaves it unchanged, too
+-- a refused command leaves the club unchanged; a command with nothing to change succeeds, and also leaves it unchanged
 abbrev pub command_outcome : Club → Command → Result (Option Change) OfficeFault → Outcome
 command_outcome club command (Err fault) = record { reply = ToOffice (NotDone fault); club = club }
 command_outcome club command (Ok change) = record { reply = ToOffice (done_answer command); club = after_change change club }

@@ -13,7 +13,7 @@ is_on day booking = not booking.cancelled && booking.slot.day == day
 abbrev pub IsBefore : List ℕ → List ℕ → Type 0
 IsBefore a b = slice_cmp nat_cmp a b ≡ Less
 
--- bookings are ordered by facility, hour, key and number
+-- the order of bookings: by facility, hour, key and number
 abbrev pub Precedes : Booking → Booking → Type 0
 Precedes a b =
     IsBefore a.slot.facility b.slot.facility
@@ -21,12 +21,12 @@ Precedes a b =
     ⊎ ((a.slot.hour ≡ b.slot.hour) × (IsBefore a.key b.key
     ⊎ ((a.key ≡ b.key) × (a.number < b.number))))))
 
--- the rows of the sheet: the day's bookings, in order
+-- the rows of the sheet: the day's bookings that aren't cancelled, in order
 pub record AreRowsOf (club : Club) (day : ℕ) (rows : List Booking) : Type 0 where
   pub same : IsPermutation (filter (is_on day) club.bookings) rows
   pub order : AllPairs Precedes rows
 
--- a text padded with spaces to this width, aligned to the left or to the right
+-- a text padded with spaces to a width: `left_in` aligns it to the left, `right_in` to the right
 abbrev pub left_in : ℕ → List ℕ → List ℕ
 left_in places text = text ++ replicate (places - length text) 32
 
@@ -59,7 +59,7 @@ totals_text (row ∷ rows) =
 abbrev pub sheet_text : ℕ → List Booking → List ℕ
 sheet_text day rows = codes "Day sheet " ++ day_text day ++ 10 ∷ [] ++ flat_map row_text rows ++ totals_text rows
 
--- the text is the sheet of the club for the day
+-- the text is the club's sheet for the day
 pub record IsSheet (club : Club) (day : ℕ) (text : List ℕ) : Type 0 where
   pub rows : List Booking
   pub are : AreRowsOf club day rows

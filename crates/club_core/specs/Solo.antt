@@ -1,4 +1,4 @@
--- The rows and events that a member's replies depend on (ours): the member's own, and how much of the requested slots others take.
+-- The rows and events that a member's replies depend on (ours): the member's own, and the persons of others in the requested slots.
 use Rattle.std.specs.Prelude.{ℕ, ◌+◌, not, Bool, true, false, List, [], ◌∷◌, ◌++◌, filter, Option, Some, None, Result, Ok, Err, option_map, if◌then◌else◌}
 use Rattle.std.specs.Str.{bytes_eq}
 use Rattle.club_values.specs.declared.slot.Slot.{Slot}
@@ -12,17 +12,17 @@ use Rattle.club_core.specs.declared.{command.OfficeFault.OfficeFault, reply.Repl
 abbrev pub bookings_of_others : List ℕ → Club → List Booking
 bookings_of_others member club = filter (λ (booking : Booking). not (is_key_of member club booking.key)) club.bookings
 
--- how much of a slot others take: their persons, and whether it is closed
+-- the number of other members' persons in a slot, and whether the slot is closed
 abbrev pub outside : List ℕ → Club → Option Slot → SlotUse
 outside member club slot = slot_use_by (bookings_of_others member club) club slot
 
--- a request of the member, with how much of its slot others take, or a change of the member's part
+-- a request of the member, with others' persons in its slot and whether the slot is closed; or a change of the member's part
 pub data OwnEvent : Type 0 where
   OwnAsk : (words : Words) (moment : ℕ) (others : SlotUse) → OwnEvent
   OwnChange : (change : Change) → OwnEvent
 
--- whether a command changes the member's part: the member, its credits, debits, quota and keys, the cancellation of its bookings,
--- each new facility, and each facility's new numbers
+-- Whether a command changes the member's part. Such commands add or change the member, its credit,
+-- its quota and its keys, cancel its bookings, or add or change a facility.
 abbrev pub is_own : List ℕ → Club → Change → Bool
 is_own name club (InsertMember member) = bytes_eq member.name name
 is_own name club (AddCredit member points) = bytes_eq member name
@@ -43,7 +43,7 @@ own_change name club (Err fault) = []
 own_change name club (Ok None) = []
 own_change name club (Ok (Some change)) = if is_own name club change then OwnChange change ∷ [] else []
 
--- a request is the member's if it names one of the member's keys
+-- the member's entry for a request: the request itself if its pass names one of the member's keys, else none
 abbrev pub own_ask : List ℕ → Club → Words → ℕ → Option Basis → List OwnEvent
 own_ask name club words moment None = []
 own_ask name club words moment (Some basis) =
@@ -53,12 +53,12 @@ abbrev pub own_part : List ℕ → Club → Event → List OwnEvent
 own_part name club (Asked words moment) = own_ask name club words moment (basis_of club words)
 own_part name club (Commanded command) = own_change name club (office_verdict club command)
 
--- the member's own events in a run, in order
+-- the member's own events in a run of the club, in order
 abbrev pub own_events : List ℕ → Club → List Event → List OwnEvent
 own_events name club [] = []
 own_events name club (event ∷ events) = own_part name club event ++ own_events name (step club event).club events
 
--- the member's own rows, and the facilities
+-- the member's own rows, and all facilities
 abbrev pub part_of : List ℕ → Club → Club
 part_of name club = record {
   members = filter (λ (member : Member). bytes_eq member.name name) club.members;
@@ -68,7 +68,7 @@ part_of name club = record {
   closed = [];
 }
 
--- the basis in the member's part alone, plus how much of the slot others take
+-- the basis from the member's part, with others' persons added to its slot
 abbrev pub with_others : SlotUse → Basis → Basis
 with_others others basis = record basis {
   state = record basis.state {
@@ -79,7 +79,7 @@ with_others others basis = record basis {
 abbrev pub solo_verdict : Club → Words → ℕ → SlotUse → Verdict
 solo_verdict part words moment others = answer_by_basis words moment (option_map (with_others others) (basis_of part words))
 
--- the replies to the member's requests from the member's part alone
+-- the replies to the member's requests, computed from the member's part alone
 abbrev pub solo_replies : Club → List OwnEvent → List Reply
 solo_replies part [] = []
 solo_replies part (OwnChange change ∷ events) = solo_replies (after change part) events

@@ -5,37 +5,37 @@ use Rattle.club_core.specs.{After.after, Club.{Club, IsSound, key_named, member_
 use Rattle.club_core.specs.declared.change.Change.TheVariants.{AddCredit, TakeCredit, ReplaceNumbers, InsertKey, MarkRevoked, ReplaceRoot, MarkOpen}
 use Rattle.club_core.specs.declared.{change.Change.TheVariants.{ReplaceQuota, InsertBooking, MarkCancelled}, store.StoreFault.StoreFault}
 
--- there is a member of this name
+-- a member has this name
 abbrev pub HasMember : List ℕ → Club → Type 0
 HasMember name club = (row : Member) × (member_named name club ≡ Some row)
 
--- there is a member of this name, and it was credited these points or more
+-- a member has this name, and was credited at least these points
 abbrev pub HasCredited : List ℕ → ℕ → Club → Type 0
 HasCredited name points club = (row : Member) × (member_named name club ≡ Some row) × (points ≤ row.credited)
 
--- there is a facility of this name
+-- a facility has this name
 abbrev pub HasFacility : List ℕ → Club → Type 0
 HasFacility name club = (row : Facility) × (facility_named name club ≡ Some row)
 
--- there is a key of this name
+-- a key has this name
 abbrev pub HasKey : List ℕ → Club → Type 0
 HasKey name club = (row : Key) × (key_named name club ≡ Some row)
 
--- the key of this name is the member's
+-- the key with this name belongs to the member
 abbrev pub IsOwnedBy : List ℕ → List ℕ → Club → Type 0
 IsOwnedBy member key club = (row : Key) × (key_named key club ≡ Some row) × (row.member ≡ member)
 
--- the key of this name has this root
+-- the key with this name has this root
 abbrev pub HasRoot : List ℕ → List ℕ → Club → Type 0
 HasRoot key root club = (row : Key) × (key_named key club ≡ Some row) × (row.root ≡ root)
 
--- the booking is in the club, and isn't cancelled
+-- the booking is on record and isn't cancelled
 abbrev pub IsToCancel : Booking → Club → Type 0
 IsToCancel booking club = (booking_under booking.key booking.number club.bookings ≡ Some booking) × (booking.cancelled ≡ false)
 
--- A change is true of a club's rows: the member, key or facility that it changes exists, and points are taken only from points that were credited. A new key
--- has no older root, and a rotated key has the former root. The booking's key belongs to the member. A booking that is cancelled has the given values on
--- record.
+-- A change is true of a club's rows if it matches them. The member, key or facility that it edits exists. A debit is at
+-- most the points credited. A new key has no older root, and a rotated key has the former root. A booking's key belongs
+-- to the member. A booking to cancel is on record with these values.
 abbrev pub IsTrueOf : Change → Club → Type 0
 IsTrueOf (AddCredit name points) club = HasMember name club
 IsTrueOf (TakeCredit name points) club = HasCredited name points club
@@ -49,33 +49,33 @@ IsTrueOf (InsertBooking booking member) club = IsOwnedBy member booking.key club
 IsTrueOf (MarkCancelled booking member refund) club = IsToCancel booking club × IsOwnedBy member booking.key club
 IsTrueOf change club = Unit {0}
 
--- a change fits a club if it is true of the club's rows, and the club after it is sound
+-- a change fits a club if it is true of the club's rows, and the changed club is sound
 pub record FitsClub (change : Change) (club : Club) : Type 0 where
   pub carries : IsTrueOf change club
   pub sound : IsSound (after change club)
 
--- A change is applied to any club, or fails. If it was applied, it fits the club. If it failed, the club is unchanged. A failed change that doesn't fit has no
--- effect; after a failed change that would make a sound club, a crash may leave that club.
+-- A call applies a change, or fails. An applied change fits the club. A failed call leaves the club unchanged. If the change fits, a crash
+-- after the failure may leave the changed club. If it doesn't fit, the failure has no effect at all.
 abbrev pub Changes : {S E : Type 0} → (S → Club → List Club → Type 0) → Change → S → S → Result (Unit {0}) E → Type 0
 Changes Represents change old new result =
     (club : Club) (others : List Club) → Represents old club others
     → MatchResult result (λ _. FitsClub change club × Represents new (after change club) [])
     (λ _. (IsSound (after change club) → Represents new club (after change club ∷ others)) × (¬ FitsClub change club → Represents new club others))
 
--- the store represents the same club, with the same possible crash states
+-- the store represents the same club before and after, with the same possible crash states
 abbrev pub KeepsClub : {S : Type 0} → (S → Club → List Club → Type 0) → S → S → Type 0
 KeepsClub Represents old new = (club : Club) (others : List Club) → Represents old club others → Represents new club others
 
--- if the call succeeded, its result is true of the current club
+-- if the call succeeds, its result is true of the current club
 abbrev pub Returns : {S A E : Type 0} → (S → Club → List Club → Type 0) → S → Result A E → (Club → A → Type 0) → Type 0
 Returns Represents old answer IsReturned = (club : Club) (others : List Club) → Represents old club others → IfOk answer (IsReturned club)
 
--- after a read that succeeded, a later failure of a read (`None`) or a change is also a failure as seen from the state before the read
+-- after a successful read, each later failure of a read (`None`) or a change also counts as a failure from the state before that read
 abbrev pub IsRead : {S : Type 0} → (Option Change → S → StoreFault → S → Type 0) → S → S → Type 0
 IsRead {S} Fails old new = (wish : Option Change) (fault : StoreFault) (later : S) → Fails wish new fault later → Fails wish old fault later
 
--- The promises of a read, if the store's disk is clean after it. The disk was clean before, the store represents the same club with the same possible crash
--- states, and the result is true of that club. A read that fails, fails with this fault.
+-- The promises of a read, if the disk is clean after it. The disk was clean before. The store represents the same club
+-- with the same possible crash states. A result is true of that club. A failure is the failure of a read.
 pub record ReadsStore {S A : Type 0} (IsClean : S → Type 0) (Represents : S → Club → List Club → Type 0)
     (Fails : Option Change → S → StoreFault → S → Type 0) (old new : S) (result : Result A StoreFault) (IsReturned : Club → A → Type 0) : Type 0 where
   pub was_clean : IsClean new → IsClean old

@@ -3,27 +3,27 @@ use Rattle.std.specs.{Prelude.{ℕ, ◌-◌, ◌==◌, ◌&&◌, not, Bool, List
 use Rattle.club_values.specs.{Slot.start_of, declared.slot.Slot.Slot}
 use Rattle.club_rows.specs.{Booking.{same_slot, persons_of}, declared.{booking.Booking.Booking, member.Member.Member}}
 
--- whether a booking takes places of the slot
+-- whether a booking occupies places of the slot, which a cancelled one doesn't
 abbrev pub is_in : Slot → Booking → Bool
 is_in slot booking = not booking.cancelled && same_slot booking.slot slot
 
--- the persons who booked the slot
+-- the number of persons who booked the slot
 abbrev pub taken_in : Slot → List Booking → ℕ
 taken_in slot bookings = sum_by persons_of (filter (is_in slot) bookings)
 
--- whether a booking's slot is at the facility of this name
+-- whether a booking's slot is at the facility with this name
 abbrev pub is_at : List ℕ → Booking → Bool
 is_at facility booking = bytes_eq booking.slot.facility facility
 
--- the most persons in a slot of the facility, over the slots of all its bookings; 0 if it has none
+-- the highest number of persons in a slot of the facility, over all its booked slots; 0 if it has no bookings
 abbrev pub most_taken_in : List ℕ → List Booking → ℕ
 most_taken_in facility bookings = fold (λ most booking. max most (taken_in booking.slot bookings)) 0 (filter (is_at facility) bookings)
 
--- the points that a booking has cost
+-- the points that a booking has cost: its charge minus its refund
 abbrev pub cost_of : Booking → ℕ
 cost_of booking = booking.charge - booking.refund
 
--- whether a booking was made under the key of this name
+-- whether a booking was made under the key with this name
 abbrev pub is_under : List ℕ → Booking → Bool
 is_under key booking = bytes_eq booking.key key
 
@@ -31,15 +31,15 @@ is_under key booking = bytes_eq booking.key key
 abbrev pub spent_under : List ℕ → List Booking → ℕ
 spent_under key bookings = sum_by cost_of (filter (is_under key) bookings)
 
--- a member's balance: the points credited less what these bookings cost
+-- a member's balance: the points credited minus what these bookings cost
 abbrev pub balance_of : Member → List Booking → ℕ
 balance_of member bookings = member.credited - sum_by cost_of bookings
 
--- whether a booking is still to come
+-- whether a booking is open: it isn't cancelled, and its slot begins after the moment
 abbrev pub is_to_come : ℕ → Booking → Bool
 is_to_come moment booking = not booking.cancelled && nat_lt moment (start_of booking.slot)
 
--- how many of these bookings are still to come
+-- the number of these bookings that are open
 abbrev pub count_to_come : ℕ → List Booking → ℕ
 count_to_come moment bookings = length (filter (is_to_come moment) bookings)
 

@@ -17,11 +17,11 @@ reply_only reply = record { reply = reply; change = None }
 abbrev pub refusal_verdict : Refusal → Verdict
 refusal_verdict refusal = reply_only (Refused refusal)
 
--- the first reply to a recorded booking, given again
+-- the first reply to a recorded booking, returned again for a repeated request
 abbrev pub booked_before : Booking → Verdict
 booked_before booking = reply_only (Booked booking.key booking.number booking.charge booking.left)
 
--- the new booking's row, with the places left after it
+-- the row of a new booking, with the places that are then left in the slot
 abbrev pub new_booking : View → Slot → ℕ → ℕ → Facility → Booking
 new_booking view slot number guests facility = record {
   key = view.key.name;
@@ -34,30 +34,30 @@ new_booking view slot number guests facility = record {
   refund = 0;
 }
 
--- a new booking, under a key of the member
+-- the reply to a new booking, and the change that inserts it; its key belongs to the member
 abbrev pub booked_now : Booking → List ℕ → Verdict
 booked_now booking member = record {
   reply = Booked booking.key booking.number booking.charge booking.left;
   change = Some (InsertBooking booking member);
 }
 
--- the booking, under a key of the member, is marked cancelled with its refund
+-- the reply to a cancellation, and the change that records it with its refund; the booking's key belongs to the member
 abbrev pub cancelled_now : Booking → List ℕ → ℕ → Verdict
 cancelled_now booking member refund = record {
   reply = Cancelled booking.key booking.number refund;
   change = Some (MarkCancelled booking member refund);
 }
 
--- the first reply to a cancellation, given again
+-- the first reply to a cancellation, returned again for a repeated request
 abbrev pub cancelled_before : Booking → Verdict
 cancelled_before booking = reply_only (Cancelled booking.key booking.number booking.refund)
 
--- a booking under a used number: the first reply if slot and guests are the same, else `NumberUsed`
+-- the answer to a booking under a used number: the first reply if slot and guests are the same, else `NumberUsed`
 abbrev pub repeat_booking_verdict : Booking → Slot → ℕ → Verdict
 repeat_booking_verdict booking slot guests =
     if same_slot booking.slot slot && booking.guests == guests then booked_before booking else refusal_verdict NumberUsed
 
--- the conditions under which a booking under a new number is refused
+-- the conditions that refuse a booking under an unused number
 abbrev pub book_lines : View → Slot → ℕ → ℕ → Facility → List (Line Verdict)
 book_lines view slot guests moment facility =
     line_if (not (is_bookable facility slot moment)) (refusal_verdict NotBookable)
@@ -67,13 +67,13 @@ book_lines view slot guests moment facility =
     ∷ line_if (nat_lt view.balance (charge_of facility guests)) (refusal_verdict BalanceTooLow)
     ∷ []
 
--- the answer to a booking under a new number
+-- the answer to a booking under an unused number
 abbrev pub new_verdict : View → Slot → ℕ → ℕ → ℕ → Option Facility → Verdict
 new_verdict view slot number guests moment None = refusal_verdict NoSuchFacility
 new_verdict view slot number guests moment (Some facility) =
     first_of (book_lines view slot guests moment facility) (booked_now (new_booking view slot number guests facility) view.key.member)
 
--- one answer computed from the booking on record under a number, or another if there is none
+-- `recorded` of the booking on record, or `other` if there is no booking
 abbrev pub recorded_or : Option Booking → (Booking → Verdict) → Verdict → Verdict
 recorded_or None recorded other = other
 recorded_or (Some booking) recorded other = recorded booking
@@ -84,7 +84,7 @@ book_verdict view slot number guests moment =
     recorded_or view.booking (λ booking. repeat_booking_verdict booking slot guests)
     (new_verdict view slot number guests moment view.facility)
 
--- the answers to a cancellation under a used number that change nothing
+-- the answers to a cancellation of a recorded booking that change nothing
 abbrev pub cancel_lines : Booking → Slot → ℕ → List (Line Verdict)
 cancel_lines booking slot moment =
     line_if (not (same_slot booking.slot slot)) (refusal_verdict NumberUsed)
@@ -92,7 +92,7 @@ cancel_lines booking slot moment =
     ∷ line_if (nat_le (start_of booking.slot) moment) (refusal_verdict SlotHasBegun)
     ∷ []
 
--- the answer to a cancellation under a used number, by a key of the member
+-- the answer to a cancellation of a recorded booking, whose key belongs to the member
 abbrev pub cancel_recorded_verdict : Booking → List ℕ → Slot → ℕ → Verdict
 cancel_recorded_verdict booking member slot moment =
     first_of (cancel_lines booking slot moment) (cancelled_now booking member (refund_at booking moment))
@@ -102,18 +102,18 @@ abbrev pub unknown_verdict : Option Facility → Verdict
 unknown_verdict None = refusal_verdict NoSuchFacility
 unknown_verdict (Some facility) = refusal_verdict NoSuchBooking
 
--- the answer to a cancellation of the booking on record under its number
+-- the answer to a cancellation
 abbrev pub cancel_verdict : View → Slot → ℕ → Verdict
 cancel_verdict view slot moment =
     recorded_or view.booking (λ booking. cancel_recorded_verdict booking view.key.member slot moment) (unknown_verdict view.facility)
 
--- a slot is shown, with its facility
+-- the answer to a view of a slot at this facility
 abbrev pub shown_at : View → Slot → Option Facility → Verdict
 shown_at view slot None = refusal_verdict NoSuchFacility
 shown_at view slot (Some facility) =
     reply_only (SlotShown slot facility.kind facility.price facility.places view.taken view.closed)
 
--- the member's account is shown, with what the key has spent
+-- the answer to a view of the member's account, with what the key has spent
 abbrev pub account_verdict : View → Verdict
 account_verdict view = reply_only (AccountShown view.member.name view.balance view.member.quota view.open_count view.spent)
 
