@@ -1,4 +1,4 @@
--- The rows that the answer to a request may depend on (the basis), and the sums computed from them that decide it (the view) (ours).
+-- The rows that the answer to a request may depend on (the basis), and the figures computed from them that decide it (the view) (ours).
 use Rattle.std.specs.Prelude.{ℕ, false, List, Option, Some, None, Result, Ok, Err, option_map, option_and_then}
 use Rattle.club_values.specs.declared.slot.Slot.{Slot}
 use Rattle.club_rows.specs.{Key.row_of_key, declared.{booking.Booking.Booking, facility.Facility.Facility, key.Key.Key, member.Member.Member}}

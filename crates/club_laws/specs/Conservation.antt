@@ -7,9 +7,9 @@ use Rattle.club_core.specs.{Run.{Event, Commanded, replies_of, club_after, Event
 use Rattle.club_core.specs.declared.command.Command.TheVariants.{Debit, CancelBooking}
 use Rattle.club_laws.specs.Points.{keys_given, credits_accepted, debits_accepted, charges_of_replies, refunds_given, refunds_of_replies, total_under}
 
--- The member's balance, its debits and the first charge of each booking add up to its credits and the first amount given back for each booking. That amount is
--- the refund of a served cancellation, or the whole charge if the office cancelled before. In a list without debits and cancellations by the office, the debits
--- are 0, and the amounts given back are the refunds in the replies. The member's bookings never cost more than its credit, so its balance is never below 0.
+-- The member's balance, debits and first charge of each booking add up to its credits and the first refund of each booking. That refund is
+-- the one in a cancellation's reply, or the whole charge if the office cancelled first. Without debits and cancellations by the office, the
+-- debits are 0 and the refunds are those in the replies. The bookings never cost more than the credit, so the balance is never below 0.
 pub record IsConserved (club : Club) (events : List Event) (replies : List EventReply) (member : Member) : Type 0 where
   pub balance_adds_up :
       balance_of member (bookings_of member.name club) + debits_accepted member.name events replies
@@ -23,13 +23,13 @@ ConservesPoints =
     → member_named name (club_after empty_club events) ≡ Some member
     → IsConserved (club_after empty_club events) events (replies_of empty_club events) member
 
--- an event that is neither a debit nor a cancellation by the office
+-- the event is neither a debit nor a cancellation by the office
 abbrev pub IsNoCorrection : Event → Type 0
 IsNoCorrection (Commanded (Debit name points)) = ⊥
 IsNoCorrection (Commanded (CancelBooking key number)) = ⊥
 IsNoCorrection event = Unit {0}
 
--- over a list without debits and cancellations by the office, the balance and the charges add up to the credits and the first refund of each booking
+-- without debits and cancellations by the office, the balance and the charges add up to the credits and the first refund of each booking
 abbrev pub ConservesWithoutCorrections : Type 0
 ConservesWithoutCorrections =
     (events : List Event) (name : List ℕ) (member : Member) → All IsEvent events → All IsNoCorrection events
@@ -39,7 +39,7 @@ ConservesWithoutCorrections =
     balance_of member (bookings_of member.name (club_after empty_club events)) + total_under keys (charges_of_replies replies)
     ≡ credits_accepted member.name events replies + total_under keys (refunds_of_replies replies)
 
--- a slot has a place for each person who booked it; nobody booked a slot of an unknown facility
+-- a slot has a place for each person who booked it, and a slot of an unknown facility has no bookings
 abbrev pub HasPlaces : Slot → Club → Type 0
 HasPlaces slot club =
     MatchOption (facility_named slot.facility club) (taken_in slot club.bookings ≡ 0) (λ (facility : Facility). taken_in slot club.bookings ≤ facility.places)

@@ -8,11 +8,11 @@ use Rattle.pass_caveats.specs.declared.caveat.Caveat.TheVariants.{Spend}
 use Rattle.club_core.specs.declared.request.Request.TheVariants as asked
 use Rattle.club_laws.specs.{Points.{keys_given, credits_accepted, debits_accepted, charges_of_replies, refunds_given, total_under}, Repeats.WasServed}
 
--- twelve hours before the slot at 18 begins
+-- twelve hours before the slot at 18 o'clock begins
 abbrev pub at_six : ℕ
 at_six = 29_626_920
 
--- one member's requests: two bookings, a repeat of one of them, its cancellation, and both of these again
+-- a member's requests: two bookings, a repeat of the first, its cancellation, and repeats of the cancellation and the booking
 abbrev pub some_events : List Event
 some_events =
     opening
@@ -30,20 +30,20 @@ pub record AreFigures (events : List Event) (replies : List EventReply) (charged
   pub credits : credits_accepted (codes "amy") events replies ≡ credited
   pub refunds : total_under (keys_given (codes "amy") events replies) (refunds_given events replies) ≡ refunded
 
--- 600 and 200 points charged, 10,000 credited, and half of 600 refunded
+-- 600 and 200 points are charged, 10,000 are credited, and half of the 600 is refunded
 abbrev pub CountsEachOnce : Type 0
 CountsEachOnce = AreFigures some_events (replies_of empty_club some_events) 800 10_000 300
 
--- two more debits, of 400 and of 9,101 points; the second is above the balance
+-- two more debits, of 400 and of 9,101 points; the second is more than the balance
 abbrev pub debited_events : List Event
 debited_events = some_events ++ Commanded (Debit (codes "amy") 400) ∷ Commanded (Debit (codes "amy") 9_101) ∷ []
 
--- 400 points debited, and everything else as before
+-- 400 points are debited; the charges, credits and refunds are those without the debits
 pub record CountsADebit : Type 0 where
   pub figures : AreFigures debited_events (replies_of empty_club debited_events) 800 10_000 300
   pub debits : debits_accepted (codes "amy") debited_events (replies_of empty_club debited_events) ≡ 400
 
--- the office cancels the booking at 19, and again the one at 18, which refunds nothing more; the member cancels the one at 19, too, and repeats it
+-- the office cancels the booking at 19 and the already cancelled one at 18, which refunds nothing more; then the member cancels and repeats the one at 19
 abbrev pub cancelled_events : List Event
 cancelled_events =
     some_events
@@ -53,11 +53,11 @@ cancelled_events =
     ∷ ask (asked.Book (slot_at 19) 8 0) late
     ∷ []
 
--- all of its 200 points are refunded, in addition to half of 600
+-- all 200 points of that booking are refunded, in addition to half of the 600
 abbrev pub CountsACancellationOnce : Type 0
 CountsACancellationOnce = AreFigures cancelled_events (replies_of empty_club cancelled_events) 800 10_000 500
 
--- repeats of the cancellation and the booking get the recorded refund and the first reply
+-- after the office's cancellation, a repeated cancellation gets the recorded refund, and a repeated booking gets the first reply
 abbrev pub RepeatsAfterTheOffice : Type 0
 RepeatsAfterTheOffice =
     replies_of (club_after empty_club some_events)
@@ -68,14 +68,14 @@ RepeatsAfterTheOffice =
 abbrev pub booked_then_cancelled : List Event
 booked_then_cancelled = ask (asked.Book (slot_at 18) 7 2) noon ∷ ask (asked.Cancel (slot_at 18) 7) noon ∷ []
 
--- the booking, under a pass of its key that may spend nothing
+-- the request for the booking, under a pass of its key that may spend nothing
 abbrev pub words_again : Words
 words_again = record {
   pass = Ok (record { key = Some (codes "amy-1"); caveats = Some (Spend 0) ∷ []; is_signed = λ _. true });
   request = asked.Book (slot_at 18) 7 2;
 }
 
--- the words are a repeat, which is accepted even after the slot has begun
+-- the words repeat a served booking, and are accepted even after its slot has begun
 pub record IsAcceptedRepeat (words : Words) (moment : ℕ) : Type 0 where
   pub was_served : WasServed opened_club booked_then_cancelled words (Booked (codes "amy-1") 7 600 1)
   pub acceptance : IsAcceptedIn (club_after opened_club booked_then_cancelled) words moment

@@ -6,11 +6,11 @@ use Rattle.club_core.specs.declared.{refusal.Refusal.TheVariants.Unavailable, re
 use Rattle.club_core.specs.declared.request.Request.TheVariants as asked
 use Rattle.club_laws.specs.Failed.{Presentation, present_reply, answered_events, answers}
 
--- a desk that returns its answer to the office, or none if memory or storage was refused
+-- a desk that returns its answer to the office, or `None` if an allocation or the storage failed
 abbrev pub presentation : Presentation (Option OfficeAnswer)
 presentation = record { shown = λ answer. Some answer; is_fault = λ returned. is_none returned }
 
--- amy joins; a second credit and a booking of hers fail; then she looks at her account
+-- amy joins; her second credit and a booking fail; then she views her account
 abbrev pub events : List Event
 events = opening ++ Commanded (Credit (codes "amy") 5) ∷ ask (asked.Book (slot_at 18) 7 2) noon ∷ ask asked.Account noon ∷ []
 

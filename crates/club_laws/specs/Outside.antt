@@ -1,18 +1,18 @@
--- The solo machine's knowledge of other members (ours): how many persons they have in the requested slot, and whether the slot is closed.
+-- What the solo machine sees of other members (ours): their number of persons in the requested slot, and whether the slot is closed.
 use Rattle.std.specs.Prelude.{◌≡◌, ℕ, List, Option, Some, None, codes}
 use Rattle.club_values.specs.declared.slot.Slot.{Slot}
 use Rattle.club_core.specs.{Basis.{Basis, basis_of}, Club.{Club, empty_club, is_closed}, Pass.Words, Request.request_slot, Run.Asked}
 use Rattle.club_core.specs.{Solo.{bookings_of_others, own_part, own_events}, Sums.taken_in}
 use Rattle.club_laws.specs.SoloExamples.{amy_alone, amy_among_others}
 
--- others have the same number of persons in the slot in both clubs, and the slot is closed in both or in neither
+-- in both clubs, others have the same number of persons in the slot, and the slot is closed in both or open in both
 abbrev pub HoldAlike : List ℕ → Club → Club → Option Slot → Type 0
 HoldAlike name a b None = Unit {0}
 HoldAlike name a b (Some slot) =
     (taken_in slot (bookings_of_others name a) ≡ taken_in slot (bookings_of_others name b))
     × (is_closed slot a ≡ is_closed slot b)
 
--- the solo machine's view of a member's request is the same in two clubs if others take equally much of its slot, regardless of the rest of the clubs
+-- two clubs give the solo machine the same event for a member's request, if others' persons in the slot are equal and its closing agrees
 abbrev pub SeesTheSlotAlone : Type 0
 SeesTheSlotAlone =
     (name : List ℕ) (a b : Club) (words : Words) (moment : ℕ) (in_a in_b : Basis)
@@ -22,6 +22,6 @@ SeesTheSlotAlone =
     → HoldAlike name a b (request_slot words.request)
     → own_part name a (Asked words moment) ≡ own_part name b (Asked words moment)
 
--- a member's own events are the same with and without other members, if these take nothing of its slots when it asks
+-- a member's own events are the same with and without other members, if others have no persons in its slots when it asks
 abbrev pub SeesNothingOfOthers : Type 0
 SeesNothingOfOthers = own_events (codes "amy") empty_club amy_among_others ≡ own_events (codes "amy") empty_club amy_alone

@@ -3,7 +3,7 @@ use Rattle.std.specs.{List.list_any, Prelude.{ℕ, ◌+◌, ◌==◌, ◌&&◌, 
 use Rattle.club_core.specs.{Run.{Event, Commanded, EventReply, ToMember, ToOffice}, declared.command.Command.TheVariants.{Credit, Debit, AddKey, CancelBooking}}
 use Rattle.club_core.specs.declared.{command.OfficeAnswer.TheVariants.{Done, NewKey}, reply.Reply.TheVariants.{Booked, Cancelled}}
 
--- points in a reply, with the key and the number of the booking
+-- points stated in a reply, with key and number of the booking
 pub record Entry : Type 0 where
   pub key : List ℕ
   pub number : ℕ
@@ -12,7 +12,7 @@ pub record Entry : Type 0 where
 abbrev pub is_entry_of : List ℕ → ℕ → Entry → Bool
 is_entry_of key number entry = bytes_eq entry.key key && entry.number == number
 
--- the first entry of each key and number
+-- the first entry for each key and number
 abbrev pub firsts : List Entry → List Entry
 firsts [] = []
 firsts (entry ∷ entries) = entry ∷ filter (λ (other : Entry). not (is_entry_of entry.key entry.number other)) (firsts entries)
@@ -25,7 +25,7 @@ charge_of_reply reply = []
 abbrev pub charges_of_replies : List EventReply → List Entry
 charges_of_replies replies = flat_map charge_of_reply replies
 
--- the first charge that a reply states for a booking, or 0 if there is none
+-- the charge that the first matching entry states for a booking, or 0 if there is no such entry
 abbrev pub charge_told : List ℕ → ℕ → List Entry → ℕ
 charge_told key number [] = 0
 charge_told key number (entry ∷ entries) = if is_entry_of key number entry then entry.points else charge_told key number entries
@@ -38,7 +38,7 @@ refund_of_reply reply = []
 abbrev pub refunds_of_replies : List EventReply → List Entry
 refunds_of_replies replies = flat_map refund_of_reply replies
 
--- the amount that an event gave back for a booking: the refund in a served cancellation's reply, or the first of these charges if the office cancelled it
+-- the refund of a booking by an event: from the reply to a cancellation, or the first of these charges if the office cancelled the booking
 abbrev pub refund_given : List Entry → Event → EventReply → List Entry
 refund_given charges (Commanded (CancelBooking key number)) (ToOffice Done) =
     record { key = key; number = number; points = charge_told key number charges } ∷ []
@@ -48,11 +48,11 @@ abbrev pub refunds_by : List Entry → List Event → List EventReply → List E
 refunds_by charges (event ∷ events) (reply ∷ replies) = refund_given charges event reply ++ refunds_by charges events replies
 refunds_by charges events replies = []
 
--- the amounts that a run gave back for bookings, in order; without cancellations by the office, these are the refunds in its replies
+-- the refunds of bookings in a run, in order; without cancellations by the office, these are the refunds in the run's replies
 abbrev pub refunds_given : List Event → List EventReply → List Entry
 refunds_given events replies = refunds_by (charges_of_replies replies) events replies
 
--- the keys that were added for a member
+-- the keys that the office added for a member
 abbrev pub key_given : List ℕ → Event → EventReply → List (List ℕ)
 key_given member (Commanded (AddKey name owner root)) (ToOffice (NewKey returned seed)) = if bytes_eq owner member then name ∷ [] else []
 key_given member event reply = []
@@ -61,7 +61,7 @@ abbrev pub keys_given : List ℕ → List Event → List EventReply → List (Li
 keys_given member (event ∷ events) (reply ∷ replies) = key_given member event reply ++ keys_given member events replies
 keys_given member events replies = []
 
--- the points that a member was credited
+-- the points that an event credited to a member
 abbrev pub credit_accepted : List ℕ → Event → EventReply → ℕ
 credit_accepted member (Commanded (Credit name points)) (ToOffice Done) = if bytes_eq name member then points else 0
 credit_accepted member event reply = 0
@@ -70,7 +70,7 @@ abbrev pub credits_accepted : List ℕ → List Event → List EventReply → �
 credits_accepted member (event ∷ events) (reply ∷ replies) = credit_accepted member event reply + credits_accepted member events replies
 credits_accepted member events replies = 0
 
--- the points that the office took off a member's credit; none in a list without a debit
+-- the points that an event debited from a member; 0 unless the event is a debit
 abbrev pub debit_accepted : List ℕ → Event → EventReply → ℕ
 debit_accepted member (Commanded (Debit name points)) (ToOffice Done) = if bytes_eq name member then points else 0
 debit_accepted member event reply = 0
@@ -79,7 +79,7 @@ abbrev pub debits_accepted : List ℕ → List Event → List EventReply → ℕ
 debits_accepted member (event ∷ events) (reply ∷ replies) = debit_accepted member event reply + debits_accepted member events replies
 debits_accepted member events replies = 0
 
--- the points of the first entries under these keys
+-- the points in the first entries under these keys
 abbrev pub total_under : List (List ℕ) → List Entry → ℕ
 total_under keys entries =
     sum_by (λ (entry : Entry). entry.points)

@@ -10,7 +10,7 @@ pub record WasRevoked (club : Club) (history : List Event) (name : List ℕ) : T
   pub place : history ≡ front ++ Commanded (RevokeKey name) ∷ rest
   pub reply_is : (step (club_after club front) (Commanded (RevokeKey name))).reply ≡ ToOffice Done
 
--- from then on, no request under it is served, regardless of later events
+-- after the revocation, no request under the key is served, whatever happens in between
 abbrev pub ServesNoRevokedKey : Type 0
 ServesNoRevokedKey =
     (club : Club) (history : List Event) (name : List ℕ) (words : Words) (moment : ℕ)

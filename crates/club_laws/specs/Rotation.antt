@@ -6,7 +6,7 @@ use Rattle.club_core.specs.declared.{command.OfficeAnswer.TheVariants.{Done, New
 use Rattle.club_core.specs.declared.refusal.Refusal.TheVariants as refusals
 use Rattle.club_core.specs.declared.request.Request.TheVariants as asked
 
--- a request of the key amy-1, under a pass that is signed under this root alone
+-- a request under a pass of the key amy-1 that is signed under this root alone
 abbrev pub ask_under : List ℕ → Request → ℕ → Event
 ask_under root request moment =
     Asked (record { pass = Ok (record { key = Some (codes "amy-1"); caveats = []; is_signed = λ other. bytes_eq other root }); request = request }) moment
@@ -18,7 +18,7 @@ second_root = replicate 16 8
 abbrev pub third_root : List ℕ
 third_root = replicate 64 9
 
--- 2026-04-25T00:00, and the minute before
+-- 2026-04-25T00:00; `before_midnight` is a minute earlier
 abbrev pub midnight : ℕ
 midnight = 29_617_920
 
@@ -28,7 +28,7 @@ before_midnight = 29_617_919
 abbrev pub rotate : List ℕ → ℕ → Event
 rotate root until = Commanded (RotateKey (codes "amy-1") root until)
 
--- the older root is good until the moment, a repeat under the new one gets the recorded reply, and nothing is charged
+-- the older root is valid before the given moment; a repeat under the new root gets the recorded reply and charges nothing
 abbrev pub RepeatsUnderANewRoot : Type 0
 RepeatsUnderANewRoot =
     replies_of opened_club
@@ -47,7 +47,7 @@ RepeatsUnderANewRoot =
     ∷ account 9_400 1 600
     ∷ []
 
--- a second rotation drops the root that the first one kept, and a revoked key stays revoked
+-- a second rotation drops the older root of the first, and a revoked key stays revoked
 abbrev pub DropsTheOldestRoot : Type 0
 DropsTheOldestRoot =
     replies_of opened_club

@@ -36,7 +36,7 @@ PlacesWithFailures O =
     → IsRun presentation empty_club events replies last
     → HasPlaces slot last
 
--- the history has the same booking or cancellation, under a pass of the same key, and this reply served it
+-- the history has a request for the same booking or cancellation, under a pass of the same key, which was served with this reply
 pub record WasReturned {O : Type 0} (history : List Event) (replies : List (Response O)) (words : Words) (reply : Reply) : Type 0 where
   pub front : List Event
   pub before : List (Response O)
@@ -51,7 +51,7 @@ pub record WasReturned {O : Type 0} (history : List Event) (replies : List (Resp
   pub same_key : key_of words.pass ≡ key_of first.pass
   pub same_request : words.request ≡ first.request
 
--- a later repeat gets the same response, unless it fails; without it, all other responses and the last club are the same
+-- a later repeat gets the same response unless it fails; without the repeat, all other responses and the last club are the same
 abbrev pub RepeatsWithFailures : Type 0 → Type 0
 RepeatsWithFailures O =
     (presentation : Presentation O) (club last : Club) (history rest : List Event) (before since : List (Response O))
@@ -63,8 +63,8 @@ RepeatsWithFailures O =
     → (IsFalse (has_failed presentation (Asked words moment) returned) → returned ≡ ToMember reply)
     × IsRun presentation club (history ++ rest) (before ++ since) last
 
--- if the office cancelled a booking, a later cancellation returns the recorded refund, unless it fails; without it, all other responses and the last club are
--- the same
+-- After the office cancelled a booking, a later cancellation by the member returns the recorded refund, unless it
+-- fails. Without that cancellation, all other responses and the last club are the same.
 abbrev pub CancellationsWithFailures : Type 0 → Type 0
 CancellationsWithFailures O =
     (presentation : Presentation O) (club last : Club) (history rest : List Event) (before since : List (Response O))
@@ -78,7 +78,7 @@ CancellationsWithFailures O =
     → (IsFalse (has_failed presentation (Asked words moment) returned) → returned ≡ ToMember (Cancelled key number (refund_by_office booking)))
     × IsRun presentation club (history ++ rest) (before ++ since) last
 
--- in this club an accepted repeat of each served request gets the same reply, and changes nothing
+-- in this club, an accepted repeat of a served request gets the same reply and changes nothing
 abbrev pub RepeatsServedReplies : {O : Type 0} → Club → List Event → List (Response O) → Type 0
 RepeatsServedReplies club events replies =
     (words : Words) (moment : ℕ) (reply : Reply)
@@ -86,14 +86,14 @@ RepeatsServedReplies club events replies =
     → IsAcceptedIn club words moment
     → step club (Asked words moment) ≡ record { reply = ToMember reply; club = club }
 
--- this holds in the last club of the run, and after any one further event, such as a failed event whose change is found after a crash
+-- repeats get the same reply in the last club and after one more event, such as a failed one whose change survived a crash
 abbrev pub RepeatsAfterOneMore : Type 0 → Type 0
 RepeatsAfterOneMore O =
     (presentation : Presentation O) (club last : Club) (events : List Event) (replies : List (Response O))
     → IsRun presentation club events replies last
     → RepeatsServedReplies last events replies × ((event : Event) → RepeatsServedReplies (step last event).club events replies)
 
--- the replies to a member's requests follow from the member's part and own events alone
+-- a member's part and its own events determine the replies to its requests
 abbrev pub SoloLawWithFailures : Type 0 → Type 0
 SoloLawWithFailures O =
     (presentation : Presentation O) (name : List ℕ) (club last : Club) (events : List Event) (replies : List (Response O))
@@ -103,7 +103,7 @@ SoloLawWithFailures O =
     replies_to name club answered (answers presentation events replies)
     ≡ map ToMember (solo_replies (part_of name club) (own_events name club answered))
 
--- so they are the same in two clubs with the same part of the member, over two lists with the same own events
+-- if a member's part and its own events are the same in two runs, so are the replies to its requests
 abbrev pub SoloLawOfTwoWithFailures : Type 0 → Type 0
 SoloLawOfTwoWithFailures O =
     (presentation : Presentation O) (name : List ℕ) (a b last end : Club) (events others : List Event) (replies returned : List (Response O))

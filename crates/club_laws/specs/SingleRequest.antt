@@ -11,17 +11,17 @@ abbrev pub DependsOnTheBasisAlone : Type 0
 DependsOnTheBasisAlone =
     (words : Words) (moment : ℕ) (a b : Club) → basis_of a words ≡ basis_of b words → verdict_in a words moment ≡ verdict_in b words moment
 
--- the refusal without a basis: the fault of the text, or `NotVerified`
+-- the refusal without a basis: the fault of the pass's text, or `NotVerified`
 abbrev pub blind_refusal : Result Pass PassFault → Refusal
 blind_refusal (Err fault) = form_refusal fault
 blind_refusal (Ok pass) = NotVerified
 
--- without a basis, the verdict is this refusal, regardless of the rest of the club
+-- without a basis, the verdict is `blind_refusal`, which the words alone determine
 abbrev pub RefusesWithoutABasis : Type 0
 RefusesWithoutABasis =
     (words : Words) (moment : ℕ) (club : Club) → basis_of club words ≡ None → verdict_in club words moment ≡ refusal_verdict (blind_refusal words.pass)
 
--- a pass that names a key of the club, but isn't signed under a root of its row that is good at the moment, is refused as not verified
+-- a pass that names a key of the club, but isn't signed under a valid root of that key, is refused with `NotVerified`
 abbrev pub RefusesTheUnsigned : Type 0
 RefusesTheUnsigned =
     (words : Words) (moment : ℕ) (club : Club) (pass : Pass) (key : Key)
@@ -31,17 +31,17 @@ RefusesTheUnsigned =
     → ¬ IsSignedUnder pass key moment
     → verdict_in club words moment ≡ refusal_verdict NotVerified
 
--- a request, even a repeat, is served only if the pass entitles its holder to it
+-- a request, even a repeated one, is served only if the pass entitles its holder to it
 abbrev pub ServesOnlyTheEntitled : Type 0
 ServesOnlyTheEntitled =
     (words : Words) (moment : ℕ) (club : Club) → IsServed (verdict_in club words moment).reply → IsEntitled club words moment
 
--- words with this pass
+-- a request with this parsed pass
 abbrev pub words_with : Pass → Request → Words
 words_with pass request = record { pass = Ok pass; request = request }
 
--- Take two passes of one key. The wide one is signed under a root of the key's row that is good at the moment, and the narrow one has more caveats. A request
--- that is served under the narrow pass is served under the wide one, with the same reply and the same change.
+-- The wide and the narrow pass name the same key, and the narrow one has more caveats. The wide pass is signed under a root of that key
+-- that is valid at the moment. If a request is served under the narrow pass, the wide one gets the same reply and the same change.
 abbrev pub MoreCaveatsNeverOpenMore : Type 0
 MoreCaveatsNeverOpenMore =
     (wide narrow : Pass) (more : List (Option Caveat)) (key : Key) (request : Request) (moment : ℕ) (club : Club)
@@ -53,7 +53,7 @@ MoreCaveatsNeverOpenMore =
     → IsServed (verdict_in club (words_with narrow request) moment).reply
     → verdict_in club (words_with wide request) moment ≡ verdict_in club (words_with narrow request) moment
 
--- words with the same pass and the same request get the same reply and leave the same club, in any form of their texts
+-- texts of the same pass in any form, with the same request, get the same reply and leave the same club
 abbrev pub AnswersFormsAlike : Type 0
 AnswersFormsAlike =
     (club : Club) (a b : Words) (moment : ℕ)

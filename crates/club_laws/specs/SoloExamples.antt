@@ -1,4 +1,4 @@
--- Example runs from the empty club, evaluated by computation (ours): one member's requests, alone and among those of another member.
+-- Example runs from the empty club, evaluated by computation (ours): one member's requests, alone and among another member's requests.
 use Rattle.club_core.specs.{Club.empty_club, Examples.{opening, root, slot_at, noon, late, ask, served_booking, account, served_cancellation}}
 use Rattle.club_core.specs.{Run.{Event, Asked, Commanded, replies_of, EventReply, ToMember}, declared.command.Command.TheVariants.{AddMember, Credit, Debit}}
 use Rattle.club_core.specs.declared.command.Command.TheVariants.{SetFacility, CancelBooking, AddKey, RevokeKey, CloseSlot, OpenSlot, SetQuota}
@@ -11,14 +11,14 @@ use Rattle.club_laws.specs.SoloLaw.{replies_to}
 abbrev pub replies_to_amy : List Event → List EventReply
 replies_to_amy events = replies_to (codes "amy") empty_club events (replies_of empty_club events)
 
--- a request of bob's key
+-- a request under bob's key
 abbrev pub ask_of_bob : Request → Event
 ask_of_bob request = Asked (record { pass = Ok (record { key = Some (codes "bob-1"); caveats = []; is_signed = λ _. true }); request = request }) noon
 
 abbrev pub bob_joins : List Event
 bob_joins = Commanded (AddMember (codes "bob") 5) ∷ Commanded (Credit (codes "bob") 10_000) ∷ Commanded (AddKey (codes "bob-1") (codes "bob") root) ∷ []
 
--- amy books three of four places, looks at her account, and cancels
+-- amy books three of four places, views her account, and cancels
 abbrev pub amy_alone : List Event
 amy_alone =
     opening ++ ask (asked.Book (slot_at 18) 7 2) noon ∷ ask asked.Account noon ∷ ask (asked.Cancel (slot_at 18) 7) noon ∷ []
@@ -26,8 +26,8 @@ amy_alone =
 abbrev pub AnswersAmyAlone : Type 0
 AnswersAmyAlone = replies_to_amy amy_alone ≡ served_booking 7 600 1 ∷ account 9_400 1 600 ∷ served_cancellation 7 600 ∷ []
 
--- The same requests of amy among those of bob. He books other slots and hers, even under her number, and cancels in hers. He is credited and debited, gets a
--- quota and a key, and one of his keys is revoked. The office cancels a booking of his, and closes another slot and opens it again.
+-- Amy's requests among those of bob. He books other slots and hers, even under her number, and cancels in her slot. He is credited and
+-- debited, and gets a quota and a key. One of his keys is revoked. The office cancels a booking of his, and closes and opens another slot.
 abbrev pub amy_among_others : List Event
 amy_among_others =
     opening
@@ -51,11 +51,11 @@ amy_among_others =
     ∷ ask (asked.Cancel (slot_at 18) 7) noon
     ∷ []
 
--- she gets the same replies
+-- amy gets the same replies as without bob
 abbrev pub AnswersAmyAmongOthers : Type 0
 AnswersAmyAmongOthers = replies_to_amy amy_among_others ≡ replies_to_amy amy_alone
 
--- if bob has a place in her slot, one place fewer is left, and all else is the same
+-- a place of bob in amy's slot lowers the number of places left by one, and changes no other reply
 abbrev pub ShowsAmyATakenPlace : Type 0
 ShowsAmyATakenPlace =
     replies_to_amy
@@ -68,7 +68,7 @@ ShowsAmyATakenPlace =
     ∷ [])
     ≡ served_booking 7 600 0 ∷ account 9_400 1 600 ∷ served_cancellation 7 600 ∷ []
 
--- if the office cancels bob's booking in her slot and then hers, she sees his places free, her points back, and the recorded replies
+-- after the office cancels bob's booking in amy's slot and then hers, amy sees his places free, her points refunded, and the recorded replies
 abbrev pub ShowsAmyHerCancellation : Type 0
 ShowsAmyHerCancellation =
     replies_to_amy
@@ -90,7 +90,7 @@ ShowsAmyHerCancellation =
     ∷ served_booking 7 600 1
     ∷ []
 
--- new places and a new price apply to her next booking; her earlier booking keeps its charge and its places left
+-- new places and a new price apply to amy's next booking; her earlier booking keeps its charge and its places left
 abbrev pub ShowsAmyNewNumbers : Type 0
 ShowsAmyNewNumbers =
     replies_to_amy

@@ -9,20 +9,20 @@ use Rattle.club_core.specs.{Sums.{booking_under, cost_of, taken_in}, declared.ch
 use Rattle.club_core.specs.declared.change.Change.TheVariants.{InsertKey, MarkRevoked, ReplaceRoot, MarkClosed, MarkOpen, ReplaceQuota, TakeCredit}
 use Rattle.club_core.specs.declared.change.Change.TheVariants.{ReplaceNumbers, InsertBooking, MarkCancelled}
 
--- the club that a run begins with
+-- the empty club, with which a run begins, is sound
 abbrev pub EmptyIsSound : Type 0
 EmptyIsSound = IsSound empty_club
 
--- a step from a sound club, by any event whose values are within their limits, ends in a sound club
+-- a step from a sound club leads to a sound club, if the event's values are within their limits
 abbrev pub StepsKeepSound : Type 0
 StepsKeepSound = (club : Club) (event : Event) → IsSound club → IsEvent event → IsSound (step club event).club
 
--- the change that an event makes to a club
+-- an event makes this change to a club
 abbrev pub IsChangeBy : Club → Event → Change → Type 0
 IsChangeBy club (Asked words moment) change = (verdict_in club words moment).change ≡ Some change
 IsChangeBy club (Commanded command) change = office_verdict club command ≡ Ok (Some change)
 
--- such a change fits a sound club: the values that it carries are those of the club's rows, and it leaves a sound club
+-- a change that an event makes to a sound club matches the values of the club's rows, and the changed club is sound
 abbrev pub ChangesFit : Type 0
 ChangesFit = (club : Club) (event : Event) (change : Change) → IsSound club → IsEvent event → IsChangeBy club event change → FitsClub change club
 
@@ -30,8 +30,8 @@ ChangesFit = (club : Club) (event : Event) (change : Change) → IsSound club �
 abbrev pub RunsKeepSound : Type 0
 RunsKeepSound = (club : Club) (events : List Event) → IsSound club → All IsEvent events → IsSound (club_after club events)
 
--- a booking that suits a club: its values are within their limits, its number is free, it is under a key of a member who can pay it, and there is room
--- in its slot
+-- A booking suits a club under four conditions. Its values are within their limits. Its number is
+-- free. Its key belongs to a member who can pay it. Its slot has room for its persons.
 pub record SuitsBooking (booking : Booking) (club : Club) : Type 0 where
   pub row : IsBooking booking
   pub free : All (λ (other : Booking). ¬ ((other.key ≡ booking.key) × (other.number ≡ booking.number))) club.bookings
@@ -44,9 +44,9 @@ pub record SuitsBooking (booking : Booking) (club : Club) : Type 0 where
   pub located : facility_named booking.slot.facility club ≡ Some facility
   pub placed : taken_in booking.slot (club.bookings ++ booking ∷ []) ≤ facility.places
 
--- A change that suits a club: its values are within their limits, a new name is free, and the rows that a new row refers to are on record. A member's credit is
--- at most the maximum, and covers the points that its bookings cost. A booking fits, and a refund is at most the charge of a booking on record. New numbers of
--- a facility leave a place for each person in each of its slots.
+-- A change suits a club under these conditions. Its values are within their limits, a new name is unused, and the rows that a new row
+-- refers to exist. A member's credit is at most the maximum, and covers the cost of its bookings. A new booking suits the club. A booking
+-- to cancel is on record, and its refund is at most its charge. A facility's new numbers leave a place for each person in each slot.
 abbrev pub Suits : Change → Club → Type 0
 Suits (InsertMember member) club = IsMember member × All (λ (other : Member). other.name ≢ member.name) club.members
 Suits (AddCredit name points) club = (member : Member) × (member_named name club ≡ Some member) × (member.credited + points ≤ credited_limit)
@@ -67,6 +67,6 @@ Suits (InsertBooking booking member) club = SuitsBooking booking club
 Suits (MarkCancelled booking member refund) club =
     (booking_under booking.key booking.number club.bookings ≡ Some booking) × (refund ≤ booking.charge)
 
--- such a change of a sound club leaves a sound club
+-- a change that suits a sound club leads to a sound club
 abbrev pub SuitingChangesKeepSound : Type 0
 SuitingChangesKeepSound = (club : Club) (change : Change) → IsSound club → Suits change club → IsSound (after change club)

@@ -8,7 +8,7 @@ abbrev pub SpendsWithinItsMember : Type 0
 SpendsWithinItsMember =
     (club : Club) (key : Key) → Contains club.keys key → spent_under key.name club.bookings ≤ sum_by cost_of (bookings_of key.member club)
 
--- in a sound club, an account's credit less its balance is the number of points that the member has used
+-- in a sound club, an account's credit minus its balance is the number of points that the member has used
 abbrev pub AccountsShowWhatIsUsed : Type 0
 AccountsShowWhatIsUsed =
     (club : Club) (name : List ℕ) (account : MemberAccount) → IsSound club → account_named name club ≡ Some account

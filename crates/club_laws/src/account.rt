@@ -2,8 +2,8 @@
 
 ghost use Rattle.club_laws.specs.AccountExample.{CountsOverAllKeys};
 
-/// An account counts the open bookings of all keys of the member. A slot that has begun doesn't
-/// count.
+/// An example: a member's account counts the open bookings of all its keys. It doesn't count
+/// bookings whose slot has begun.
 pub fn counts_over_all_keys()
     ensures { CountsOverAllKeys }
 {}

@@ -15,7 +15,7 @@ pub fn repeats_return_the_same()
     tests_the_signature();
 }
 
-/// Leaving such a repeat out of a run changes neither the other replies nor the last club.
+/// Leaving a repeated request out of a run changes neither the other replies nor the last club.
 pub fn repeats_may_be_left_out()
     ensures { RepeatsMayBeLeftOut }
 {
@@ -23,14 +23,14 @@ pub fn repeats_may_be_left_out()
     tests_the_signature();
 }
 
-/// An example: a cancelled booking is repeated after its slot has begun, under a pass that may
-/// spend nothing. The repeat is accepted.
+/// An example: a request to book is repeated after the booking was cancelled and the slot has
+/// begun. The repeat is accepted, even under a pass that may spend nothing.
 pub fn accepts_a_repeat()
     ensures { AcceptsARepeat }
 {}
 
-/// Cancelling a booking that the office cancelled before returns the recorded refund and changes
-/// nothing.
+/// If a member cancels a booking that the office cancelled before, the reply has the recorded
+/// refund, and nothing changes.
 pub fn cancellations_return_the_record()
     ensures { CancellationsReturnTheRecord }
 {
@@ -38,7 +38,7 @@ pub fn cancellations_return_the_record()
     tests_the_signature();
 }
 
-/// An example: a booking is cancelled and repeated after the office cancelled it.
+/// An example: the office cancels a booking, and then the member cancels and repeats it.
 pub fn repeats_after_the_office()
     ensures { RepeatsAfterTheOffice }
 {}

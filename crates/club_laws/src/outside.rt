@@ -1,9 +1,9 @@
-//! The solo machine's knowledge of other members.
+//! What the solo machine sees of other members.
 
 ghost use Rattle.club_laws.specs.Outside.{SeesNothingOfOthers, SeesTheSlotAlone};
 
-/// For a request, the solo machine sees only how many persons others have in the slot, and whether
-/// the slot is closed.
+/// For a request, the solo machine sees only how many persons other members booked into the slot,
+/// and whether the slot is closed.
 pub fn sees_the_slot_alone()
     ensures { SeesTheSlotAlone }
 {}

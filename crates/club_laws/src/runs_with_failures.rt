@@ -1,4 +1,4 @@
-//! The laws over runs in which some events failed, as statements about the responses. `O` is the
+//! The laws for runs in which some events failed, as statements about the responses. `O` is the
 //! type of a desk's answers to the office.
 
 ghost use Rattle.club_laws.specs.RunsWithFailures.{CancellationsWithFailures};
@@ -21,13 +21,13 @@ pub fn conserves_points<O>()
     ensures { ConservesWithFailures O }
 {}
 
-/// A slot has a place for each person who booked it.
+/// After a run, each slot has a place for each person who booked it.
 #[tactic(auto, using(crate::proofs::FailedEvents::places_with_failures))]
 pub fn never_overbooks<O>()
     ensures { PlacesWithFailures O }
 {}
 
-/// A repeat of a served booking or cancellation gets the first response, and may be left out.
+/// A repeated request gets the first response. Leaving it out changes nothing else in the run.
 pub fn repeats_return_the_same<O>()
     ensures { RepeatsWithFailures O }
 {
@@ -35,8 +35,8 @@ pub fn repeats_return_the_same<O>()
     tests_the_signature();
 }
 
-/// Cancelling a booking that the office cancelled before returns the recorded refund, and may be
-/// left out.
+/// If a member cancels a booking that the office cancelled before, the reply has the recorded
+/// refund. Leaving the request out changes nothing else in the run.
 pub fn cancellations_return_the_record<O>()
     ensures { CancellationsWithFailures O }
 {
@@ -44,8 +44,8 @@ pub fn cancellations_return_the_record<O>()
     tests_the_signature();
 }
 
-/// A repeat of a served request gets the same reply in the last club of the run, and in each club
-/// that one more event would leave.
+/// A repeat of a served request gets the same reply in the last club of the run. This also holds in
+/// each club that one more event may lead to.
 pub fn repeats_after_one_more<O>()
     ensures { RepeatsAfterOneMore O }
 {
@@ -53,14 +53,14 @@ pub fn repeats_after_one_more<O>()
     tests_the_signature();
 }
 
-/// The replies to a member's requests follow from the member's part and own events alone.
+/// A member's part and its own events determine the replies to its requests.
 #[tactic(auto, using(crate::proofs::SoloRuns::solo_with_failures))]
 pub fn solo_law<O>()
     ensures { SoloLawWithFailures O }
 {}
 
-/// A member gets the same replies in two clubs with the same part of the member, in runs with the
-/// same own events.
+/// If a member's part and its own events are the same in two runs, so are the replies to its
+/// requests.
 #[tactic(auto, using(crate::proofs::SoloRuns::solo_with_failures))]
 pub fn solo_law_of_two<O>()
     ensures { SoloLawOfTwoWithFailures O }

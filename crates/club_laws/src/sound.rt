@@ -1,4 +1,4 @@
-//! Every club that a run reaches is sound, and each change fits.
+//! Every club that a run reaches is sound, and each change fits the club that it is applied to.
 
 ghost use Rattle.club_laws.specs.SoundRuns.{ChangesFit, EmptyIsSound, RunsKeepSound};
 ghost use Rattle.club_laws.specs.SoundRuns.{StepsKeepSound, SuitingChangesKeepSound};
@@ -8,14 +8,14 @@ pub fn empty_is_sound()
     ensures { EmptyIsSound }
 {}
 
-/// A step from a sound club ends in a sound club, if the event's values are within the limits of
+/// A step from a sound club leads to a sound club, if the event's values are within the limits of
 /// their types.
 pub fn steps_keep_sound()
     ensures { StepsKeepSound }
 {}
 
-/// The change that an event makes to a sound club fits it: the values that it carries are those of
-/// the club's rows, and the club after it is sound.
+/// The change that an event makes to a sound club fits that club: it matches the values of the
+/// club's rows, and the changed club is sound.
 #[tactic(auto, using(crate::proofs::SoundSteps::fits_event))]
 pub fn changes_fit()
     ensures { ChangesFit }
@@ -27,8 +27,8 @@ pub fn runs_keep_sound()
     ensures { RunsKeepSound }
 {}
 
-/// A change that suits the rows of a sound club leaves a sound club. So a store needs to test
-/// nothing else.
+/// A change that meets the conditions of `Suits` leads from a sound club to a sound club. A store
+/// needs to test nothing else.
 pub fn suiting_changes_keep_sound()
     ensures { SuitingChangesKeepSound }
 {}

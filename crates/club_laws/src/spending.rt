@@ -1,4 +1,4 @@
-//! A key's spending is part of what its member has used.
+//! What a key has spent is part of what its member has used.
 
 ghost use Rattle.club_laws.specs.Spending.{AccountsShowWhatIsUsed, SpendsWithinItsMember};
 
@@ -12,7 +12,7 @@ pub fn spends_within_its_member()
     own_bookings_suffice();
 }
 
-/// In a sound club, an account's credit less its balance is the number of points that the member
+/// In a sound club, an account's credit minus its balance is the number of points that the member
 /// has used.
 #[tactic(auto, using(crate::proofs::PointRuns::used_of_account))]
 pub fn accounts_show_what_is_used()
