@@ -7,7 +7,7 @@ use Rattle.club_laws.proofs.Common.{verdict_in, credited_member, revoked_key, ro
 use Rattle.club_laws.proofs.{Common.{replies_of, club_after, member_with_quota}, MemberParts.{is_key_of-added, is_key_of-edited}}
 use Rattle.club_laws.specs.Points.{key_given, keys_given, credit_accepted, credits_accepted, debit_accepted, debits_accepted}
 
--- requests change only bookings
+-- a request changes nothing but bookings
 pub record KeepsPeople (club new : Club) : Type 0 where
   pub keys : new.keys ≡ club.keys
   pub members : new.members ≡ club.members
@@ -43,7 +43,7 @@ module _ (member : List ℕ) where
           grind (arith, is_key_of-edited (λ row. (edit row).root) (λ row. (edit row).older) (λ row. row.revoked) member club key)
       given c r = grind arith
 
-  -- a member's keys after a run are those before it and those that the run added
+  -- a member's keys after a run are its keys before the run and those that the run added
   pub keys_of_run : (club : Club) (key : List ℕ) (events : List Event) → is_key_of member (club_after club events) key
       ≡ (is_key_of member club key || is_among (keys_given member events (replies_of club events)) key)
   keys_of_run club key [] = grind arith
@@ -69,7 +69,7 @@ credit_grown name other points (m ∷ members) known =
     let both = bytes_eq-Decides other name in
     grind (arith, credit_grown name other points members)
 
--- a debit of at most the credit takes its points from the member that it names
+-- a debit of at most the credit lowers the credit of the member that it names
 credit_taken : (name other : List ℕ) (points : ℕ) (members : List Member)
     → (bytes_eq other name ≡ true → points ≤ credit_of (find (λ (m : Member). bytes_eq m.name name) members))
     → credit_of (find (λ (m : Member). bytes_eq m.name name) (map (debited_member other points) members)) + cond (bytes_eq other name) points 0
@@ -81,7 +81,7 @@ credit_taken name other points (m ∷ members) enough =
     let both = bytes_eq-Decides other name in
     grind (arith, credit_taken name other points members)
 
--- a new quota credits nobody
+-- a new quota changes no credit
 credit_kept : (name other : List ℕ) (quota : ℕ) (members : List Member)
     → credit_of (find (λ (m : Member). bytes_eq m.name name) (map (member_with_quota other quota) members))
     ≡ credit_of (find (λ (m : Member). bytes_eq m.name name) members)
@@ -119,7 +119,7 @@ module _ (name : List ℕ) where
       credited (SetQuota other quota) r = grind (arith, credit_kept name other quota club.members)
       credited c r = grind arith
 
-  -- a member's credit after a run plus the run's debits is the credit before plus the run's credits
+  -- a member's credit after a run plus the run's debits is the credit before the run plus the run's credits
   pub credit_of_run : (club : Club) (events : List Event) → credit_of (member_named name (club_after club events))
       + debits_accepted name events (replies_of club events) ≡ credit_of (member_named name club) + credits_accepted name events (replies_of club events)
   credit_of_run club [] = omega arith
