@@ -1,26 +1,26 @@
--- Edits of each element of a list, one after another.
+-- Edits of each element of a list, one element after another.
 use Rattle.std.proofs.Common.{◌≡◌, ℕ, ◌+◌, ◌<◌, zero, suc, List, [], ◌∷◌, ◌++◌, length, take, drop, get_or, set, refl, arith, ◌∙◌, sym, ap, subst, add-one}
 use Rattle.std.proofs.lemmas.List.{get_or-map, length-map}
 use Rattle.std.specs.Prelude.{map, All}
 
--- the elements before this index are edited, and the others are unchanged
+-- the list in which the elements before this index are edited and the others are unchanged
 abbrev pub edited : {X : Type 0} → (X → X) → ℕ → List X → List X
 edited f i xs = map f (take i xs) ++ drop i xs
 
--- the next element is still unchanged
+-- the element at the index is still unchanged
 next : {X : Type 0} (f : X → X) (i : ℕ) (xs : List X) (d : X) → i < length xs → get_or (edited f i xs) i d ≡ get_or xs i d
 next f i [] d h = absurd (omega arith)
 next f zero (x ∷ xs) d h = refl
 next f (suc i) (x ∷ xs) d h = next f i xs d (omega arith)
 
--- after the next element is edited, one more element is edited
+-- editing the element at the index leads to the list for the next index
 edited-next : {X : Type 0} (f : X → X) (i : ℕ) (xs : List X) (d : X) → i < length xs
     → set (edited f i xs) i (f (get_or (edited f i xs) i d)) ≡ edited f (suc i) xs
 edited-next f i [] d h = absurd (omega arith)
 edited-next f zero (x ∷ xs) d h = refl
 edited-next f (suc i) (x ∷ xs) d h = ap (λ ys. f x ∷ ys) (edited-next f i xs d (omega arith))
 
--- the element at the index is replaced by its edited value
+-- replacing the element at the index by its edited value leads to the list for the next index
 pub edited_more : {X : Type 0} (f : X → X) (i : ℕ) (xs ys : List X) (x y : X) → i < length xs → ys ≡ edited f i xs → y ≡ f (get_or ys i x)
     → set ys i y ≡ edited f (i + 1) xs
 edited_more f i xs ys x y h same made =
@@ -28,7 +28,7 @@ edited_more f i xs ys x y h same made =
     ∙ (ap (λ zs. set zs i (f (get_or zs i x))) same
     ∙ (edited-next f i xs x h ∙ ap (λ n. edited f n xs) (sym (add-one i))))
 
--- a property of each edited element also holds for the element that is edited next
+-- if each edited element has a property, so has the element that is edited next
 pub holds_next : {X : Type 0} (P : X → Type 0) (f : X → X) (i : ℕ) (xs ys : List X) (x : X) → i < length xs → ys ≡ edited f i xs → All P (map f xs)
     → P (f (get_or ys i x))
 holds_next P f i xs ys x h same holds =

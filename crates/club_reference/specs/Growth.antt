@@ -19,15 +19,15 @@ is_growth (MarkOpen slot) = false
 is_growth (InsertBooking booking member) = true
 is_growth (MarkCancelled booking member refund) = false
 
--- the number of rows that a club has
+-- the number of rows in a club
 abbrev pub row_count : Club → ℕ
 row_count club =
     length club.members + length club.facilities + length club.keys + length club.bookings + length club.closed
 
--- the new club has more rows
+-- the new club has more rows than the old one
 abbrev pub Grows : Club → Club → Type 0
 Grows old new = row_count old < row_count new
 
--- the event adds a row
+-- the event adds a row to the club
 abbrev pub AddsRow : Club → Event → Type 0
 AddsRow club event = Grows club (step club event).club

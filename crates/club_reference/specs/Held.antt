@@ -2,7 +2,7 @@
 use Rattle.std.specs.{List.list_any, Prelude.{ℕ, not, Bool, List, filter}, Str.bytes_eq}
 use Rattle.club_rows.specs.declared.{booking.Booking.Booking, key.Key.Key}
 
--- whether the member has a key of this name
+-- whether the key with this name belongs to the member
 abbrev pub is_held : List Key → List ℕ → List ℕ → Bool
 is_held keys member name =
     list_any (λ (key : Key). bytes_eq key.name name) (filter (λ (key : Key). bytes_eq key.member member) keys)

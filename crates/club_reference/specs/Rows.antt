@@ -1,4 +1,4 @@
--- The club of the model, from the lists of rows (ours).
+-- The club of the rules, made from the lists of rows (ours).
 use Rattle.club_core.specs.{Club.Club as Rows, Run.{Outcome, EventReply}}
 use Rattle.club_reference.specs.declared.club.Club.TheInside.{Inside}
 

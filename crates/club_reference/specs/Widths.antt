@@ -5,13 +5,13 @@ use Rattle.club_rows.specs.{Limits.{credited_limit, places_limit}, declared.{boo
 use Rattle.club_core.specs.{Club.{Club, member_named}, Sums.{taken_in, spent_under}}
 
 pub record FitsWidths (club : Club) : Type 0 where
-  -- a member is credited at most this many points, and its name is unique
+  -- no member is credited more than `credited_limit`, and member names are unique
   pub credited : All (λ (member : Member). member.credited ≤ credited_limit) club.members
   pub unique : All (λ (member : Member). member_named member.name club ≡ Some member) club.members
-  -- no slot has more persons than `places_limit`
+  -- neither a facility's places nor a slot's persons exceed `places_limit`
   pub places : All (λ (facility : Facility). facility.places ≤ places_limit) club.facilities
   pub taken : (slot : Slot) → taken_in slot club.bookings ≤ places_limit
   -- no key has spent more than `credited_limit`
   pub spent : (key : List ℕ) → spent_under key club.bookings ≤ credited_limit
-  -- a booking has no refund before it is cancelled
+  -- a booking that isn't cancelled has no refund
   pub kept : All (λ (booking : Booking). booking.cancelled ≡ false → booking.refund ≡ 0) club.bookings

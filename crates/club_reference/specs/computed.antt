@@ -1,3 +1,3 @@
--- Functions that compute what the other definitions of `specs/` state. A law states that both agree.
+-- Functions that compute what the other definitions in `specs/` state. A law states that both agree.
 
 pub mod Words

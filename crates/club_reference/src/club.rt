@@ -1,4 +1,4 @@
-//! The club as lists of rows, its model, and its copy.
+//! The club as lists of rows, its model in the rules, and its copy.
 
 ghost use Rattle.std.specs.Prelude.{◌≡◌, IfOk};
 ghost use Rattle.club_core.specs.Club.{empty_club};
@@ -8,7 +8,7 @@ use club_values::Slot;
 use std::alloc::{AllocError, Global};
 use std::marker::Model;
 
-/// A club as lists of its rows, oldest first. Contracts see it as the club of the rules.
+/// A club whose rows are in lists, oldest first. Contracts see it as the club of the rules.
 #[derive(Drop)]
 pub struct Club {
     pub(crate) members: Vec<Member>,

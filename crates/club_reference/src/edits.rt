@@ -1,4 +1,4 @@
-//! Changes of existing rows. Each changes all rows that match.
+//! Edits of existing rows. Each edits all rows that match.
 
 ghost use Rattle.std.specs.Prelude.{◌≡◌, ◌≤◌, map, All};
 ghost use Rattle.club_rows.specs.Limits.{credited_limit};
@@ -19,7 +19,7 @@ fn credit_row(member: &Member, name: &Name, points: u32) -> Member
     member
 }
 
-/// Adds points to the member of the name.
+/// Adds points to the credit of the member with this name.
 #[tactic(auto, using(crate::proofs::EditLemmas::edited_more))]
 pub(crate) fn credit(members: &mut [Member], name: &Name, points: u32)
     requires { All (λ (member : MemberRow). member.credited ≤ credited_limit)
@@ -41,7 +41,7 @@ fn debit_row(member: &Member, name: &Name, points: u32) -> Member
     member
 }
 
-/// Takes points off the credit of the member of the name.
+/// Subtracts points from the credit of the member with this name.
 #[tactic(auto, using(crate::proofs::EditLemmas::edited_more))]
 pub(crate) fn debit(members: &mut [Member], name: &Name, points: u32)
     ensures { members.new ≡ map (after.debited_member name.now points) members.old }
@@ -61,7 +61,7 @@ fn quota_row(member: &Member, name: &Name, quota: u8) -> Member
     member
 }
 
-/// Gives the member of the name a new quota.
+/// Sets the quota of the member with this name.
 #[tactic(auto, using(crate::proofs::EditLemmas::edited_more))]
 pub(crate) fn set_quota(members: &mut [Member], name: &Name, quota: u8)
     ensures { members.new ≡ map (after.member_with_quota name.now quota) members.old }
@@ -92,7 +92,7 @@ fn numbers_row(
     facility
 }
 
-/// Gives the facility of the name new places, a new price and new hours.
+/// Sets the places, price and opening hours of the facility with this name.
 #[tactic(auto, using(crate::proofs::EditLemmas::edited_more))]
 pub(crate) fn set_numbers(
     facilities: &mut [Facility],
@@ -118,7 +118,7 @@ fn revoke_row(key: &Key, name: &Name) -> Key
     key
 }
 
-/// Marks the key of the name revoked.
+/// Marks the key with this name as revoked.
 #[tactic(auto, using(crate::proofs::EditLemmas::edited_more))]
 pub(crate) fn revoke(keys: &mut [Key], name: &Name)
     ensures { keys.new ≡ map (after.revoked_key name.now) keys.old }
@@ -143,8 +143,8 @@ fn rotate_row(key: &Key, name: &Name, root: &Root, until: Moment) -> Key
     key
 }
 
-/// Gives the key of the name a new root. The root that it had becomes its older root, good until
-/// the moment.
+/// Replaces the root of the key with this name. The former root becomes the key's older root, valid
+/// before the moment.
 #[tactic(auto, using(crate::proofs::EditLemmas::edited_more))]
 pub(crate) fn rotate(keys: &mut [Key], name: &Name, root: &Root, until: Moment)
     ensures { keys.new ≡ map (after.rotated_key name.now root.now until) keys.old }
@@ -154,7 +154,7 @@ pub(crate) fn rotate(keys: &mut [Key], name: &Name, root: &Root, until: Moment)
     }
 }
 
-/// Removes the slot from the closed slots.
+/// Removes the slot from the list of closed slots.
 pub(crate) fn open(closed: &mut Vec<Slot>, slot: &Slot)
     ensures { closed.new.items ≡ after.closed_but slot.now closed.old.items }
 {
@@ -172,8 +172,8 @@ fn cancel_row(booking: &Booking, key: &Name, number: BookingNumber, refund: u32)
     booking
 }
 
-/// Marks the booking under the key and number cancelled, with its refund. A booking that is already
-/// cancelled is unchanged.
+/// Marks the booking with this key and number as cancelled, and records the refund. A booking that
+/// is already cancelled doesn't change.
 #[tactic(auto, using(crate::proofs::EditLemmas::edited_more))]
 pub(crate) fn cancel(bookings: &mut [Booking], key: &Name, number: BookingNumber, refund: u32)
     ensures { bookings.new ≡ map (after.cancelled_booking key.now number refund) bookings.old }

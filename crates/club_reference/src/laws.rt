@@ -1,4 +1,4 @@
-//! Laws of the definitions, each the contract of a function that does nothing.
+//! Laws of the definitions. Each law is the contract of a function with an empty body.
 
 ghost use Rattle.club_reference.specs.Laws.{ModelsWords};
 

@@ -1,5 +1,5 @@
-//! The reference machine: a club with its rows in lists, each step as the rules define it. It is
-//! slow and stores no sums; tests compare faster machines with it.
+//! The reference machine: a club with its rows in lists, and each step as the rules define it. It
+//! is slow and stores no sums. Tests compare faster machines with it.
 #![tactic(auto)]
 
 mod apply;

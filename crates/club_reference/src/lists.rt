@@ -1,4 +1,4 @@
-//! The rows and the totals of the club, for a test to compare with those of another machine.
+//! The club's rows and sums, which a test compares with those of another machine.
 
 ghost use Rattle.std.specs.Prelude.{◌≡◌};
 ghost use Rattle.club_core.specs.Sums as sums;
@@ -31,21 +31,21 @@ impl Club {
         &self.keys
     }
 
-    /// Returns the bookings, oldest first, with those that were cancelled.
+    /// Returns the bookings, oldest first, including cancelled ones.
     pub fn bookings(&self) -> &[Booking]
         ensures { result.now ≡ self.now.bookings }
     {
         &self.bookings
     }
 
-    /// Returns the slots that are closed, oldest first.
+    /// Returns the closed slots, oldest first.
     pub fn closed_slots(&self) -> &[Slot]
         ensures { result.now ≡ self.now.closed }
     {
         &self.closed
     }
 
-    /// Returns the member's balance: the points credited, less what its bookings cost.
+    /// Returns the member's balance: the points credited minus what its bookings cost.
     pub fn balance(&self, member: &Member) -> u32
         ensures { result ≡ sums.balance_of member.now
             (held_under self.now.keys member.now.name self.now.bookings) }

@@ -1,4 +1,4 @@
-//! Finds the row of a name by looking at every row.
+//! Finds a row by its name, by a search through all rows.
 
 ghost use Rattle.std.specs.Prelude.{◌≡◌};
 
@@ -9,7 +9,7 @@ use club_values::{Name, Slot};
 impl Club {
     ghost use Rattle.club_core.specs.Club as clubs;
 
-    /// Returns the member of this name.
+    /// Returns the member with this name.
     pub(crate) fn member_named(&self, name: &Name) -> Option<Member>
         ensures { result ≡ clubs.member_named name.now self.now }
     {
@@ -19,7 +19,7 @@ impl Club {
             .copied()
     }
 
-    /// Returns the facility of this name.
+    /// Returns the facility with this name.
     pub(crate) fn facility_named(&self, name: &Name) -> Option<Facility>
         ensures { result ≡ clubs.facility_named name.now self.now }
     {
@@ -29,7 +29,7 @@ impl Club {
             .copied()
     }
 
-    /// Returns the key of this name.
+    /// Returns the key with this name.
     pub(crate) fn key_named(&self, name: &Name) -> Option<Key>
         ensures { result ≡ clubs.key_named name.now self.now }
     {

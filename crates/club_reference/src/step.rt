@@ -1,4 +1,4 @@
-//! Requests and commands: the machine's steps.
+//! The machine's steps: requests and commands.
 
 ghost use Rattle.std.specs.Prelude.{◌≡◌, IfOk, OnErr};
 ghost use Rattle.club_core.specs.{Answer.verdict_in, Office.office_verdict};
@@ -27,7 +27,7 @@ impl Club {
         words.verdict(self.view_for(words, moment).as_ref(), moment)
     }
 
-    /// Returns the change of a command, `None` if nothing is left to change, or why it is refused.
+    /// Returns the change of a command, `None` if it has nothing to change, or why it is refused.
     fn change_of(&self, command: &Command) -> Result<Option<Change>, OfficeFault>
         ensures value { result ≡ office_verdict self.now command.now }
         ensures fits { FitsWidths self.now }
@@ -36,12 +36,12 @@ impl Club {
         decide_command(&self.command_view(command), command)
     }
 
-    /// Answers a request at a moment, and applies its change. Only a new booking needs memory; if
-    /// that is refused, the club is unchanged.
+    /// Answers a request at a moment, and applies its change. Only a new booking needs memory. If
+    /// memory is refused, the club is unchanged.
     ///
     /// # Errors
     ///
-    /// Fails if memory was refused.
+    /// Fails if memory is refused.
     pub fn ask(&mut self, words: &Words, moment: Moment) -> Result<Reply, AllocError>
         ensures outcome { IfOk result (λ reply. (model : rules.Words) × IsModelOf words.now model
             × (outcome (machine.ToMember reply) self.new
@@ -61,12 +61,12 @@ impl Club {
         }
     }
 
-    /// Answers a command of the office, and applies its change. Only a new row needs memory; if
-    /// that is refused, the club is unchanged.
+    /// Answers a command of the office, and applies its change. Only a new row needs memory. If
+    /// memory is refused, the club is unchanged.
     ///
     /// # Errors
     ///
-    /// Fails if memory was refused.
+    /// Fails if memory is refused.
     pub fn office(&mut self, command: &Command) -> Result<OfficeAnswer, AllocError>
         ensures outcome { IfOk result (λ answer. outcome (machine.ToOffice answer) self.new
             ≡ machine.step self.old (machine.Commanded command.now)) }

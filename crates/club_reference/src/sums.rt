@@ -9,21 +9,21 @@ ghost use Rattle.club_reference.specs.Held.{is_held, held_under};
 use club_rows::{Booking, BookingNumber, Key, Member};
 use club_values::{Moment, Name, Slot};
 
-/// Returns the points that a booking has cost.
+/// Returns the points that a booking has cost: its charge minus its refund.
 fn cost(booking: &Booking) -> u32
     ensures { result ≡ sums.cost_of booking.now }
 {
     booking.charge.saturating_sub(booking.refund)
 }
 
-/// Returns the number of persons of a booking: its guests and its member.
+/// Returns the number of persons of a booking: the guests and the member.
 pub(crate) fn persons(booking: &Booking) -> u32
     ensures { result ≡ persons_of booking.now }
 {
     u32::from(booking.guests.persons())
 }
 
-/// Returns whether the member has a key of this name.
+/// Returns whether the key with this name belongs to the member.
 pub(crate) fn is_held(keys: &[Key], member: &Name, name: &Name) -> bool
     ensures { result ≡ is_held keys.now member.now name.now }
 {
@@ -44,7 +44,7 @@ pub(crate) fn persons_in(bookings: &[Booking], slot: &Slot) -> u32
         .sum()
 }
 
-/// Returns the most persons in any slot of the facility, on any day; 0 if it has no booking.
+/// Returns the highest number of persons in any slot of the facility; 0 if it has no booking.
 pub(crate) fn most_persons_at(bookings: &[Booking], facility: &Name) -> u32
     requires { (slot : SlotRow) → sums.taken_in slot bookings.now < 2 ^ 32 }
     ensures { result ≡ sums.most_taken_in facility.now bookings.now }
@@ -85,7 +85,7 @@ fn left_of(keys: &[Key], bookings: &[Booking], member: &Member) -> u32
         )
 }
 
-/// Returns the member's balance: the points credited, less what its bookings cost.
+/// Returns the member's balance: the points credited minus what its bookings cost.
 pub(crate) fn balance(keys: &[Key], bookings: &[Booking], member: &Member) -> u32
     ensures { result ≡ sums.balance_of member.now
         (held_under keys.now member.now.name bookings.now) }
@@ -93,7 +93,7 @@ pub(crate) fn balance(keys: &[Key], bookings: &[Booking], member: &Member) -> u3
     left_of(keys, bookings, member)
 }
 
-/// Returns the number of the member's bookings that are still to come.
+/// Returns the number of the member's open bookings, whose slots begin after the moment.
 pub(crate) fn open_count(keys: &[Key], bookings: &[Booking], member: &Name, moment: Moment) -> u64
     ensures { result ≡ sums.count_to_come moment (held_under keys.now member.now bookings.now) }
 {
@@ -104,7 +104,7 @@ pub(crate) fn open_count(keys: &[Key], bookings: &[Booking], member: &Name, mome
         .count() as u64
 }
 
-/// Returns the booking under the key and number, whichever member has the key.
+/// Returns the booking with this key and number, whoever the key belongs to.
 pub(crate) fn booking_under(
     bookings: &[Booking],
     name: &Name,
@@ -118,7 +118,7 @@ pub(crate) fn booking_under(
         .copied()
 }
 
-/// Returns the member's booking under the key and number.
+/// Returns the member's booking with this key and number.
 pub(crate) fn recorded_booking(
     keys: &[Key],
     bookings: &[Booking],

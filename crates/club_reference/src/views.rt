@@ -34,8 +34,8 @@ impl Club {
     ghost use Rattle.club_core.specs.{Basis.slot_use_by, Office.command_view};
     ghost use Rattle.club_reference.specs.computed.Words.{words_model};
 
-    /// Returns the use of a slot: its persons, and whether it is closed. Without a slot, nothing is
-    /// used.
+    /// Returns the number of persons in a slot, and whether the slot is closed. Without a slot, the
+    /// number is 0 and the slot isn't closed.
     fn slot_use(&self, slot: Option<Slot>) -> SlotUse
         ensures value { result ≡ slot_use_by self.now.bookings self.now slot }
         ensures few { result.taken ≤ 50 }
@@ -52,7 +52,7 @@ impl Club {
         }
     }
 
-    /// Returns the view of a request under a key; `None` if the key's member is unknown.
+    /// Returns the view of a request under a key; `None` if the key's member doesn't exist.
     #[tactic(auto, using(crate::proofs::WidthLemmas::sum_filtered_le))]
     fn view_of(&self, key: &Key, request: &Request, moment: Moment) -> Option<KeyView>
         ensures few { IfSome result (λ seen. seen.view.taken ≤ 50) }
@@ -84,8 +84,8 @@ impl Club {
         Some(KeyView { key: *key, view })
     }
 
-    /// Returns the view of a request under the key that its pass names; `None` if the key is
-    /// unknown.
+    /// Returns the view of a request under the key that its pass names; `None` if there is no such
+    /// key.
     pub(crate) fn view_for(&self, words: &Words, moment: Moment) -> Option<KeyView>
         ensures value { result
             ≡ option_map (seen_of words.now.request moment)
@@ -99,7 +99,7 @@ impl Club {
         }
     }
 
-    /// Returns the member of this name with its balance.
+    /// Returns the member with this name and its balance.
     fn account_named(&self, name: &Name) -> Option<MemberAccount>
         ensures { result ≡ account_named name.now self.now }
     {
@@ -110,7 +110,7 @@ impl Club {
         })
     }
 
-    /// Returns the view of a command: the rows that it names, and the sums that decide it.
+    /// Returns the view of a command: the rows that the command names, and the sums that decide it.
     pub(crate) fn command_view(&self, command: &Command) -> CommandView
         ensures { result ≡ command_view self.now command.now }
     {

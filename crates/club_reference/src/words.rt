@@ -1,4 +1,4 @@
-//! A parsed pass, and the words of a request.
+//! A parsed pass, and a request with its pass.
 
 ghost use Rattle.std.specs.{Option.option_copied, Prelude.{◌≡◌}};
 ghost use Rattle.club_core.specs.Pass as rules;
@@ -9,19 +9,19 @@ use club_rows::{Key, Root};
 use club_values::{Moment, Name};
 use pass_caveats::{Ask, CaveatFault, first_fault};
 
-/// A parsed pass, as the rules of the club see it.
+/// A parsed pass, reduced to what the club's rules read.
 #[derive(Drop)]
 pub struct Pass {
-    /// The key that the identifier names; `None` if it names no key.
+    /// The name of the key in the identifier; `None` if the identifier names no key.
     pub key: Option<Name>,
-    /// The texts of the caveats, in their order.
+    /// The texts of the caveats, in the order of the pass.
     pub caveats: Vec<Vec<u8>>,
     /// The roots under which the pass is signed.
     pub roots: Vec<Root>,
 }
 
-/// The words of a request: the parsed pass or why the text isn't one, and the request. The words
-/// don't include the form in which the pass was written.
+/// A request with its parsed pass, or with the reason why the text isn't a pass. The form in which
+/// the pass was written isn't included.
 #[derive(Drop)]
 pub struct Words {
     pub pass: Result<Pass, PassFault>,
@@ -40,7 +40,7 @@ impl Pass {
         self.roots.iter().any(|signing| *signing == *root)
     }
 
-    /// Returns whether the pass is signed under a root of the key that is good at the moment.
+    /// Returns whether the pass is signed under a root of the key that is valid at the moment.
     pub fn is_signed_under(&self, key: &Key, moment: Moment) -> bool
         ensures { result ≡ is_signed_under (pass_model self.now) key.now moment }
     {
@@ -66,7 +66,7 @@ impl Words {
     ghost use Rattle.club_reference.specs.Words.{IsModelOf, answer_seen};
     ghost use Rattle.club_reference.specs.computed.Words.{words_model};
 
-    /// Returns the key that the pass names; `None` if the text isn't a pass, or its identifier
+    /// Returns the name of the key in the pass; `None` if the text isn't a pass or its identifier
     /// names no key.
     pub fn key(&self) -> Option<Name>
         ensures { result ≡ key_of (words_model self.now).pass }
@@ -87,7 +87,7 @@ impl Words {
         self.verdict(seen, moment)
     }
 
-    /// Returns the answer, stated with the computed model of the words.
+    /// Returns the answer; the contract states it with the computed model of the words.
     pub(crate) fn verdict(&self, seen: Option<&KeyView>, moment: Moment) -> Verdict
         ensures { result
             ≡ answer_seen (words_model self.now).pass self.now.request moment

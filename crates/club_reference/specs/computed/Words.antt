@@ -4,7 +4,7 @@ use Rattle.pass_caveats.specs.computed.CaveatOf.{caveat_of}
 use Rattle.club_core.specs.{Pass.{Pass, Words}, declared.pass_fault.PassFault.PassFault}
 use Rattle.club_reference.specs.declared.words.{Pass.Pass as PassInCode, Words.Words as WordsInCode}
 
--- the caveats are parsed from their texts; the pass is signed under the listed roots
+-- caveats are parsed from their texts, and the listed roots sign the pass
 abbrev pub pass_model : PassInCode → Pass
 pass_model pass = record {
   key = pass.key;
