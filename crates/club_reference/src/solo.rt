@@ -69,7 +69,7 @@ fn taken_by_others(keys: &[Key], bookings: &[Booking], member: &Name, slot: &Slo
         .sum()
 }
 
-/// Adds other members' persons in the slot, and its closing, to a view.
+/// Adds other members' persons in the slot to a view, and sets whether the slot is closed.
 fn with_outside(seen: Option<KeyView>, others: SlotUse) -> Option<KeyView>
     requires { IfSome seen (λ s. s.view.taken ≤ 50) }
     ensures { result ≡ option_map (with_outside others) seen }

@@ -40,7 +40,7 @@ pub record IsSlotOf (facility : List ℕ) (day hour : ℤ) (slot : Slot) : Type 
   pub same_day : day ≡ pos slot.day
   pub same_hour : hour ≡ pos slot.hour
 
--- the charge and the refund of a booking: the refund is 0 unless it is cancelled, and at most the charge
+-- a booking's charge and refund: the refund is 0 unless the booking is cancelled, and never more than the charge
 pub record IsPaid (charge_value cancelled_value refund_value : ℤ) (charge : ℕ) (cancelled : Bool) (refund : ℕ) : Type 0 where
   pub same_charge : charge_value ≡ pos charge
   pub same_cancelled : IsTruth cancelled_value cancelled

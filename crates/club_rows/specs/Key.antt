@@ -2,7 +2,7 @@
 use Rattle.std.specs.Prelude.{ℕ, nat_lt, List, Option, Some, None, if◌then◌else◌}
 use Rattle.club_rows.specs.declared.key.{Key.Key, KeyRow.KeyRow, OlderRoot.OlderRoot}
 
--- the older root, if the moment is strictly earlier than its end
+-- the older root if it is valid at the moment, which must be strictly before the root's end
 abbrev pub older_root_at : Option OlderRoot → ℕ → Option (List ℕ)
 older_root_at None moment = None
 older_root_at (Some older) moment = if nat_lt moment older.until then Some older.root else None
@@ -11,6 +11,6 @@ older_root_at (Some older) moment = if nat_lt moment older.until then Some older
 abbrev pub row_of_key : Key → KeyRow
 row_of_key key = record { name = key.name; member = key.member; root = key.root; revoked = key.revoked }
 
--- the key of a row and its older root
+-- the key with this row and this older root
 abbrev pub key_of_row : KeyRow → Option OlderRoot → Key
 key_of_row row older = record { name = row.name; member = row.member; root = row.root; older = older; revoked = row.revoked }

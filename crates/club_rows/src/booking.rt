@@ -12,23 +12,23 @@ use club_values::{MINUTES_A_DAY, Moment, Name, Slot};
 /// The highest charge of a booking, in points: all places at the highest price.
 pub const MAX_CHARGE: u32 = MAX_PLACES * MAX_PRICE;
 
-/// The most places left after a booking, which has at least one person.
+/// The most places left in a slot after a booking, which has at least one person.
 const MAX_LEFT: u32 = MAX_PLACES - 1;
 
-/// The time before a slot's start until which all points are refunded, in minutes: one day.
+/// The minimum time before a slot's start for a full refund, in minutes: one day.
 const FULL_REFUND_MINUTES: u64 = MINUTES_A_DAY as u64;
 
 /// A booking of a slot. A booking that was cancelled keeps its row.
 #[derive(Clone, Copy, Debug, PartialEq, Eq)]
 pub struct Booking {
-    /// The name of the key that booked.
+    /// The name of the key under which the booking was made.
     pub key: Name,
     pub number: BookingNumber,
     pub slot: Slot,
     pub guests: Guests,
     /// The points charged.
     pub charge: u32,
-    /// The places left in the slot after the booking.
+    /// The places left in the slot after this booking was made.
     pub left: u8,
     pub cancelled: bool,
     /// The points refunded; 0 if the booking isn't cancelled.
@@ -66,7 +66,7 @@ impl Booking {
         }
     }
 
-    /// Returns the booking of these columns; `None` if a value is outside its limits.
+    /// Returns the booking with these column values; `None` if a value is outside its limits.
     pub fn from_columns(columns: &BookingColumns<'_>) -> Option<Booking>
         ensures { Reads (IsBookingOf columns.now) result }
     {

@@ -9,7 +9,7 @@ use std::marker::Model;
 /// The greatest number of a booking.
 pub const MAX_BOOKING_NUMBER: u32 = MAX_NUMBER;
 
-/// The number of a booking among those of its key, 1 to 999,999,999. Contracts see it as its
+/// A booking's number among the bookings of its key, 1 to 999,999,999. In contracts it is its
 /// number.
 #[derive(Clone, Copy, Debug, PartialEq, Eq, PartialOrd, Ord)]
 pub struct BookingNumber {
@@ -31,7 +31,7 @@ impl Model for BookingNumber {
 }
 
 impl BookingNumber {
-    /// Returns the booking number of this value; `None` for 0 and for numbers above 999,999,999.
+    /// Returns the booking number with this value; `None` for 0 and for values above 999,999,999.
     pub fn new(number: u32) -> Option<BookingNumber>
         ensures within { IsSome result ↔ IsBookingNumber number }
         ensures value { IfSome result (λ booking. booking ≡ number) }

@@ -6,8 +6,7 @@ ghost use Rattle.club_rows.specs.Limits.{IsGuests};
 use club_values::MAX_GUESTS;
 use std::marker::Model;
 
-/// The number of guests of a booking, 0 to 49, not counting its member. Contracts see it as that
-/// number.
+/// The number of guests of a booking, 0 to 49, without the member. In contracts it is that number.
 #[derive(Clone, Copy, Debug, PartialEq, Eq, PartialOrd, Ord)]
 pub struct Guests {
     count: u8,
@@ -28,7 +27,7 @@ impl Model for Guests {
 }
 
 impl Guests {
-    /// Returns this many guests; `None` above 49.
+    /// Returns the value for this number of guests; `None` above 49.
     pub fn new(count: u8) -> Option<Guests>
         ensures within { IsSome result ↔ IsGuests count }
         ensures value { IfSome result (λ guests. guests ≡ count) }

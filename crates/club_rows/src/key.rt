@@ -11,7 +11,7 @@ use club_values::{Moment, Name};
 #[derive(Clone, Copy, Debug, PartialEq, Eq)]
 pub struct OlderRoot {
     pub root: Root,
-    /// The first moment at which the root is no longer good.
+    /// The first moment at which the root is no longer valid.
     pub until: Moment,
 }
 
@@ -27,7 +27,7 @@ pub struct KeyRow {
 impl KeyRow {
     ghost use Rattle.club_rows.specs.Columns.{IsKeyOf};
 
-    /// Returns the row of the columns `name`, `member`, `root` and `revoked`; `None` if a value is
+    /// Returns the row in the columns `name`, `member`, `root` and `revoked`; `None` if a value is
     /// outside its limits.
     pub fn from_columns(name: &[u8], member: &[u8], root: &[u8], revoked: i64) -> Option<KeyRow>
         ensures { Reads (IsKeyOf name.now member.now root.now revoked) result }
@@ -45,7 +45,7 @@ impl KeyRow {
     }
 }
 
-/// A key of a member. The key's passes name it.
+/// A member's key. A pass has the key's name in its identifier, and is signed under its root.
 #[derive(Clone, Copy, Debug, PartialEq, Eq)]
 pub struct Key {
     pub name: Name,
@@ -59,7 +59,7 @@ pub struct Key {
 impl Key {
     ghost use Rattle.club_rows.specs.Key.{key_of_row, older_root_at, row_of_key};
 
-    /// Returns the key with this row and older root, which is `None` if the key was never rotated.
+    /// Returns the key with this row and older root.
     pub fn new(row: KeyRow, older: Option<OlderRoot>) -> Key
         ensures { result ≡ key_of_row row older }
     {
@@ -84,8 +84,8 @@ impl Key {
         }
     }
 
-    /// Returns the older root if it is good at the moment, which must be strictly earlier than the
-    /// root's end. The key's own root is always good.
+    /// Returns the older root if it is valid at the moment, which must be strictly before the
+    /// root's end. The key's current root is always valid.
     pub fn older_root_at(&self, moment: Moment) -> Option<&Root>
         ensures { option_copied result ≡ older_root_at self.now.older moment }
     {

@@ -6,10 +6,10 @@ use crate::columns::number_within;
 use club_values::Name;
 use club_values::digits::MAX_NUMBER;
 
-/// The most points that can ever be credited to a member.
+/// The maximum number of points that can ever be credited to a member.
 pub const MAX_CREDITED: u32 = MAX_NUMBER;
 
-/// The most bookings that a member may have open.
+/// The maximum number of open bookings of a member.
 pub const MAX_QUOTA: u32 = 99;
 
 /// A member of the club.
@@ -18,14 +18,14 @@ pub struct Member {
     pub name: Name,
     /// All points ever credited to the member, 0 to 999,999,999.
     pub credited: u32,
-    /// The most bookings that the member may have open, 0 to 99.
+    /// The maximum number of open bookings of this member, 0 to 99.
     pub quota: u8,
 }
 
 impl Member {
     ghost use Rattle.club_rows.specs.Columns.{IsMemberOf};
 
-    /// Returns the member of the columns `name`, `credited` and `quota`; `None` if a value is
+    /// Returns the member in the columns `name`, `credited` and `quota`; `None` if a value is
     /// outside its limits.
     pub fn from_columns(name: &[u8], credited: i64, quota: i64) -> Option<Member>
         ensures { Reads (IsMemberOf name.now credited quota) result }

@@ -1,4 +1,4 @@
-//! The roots of keys: the secrets that sign their passes.
+//! The roots of keys. A root is the secret that signs a key's passes.
 
 ghost use Rattle.std.specs.Cmp.{partial_equiv_from_equiv};
 ghost use Rattle.std.specs.Cmp.Lexicographic.{pointwise, nat_list_eq_equiv};
@@ -9,14 +9,13 @@ use club_values::InlineBytes;
 use std::fmt;
 use std::marker::Model;
 
-/// The fewest bytes of a root.
+/// The minimum number of bytes in a root.
 pub const MIN_ROOT_LEN: usize = 16;
 
-/// The most bytes of a root.
+/// The maximum number of bytes in a root.
 pub const MAX_ROOT_LEN: usize = 64;
 
-/// The secret of a key, 16 to 64 bytes, under which its passes are signed. Contracts see it as its
-/// bytes.
+/// The secret of a key, 16 to 64 bytes, which signs the key's passes. In contracts it is its bytes.
 #[derive(Clone, Copy)]
 pub struct Root {
     bytes: InlineBytes<MAX_ROOT_LEN>,
@@ -37,7 +36,7 @@ impl Model for Root {
 }
 
 impl Root {
-    /// Returns the root of these bytes; `None` if they are fewer than 16 or more than 64.
+    /// Returns the root with these bytes; `None` if there are fewer than 16 or more than 64.
     pub fn new(bytes: &[u8]) -> Option<Root>
         ensures within { IsSome result ↔ IsRoot bytes.now }
         ensures value { IfSome result (λ root. root ≡ bytes.now) }
@@ -75,7 +74,7 @@ impl Eq for Root {
     ghost laws = { nat_list_eq_equiv };
 }
 
-/// Shows none of the bytes, which are secret.
+/// Shows none of the bytes, since they are secret.
 impl fmt::Debug for Root {
     ghost use Rattle.std.specs.Prelude.{Some, codes};
 
