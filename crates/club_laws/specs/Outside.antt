@@ -12,7 +12,7 @@ HoldAlike name a b (Some slot) =
     (taken_in slot (bookings_of_others name a) ≡ taken_in slot (bookings_of_others name b))
     × (is_closed slot a ≡ is_closed slot b)
 
--- two clubs give the solo machine the same event for a member's request, if the slot has equally many persons of others, and is closed in both or in neither
+-- two clubs give the solo machine the same event for a member's request, if `HoldAlike` is true of the request's slot
 abbrev pub SeesTheSlotAlone : Type 0
 SeesTheSlotAlone =
     (name : List ℕ) (a b : Club) (words : Words) (moment : ℕ) (in_a in_b : Basis)
