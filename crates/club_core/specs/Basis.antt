@@ -7,7 +7,7 @@ use Rattle.club_core.specs.{Request.{request_slot, request_number}, Sums.{taken_
 use Rattle.club_core.specs.declared.{account.MemberAccount.MemberAccount, pass_fault.PassFault.PassFault, request.Request.Request, slot_use.SlotUse.SlotUse}
 use Rattle.club_core.specs.declared.view.{KeyView.KeyView, View.View}
 
--- the number of persons whom these bookings bring into a slot, and whether the slot is closed; 0 and open if there is no slot
+-- the number of persons in a slot by these bookings, and whether it is closed; without a slot, the number is 0 and it isn't closed
 abbrev pub slot_use_by : List Booking → Club → Option Slot → SlotUse
 slot_use_by bookings club None = record { taken = 0; closed = false }
 slot_use_by bookings club (Some slot) = record { taken = taken_in slot bookings; closed = is_closed slot club }
@@ -52,7 +52,7 @@ basis_under club request key =
     })
     (member_named key.member club)
 
--- the name of the key in a pass's identifier; `None` if the text isn't a pass or its identifier has no such name
+-- the name of the key in a pass's identifier; `None` if the text isn't a pass or its identifier names no key
 abbrev pub key_of : Result Pass PassFault → Option (List ℕ)
 key_of (Ok pass) = pass.key
 key_of (Err fault) = None

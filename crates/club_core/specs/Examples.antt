@@ -29,7 +29,7 @@ opened_club = club_after empty_club opening
 abbrev pub slot_at : ℕ → Slot
 slot_at hour = record { facility = codes "court-1"; day = 20574; hour = hour }
 
--- 2026-04-20T12:00; `soon` is an hour before the slot at 18 begins, and `late` a minute after
+-- 2026-04-20T12:00; `soon` is an hour before the slot at 18 begins, and `late` is a minute after that
 abbrev pub noon : ℕ
 noon = 29_611_440
 

@@ -42,7 +42,7 @@ seen_by_decision asked.Account view = record (seen_by_caveats view) {
   open_count = view.open_count;
 }
 
--- caveats and decision give the same results for these parts as for the view that they are from
+-- caveats and decision give the same results for these parts as for the complete view
 pub record RestsOnItsParts (view : View) (request : Request) (moment : ℕ) : Type 0 where
   pub caveats : ask_of (seen_by_caveats view) request moment ≡ after_spending 0 (ask_of view request moment)
   pub decision : verdict_of (seen_by_decision request view) request moment ≡ verdict_of view request moment

@@ -47,7 +47,7 @@ credit_verdict name points None = Err Unknown
 credit_verdict name points (Some member) =
     first_of (line_if (nat_lt credited_limit (member.credited + points)) (Err OutOfRange) ∷ []) (Ok (Some (AddCredit name points)))
 
--- a debit of at most the member's balance
+-- the decision on a debit, which must be at most the member's balance
 abbrev pub debit_verdict : List ℕ → ℕ → Option MemberAccount → Result (Option Change) OfficeFault
 debit_verdict name points None = Err Unknown
 debit_verdict name points (Some account) =

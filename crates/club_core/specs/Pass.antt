@@ -15,7 +15,7 @@ pub record Words : Type 0 where
   pub pass : Result Pass PassFault
   pub request : Request
 
--- a root is valid at a moment if it is the key's root, or the key's older root before its end
+-- a root is valid at a moment if it is the key's root, or if it is the key's older root and the moment is before its end
 abbrev pub IsGoodRoot : Key → ℕ → List ℕ → Type 0
 IsGoodRoot key moment root = (root ≡ key.root) ⊎ (older_root_at key.older moment ≡ Some root)
 

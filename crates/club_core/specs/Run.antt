@@ -30,7 +30,7 @@ abbrev pub after_change : Option Change → Club → Club
 after_change None club = club
 after_change (Some change) club = after change club
 
--- the answer to a command that succeeded; a new key's or new root's answer has name and root, which determine the signature
+-- the answer to a command that succeeded; for a new key or root, it has name and root, which determine the signatures of passes
 abbrev pub done_answer : Command → OfficeAnswer
 done_answer (AddMember name quota) = Done
 done_answer (Credit member points) = Done

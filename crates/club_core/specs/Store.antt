@@ -74,8 +74,8 @@ Returns Represents old answer IsReturned = (club : Club) (others : List Club) �
 abbrev pub IsRead : {S : Type 0} → (Option Change → S → StoreFault → S → Type 0) → S → S → Type 0
 IsRead {S} Fails old new = (wish : Option Change) (fault : StoreFault) (later : S) → Fails wish new fault later → Fails wish old fault later
 
--- The promises of a read, if the disk is clean after it. The disk was clean before. The store represents the same club
--- with the same possible crash states. A result is true of that club. A failure is the failure of a read.
+-- The promises of a read, if the disk is clean after it. The disk was clean before. The store represents the same club with the same
+-- possible crash states. A result is true of that club. If the read fails, `Fails` is true of it and its fault.
 pub record ReadsStore {S A : Type 0} (IsClean : S → Type 0) (Represents : S → Club → List Club → Type 0)
     (Fails : Option Change → S → StoreFault → S → Type 0) (old new : S) (result : Result A StoreFault) (IsReturned : Club → A → Type 0) : Type 0 where
   pub was_clean : IsClean new → IsClean old

@@ -4,7 +4,7 @@ use club_rows::{Booking, Facility, Key, Member, Root};
 use club_values::{Moment, Name, Slot};
 
 /// A change of the club's rows, with the row values that its decision was based on. A store applies
-/// it without a read beforehand, and refuses it if the rows have other values.
+/// the change without reading first, and refuses it if the rows have other values.
 #[derive(Clone, Copy, Debug, PartialEq, Eq)]
 pub enum Change {
     InsertMember(Member),

@@ -28,7 +28,7 @@ fn is_bookable(facility: &Facility, slot: &Slot, moment: Moment) -> bool
     facility.is_open_at(slot.hour) && now < start && start <= now + BOOKING_WINDOW
 }
 
-/// Shows a slot's facility and state, or refuses with `NoSuchFacility`.
+/// Returns a slot's facility and state, or refuses with `NoSuchFacility`.
 pub fn decide_view(view: &View, slot: &Slot) -> Verdict
     ensures { result ≡ shown_at view.now slot.now view.now.facility }
 {
@@ -151,7 +151,7 @@ pub fn decide_cancel(view: &View, slot: &Slot, moment: Moment) -> Verdict
     }
 }
 
-/// Shows the member's balance, quota and open bookings, and the points that the key has spent.
+/// Returns the member's balance, quota and open bookings, and the points that the key has spent.
 pub fn decide_account(view: &View) -> Verdict
     ensures { result ≡ account_verdict view.now }
 {

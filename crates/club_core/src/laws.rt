@@ -27,7 +27,7 @@ pub fn opens_a_slot()
     ensures { OpensASlot }
 {}
 
-/// A debit lowers the balance. It is refused if it is more than the balance.
+/// A debit lowers the balance. A debit of more than the balance is refused.
 pub fn debits_a_member()
     ensures { DebitsAMember }
 {}

@@ -1,5 +1,5 @@
 //! The rules of the club. They decide a request or a command of the office from a view of the
-//! club's rows. Only the day sheet allocates memory.
+//! club's rows. Only `sheet_text` allocates memory.
 #![tactic(auto)]
 
 mod acceptance;

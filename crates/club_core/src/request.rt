@@ -1,4 +1,4 @@
-//! The requests of a key, and their parts.
+//! The requests to the desk, and their parts.
 
 ghost use Rattle.std.specs.Prelude.{◌≡◌};
 ghost use Rattle.club_rows.specs.Rows.{IsSlot};

@@ -10,7 +10,7 @@ use club_values::Day;
 use std::alloc::{AllocError, Global};
 
 /// Returns the text of the day sheet: a line with the day, a line for each row, and a line with the
-/// totals. Without rows, the last line is `No bookings.`. `rows` are the day's bookings that aren't
+/// totals, or `No bookings.` if there are no rows. `rows` are the day's bookings that aren't
 /// cancelled, ordered by facility, hour, key and number. The line of a row has facility, hour, key,
 /// number, persons and points, in columns 24, 5, 24, 9, 2 and 6 characters wide.
 ///

@@ -1,6 +1,6 @@
 //! The use of a slot.
 
-/// The use of a slot: its persons, and whether it is closed.
+/// The use of a slot: its number of persons, and whether it is closed.
 #[derive(Clone, Copy, Debug, PartialEq, Eq)]
 pub struct SlotUse {
     /// The number of persons booked into the slot.

@@ -13,7 +13,7 @@ use std::fmt;
 pub enum StoreFault {
     /// An allocation failed.
     Memory,
-    /// The storage failed, or holds a row outside its limits.
+    /// The storage failed, or contains a row outside its limits.
     Storage,
 }
 
@@ -45,8 +45,8 @@ pub trait ClubStore {
     ghost use Rattle.club_core.specs.declared.{change.Change.Change, store.StoreFault.StoreFault};
     ghost use Rattle.club_rows.specs.Key.{row_of_key};
 
-    // the store contains the current club, and after a crash may recover to one of the other clubs
-    // in the list (the possible crash states)
+    // the store has the current club; after a crash, it recovers to that club or to one in the list
+    // (the possible crash states)
     ghost represents: { Self → Club → List Club → Type 0 };
 
     // whether the disk has been clean so far

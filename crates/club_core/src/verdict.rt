@@ -35,7 +35,7 @@ impl Verdict {
         Verdict::reply_only(Reply::Refused(refusal))
     }
 
-    /// Returns the reply to a new booking, and the change that inserts it. The key is `member`'s.
+    /// Returns the reply to a new booking, and the change that inserts it. Its key is `member`'s.
     pub(crate) fn new_booking(booking: Booking, member: &Name) -> Verdict
         ensures { result ≡ verdicts.booked_now booking member.now }
     {
@@ -54,7 +54,7 @@ impl Verdict {
     }
 
     /// Returns the reply to a cancellation, and the change that records it with this refund. The
-    /// key is `member`'s.
+    /// booking's key belongs to `member`.
     pub(crate) fn new_cancellation(booking: &Booking, member: &Name, refund: u32) -> Verdict
         ensures { result ≡ verdicts.cancelled_now booking.now member.now refund }
     {

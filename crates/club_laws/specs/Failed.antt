@@ -98,7 +98,7 @@ JoinsRuns O =
     → AreRuns presentation club last front rest before since
     → IsRun presentation club (front ++ rest) (before ++ since) last
 
--- if a desk shows no answer to the office as a fault, the machine's own run is a run in this sense
+-- if a desk shows no answer to the office as a fault, the machine's own run satisfies `IsRun`
 abbrev pub RunsWithoutFailures : Type 0 → Type 0
 RunsWithoutFailures O =
     (presentation : Presentation O) (club : Club) (events : List Event)

@@ -3,6 +3,6 @@ use Rattle.std.specs.Prelude.{◌≡◌, ◌↔◌}
 use Rattle.club_core.specs.Pass.{Words}
 use Rattle.club_reference.specs.{Words.IsModelOf, computed.Words.words_model, declared.words.Words.Words as WordsInCode}
 
--- `words_model` of words is their model, and their only one
+-- `words_model` computes the only model of words
 abbrev pub ModelsWords : Type 0
 ModelsWords = (words : WordsInCode) (model : Words) → IsModelOf words model ↔ (words_model words ≡ model)

@@ -1,4 +1,4 @@
--- How the code's words correspond to the words of the rules, and their answers (ours).
+-- How the code's `Words` correspond to those of the rules, and the answers to them (ours).
 use Rattle.std.specs.{Prelude.{◌≡◌, ◌↔◌, ℕ, List, map, Contains, IsTrue, Option, Some, None, Result, Ok, Err}, Vec.vec_items}
 use Rattle.pass_caveats.specs.Fault.{AreUnderstoodAs, first_fault_of}
 use Rattle.club_core.specs.{Answer.{answer_by_view, ask_of, form_refusal}, Pass.{Pass, Words, is_signed_under}, Verdict.refusal_verdict}
@@ -6,7 +6,7 @@ use Rattle.club_core.specs.declared.{pass_fault.PassFault.PassFault, refusal.Ref
 use Rattle.club_core.specs.declared.view.KeyView.{KeyView}
 use Rattle.club_reference.specs.declared.words.{Pass.Pass as PassInCode, Words.Words as WordsInCode}
 
--- a pass's model has the same key, the meaning of each caveat, and the listed roots as the roots that sign it
+-- a pass's model has the pass's key and the meaning of each caveat; exactly the listed roots sign it
 pub record IsPassModel (pass : PassInCode) (model : Pass) : Type 0 where
   pub key : model.key ≡ pass.key
   pub caveats : AreUnderstoodAs (map vec_items pass.caveats.items) model.caveats
