@@ -16,7 +16,7 @@ find_twice : (strict wide : Booking → Bool) (bookings : List Booking) → ((b 
 find_twice strict wide [] h = refl
 find_twice strict wide (b ∷ bookings) h = grind (arith, find_twice strict wide bookings h, h b)
 
--- a key of the list belongs to the list's member
+-- a key of the list is found among the keys of its own member
 is_among : (keys : List Key) (key : Key) (i : ℕ) → i < length keys → get_or keys i key ≡ key
     → list_any (λ (k : Key). bytes_eq k.name key.name) (filter (λ (k : Key). bytes_eq k.member key.member) keys) ≡ true
 is_among [] key i lt e = absurd (omega arith)

@@ -98,7 +98,7 @@ pub fn most_taken_is_reached()
     ensures { MostTaken }
 {}
 
-/// A sound club has exactly one sheet for each day.
+/// A club that satisfies its invariants has exactly one sheet for each day.
 pub fn one_sheet_a_day()
     ensures one { OneSheet }
     ensures some { SomeSheet }

@@ -108,8 +108,8 @@ pub trait ClubStore {
             (λ club rows. AreRowsOf club day rows.items) };
 
     /// Applies a change. The change must match the values of the club's rows, and the changed club
-    /// must be sound, or else the call fails without effect. If the call fails for another reason,
-    /// the club is unchanged, but a crash may then leave the changed club.
+    /// must satisfy its invariants, or else the call fails without effect. If the call fails for
+    /// another reason, the club is unchanged, but a crash may then leave the changed club.
     fn apply(&mut self, change: &Change) -> Result<(), StoreFault>
         ensures was_clean { disk_is_clean self.new → disk_is_clean self.old }
         ensures changed { disk_is_clean self.new →
@@ -117,7 +117,7 @@ pub trait ClubStore {
         ensures failed { disk_is_clean self.new → IfErr result
             (λ fault. fails (Some change.now) self.old fault self.new) };
 
-    // the current club and each possible crash state are sound
+    // the current club and each possible crash state satisfy the club's invariants
     ghost sound: { (store : Self) (club : Club) (others : List Club)
         → represents store club others
         → All IsSound (club ∷ others) };

@@ -87,7 +87,7 @@ is_under_one keys booking = list_any (has_name booking.key) keys
 abbrev pub HasKnownKeys : Club → Type 0
 HasKnownKeys club = All (λ (booking : Booking). Contains (map (λ (key : Key). key.name) club.keys) booking.key) club.bookings
 
--- an edit of the keys with one name
+-- an edit that changes only the key with one name is made in the part of that key's member, and in no other part
 key_edited : (root : Key → List ℕ) (older : Key → Option OlderRoot) (is_revoked : Key → Bool) (name : List ℕ) (club : Club) (other : List ℕ)
     → ((key : Key) → bytes_eq key.name other ≡ false → edited root older is_revoked key ≡ key)
     → part_of name (record club { keys = map (edited root older is_revoked) club.keys })
@@ -102,7 +102,7 @@ key_edited root older is_revoked name club other same =
 abbrev pub edited_member : (Member → ℕ) → (Member → ℕ) → Member → Member
 edited_member credited quota member = record member { credited = credited member; quota = quota member }
 
--- an edit of the members with one name
+-- an edit that changes only the member with one name is made in that member's part, and in no other part
 member_edited : (credited quota : Member → ℕ) (name : List ℕ) (club : Club) (other : List ℕ)
     → ((member : Member) → bytes_eq member.name other ≡ false → edited_member credited quota member ≡ member)
     → part_of name (record club { members = map (edited_member credited quota) club.members })

@@ -1,4 +1,4 @@
-//! The changes and events that leave a member's part unchanged.
+//! The changes and events that leave a member's part (its rows and the facilities) unchanged.
 
 ghost use Rattle.club_laws.specs.Frame.{ChangesThePartAlike, LeavesThePart, TakenIsOwnAndOthers};
 

@@ -1,4 +1,4 @@
-//! Laws of the club's state machine over whole runs. Each is the contract of an empty function.
+//! Laws of the club's state machine over whole runs. Each law is an empty function's contract.
 #![tactic(auto)]
 
 pub mod account;

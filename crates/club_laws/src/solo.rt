@@ -1,4 +1,4 @@
-//! A member's replies in a run are those of a machine that has only the member's part.
+//! A member's replies in a run are those of a machine with only the member's part of the club.
 
 ghost use Rattle.club_laws.specs.SoloExamples.{AnswersAmyAlone, AnswersAmyAmongOthers};
 ghost use Rattle.club_laws.specs.SoloExamples.{ShowsAmyATakenPlace, ShowsAmyHerCancellation};

@@ -1,4 +1,4 @@
-//! Every club that a run reaches is sound, and each change fits the club that it is applied to.
+//! Every club that a run reaches is sound (satisfies its invariants), and each change fits it.
 
 ghost use Rattle.club_laws.specs.SoundRuns.{ChangesFit, EmptyIsSound, RunsKeepSound};
 ghost use Rattle.club_laws.specs.SoundRuns.{StepsKeepSound, SuitingChangesKeepSound};

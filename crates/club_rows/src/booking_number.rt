@@ -9,7 +9,7 @@ use std::marker::Model;
 /// The greatest number of a booking.
 pub const MAX_BOOKING_NUMBER: u32 = MAX_NUMBER;
 
-/// A booking's number among the bookings of its key, 1 to 999,999,999. In contracts it is its
+/// A booking's number among the bookings of its key, 1 to 999,999,999. In contracts it is a plain
 /// number.
 #[derive(Clone, Copy, Debug, PartialEq, Eq, PartialOrd, Ord)]
 pub struct BookingNumber {

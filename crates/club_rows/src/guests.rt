@@ -6,7 +6,7 @@ ghost use Rattle.club_rows.specs.Limits.{IsGuests};
 use club_values::MAX_GUESTS;
 use std::marker::Model;
 
-/// The number of guests of a booking, 0 to 49, without the member. In contracts it is that number.
+/// The number of guests of a booking, 0 to 49, without the member. Contracts see a plain number.
 #[derive(Clone, Copy, Debug, PartialEq, Eq, PartialOrd, Ord)]
 pub struct Guests {
     count: u8,

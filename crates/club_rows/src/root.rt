@@ -15,7 +15,7 @@ pub const MIN_ROOT_LEN: usize = 16;
 /// The maximum number of bytes in a root.
 pub const MAX_ROOT_LEN: usize = 64;
 
-/// The secret of a key, 16 to 64 bytes, which signs the key's passes. In contracts it is its bytes.
+/// The secret of a key, 16 to 64 bytes, which signs the key's passes. Contracts see its bytes.
 #[derive(Clone, Copy)]
 pub struct Root {
     bytes: InlineBytes<MAX_ROOT_LEN>,
