@@ -1,22 +1,22 @@
--- A scan over caveats one by one, in either layout: the caveats found so far and those left are the whole list.
+-- A scan of caveats one by one, in either layout. The scanned caveats and the remaining ones are the whole list.
 use Rattle.pass_forms.proofs.Common.{◌≡◌, ℕ, zero, suc, ◌+◌, Bool, ◌||◌, List, [], length, Option, Some, None, option_map, refl, arith, list_any, and_others}
 use Rattle.pass_forms.proofs.Common.{caveats_at, summary, WideCaveat, is_third_party}
 
 abbrev pub Reader : Type 0
 Reader = List ℕ → Option (WideCaveat × List ℕ)
 
--- caveats, and the bytes after them
+-- A list of caveats, and the bytes after it.
 abbrev pub Run : Type 0
 Run = List WideCaveat × List ℕ
 
--- Count and third_party describe the caveats before those that are left; together they are the whole list.
+-- `count` and `third_party` describe the scanned caveats. Together with the remaining caveats (`left`), they describe the whole list.
 pub record Keeps (count : ℕ) (third_party : Bool) (left whole : Run) : Type 0 where
   pub count_is : count + length left.0 ≡ length whole.0
   pub any : (third_party || list_any is_third_party left.0) ≡ list_any is_third_party whole.0
   pub after : left.1 ≡ whole.1
 
 module _ (at : Reader) where
-  -- the following caveats, whether or not there is one
+  -- One more step of a scan reads the next caveat, if there is one, and then the others.
   pub one_more : (fuel less : ℕ) (rest : List ℕ) → fuel ≡ suc less → caveats_at at fuel rest ≡ and_others (caveats_at at less) rest (at rest)
   unfolding caveats_at
   one_more fuel less rest e = rw e refl
@@ -29,7 +29,7 @@ module _ (at : Reader) where
   unfolding caveats_at
   none_follow fuel rest content = grind arith
 
-  -- A scan over exactly as many caveats as there are finds the same ones.
+  -- If n caveats were found, a scan with the limit n finds the same caveats.
   pub as_many : (n : ℕ) (bytes : List ℕ) → caveats_at at (length (caveats_at at n bytes).0) bytes ≡ caveats_at at n bytes
   unfolding caveats_at
   as_many zero bytes = refl

@@ -1,4 +1,4 @@
--- The field that is read is the field that was written, and a written field is read, whatever bytes follow it.
+-- A reader finds exactly the fields that were written, whatever bytes follow them.
 use Rattle.pass_forms.proofs.Common.{◌≡◌, ℕ, zero, suc, ◌+◌, ◌-◌, ◌*◌, ◌/◌, ◌%◌, ◌^◌, ◌<◌, ◌≤◌, List, [], ◌∷◌, ◌++◌, length, Option, Some, None, refl, sym, ap}
 use Rattle.pass_forms.proofs.Common.{◌∙◌, arith, inl, inr, cases_lt, lt-ltb, le-ltb, nat_tests, take-append-drop, groups, varint, field, optional_field}
 use Rattle.pass_forms.proofs.{Common.{varint_up_to, counted_at, field_at, common_steps}, Packets.{after_prefix_takes, after_prefix_again}}
@@ -7,7 +7,7 @@ use Rattle.pass_forms.specs.computed.V2Reading.{optional_at}
 
 -- ---- numbers
 
--- Allowing more groups than there are bits gives the same spelling.
+-- A limit above the number of groups doesn't change the encoding.
 groups_enough : (more n : ℕ) → n < 128 → groups more n ≡ n ∷ []
 unfolding groups
 groups_enough more n small = grind (arith, nat_tests)
@@ -25,7 +25,7 @@ groups_same (suc more) (suc less) n m l = elim (cases_lt n 128) [
 ]
 groups_same more less n m l = groups_enough more n (omega arith) ∙ sym (groups_enough less n (omega arith))
 
--- a number of more than seven bits
+-- The varint of a number of more than seven bits.
 pub varint_large : (n : ℕ) → 128 ≤ n → varint n ≡ (128 + n % 128) ∷ varint (n / 128)
 unfolding varint
 varint_large zero large = absurd (omega arith)
@@ -37,7 +37,7 @@ pub varint_small : (n : ℕ) → n < 128 → varint n ≡ n ∷ []
 unfolding varint
 varint_small n small = groups_enough n n small
 
--- a number of more than seven bits, but at most fourteen
+-- The varint of a number of eight to fourteen bits.
 pub varint_of_two : (n : ℕ) → 128 ≤ n → n < 2 ^ 14 → varint n ≡ (128 + n % 128) ∷ n / 128 ∷ []
 varint_of_two n large small = grind (arith, varint_large, varint_small)
 

@@ -1,4 +1,4 @@
--- The reading of a text in any form is exact, if the reading of bytes is.
+-- If each form has a function that computes the wide pass of bytes, a text has exactly one reading.
 use Rattle.pass_forms.proofs.{Checking.{Computes, checked_if_any_is, checked_determined}, Common.{◌≡◌, ◌↔◌, ℕ, ◌≤◌, List, length, Option, Some, Result, Ok}}
 use Rattle.pass_forms.proofs.Common.{Err, refl, sym, ap, subst, ◌∙◌, arith, rules, FormFault, TooLong, Malformed, ThirdParty, TooMany, Form, Wraps, IsUnwrapped}
 use Rattle.pass_forms.proofs.{Common.{unwrapping, Plain, WidePass, as_wide_pass, max_text_len, IsReadAs}, EnvelopeLaws.{wraps_one, unwrapped_answers}}
@@ -17,7 +17,7 @@ module _ (wide_at : Reader) (text : List ℕ) where
   abbrev SpellsAny : WidePass → Type 0
   SpellsAny wide = (form : Form) × SpellsText (Spells wide_at) text form wide
 
-  -- A text spells the wide pass that its bytes spell, in its own form and in any form.
+  -- If a text encodes a wide pass in any form, the form and the pass are those of the wrapped bytes.
   same_bytes : (form other : Form) (bytes : List ℕ) (wide : WidePass) → Wraps text form bytes → SpellsIn other wide →
       (other ≡ form) × (wide_at form bytes ≡ Some wide)
   same_bytes form other bytes wide wraps h = grind (arith, wraps_one text other form h.0 bytes h.1 wraps)

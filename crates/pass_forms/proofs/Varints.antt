@@ -1,14 +1,14 @@
--- Numbers in groups of seven bits, up to a bound.
+-- Varints: numbers in groups of seven bits, up to a bound.
 use Rattle.pass_forms.proofs.Common.{◌≡◌, ℕ, ◌+◌, ◌-◌, ◌*◌, ◌/◌, ◌<◌, ◌≤◌, List, ◌∷◌, length, Option, Some, None, refl, arith, lt-ltb, le-ltb, nat_tests, above}
 use Rattle.pass_forms.proofs.Common.{varint_up_to, common_steps}
 
--- a byte with more after it
+-- A byte of a varint that isn't the last one.
 pub varint_more : (most byte : ℕ) (rest : List ℕ) → byte ≤ most → 128 ≤ byte → byte < 256 →
     varint_up_to most (byte ∷ rest) ≡ above most (byte - 128) (varint_up_to (most / 128) rest)
 unfolding varint_up_to
 varint_more most byte rest within low top = rw (le-ltb most byte within, le-ltb byte 128 low, lt-ltb byte 256 top) refl
 
--- the last byte
+-- The last byte of a varint.
 pub varint_last : (most byte : ℕ) (rest : List ℕ) → byte ≤ most → byte < 128 → varint_up_to most (byte ∷ rest) ≡ Some (byte, rest)
 unfolding varint_up_to
 varint_last most byte rest within low = rw (le-ltb most byte within, lt-ltb byte 128 low) refl
@@ -24,7 +24,7 @@ above_some most low (Some (high, after)) n rest e =
     let parts = above_parts most low high after n rest e in
     (high, rw parts.2 refl, parts.0, parts.1)
 
--- ---- of bytes that are known by their first
+-- ---- varints, from the first byte
 
 pub no_bytes : (most : ℕ) (bytes : List ℕ) → length bytes ≡ 0 → varint_up_to most bytes ≡ None
 unfolding varint_up_to

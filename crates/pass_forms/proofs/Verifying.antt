@@ -1,4 +1,4 @@
--- The result of a walk over the fields of a pass that compares its signature.
+-- The fields of a pass are read in order, and the signature is compared with the chain.
 use Rattle.pass_forms.proofs.Common.{◌≡◌, ℕ, List, [], ◌∷◌, ◌++◌, fold, map, Bool, false, refl, PassField, caveat_field, signature_field, location_field}
 use Rattle.pass_forms.proofs.Common.{identifier_field, ◌↔◌, arith, ap, sym, subst}
 use Rattle.std.specs.{Prelude.IsTrue, Str.bytes_eq}
@@ -6,7 +6,7 @@ use Rattle.std.proofs.lemmas.Slice.Eq.{bytes_eq-Decides}
 use Rattle.pass_mac.specs.Hmac.{hmac}
 use Rattle.pass_forms.specs.FieldSource.{AreSignedBy}
 
--- whether these fields end in the signature of a chain
+-- Whether these fields end in the signature of the chain, extended by their caveats.
 abbrev pub signed_in : List ℕ → List PassField → Bool
 signed_in chain [] = false
 signed_in chain (location_field bytes ∷ fields) = false

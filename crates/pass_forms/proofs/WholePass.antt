@@ -1,12 +1,12 @@
--- The whole pass, from the parts that were found one after another.
+-- The header, the caveats and the signature that were read one after another are the whole pass.
 use Rattle.pass_forms.proofs.{CaveatRuns.Reader, Common.{◌≡◌, ℕ, List, [], length, Option, Some, caveats_at, whole_at, ◌>>=◌, last_signature, WideCaveat}}
 use Rattle.pass_forms.proofs.Common.{WidePass, arith, common_steps, nat_tests}
 
--- the pass of a header, the caveats and a signature
+-- The wide pass with this header, these caveats and this signature.
 abbrev pub made : List ℕ × List ℕ × List ℕ → List WideCaveat → List ℕ → WidePass
 made header caveats signature = record { location = header.0; identifier = header.1; caveats = caveats; signature = signature }
 
--- the parts of a whole pass
+-- The parts that a reader found make up this wide pass.
 pub record Parts (header_at : List ℕ → Option (List ℕ × List ℕ × List ℕ)) (caveat_at : Reader) (footer_at : List ℕ → Option (List ℕ)) (bytes : List ℕ)
     (wide : WidePass) : Type 0 where
   pub header : List ℕ × List ℕ × List ℕ
@@ -29,7 +29,7 @@ whole_again header_at caveat_at footer_at bytes header caveats rest signature h 
 
 -- ---- the signature
 
--- The signature that was found is the whole last part.
+-- The signature that was found is all of the last part.
 pub last_takes : (found : Option (List ℕ × List ℕ)) (signature : List ℕ) → (found >>= last_signature) ≡ Some signature →
     (found ≡ Some (signature, [])) × (length signature ≡ 32)
 last_takes found signature e = grind (arith, common_steps, nat_tests)

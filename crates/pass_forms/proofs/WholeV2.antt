@@ -1,4 +1,4 @@
--- The pass that is read from sections is the pass that they spell, and every pass that sections spell is read.
+-- The V2 reader accepts exactly the sections that encode a pass, and returns that pass.
 use Rattle.pass_forms.proofs.{CaveatTexts.{Exact, caveats_take, caveats_again, caveats_fit}, Checking.exactly, Common.{◌≡◌, ℕ, ◌≤◌, List, [], ◌∷◌, ◌++◌}}
 use Rattle.pass_forms.proofs.Common.{length, Option, Some, None, refl, sym, ap, subst, ◌∙◌, append_assoc, arith, flat_map, AllByRecursion, append-nil}
 use Rattle.pass_forms.proofs.Common.{length-append, caveats_at, WideCaveat, WidePass, field, optional_field, end_of_section, caveat_section, types, sections}
@@ -17,7 +17,7 @@ caveat_takes : (bytes : List ℕ) (found : WideCaveat × List ℕ) → caveat_at
 unfolding caveat_at
 caveat_takes bytes found e = grind (arith, common_steps, optional_takes, field_takes, after_prefix_takes)
 
--- A field of another type isn't a field of this type.
+-- A field of one type isn't read as a field of another type.
 not_location : (text rest : List ℕ) → field_at types.location (field types.identifier text ++ rest) ≡ None
 unfolding field_at
 not_location text rest = refl
@@ -64,7 +64,7 @@ footer_again signature len =
     ap (field_at types.signature) (sym (append-nil (field types.signature signature))) ∙ field_again types.signature signature [] in
     rw (read, len) refl
 
--- The end of the caveats isn't a caveat.
+-- The zero byte that ends the caveats isn't read as a caveat.
 end_is_no_caveat : (rest : List ℕ) → caveat_at (end_of_section ++ rest) ≡ None
 unfolding caveat_at field_at
 end_is_no_caveat rest = refl

@@ -1,4 +1,4 @@
--- The written form of a pass is bytes, if the pass's parts are bytes.
+-- If the parts of a pass are bytes, the written pass is bytes too.
 use Rattle.pass_forms.proofs.{Base64Bytes.{append_is_bytes, bytes_from_passes, nil_is_bytes, one_more}, Common.{◌≡◌, ℕ, zero, suc, ◌+◌, ◌/◌, ◌%◌, ◌^◌, ◌<◌}}
 use Rattle.pass_forms.proofs.Common.{◌≤◌, true, ltb, List, [], ◌∷◌, ◌++◌, map, refl, arith, inl, inr, AllByRecursion, flat_map, list_all, cases_lt, lt-ltb}
 use Rattle.pass_forms.proofs.Common.{le-ltb, nat_tests, IsBytes, Plain, as_wide_pass, widened_caveat, FitsPackets, FitsCaveat, FitsPacket, caveat_packets}
@@ -62,7 +62,7 @@ location_is_bytes : (location : List ℕ) → IsBytes location → IsBytes (opti
 location_is_bytes [] are = nil_is_bytes
 location_is_bytes (byte ∷ bytes) are = field_is_bytes types.location (byte ∷ bytes) (omega arith) are
 
--- a field and the end of its section, with the bytes that follow
+-- A field, the end of its section and the bytes after it are bytes.
 section_is_bytes : (type : ℕ) (bytes rest : List ℕ) → type < 256 → IsBytes bytes → IsBytes rest → IsBytes (field type bytes ++ (end_of_section ++ rest))
 section_is_bytes type bytes rest small are others =
     append_is_bytes (field type bytes) (end_of_section ++ rest) (field_is_bytes type bytes small are) (one_more 0 rest (omega arith) others)

@@ -1,4 +1,4 @@
--- The written text of a pass in any form: its length, and the proof that it is read back.
+-- The written text of a pass in V1 or V2: its length, and the proof that it is read back.
 use Rattle.pass_forms.proofs.Common.{◌≡◌, ℕ, ◌<◌, ◌≤◌, List, length, Ok, Err, Some, arith, append-nil, url_safe_no_pad, IsBytes, engine_symbols, unpadded_len}
 use Rattle.pass_forms.proofs.Common.{TooLong, Form, IsUnwrapped, form_of, Plain, buffer_len, max_caveats, max_text_len, in_base64, writing_of, nat_tests}
 use Rattle.base64.proofs.RoundTrip.{length-encode_symbols}
@@ -6,7 +6,7 @@ use Rattle.base64.proofs.RoundTrip.{length-encode_symbols}
 length-in_base64 : (bytes : List ℕ) → length (in_base64 bytes) ≡ unpadded_len (length bytes)
 length-in_base64 bytes = rw append-nil (length-encode_symbols (engine_symbols url_safe_no_pad) bytes)
 
--- bytes that fit the buffer have a text within the limit, and others don't
+-- The base64 text of bytes is within the limit if and only if the bytes fit in the buffer.
 pub text_fits : (bytes : List ℕ) → length bytes ≤ buffer_len → length (in_base64 bytes) ≤ max_text_len
 text_fits bytes h = omega (arith, length-in_base64 bytes)
 

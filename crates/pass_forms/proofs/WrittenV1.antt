@@ -37,7 +37,7 @@ v1_form = record {
   has_form = λ pass spelling. form_v1 pass spelling.fits.location;
 }
 
--- The law: if the parts of a pass are bytes, so is its written form.
+-- If the parts of a pass are bytes, its V1 text is read back as the same pass.
 pub law_v1 : (pass : Plain) (text : List ℕ) → HasBytes pass → IsWritableText IsV1Text pass text → IsReadBack SpellsV1 V1 (v1_bytes pass) pass text
 law_v1 pass text are written =
     reads_back v1_form pass text (v1_is_bytes pass written.is_text.spelling.fits are) written

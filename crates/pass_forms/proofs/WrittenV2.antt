@@ -25,7 +25,7 @@ v2_form = record {
   has_form = λ pass spelling. form_v2 pass;
 }
 
--- The law: if the parts of a pass are bytes, so is its written form.
+-- If the parts of a pass are bytes, its V2 text is read back as the same pass.
 pub law_v2 : (pass : Plain) (text : List ℕ) → HasBytes pass → IsWritableText IsV2Text pass text → IsReadBack SpellsV2 V2 (v2_bytes pass) pass text
 law_v2 pass text are written = reads_back v2_form pass text (v2_is_bytes pass are) written
 

@@ -10,24 +10,24 @@ pub data PassField : Type 0 where
   caveat_field : (bytes : List ℕ) → PassField
   signature_field : (bytes : List ℕ) → PassField
 
--- the fields of a pass, in order
+-- All fields of a pass, in order.
 abbrev pub pass_fields : Plain → List PassField
 pass_fields pass =
     location_field pass.location ∷ identifier_field pass.identifier
     ∷ (map caveat_field pass.caveats ++ signature_field pass.signature ∷ [])
 
--- a field, unless it was already returned
+-- A list with this field, or an empty list if the field was already returned.
 abbrev pub if_left : {A : Type 0} → (A → PassField) → Option A → List PassField
 if_left field None = []
 if_left field (Some bytes) = field bytes ∷ []
 
--- the fields that are left in a source: a location and an identifier with these bytes, caveats, and a signature
+-- The fields that a source hasn't returned yet. `None` stands for a field that it has returned, and `bytes` gives a field's bytes.
 abbrev pub those_left : {A : Type 0} → (A → List ℕ) → Option A → Option A → List (List ℕ) → Option (List ℕ) → List PassField
 those_left bytes location identifier caveats signature =
     if_left (λ l. location_field (bytes l)) location ++ (if_left (λ i. identifier_field (bytes i)) identifier
     ++ (map caveat_field caveats ++ if_left signature_field signature))
 
--- the result of opening: the fields of the pass that is read, or the fault
+-- The result of opening a pass: its fields, or the fault of the reading.
 abbrev pub opening_by : {A : Type 0} → (A → List PassField) → Result A FormFault → Result (List PassField) FormFault
 opening_by fields (Ok read) = Ok (fields read)
 opening_by fields (Err fault) = Err fault
@@ -35,25 +35,25 @@ opening_by fields (Err fault) = Err fault
 abbrev pub opening_of : Result Plain FormFault → Result (List PassField) FormFault
 opening_of reading = opening_by pass_fields reading
 
--- A result of opening: the fields of a pass that `Reads` allows, or a fault that it allows.
+-- The result of opening is the fields of a pass, or a fault. `Reads` must allow this pass or this fault.
 abbrev pub IsOpening : (Result Plain FormFault → Type 0) → Result (List PassField) FormFault → Type 0
 IsOpening Reads (Ok fields) = (pass : Plain) × Reads (Ok pass) × (fields ≡ pass_fields pass)
 IsOpening Reads (Err fault) = Reads (Err fault)
 
--- the field that the source returns
+-- The field as contracts see it.
 abbrev pub as_field : Field → PassField
 as_field (Location bytes) = location_field bytes.now
 as_field (Identifier bytes) = identifier_field bytes.now
 as_field (Caveat bytes) = caveat_field bytes.now
 as_field (Signature bytes) = signature_field bytes
 
--- The fields begin with caveats and a signature, which is that of the chain extended by these caveats (NDSS 2014).
+-- The fields begin with caveats and a signature. This signature is the chain's after these caveats (NDSS 2014).
 pub record AreSignedBy (chain : List ℕ) (fields : List PassField) : Type 0 where
   pub caveats : List (List ℕ)
   pub rest : List PassField
   pub place : fields ≡ map caveat_field caveats ++ signature_field (extended_signature chain caveats) ∷ rest
 
--- A pass from fields in any order. Each field sets its value, and a caveat is appended to the list.
+-- The pass after one more field. Each field sets its value, and a caveat is appended to the list.
 abbrev pub with_field : Plain → PassField → Plain
 with_field pass (location_field bytes) = record pass { location = bytes }
 with_field pass (identifier_field bytes) = record pass { identifier = bytes }
@@ -63,6 +63,6 @@ with_field pass (signature_field bytes) = record pass { signature = bytes }
 abbrev pub with_fields : Plain → List PassField → Plain
 with_fields pass fields = fold with_field pass fields
 
--- a pass without any field
+-- A pass with empty fields, and with zeros as its signature.
 abbrev pub no_fields : Plain
 no_fields = record { location = []; identifier = []; caveats = []; signature = replicate 32 0 }

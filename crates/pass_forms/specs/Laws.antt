@@ -6,18 +6,18 @@ use Rattle.pass_forms.specs.computed.{Envelope.{from_base64, unwrapping}, Pass.i
 use Rattle.pass_forms.specs.{computed.Writing.{writing_v1, writing_v2}, declared.{fault.FormFault.FormFault, form.Form.{Form, TheVariants.{V1, V2}}}}
 use Rattle.base64.specs.GeneralPurpose.{IsBytes}
 
--- If the computed wide pass is the only one that a text spells, the relation allows exactly one result: the computed one.
+-- If the computed wide pass is the only one that a text encodes, the relation allows exactly one result: the computed one.
 abbrev pub AnswersExactly : Type 0
 AnswersExactly = (len : ℕ) (computed : Option WidePass) (answer : Result Plain FormFault) →
     IsReadAs len (λ wide. computed ≡ Some wide) answer ↔ (reading_of len computed ≡ answer)
 
--- ---- of a form, which is given by the wide passes that bytes spell in it
+-- ---- one form: the relation `Spells` tells which wide passes bytes encode
 
--- No bytes spell two passes.
+-- Bytes encode at most one wide pass.
 abbrev pub OnePassEach : (List ℕ → WidePass → Type 0) → Type 0
 OnePassEach Spells = (bytes : List ℕ) (one other : WidePass) → Spells bytes one → Spells bytes other → one ≡ other
 
--- The computed wide pass is the one that the bytes spell.
+-- Bytes encode a wide pass if and only if `wide_at` computes this pass from them.
 abbrev pub ComputesSpelled : (List ℕ → WidePass → Type 0) → (List ℕ → Option WidePass) → Type 0
 ComputesSpelled Spells wide_at = (bytes : List ℕ) (wide : WidePass) → Spells bytes wide ↔ (wide_at bytes ≡ Some wide)
 
@@ -26,24 +26,24 @@ abbrev pub ReadsExactly : (List ℕ → WidePass → Type 0) → (List ℕ → R
 ReadsExactly Spells reading = (bytes : List ℕ) (answer : Result Plain FormFault) →
     IsReadAs (length bytes) (Spells bytes) answer ↔ (reading bytes ≡ answer)
 
--- ---- of texts
+-- ---- texts
 
--- A text wraps at most one form and one list of bytes.
+-- A text wraps at most one list of bytes, in one form.
 abbrev pub WrapsOne : Type 0
 WrapsOne = (text : List ℕ) (form other_form : Form) (bytes other_bytes : List ℕ)
     → Wraps text form bytes → Wraps text other_form other_bytes
     → (form ≡ other_form) × (bytes ≡ other_bytes)
 
--- If a text is bytes, so are the contents that it wraps.
+-- If a text is a list of bytes, its contents are a list of bytes too.
 abbrev pub WrapsBytes : Type 0
 WrapsBytes = (text : List ℕ) (form : Form) (bytes : List ℕ)
     → IsBytes text → Wraps text form bytes → IsBytes bytes
 
--- `from_base64` returns the bytes that a text encodes in base64, and `None` if there are none.
+-- `from_base64` returns bytes if and only if the text is base64 of these bytes.
 abbrev pub FromBase64IsBase64 : Type 0
 FromBase64IsBase64 = (text bytes : List ℕ) → (from_base64 text ≡ Some bytes) ↔ IsBase64 text bytes
 
--- `unwrapping` of a text is the only result that `IsUnwrapped` allows.
+-- The relation `IsUnwrapped` allows exactly one result for a text: `unwrapping text`.
 abbrev pub UnwrappedIsTheAnswer : Type 0
 UnwrappedIsTheAnswer = (text : List ℕ) (answer : Result (Form × List ℕ) FormFault) → (unwrapping text ≡ answer) ↔ IsUnwrapped text answer
 
@@ -52,9 +52,9 @@ abbrev pub ReadsTextsExactly : Type 0
 ReadsTextsExactly = (wide_at : Form → List ℕ → Option WidePass) (text : List ℕ) (answer : Result (Form × Plain) FormFault) →
     IsTextReading (λ form bytes wide. wide_at form bytes ≡ Some wide) text answer ↔ (text_reading wide_at text ≡ answer)
 
--- ---- of what is written
+-- ---- written texts
 
--- A written text is read back as the same pass, in each form.
+-- A text that was written in V1 or V2 is read back as the same pass.
 abbrev pub TextsReadBack : Type 0
 TextsReadBack = (pass : Plain) (text : List ℕ) → HasBytes pass →
     (IsWritableText IsV1Text pass text → IsReadBack SpellsV1 V1 (v1_bytes pass) pass text)
@@ -65,12 +65,12 @@ abbrev pub WritesExactly : Type 0
 WritesExactly = (pass : Plain) (answer : Result (List ℕ) FormFault) → length pass.signature ≡ 32 →
     ((writing_v1 pass ≡ answer) ↔ IsWriting IsV1Text pass answer) × ((writing_v2 pass ≡ answer) ↔ IsWriting IsV2Text pass answer)
 
--- ---- of signatures
+-- ---- signatures
 
 -- A pass that is signed under a root is still signed under it after a caveat is added.
 abbrev pub NarrowedStaysSigned : Type 0
 NarrowedStaysSigned = (root caveat : List ℕ) (pass : Plain) → IsSigned root pass → IsSigned root (with_caveat caveat pass)
 
--- `is_signed` decides `IsSigned`.
+-- `is_signed` returns true if and only if `IsSigned` holds.
 abbrev pub DecidesSigned : Type 0
 DecidesSigned = (root : List ℕ) (pass : Plain) → IsSigned root pass ↔ (is_signed root pass ≡ true)

@@ -1,5 +1,5 @@
--- A pass is a macaroon (NDSS 2014) of first-party caveats. A wide pass is what the formats can spell: its
--- caveats may be third-party.
+-- A pass is a macaroon (NDSS 2014) of first-party caveats. A wide pass may also have third-party
+-- caveats, which the formats allow.
 use Rattle.std.specs.{List.list_any, Prelude.{◌≡◌, ℕ, Bool, ◌||◌, List, [], Option, None, map, is_some}}
 use Rattle.pass_mac.specs.Chain.{chain, derived_key}
 
@@ -27,7 +27,7 @@ is_third_party caveat = is_some caveat.verifier_id || is_some caveat.location
 abbrev pub has_third_party : WidePass → Bool
 has_third_party wide = list_any is_third_party wide.caveats
 
--- a first-party caveat as a wide one; the next definition is for a pass
+-- A first-party caveat as a caveat of a wide pass.
 abbrev pub widened_caveat : List ℕ → WideCaveat
 widened_caveat identifier = record { identifier = identifier; verifier_id = None; location = None }
 
@@ -39,7 +39,7 @@ as_wide_pass pass = record {
   signature = pass.signature;
 }
 
--- a caveat without verifier id and location, and a pass of such caveats
+-- A caveat without its verifier id and location.
 abbrev pub first_party_caveat : WideCaveat → List ℕ
 first_party_caveat caveat = caveat.identifier
 
@@ -55,7 +55,7 @@ first_party wide = record {
 abbrev pub IsSigned : List ℕ → Plain → Type 0
 IsSigned root pass = pass.signature ≡ chain (derived_key root) pass.identifier pass.caveats
 
--- a new pass under a root, with no caveats yet
+-- A new pass under a root, without caveats.
 abbrev pub minted_pass : List ℕ → List ℕ → List ℕ → Plain
 minted_pass root location identifier = record {
   location = location;

@@ -3,16 +3,16 @@ use Rattle.std.specs.Prelude.{◌≡◌, ℕ, ◌<◌, ◌≤◌, true, false, l
 use Rattle.pass_forms.specs.{Pass.{Plain, WidePass, has_third_party, as_wide_pass}, declared.fault.FormFault.FormFault}
 use Rattle.pass_forms.specs.declared.fault.FormFault.TheVariants.{TooLong, Malformed, ThirdParty, TooMany, Memory}
 
--- the longest text of a pass, in bytes
+-- The most bytes of a pass's text.
 abbrev pub max_text_len : ℕ
 max_text_len = 8192
 
--- the most caveats of a pass
+-- The most caveats of a pass.
 abbrev pub max_caveats : ℕ
 max_caveats = 64
 
--- The result of reading a text with this length that spells the wide passes in Spelled. It is the first fault that applies (too long, malformed, third-party,
--- too many caveats), else the pass.
+-- The result of reading a text of length `len`. `Spelled` tells which wide passes the text encodes. The result is the first fault that applies, in the order
+-- too long, malformed, third-party, too many caveats; else the pass.
 abbrev pub IsReadAs : ℕ → (WidePass → Type 0) → Result Plain FormFault → Type 0
 IsReadAs len Spelled (Err TooLong) = max_text_len < len
 IsReadAs len Spelled (Err Malformed) = (len ≤ max_text_len) × ((wide : WidePass) → ¬ Spelled wide)
@@ -22,7 +22,7 @@ IsReadAs len Spelled (Err TooMany) =
     (len ≤ max_text_len) × (wide : WidePass) × Spelled wide × (has_third_party wide ≡ false) × (max_caveats < length wide.caveats)
 IsReadAs len Spelled (Ok pass) =
     (len ≤ max_text_len) × Spelled (as_wide_pass pass) × (length pass.caveats ≤ max_caveats)
--- out of memory isn't a property of a text
+-- Running out of memory isn't a property of a text.
 IsReadAs len Spelled (Err Memory) = ⊥
 
 -- `Holds` is true of the result, unless memory ran out.

@@ -1,8 +1,8 @@
--- Reading a pass text in any form (ours). The wide pass that bytes spell in each form is a parameter here, so a further form only adds its spelling.
+-- Reading a pass text in any form (ours). The encoding of each form is a parameter, so a new form needs no change here.
 use Rattle.std.specs.Prelude.{ℕ, List, length, Result, Ok, Err}
 use Rattle.pass_forms.specs.{Envelope.Wraps, Pass.{Plain, WidePass}, Reading.IsReadAs, declared.{fault.FormFault.FormFault, form.Form.Form}}
 
--- The text spells the wide pass in this form: it wraps bytes that spell the pass in this form.
+-- The text wraps bytes in this form, and these bytes encode the wide pass.
 abbrev pub SpellsText : (Form → List ℕ → WidePass → Type 0) → List ℕ → Form → WidePass → Type 0
 SpellsText Spells text form wide = (bytes : List ℕ) × Wraps text form bytes × Spells form bytes wide
 

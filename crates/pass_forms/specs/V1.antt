@@ -1,37 +1,37 @@
 -- V1, the packets of libmacaroons. A packet is its total length in four lower-case hexadecimal digits, a key, one space, the data, and one line feed. The
--- length decides where a packet ends, so data may have any bytes.
+-- length tells where a packet ends, so its data may be any bytes.
 use Rattle.std.specs.List.{flat_map, AllByRecursion}
 use Rattle.std.specs.Prelude.{◌≡◌, ℕ, ◌+◌, ◌/◌, ◌%◌, ◌^◌, ◌<◌, nat_lt, if◌then◌else◌, List, [], ◌∷◌, ◌++◌, length, Option, Some, None, IfSome, codes}
 use Rattle.pass_forms.specs.Pass.{WideCaveat, WidePass}
 
--- `0` to `9`, then `a` to `f`
+-- The hexadecimal digit of a number below 16, in lower case.
 abbrev pub hex_digit : ℕ → ℕ
 hex_digit n = if nat_lt n 10 then 48 + n else 87 + n
 
--- the digits of a number below 2 ^ 16, with the highest first
+-- The four hexadecimal digits of a number below 2 ^ 16, the highest digit first.
 abbrev pub four_hex_digits : ℕ → List ℕ
 four_hex_digits n = hex_digit (n / 4096) ∷ hex_digit (n / 256 % 16) ∷ hex_digit (n / 16 % 16) ∷ hex_digit (n % 16) ∷ []
 
--- the length of a packet: four digits, the key and its space, the data, a line feed
+-- The length of a packet: four digits, the key with its space, the data, and a line feed.
 abbrev pub packet_len : List ℕ → List ℕ → ℕ
 packet_len key bytes = 4 + length key + length bytes + 1
 
--- a packet; the key is written with its space
+-- The bytes of a packet; `key` includes its space.
 abbrev pub packet : List ℕ → List ℕ → List ℕ
 packet key bytes = four_hex_digits (packet_len key bytes) ++ (key ++ (bytes ++ 10 ∷ []))
 
--- a packet of the bytes, if there are any
+-- A packet with these bytes, or nothing if there are none.
 abbrev pub optional_packet : List ℕ → Option (List ℕ) → List ℕ
 optional_packet key None = []
 optional_packet key (Some bytes) = packet key bytes
 
--- the packets of a caveat: its identifier, and a third party's verifier id and location
+-- The packets of a caveat: its identifier, then the verifier id and the location of a third-party caveat.
 abbrev pub caveat_packets : WideCaveat → List ℕ
 caveat_packets caveat =
     packet (codes "cid ") caveat.identifier ++ (optional_packet (codes "vid ") caveat.verifier_id
     ++ optional_packet (codes "cl ") caveat.location)
 
--- all packets of a pass, in order
+-- All packets of a pass, in order.
 abbrev pub packets_of : WidePass → List ℕ
 packets_of wide =
     packet (codes "location ") wide.location ++ (packet (codes "identifier ") wide.identifier
@@ -41,20 +41,20 @@ packets_of wide =
 abbrev pub FitsPacket : List ℕ → List ℕ → Type 0
 FitsPacket key bytes = packet_len key bytes < 2 ^ 16
 
--- a caveat that can be written in packets
+-- The packets of this caveat have lengths that fit in four digits.
 pub record FitsCaveat (caveat : WideCaveat) : Type 0 where
   pub identifier : FitsPacket (codes "cid ") caveat.identifier
   pub verifier_id : IfSome caveat.verifier_id (FitsPacket (codes "vid "))
   pub location : IfSome caveat.location (FitsPacket (codes "cl "))
 
--- a wide pass that can be written in packets
+-- The packets of this wide pass have lengths that fit in four digits.
 pub record FitsPackets (wide : WidePass) : Type 0 where
   pub location : FitsPacket (codes "location ") wide.location
   pub identifier : FitsPacket (codes "identifier ") wide.identifier
   pub caveats : AllByRecursion FitsCaveat wide.caveats
   pub signature : length wide.signature ≡ 32
 
--- The bytes are the packets of the wide pass.
+-- The bytes encode the wide pass: they are its packets, and they fit.
 pub record SpellsV1 (bytes : List ℕ) (wide : WidePass) : Type 0 where
   pub packets : bytes ≡ packets_of wide
   pub fits : FitsPackets wide

@@ -18,11 +18,11 @@ use std::alloc::{AllocError, Global};
 /// The most bytes of a pass text.
 pub const MAX_TEXT: usize = 8192;
 
-/// The most bytes that base64 of `MAX_TEXT` characters can hold.
+/// The most bytes that base64 text of `MAX_TEXT` characters can encode.
 pub const MAX_BYTES: usize = 6144;
 
-/// The form of a pass's bytes, and the place of the bytes. If `plain` is true, they are the whole
-/// text, else the first `len` bytes of the buffer. In both cases, `len` is their number.
+/// The form of a pass's bytes, and where the bytes are. If `plain` is true, they are the whole
+/// text. Otherwise they are the first `len` bytes of the buffer. `len` is always their number.
 #[derive(Clone, Copy, Debug, PartialEq, Eq)]
 pub struct Unwrapped {
     pub form: Form,
@@ -31,7 +31,7 @@ pub struct Unwrapped {
 }
 
 impl Unwrapped {
-    /// Returns the bytes of the pass, given the text and the buffer of the call of `unwrap_text`.
+    /// Returns the bytes of the pass, given the text and the buffer of the call to `unwrap_text`.
     /// If `len` is more than the buffer's length, returns the whole buffer.
     pub fn bytes<'a>(&self, text: &'a [u8], buffer: &'a [u8; MAX_BYTES]) -> &'a [u8]
         ensures { result.now ≡ unwrapped_bytes self.now text.now buffer.now }
@@ -44,11 +44,11 @@ impl Unwrapped {
     }
 }
 
-/// Finds the form of a pass text and decodes its base64. A text that starts with `{` is JSON and
-/// isn't copied. Any other text is base64 (RFC 4648), in the URL-safe or the standard alphabet,
-/// with or without padding. The first byte that it encodes decides the form: 2 is V2, `{` is JSON,
-/// `0` to `9` or `a` to `f` is V1. The bytes are written to the start of the buffer. The rest of
-/// the buffer is unspecified, and so is all of it after a fault. Allocates no memory.
+/// Finds the form of a pass text and decodes its base64 into the start of the buffer. A text that
+/// starts with `{` is JSON and isn't copied. Any other text is base64 (RFC 4648), URL-safe or
+/// standard, with or without padding. The first decoded byte gives the form: 2 is V2, `{` is JSON,
+/// `0` to `9` or `a` to `f` is V1. The rest of the buffer is unspecified. After a fault, the whole
+/// buffer is unspecified. Allocates no memory.
 ///
 /// # Errors
 ///
@@ -57,7 +57,7 @@ impl Unwrapped {
 #[tactic(auto, unfolding(crate::specs::computed::Envelope::unwrapping))]
 pub fn unwrap_text(text: &[u8], buffer: &mut [u8; MAX_BYTES]) -> Result<Unwrapped, FormFault>
     ensures reading { IsUnwrapped text.now (unwrapped_result result text.now buffer.new) }
-    // The result is also the one computed from the text.
+    // The result also equals the one computed from the text.
     ensures value { unwrapped_result result text.now buffer.new ≡ unwrapping text.now }
     ensures plain { IfOk result (λ unwrapping. unwrapping.plain ≡ starts_with_brace text.now) }
     ensures len { IfOk result (λ unwrapping.
@@ -88,7 +88,7 @@ pub fn unwrap_text(text: &[u8], buffer: &mut [u8; MAX_BYTES]) -> Result<Unwrappe
     })
 }
 
-// The form of the bytes, by the first byte.
+// Returns the form of the bytes, which their first byte decides.
 fn form_of(bytes: &[u8]) -> Option<Form>
     ensures { result ≡ form_of bytes.now }
 {
@@ -109,7 +109,7 @@ fn form_of(bytes: &[u8]) -> Option<Form>
 pub fn decode_base64(alloc: Global, text: &[u8]) -> Result<Option<Vec<u8>>, AllocError>
     ensures spelling { IfOk result (λ found. (bytes : List ℕ)
         → (option_map (λ b. b.items) found ≡ Some bytes) ↔ IsBase64 text.now bytes) }
-    // The result is also the one computed from the text.
+    // The result also equals the one computed from the text.
     ensures computed { IfOk result
         (λ found. option_map (λ bytes. bytes.items) found ≡ from_base64 text.now) }
 {
@@ -121,8 +121,8 @@ pub fn decode_base64(alloc: Global, text: &[u8]) -> Result<Option<Vec<u8>>, Allo
     Ok(Some(buffer))
 }
 
-// Decodes a text into the start of the buffer, which is long enough, with the first of four engines
-// that accepts the text. Returns the number of bytes.
+// Decodes a text into the start of the buffer, which must be long enough. Uses the first of four
+// engines that accepts the text, and returns the number of bytes.
 fn decode(text: &[u8], buffer: &mut [u8]) -> Option<usize>
     requires { decoded_estimate (length text.now) ≤ length buffer.old }
     ensures bytes { option_map (λ len. take len buffer.new) result ≡ from_base64 text.now }

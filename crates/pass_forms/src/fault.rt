@@ -1,4 +1,4 @@
-//! Why a pass can't be read or written.
+//! The reasons why a pass can't be read or written.
 
 ghost use Rattle.std.specs.Prelude.{◌≡◌};
 ghost use Rattle.pass_forms.specs.declared.fault.FormFault.TheVariants.{Memory};
@@ -7,12 +7,12 @@ use std::alloc::{AllocError, AllocFailed};
 use std::error::Error;
 use std::fmt;
 
-/// Why a text isn't a pass, or why a pass has no text.
+/// The reason why a text isn't a pass, or why a pass has no text.
 #[derive(Clone, Copy, Debug, PartialEq, Eq)]
 pub enum FormFault {
     /// The text has more than 8,192 bytes.
     TooLong,
-    /// The text spells no pass.
+    /// The text doesn't encode a pass.
     Malformed,
     /// A caveat is a third-party caveat.
     ThirdParty,

@@ -5,7 +5,7 @@
 pub enum Field<'a> {
     /// A hint at where the pass is valid; it may be empty.
     Location(&'a [u8]),
-    /// Identifies the root that the pass was signed under.
+    /// The identifier of the pass. It names the root that the pass was signed under.
     Identifier(&'a [u8]),
     /// A first-party caveat.
     Caveat(&'a [u8]),
@@ -19,16 +19,15 @@ pub trait FieldSource<'a> {
     ghost use Rattle.std.specs.Prelude.{◌≡◌, List, [], ◌∷◌, IfNone, IfSome};
     ghost use Rattle.pass_forms.specs.FieldSource.{PassField, as_field};
 
-    // the fields that are left
+    // The fields that the source hasn't returned yet.
     ghost left: { Self → List PassField };
 
-    /// Returns the next field, or `None` if none is left.
+    /// Returns the next field, or `None` after the last one.
     fn next(&mut self) -> Option<Field<'a>>
         ensures some { IfSome result (λ field. left self.old ≡ as_field field ∷ left self.new) }
         ensures none { IfNone result ((left self.old ≡ []) × (left self.new ≡ [])) };
 
-    /// Returns another source of the fields that are left, for a second scan. It allocates no
-    /// memory either.
+    /// Returns another source of the remaining fields, for a second scan. Allocates no memory.
     fn again(&self) -> Self
         ensures { left result ≡ left self.now };
 }

@@ -8,12 +8,12 @@ ghost use Rattle.pass_forms.specs.{V1.SpellsV1, V2.SpellsV2};
 ghost use Rattle.pass_forms.specs.computed.V1Reading as v1;
 ghost use Rattle.pass_forms.specs.computed.V2Reading as v2;
 
-/// A text wraps at most one form and one list of bytes, for every alphabet and padding.
+/// A text wraps at most one list of bytes in one form, whatever its alphabet and padding.
 pub fn wraps_one()
     ensures { WrapsOne }
 {}
 
-/// The contents that a text wraps are a list of bytes.
+/// If a text is a list of bytes, the contents that it wraps are a list of bytes too.
 pub fn wraps_bytes()
     ensures { WrapsBytes }
 {}
@@ -29,45 +29,45 @@ pub fn unwrapped_is_the_answer()
     ensures { UnwrappedIsTheAnswer }
 {}
 
-/// Bytes spell at most one pass in V1.
+/// Bytes encode at most one pass in V1.
 pub fn one_pass_for_each_v1()
     ensures { OnePassEach SpellsV1 }
 {}
 
-/// The computed pass of bytes in V1 is the one that they spell.
+/// The pass computed from bytes in V1 is the pass that the bytes encode.
 pub fn computes_v1()
     ensures { ComputesSpelled SpellsV1 v1.wide_at }
 {}
 
-/// The relation allows exactly one result for bytes of V1: the computed one.
+/// The relation allows exactly one result for bytes in V1: the computed one.
 #[tactic(auto, using(crate::proofs::WholeV1::reads_v1))]
 pub fn reads_v1_exactly()
     ensures { ReadsExactly SpellsV1 v1.reading_v1 }
 {}
 
-/// Bytes spell at most one pass in V2.
+/// Bytes encode at most one pass in V2.
 pub fn one_pass_for_each_v2()
     ensures { OnePassEach SpellsV2 }
 {}
 
-/// The computed pass of bytes in V2 is the one that they spell.
+/// The pass computed from bytes in V2 is the pass that the bytes encode.
 pub fn computes_v2()
     ensures { ComputesSpelled SpellsV2 v2.wide_at }
 {}
 
-/// The relation allows exactly one result for bytes of V2: the computed one.
+/// The relation allows exactly one result for bytes in V2: the computed one.
 #[tactic(auto, using(crate::proofs::WholeV2::reads_v2))]
 pub fn reads_v2_exactly()
     ensures { ReadsExactly SpellsV2 v2.reading_v2 }
 {}
 
-/// The relation allows exactly one result for any form whose pass is computed from the bytes.
+/// In any form whose pass is computed from the bytes, the relation allows exactly one result.
 #[tactic(auto, using(crate::proofs::Checking::exactly))]
 pub fn answers_exactly()
     ensures { AnswersExactly }
 {}
 
-/// The relation allows exactly one result for a text: the computed one. The spelling of each form
+/// The relation allows exactly one result for a text: the computed one. The encoding of each form
 /// is a parameter.
 #[tactic(auto, using(crate::proofs::TextExact::text_reading_exact))]
 pub fn reads_texts_exactly()

@@ -1,5 +1,5 @@
-//! The common part of both readers. A first scan over the whole pass finds every fault, and its
-//! fields are read afterwards. Only the copy into a pass allocates memory.
+//! The common part of the V1 and V2 readers. A first scan of all bytes finds every fault, and the
+//! fields are read afterwards. Only copying a pass allocates memory.
 
 ghost use Rattle.std.specs.Prelude.{◌≡◌, [], ◌∷◌, IfNone, IfSome, length, option_map};
 ghost use Rattle.pass_forms.specs.{FieldSource.opening_of, Reading.{IsReadAs, OrOutOfMemory}};
@@ -10,7 +10,7 @@ use crate::{Field, FieldSource, FormFault, MAX_CAVEATS, MAX_TEXT, Pass};
 use std::alloc::{AllocError, Global};
 use std::marker::{Model, PhantomData};
 
-/// The header at the front of some bytes, and the bytes after it.
+/// The header at the front of some bytes, and the bytes after the header.
 #[derive(Drop)]
 pub struct Header<'a> {
     pub location: &'a [u8],
@@ -18,7 +18,7 @@ pub struct Header<'a> {
     pub rest: &'a [u8],
 }
 
-/// The caveat at the front of some bytes, and the bytes after it.
+/// The caveat at the front of some bytes, and the bytes after the caveat.
 #[derive(Drop)]
 pub struct Caveat<'a> {
     pub identifier: &'a [u8],
@@ -26,7 +26,7 @@ pub struct Caveat<'a> {
     pub rest: &'a [u8],
 }
 
-/// The caveats at the front of some bytes: their number, whether one is a third-party caveat, and
+/// The caveats at the front of some bytes: their number, whether any is a third-party caveat, and
 /// the bytes after them.
 #[derive(Clone, Copy)]
 pub struct Caveats<'a> {
@@ -34,8 +34,8 @@ pub struct Caveats<'a> {
     bytes: &'a [u8],
 }
 
-/// The fields of a pass in this layout that are left. Fields that were already returned are `None`.
-/// Contracts see them as a list.
+/// The fields of a pass in this layout that haven't been returned yet. A field that was already
+/// returned is `None`. Contracts see them as a list.
 #[derive(Drop)]
 pub struct Fields<'a, L: Layout> {
     location: Option<&'a [u8]>,
@@ -57,7 +57,7 @@ impl<'a, L: Layout> Model for Fields<'a, L> {
         fields.signature };
 }
 
-// The result of a scan over the bytes.
+// The result of scanning all bytes.
 #[derive(Drop)]
 struct ScanResult<'a, L: Layout> {
     fields: Fields<'a, L>,
@@ -72,19 +72,19 @@ pub trait Layout: Copy {
     ghost use Rattle.pass_forms.specs.computed.{Caveats.{summary, whole_at}, Reading.reading_of};
     ghost use Rattle.pass_forms.specs.declared.fault.FormFault.{FormFault as FaultOfForm};
 
-    // the wide passes that bytes spell
+    // The relation between bytes and the wide passes that they encode.
     ghost Spells: { List ℕ → WidePass → Type 0 };
 
-    // the result of reading bytes
+    // The computed result of reading bytes.
     ghost reading: { List ℕ → Result Plain FaultOfForm };
 
-    // the location, the identifier, and the bytes after them
+    // The location, the identifier, and the bytes after both.
     ghost header_at: { List ℕ → Option (List ℕ × List ℕ × List ℕ) };
 
-    // the caveat at the front of bytes, and the bytes after it
+    // The caveat at the front of bytes, and the bytes after the caveat.
     ghost caveat_at: { List ℕ → Option (WideCaveat × List ℕ) };
 
-    // the signature, if all of the bytes are a footer
+    // The signature, if the bytes are a complete footer.
     ghost footer_at: { List ℕ → Option (List ℕ) };
 
     /// Returns the header at the front, if there is one.
@@ -99,11 +99,11 @@ pub trait Layout: Copy {
             (found.identifier.now, found.third_party, found.rest.now)) result
             ≡ option_map summary (caveat_at bytes.now) };
 
-    /// Returns the signature, if the bytes are a footer.
+    /// Returns the signature, if the bytes are a complete footer.
     fn footer(bytes: &[u8]) -> Option<[u8; 32]>
         ensures { result ≡ footer_at bytes.now };
 
-    /// Law: the relation allows exactly one result for bytes, the one that these parts compute.
+    /// A law: the relation allows exactly one result for bytes, the one computed from these parts.
     fn reads_exactly()
         ensures spelling { ReadsExactly Spells reading }
         ensures computed { (bytes : List ℕ) → reading bytes
@@ -165,7 +165,7 @@ fn scan_pass<L: Layout>(bytes: &[u8]) -> Option<ScanResult<'_, L>>
     })
 }
 
-// The fields of the pass, or else the first fault that applies.
+// Returns the fields of the pass, or else the first fault that applies.
 fn checked_fields<L: Layout>(bytes: &[u8]) -> Result<Fields<'_, L>, FormFault>
     ensures { result ≡ opening_of (reading_of (length bytes.now)
         (whole_at L.header_at L.caveat_at L.footer_at bytes.now)) }
@@ -236,7 +236,7 @@ impl<'a, L: Layout> Fields<'a, L> {
     ghost use Rattle.pass_forms.specs.FieldSource.{IsOpening, no_fields, opening_of, with_fields};
     ghost use Rattle.pass_forms.specs.Reading.{IsReadAs};
 
-    /// Checks all of the bytes before the first field is returned. The bytes aren't base64.
+    /// Checks all of the bytes before it returns a source of their fields. The bytes aren't base64.
     /// Allocates no memory: each field is a slice of the bytes.
     ///
     /// # Errors
@@ -245,16 +245,16 @@ impl<'a, L: Layout> Fields<'a, L> {
     /// bytes aren't a pass, `ThirdParty` for a third-party caveat, `TooMany` for more than 64
     /// caveats.
     pub fn open(bytes: &'a [u8]) -> Result<Fields<'a, L>, FormFault>
-        // The fields of the pass that the bytes spell.
+        // The fields are those of the pass that the bytes encode.
         ensures spelling { IsOpening (IsReadAs (length bytes.now) (L.Spells bytes.now)) result }
-        // The result is also the one computed from the bytes.
+        // The result also equals the one computed from the bytes.
         ensures computed { result ≡ opening_of (L.reading bytes.now) }
     {
         L::reads_exactly();
         checked_fields::<L>(bytes)
     }
 
-    // Copies the fields that are left into a pass.
+    // Copies the remaining fields into a pass.
     fn into_pass(mut self, alloc: Global) -> Result<Pass, AllocError>
         ensures { IfOk result (λ pass. pass ≡ with_fields no_fields self.entry) }
     {
@@ -266,7 +266,7 @@ impl<'a, L: Layout> Fields<'a, L> {
     }
 }
 
-/// Reads the pass that the bytes spell in this layout. Memory can run out only for a pass that
+/// Reads the pass that the bytes encode in this layout. Memory can run out only for a pass that
 /// passed all checks.
 pub fn read<L: Layout>(alloc: Global, bytes: &[u8]) -> Result<Pass, FormFault>
     ensures spelling { OrOutOfMemory (IsReadAs (length bytes.now) (L.Spells bytes.now)) result }

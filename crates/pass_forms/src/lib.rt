@@ -1,6 +1,6 @@
-//! Passes, which are macaroons of first-party caveats. The crate reads them from libmacaroons'
-//! packets (V1) and its binary form (V2), either field by field or as a whole, and writes and
-//! narrows them. The envelope carries each form as a text.
+//! Passes, which are macaroons of first-party caveats. The crate reads, writes and narrows them. It
+//! reads libmacaroons' packets (V1) and its binary form (V2), field by field or all at once. The
+//! envelope carries each form as a text.
 #![tactic(auto)]
 
 mod envelope;

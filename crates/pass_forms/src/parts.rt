@@ -1,4 +1,4 @@
-//! Parts at the front and at the end of bytes.
+//! Splits a part off the front or the end of bytes.
 
 ghost use Rattle.std.specs.Prelude.{◌≡◌, option_map};
 ghost use Rattle.pass_forms.specs.computed.Parts as spec;

@@ -14,7 +14,7 @@ use std::marker::Model;
 /// The most caveats of a pass.
 pub const MAX_CAVEATS: usize = 64;
 
-/// A macaroon of first-party caveats. Contracts see it as the record of its four values.
+/// A macaroon of first-party caveats. Contracts see it as the record `Plain` of its four values.
 #[derive(Drop)]
 pub struct Pass {
     location: Vec<u8>,
@@ -26,13 +26,13 @@ pub struct Pass {
 /// The values of a pass, as `Pass::into_parts` returns them.
 #[derive(Drop)]
 pub struct PassParts {
-    /// A hint at where the pass is valid.
+    /// A hint about where the pass is valid.
     pub location: Vec<u8>,
     /// The identifier, which the signature covers.
     pub identifier: Vec<u8>,
     /// The caveats, in the order in which they were added.
     pub caveats: Vec<Vec<u8>>,
-    /// The last signature of the chain.
+    /// The chain's signature after the last caveat.
     pub signature: [u8; 32],
 }
 
@@ -57,7 +57,7 @@ impl Pass {
     ghost use Rattle.pass_forms.specs.FieldSource.{as_field, no_fields, pass_fields, with_field};
     ghost use Rattle.pass_forms.specs.{Pass.{IsSigned, minted_pass}, computed.Pass.is_signed};
 
-    /// Makes a pass of these parts, without checking them.
+    /// Makes a pass of these parts, without checking the signature.
     pub fn new(
         location: Vec<u8>,
         identifier: Vec<u8>,
@@ -79,11 +79,11 @@ impl Pass {
         }
     }
 
-    /// Makes a new pass of these two fields, with no caveats, signed under a root of any length.
+    /// Makes a pass with these two fields and no caveats. A root of any length signs it.
     ///
     /// # Errors
     ///
-    /// Fails if the allocation of a copy of a field fails.
+    /// Fails if copying a field fails to allocate memory.
     pub fn mint(
         alloc: Global,
         root: &[u8],
@@ -99,7 +99,7 @@ impl Pass {
         Ok(Pass::new(location, identifier, Vec::new(alloc), signature))
     }
 
-    // An empty pass, with capacity for `caveat_count` caveats.
+    // Returns an empty pass, with capacity for `caveat_count` caveats.
     pub(crate) fn with_capacity_for(alloc: Global, caveat_count: usize) -> Result<Pass, AllocError>
         ensures { IfOk result (λ pass. pass ≡ no_fields) }
     {
@@ -111,7 +111,7 @@ impl Pass {
         })
     }
 
-    // Copies a field to its place in the pass. A caveat is appended to the list.
+    // Sets the field's value in the pass to a copy. A caveat is appended to the list.
     pub(crate) fn set(&mut self, alloc: Global, field: Field) -> Result<(), AllocError>
         ensures { OnOk result (self.new ≡ with_field self.old (as_field field.entry)) }
     {
@@ -145,14 +145,14 @@ impl Pass {
         }
     }
 
-    /// Returns a hint at where the pass is valid. It isn't signed.
+    /// Returns a hint about where the pass is valid. The signature doesn't cover it.
     pub fn location(&self) -> &[u8]
         ensures { result.now ≡ self.now.location }
     {
         self.location.as_slice()
     }
 
-    /// Returns the identifier. The desk uses it to find the root that the pass was signed under.
+    /// Returns the identifier. It tells the desk which root the pass was signed under.
     pub fn identifier(&self) -> &[u8]
         ensures { result.now ≡ self.now.identifier }
     {
@@ -166,7 +166,7 @@ impl Pass {
         self.caveats.as_slice()
     }
 
-    /// Returns the last signature of the chain.
+    /// Returns the chain's signature after the last caveat.
     pub fn signature(&self) -> &[u8; 32]
         ensures value { result.now ≡ self.now.signature }
         ensures len { length self.now.signature ≡ 32 }
@@ -186,8 +186,8 @@ impl Pass {
         }
     }
 
-    /// Returns whether the signature is that of the identifier and the caveats under this root,
-    /// which may have any length. Allocates no memory.
+    /// Returns whether the signature is the one of the identifier and the caveats under this root.
+    /// The root may have any length. Allocates no memory.
     #[tactic(auto, unfolding(crate::specs::computed::Pass::is_signed))]
     pub fn is_signed(&self, root: &[u8]) -> bool
         ensures signed { IsTrue result ↔ IsSigned root.now self.now }
@@ -200,7 +200,7 @@ impl Pass {
     }
 }
 
-/// Adds a caveat to a pass and signs it without the root: the new signature is the caveat's HMAC,
+/// Adds a caveat to a pass and signs it without the root. The new signature is the caveat's HMAC,
 /// with the old signature as the key.
 ///
 /// # Errors

@@ -1,10 +1,10 @@
-//! The fields of a pass in memory, one after another.
+//! Iterates over the fields of a pass in memory.
 
 use crate::{Field, FieldSource};
 use std::marker::Model;
 
-/// The fields of a pass, without copying them. Contracts see them as the list of the fields that
-/// are left.
+/// The fields of a pass, without copies. Contracts see a `PassFields` as the list of the fields
+/// that it hasn't returned yet.
 #[derive(Drop)]
 pub struct PassFields<'a> {
     pub(crate) location: Option<&'a [u8]>,

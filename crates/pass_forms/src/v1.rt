@@ -22,7 +22,7 @@ const CAVEAT_LOCATION: &[u8] = b"cl ";
 
 pub const SIGNATURE: &[u8] = b"signature ";
 
-// The digits of a packet's length, at the packet's front.
+// The number of digits in a packet's length, which is at the packet's front.
 const LEN_DIGITS: usize = 4;
 
 fn digit_value(byte: u8) -> Option<u8>
@@ -35,7 +35,7 @@ fn digit_value(byte: u8) -> Option<u8>
     }
 }
 
-// The length in the four digits at the front.
+// Returns the length that the first four digits encode.
 fn packet_len(bytes: &[u8]) -> Option<usize>
     ensures { result ≡ reading.len_at bytes.now }
 {
@@ -49,8 +49,8 @@ fn packet_len(bytes: &[u8]) -> Option<usize>
     Some(a * 4096 + b * 256 + c * 16 + d)
 }
 
-// The data of the packet with this key at the front, and the bytes after it. Inlined, so that the
-// comparison uses the caller's constant key.
+// Returns the data of the packet with this key at the front, and the bytes after it. Inlined, so
+// that the comparison uses the caller's constant key.
 #[inline(always)]
 #[tactic(auto, unfolding(crate::specs::computed::V1Reading::packet_at))]
 fn first_packet<'a>(key: &[u8], bytes: &'a [u8]) -> Option<(&'a [u8], &'a [u8])>
@@ -74,8 +74,8 @@ fn first_packet<'a>(key: &[u8], bytes: &'a [u8]) -> Option<(&'a [u8], &'a [u8])>
     Some((text, rest))
 }
 
-// The data of an optional packet, and the bytes after it. If it is missing, the bytes are returned
-// unchanged.
+// Returns the data of an optional packet, and the bytes after it. If the packet is missing, returns
+// `None` and all of the bytes.
 #[inline(always)]
 fn optional_packet<'a>(key: &[u8], bytes: &'a [u8]) -> (bool, &'a [u8])
     ensures { (is_some (reading.optional_at key.now bytes.now).0 ≡ result.0)
@@ -140,10 +140,10 @@ impl Layout for Packets {
     }
 }
 
-/// The fields of the pass that the packets of V1 spell.
+/// The fields of a pass in V1, read one after another.
 pub type V1Fields<'a> = Fields<'a, Packets>;
 
-/// Reads a pass from V1: all of the bytes are libmacaroons' packets, without base64.
+/// Reads a pass from V1. The bytes are libmacaroons' packets, without base64.
 ///
 /// # Errors
 ///
@@ -151,9 +151,9 @@ pub type V1Fields<'a> = Fields<'a, Packets>;
 /// aren't a pass, `ThirdParty` for a third-party caveat, `TooMany` for more than 64 caveats. Fails
 /// with `Memory` only for a pass that passed all checks.
 pub fn read_v1(alloc: Global, bytes: &[u8]) -> Result<Pass, FormFault>
-    // The pass that the bytes spell.
+    // The result is the pass that the bytes encode, or the first fault.
     ensures spelling { OrOutOfMemory (IsReadAs (length bytes.now) (SpellsV1 bytes.now)) result }
-    // The result is also the one computed from the bytes.
+    // The result also equals the one computed from the bytes.
     ensures computed { OrOutOfMemory (λ answer. reading.reading_v1 bytes.now ≡ answer) result }
 {
     layout::read::<Packets>(alloc, bytes)

@@ -22,8 +22,8 @@ pub const SIGNATURE: u8 = 6;
 
 pub const END_OF_SECTION: &[u8] = &[0];
 
-// The varint at the front, if it is at most `most`. Each byte has seven bits, and the lowest come
-// first.
+// Returns the varint at the front, if it is at most `most`. Each byte has seven bits, and the
+// lowest bits come first.
 #[tactic(auto, using(crate::proofs::Varints::no_bytes), unfolding(crate::specs::computed::V2Reading::varint_up_to))]
 fn varint_up_to(most: usize, bytes: &[u8]) -> Option<(usize, &[u8])>
     ensures value { option_map (λ found. (found.0, found.1.now)) result
@@ -49,7 +49,7 @@ fn varint_up_to(most: usize, bytes: &[u8]) -> Option<(usize, &[u8])>
     Some((number + (low - 128), rest))
 }
 
-// The data of the field with this type at the front, and the bytes after it.
+// Returns the data of the field with this type at the front, and the bytes after the field.
 #[tactic(auto, unfolding(crate::specs::computed::V2Reading::field_at))]
 fn first_field<'a>(kind: u8, bytes: &'a [u8]) -> Option<(&'a [u8], &'a [u8])>
     ensures { option_map (λ found. (found.0.now, found.1.now)) result
@@ -64,8 +64,8 @@ fn first_field<'a>(kind: u8, bytes: &'a [u8]) -> Option<(&'a [u8], &'a [u8])>
     Some((field, rest))
 }
 
-// The data of an optional field, and the bytes after it. If it is missing, the bytes are returned
-// unchanged.
+// Returns the data of an optional field, and the bytes after it. If the field is missing, returns
+// `None` and all of the bytes.
 fn optional_field<'a>(kind: u8, bytes: &'a [u8]) -> (Option<&'a [u8]>, &'a [u8])
     ensures { (option_map (λ field. field.now) result.0, result.1.now)
         ≡ reading.optional_at kind bytes.now }
@@ -133,12 +133,12 @@ impl Layout for Sections {
     }
 }
 
-/// The fields of the pass that the bytes of V2 spell. Each number must have its shortest spelling
+/// The fields of a pass in V2, read one after another. Each number must have its shortest form
 /// (ours).
 pub type V2Fields<'a> = Fields<'a, Sections>;
 
-/// Reads a pass from V2: all of the bytes are libmacaroons' binary form, without base64. Each
-/// number must have its shortest spelling (ours).
+/// Reads a pass from V2. The bytes are libmacaroons' binary form, without base64. Each number must
+/// have its shortest form (ours).
 ///
 /// # Errors
 ///
@@ -146,9 +146,9 @@ pub type V2Fields<'a> = Fields<'a, Sections>;
 /// aren't a pass, `ThirdParty` for a third-party caveat, `TooMany` for more than 64 caveats. Fails
 /// with `Memory` only for a pass that passed all checks.
 pub fn read_v2(alloc: Global, bytes: &[u8]) -> Result<Pass, FormFault>
-    // The pass that the bytes spell.
+    // The result is the pass that the bytes encode, or the first fault.
     ensures spelling { OrOutOfMemory (IsReadAs (length bytes.now) (SpellsV2 bytes.now)) result }
-    // The result is also the one computed from the bytes.
+    // The result also equals the one computed from the bytes.
     ensures computed { OrOutOfMemory (λ answer. reading.reading_v2 bytes.now ≡ answer) result }
 {
     layout::read::<Sections>(alloc, bytes)

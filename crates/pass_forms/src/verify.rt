@@ -1,4 +1,4 @@
-//! The verifier of a pass, over its fields.
+//! Verifies a pass from its fields.
 
 ghost use Rattle.std.specs.{Prelude.{◌≡◌, ◌↔◌, ◌++◌, ◌∷◌, ℕ, IsTrue, List, [], map}, Str.bytes_eq};
 ghost use Rattle.pass_mac.specs.Chain.{extended_signature};
@@ -7,10 +7,10 @@ ghost use Rattle.pass_forms.specs.FieldSource.{AreSignedBy, caveat_field, signat
 use crate::{Field, FieldSource};
 use pass_mac::{Chain, same};
 
-/// Returns whether a chain, extended by the caveats that a source has left, ends in the signature
-/// after them. This tells whether a pass is signed if the chain is that of its identifier, and the
-/// source has already yielded the location and the identifier. Before that, the answer is false for
-/// every chain.
+/// Extends a chain by the source's remaining caveats and returns whether the next signature equals
+/// it. Start with the chain of the identifier, after the source returned location and identifier.
+/// The result then tells whether the pass is signed. If either of these fields remains, the result
+/// is false.
 #[tactic(auto, using(crate::proofs::Verifying::signed_behind))]
 pub fn is_signed_by<'a, F: FieldSource<'a>>(mut chain: Chain, source: &mut F) -> bool
     ensures signed { IsTrue result ↔ AreSignedBy chain (F.left source.old) }

@@ -1,4 +1,4 @@
-//! The writers. A pass has exactly one written text in V1 and one in V2.
+//! Writes passes as texts. A pass has exactly one text in V1 and one in V2.
 
 ghost use Rattle.std.specs.Prelude.{◌≡◌, length, IfErr, IfOk, IsOk, MatchResult, Ok};
 ghost use Rattle.std.specs.String.{string_bytes};
@@ -25,7 +25,7 @@ trait PutLayout {
     ghost use Rattle.std.specs.Prelude.{◌≡◌, ℕ, List, OnOk, length};
     ghost use Rattle.pass_forms.specs.{Pass.Plain, Putting.Puts};
 
-    // the bytes of a pass
+    // The bytes of a pass in this layout.
     ghost bytes_of: { Plain → List ℕ };
 
     /// Appends the bytes of a pass to the buffer.
@@ -34,8 +34,8 @@ trait PutLayout {
         ensures signature { OnOk result (length pass.now.signature ≡ 32) };
 }
 
-/// Returns the text of a pass in V1: libmacaroons' packets in URL-safe base64 without padding. An
-/// empty location is written, too.
+/// Returns the text of a pass in V1: libmacaroons' packets in URL-safe base64 without padding. The
+/// location is written even if it is empty.
 ///
 /// # Errors
 ///
@@ -46,7 +46,7 @@ pub fn write_v1(alloc: Global, pass: &Pass) -> Result<String, FormFault>
     ensures err { IfErr result (IsWriteFault IsV1Text pass.now) }
     ensures read_back { IfOk result
         (λ text. IsReadBack SpellsV1 V1 (v1_bytes pass.now) pass.now (string_bytes text)) }
-    // The result is also the one computed from the pass.
+    // The result also equals the one computed from the pass.
     ensures computed { MatchResult result (λ text. writing_v1 pass.now ≡ Ok (string_bytes text))
         (FailsAs (writing_v1 pass.now)) }
 {
@@ -65,14 +65,14 @@ pub fn write_v2(alloc: Global, pass: &Pass) -> Result<String, FormFault>
     ensures err { IfErr result (IsWriteFault IsV2Text pass.now) }
     ensures read_back { IfOk result
         (λ text. IsReadBack SpellsV2 V2 (v2_bytes pass.now) pass.now (string_bytes text)) }
-    // The result is also the one computed from the pass.
+    // The result also equals the one computed from the pass.
     ensures computed { MatchResult result (λ text. writing_v2 pass.now ≡ Ok (string_bytes text))
         (FailsAs (writing_v2 pass.now)) }
 {
     write_in::<Sections>(alloc, pass)
 }
 
-// The text of a pass in this layout, or else the first fault that applies.
+// Returns the text of a pass in this layout, or else the first fault that applies.
 #[tactic(auto, using(crate::proofs::WrittenTexts::too_long))]
 fn write_in<L: PutLayout>(alloc: Global, pass: &Pass) -> Result<String, FormFault>
     ensures written { MatchResult result
@@ -89,7 +89,7 @@ fn write_in<L: PutLayout>(alloc: Global, pass: &Pass) -> Result<String, FormFaul
     Ok(text_of(alloc, buffer.as_slice())?)
 }
 
-// The base64 text of the buffer's bytes.
+// Encodes the bytes in base64.
 fn text_of(alloc: Global, bytes: &[u8]) -> Result<String, AllocError>
     ensures text { IfOk result (λ text. string_bytes text ≡ in_base64 bytes.now) }
     ensures bytes { IsBytes bytes.now }

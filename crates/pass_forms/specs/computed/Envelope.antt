@@ -5,21 +5,21 @@ use Rattle.base64.specs.{Engines.{url_safe_no_pad, url_safe, standard_no_pad, st
 use Rattle.pass_forms.specs.{Envelope.{starts_with_brace, form_of}, Reading.max_text_len, declared.fault.FormFault.FormFault}
 use Rattle.pass_forms.specs.declared.{fault.FormFault.TheVariants.{TooLong, Malformed}, form.Form.{Form, TheVariants.Json}}
 
--- the bytes, from the first of the four decoders that accepts the text
+-- The bytes from the first of the four decoders that accepts the text.
 unfoldable pub by_decoders : List ℕ → Option (List ℕ)
 by_decoders text =
     option_or (option_or (decoded_of url_safe_no_pad text) (decoded_of url_safe text))
     (option_or (decoded_of standard_no_pad text) (decoded_of standard text))
 
--- the bytes that a text encodes in base64, if the text is bytes
+-- The bytes that a text encodes in base64, if the text is a list of bytes.
 unfoldable pub from_base64 : List ℕ → Option (List ℕ)
 from_base64 text = if list_all (λ byte. nat_lt byte 256) text then by_decoders text else None
 
--- the bytes, with their form
+-- The bytes together with their form, if their first byte is that of a form.
 abbrev pub with_its_form : List ℕ → Option (Form × List ℕ)
 with_its_form bytes = option_map (λ form. (form, bytes)) (form_of bytes)
 
--- the form and the bytes, or the fault
+-- The form and the bytes that a text wraps, or the fault.
 unfoldable pub unwrapping : List ℕ → Result (Form × List ℕ) FormFault
 unwrapping text =
     if nat_lt max_text_len (length text) then Err TooLong

@@ -1,9 +1,9 @@
--- The result of a reader, computed from the wide pass that a text spells, if there is one.
+-- The result of a reader, computed from the wide pass that a text encodes, if there is one.
 use Rattle.std.specs.Prelude.{ℕ, Bool, nat_lt, if◌then◌else◌, length, Option, Some, None, Result, Ok, Err}
 use Rattle.pass_forms.specs.{Pass.{Plain, WidePass, has_third_party, first_party}, Reading.{max_text_len, max_caveats}, declared.fault.FormFault.FormFault}
 use Rattle.pass_forms.specs.declared.fault.FormFault.TheVariants.{TooLong, Malformed, ThirdParty, TooMany}
 
--- the first fault of a wide pass, else the pass
+-- The pass, or else the first fault of the wide pass.
 abbrev pub checked_pass : WidePass → Result Plain FormFault
 checked_pass wide =
     if has_third_party wide then Err ThirdParty
@@ -13,10 +13,10 @@ abbrev pub checked_if_any : Option WidePass → Result Plain FormFault
 checked_if_any None = Err Malformed
 checked_if_any (Some wide) = checked_pass wide
 
--- the result for a text of this length
+-- The result of reading a text of this length.
 abbrev pub reading_of : ℕ → Option WidePass → Result Plain FormFault
 reading_of len spelling = if nat_lt max_text_len len then Err TooLong else checked_if_any spelling
 
--- the parts of a wide pass that a reader keeps: the pass, the number of its caveats, and whether any is a third-party caveat
+-- The parts of a wide pass that a reader needs: the pass, the number of its caveats, and whether any is a third-party caveat.
 abbrev pub pass_summary : WidePass → Plain × ℕ × Bool
 pass_summary wide = (first_party wide, length wide.caveats, has_third_party wide)

@@ -1,18 +1,18 @@
--- The reading of a text, computed from the wide pass that bytes spell in each form, if there is one.
+-- The result of reading a text. The parameter `wide_at` computes the wide pass that bytes encode in a form, if there is one.
 use Rattle.std.specs.Prelude.{ℕ, List, Option, Result, Ok, Err}
 use Rattle.pass_forms.specs.{Pass.{Plain, WidePass}, computed.{Envelope.unwrapping, Reading.checked_if_any}, declared.fault.FormFault.FormFault}
 use Rattle.pass_forms.specs.declared.form.Form.{Form}
 
--- a result in a form
+-- The result of a reader, together with the form.
 abbrev pub in_form : Form → Result Plain FormFault → Result (Form × Plain) FormFault
 in_form form (Ok pass) = Ok (form, pass)
 in_form form (Err fault) = Err fault
 
--- the result for the contents that a text wraps
+-- The result of reading the contents that a text wraps.
 abbrev pub reading_in : (Form → List ℕ → Option WidePass) → Result (Form × List ℕ) FormFault → Result (Form × Plain) FormFault
 reading_in wide_at (Ok wrapped) = in_form wrapped.0 (checked_if_any (wide_at wrapped.0 wrapped.1))
 reading_in wide_at (Err fault) = Err fault
 
--- the result for a text
+-- The result of reading a text in any form.
 unfoldable pub text_reading : (Form → List ℕ → Option WidePass) → List ℕ → Result (Form × Plain) FormFault
 text_reading wide_at text = reading_in wide_at (unwrapping text)

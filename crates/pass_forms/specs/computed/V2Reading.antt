@@ -1,17 +1,17 @@
--- V2, parsed from the front: each function returns a value and the bytes after it.
+-- A parser of V2: each function returns a value at the front of the bytes and the bytes after it.
 use Rattle.std.specs.Prelude.{ℕ, ◌+◌, ◌-◌, ◌*◌, ◌/◌, nat_lt, nat_le, ◌==◌, if◌then◌else◌, List, [], ◌∷◌, length, take, drop, Option, Some, None, Result}
 use Rattle.std.specs.Prelude.{unwrap_or}
 use Rattle.pass_forms.specs.{Pass.{Plain, WideCaveat, WidePass}, V2.{end_of_section, types}, computed.Caveats.whole_at}
 use Rattle.pass_forms.specs.{computed.{Parts.{◌>>=◌, after_prefix, found_or_none, last_signature}, Reading.reading_of}, declared.fault.FormFault.FormFault}
 
--- seven low bits, below the bits of the following bytes, which must not all be zero; the number is at most `most`
+-- The number with these seven low bits, and with `high` as its higher bits. `high` must not be zero, and the number must be at most `most`.
 abbrev pub above : ℕ → ℕ → Option (ℕ × List ℕ) → Option (ℕ × List ℕ)
 above most low None = None
 above most low (Some high) =
     if high.0 == 0 then None
     else (if nat_lt (most - high.0 * 128) low then None else Some (high.0 * 128 + low, high.1))
 
--- the number at the front, if it is at most `most`
+-- The varint at the front, if it is at most `most`.
 unfoldable pub varint_up_to : ℕ → List ℕ → Option (ℕ × List ℕ)
 varint_up_to most [] = None
 varint_up_to most (byte ∷ rest) =
@@ -19,7 +19,7 @@ varint_up_to most (byte ∷ rest) =
     else if nat_lt byte 128 then Some (byte, rest)
     else (if nat_lt byte 256 then above most (byte - 128) (varint_up_to (most / 128) rest) else None)
 
--- as many bytes as the number says
+-- The next `len.0` bytes and the bytes after them, if there are enough bytes.
 abbrev pub counted_at : ℕ × List ℕ → Option (List ℕ × List ℕ)
 counted_at len = if nat_le len.0 (length len.1) then Some (take len.0 len.1, drop len.0 len.1) else None
 
@@ -45,7 +45,7 @@ caveat_at bytes = do
     rest,
   )
 
--- the header: the location, the identifier, and the bytes after it
+-- The header: the location, the identifier, and the bytes after its section.
 unfoldable pub header_at : List ℕ → Option (List ℕ × List ℕ × List ℕ)
 header_at bytes = do
   first ← after_prefix (2 ∷ []) bytes
@@ -53,7 +53,7 @@ header_at bytes = do
   rest ← after_prefix end_of_section identifier.1
   Some (unwrap_or (optional_at types.location first).0 [], identifier.0, rest)
 
--- the footer: the end of the caveats' sections, and the signature's field
+-- The signature, if the bytes are a footer: the zero byte that ends the caveats, then the signature's field.
 unfoldable pub footer_at : List ℕ → Option (List ℕ)
 footer_at bytes = do
   rest ← after_prefix end_of_section bytes
@@ -64,6 +64,6 @@ footer_at bytes = do
 abbrev pub wide_at : List ℕ → Option WidePass
 wide_at bytes = whole_at header_at caveat_at footer_at bytes
 
--- the reading of bytes in V2
+-- The result of reading bytes in V2.
 unfoldable pub reading_v2 : List ℕ → Result Plain FormFault
 reading_v2 bytes = reading_of (length bytes) (wide_at bytes)

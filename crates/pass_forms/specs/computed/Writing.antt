@@ -3,7 +3,7 @@ use Rattle.std.specs.Prelude.{ℕ, nat_lt, if◌then◌else◌, List, length, Re
 use Rattle.pass_forms.specs.{Pass.Plain, Reading.{max_caveats, max_text_len}, Writing.{in_base64, v1_bytes, v2_bytes}, declared.fault.FormFault.FormFault}
 use Rattle.pass_forms.specs.declared.fault.FormFault.TheVariants.{TooLong, TooMany}
 
--- the text of these bytes of a pass, or the first fault that applies
+-- The base64 text of these bytes of the pass, or else the first fault that applies.
 abbrev pub writing_of : List ℕ → Plain → Result (List ℕ) FormFault
 writing_of bytes pass =
     if nat_lt max_caveats (length pass.caveats) then Err TooMany

@@ -1,9 +1,9 @@
-//! The buffer that a writer fills. It is on the stack, so that only the text itself is allocated.
+//! The buffer that a writer fills. It is on the stack, so a writer allocates only the text.
 
 use crate::{FormFault, MAX_BYTES};
 use std::marker::Model;
 
-/// The bytes written so far. Contracts see them as a list of at most 6,144 bytes.
+/// A buffer with the bytes written so far. Contracts see it as a list of at most 6,144 bytes.
 #[derive(Drop)]
 pub struct Buffer {
     bytes: [u8; MAX_BYTES],
@@ -48,7 +48,7 @@ impl Buffer {
         Ok(())
     }
 
-    /// Returns all bytes written so far.
+    /// Returns all bytes that were written.
     pub fn as_slice(&self) -> &[u8]
         ensures bytes { result.now ≡ self.now }
         ensures fits { length self.now ≤ buffer_len }

@@ -1,4 +1,4 @@
-//! A pass as the packets of V1.
+//! Writes a pass as the packets of V1.
 
 ghost use Rattle.std.specs.{List.flat_map, Prelude.{◌≡◌, ◌<◌, ◌≤◌, ◌^◌, length, map}};
 ghost use Rattle.pass_forms.specs.{Pass.widened_caveat, Putting.Puts};
@@ -32,7 +32,7 @@ fn four_hex_digits(len: usize) -> [u8; 4]
     ]
 }
 
-// Appends the packet of a key. The key ends with its space.
+// Appends a packet with this key, which includes its space, and these bytes as its data.
 fn put_packet(buffer: &mut Buffer, key: &[u8], bytes: &[u8]) -> Result<(), FormFault>
     requires { length key.now ≤ 16 }
     ensures { Puts (spec.packet key.now bytes.now) buffer.old buffer.new result }

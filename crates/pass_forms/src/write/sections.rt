@@ -1,4 +1,4 @@
-//! A pass as the sections of V2.
+//! Writes a pass as the sections of V2.
 
 ghost use Rattle.std.specs.{List.flat_map, Prelude.{◌<◌, ◌^◌, ◌++◌, map}};
 ghost use Rattle.pass_forms.specs.{Pass.widened_caveat, Putting.Puts, Writing.nonempty_location};
@@ -9,7 +9,7 @@ use crate::write::PutLayout;
 use crate::write::buffer::Buffer;
 use crate::{FormFault, MAX_BYTES, Pass};
 
-// Appends a varint. Two bytes are enough for each length that fits the buffer.
+// Appends a varint. Two bytes are enough for each length that fits in the buffer.
 #[tactic(auto, using(crate::proofs::Fields::varint_small, crate::proofs::Fields::varint_of_two))]
 fn put_varint(buffer: &mut Buffer, n: usize) -> Result<(), FormFault>
     requires { n < 2 ^ 14 }

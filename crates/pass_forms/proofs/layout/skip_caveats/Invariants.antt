@@ -1,4 +1,4 @@
--- The caveats so far and those that are left are all caveats.
+-- The caveats skipped so far and the remaining ones are all caveats.
 use Rattle.pass_forms.proofs.{CaveatRuns.Keeps, Common.{length, ◌≤◌, ◌-◌, caveats_at}}
 use Rattle.pass_forms.proofs.layout.skip_caveats.Given as goal
 

@@ -1,4 +1,4 @@
--- The fields so far and those still to come are the whole pass.
+-- The fields read so far and the remaining ones are all fields of the pass.
 use Rattle.pass_forms.proofs.Common.{◌≡◌, length, with_fields}
 use Rattle.pass_forms.proofs.layout.Fields.into_pass.Given as goal
 
