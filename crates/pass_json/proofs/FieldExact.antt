@@ -1,4 +1,4 @@
--- The computed field is the one that is spelled.
+-- An object has a field if and only if the computed field is the same.
 use Rattle.pass_json.proofs.Common.{◌≡◌, ℕ, List, Option, Some, None, refl, sym, ap, subst, ◌⊎◌, inl, inr, option_map, Data, string, object, Members, get}
 use Rattle.pass_json.proofs.Common.{as_str, FromBase64IsBase64, IsBase64, IsField, decoded_text, field_bytes, field_from, must_have, arith}
 use Rattle.pass_forms.specs.computed.{Envelope.from_base64, Parts.{◌>>=◌}}
@@ -15,7 +15,7 @@ str_of value text e = grind arith
 mapped : (o : Option (List ℕ)) (t : Option (List ℕ)) → option_map (λ bytes. Some bytes) o ≡ Some t → (bytes : List ℕ) × (o ≡ Some bytes) × (t ≡ Some bytes)
 mapped o t e = grind arith
 
--- `IsField`, for the values under the two names
+-- `IsField`, given the values under the plain name and the `64` name.
 abbrev IsFieldBytes : Option Data → Option Data → Option (List ℕ) → Type 0
 IsFieldBytes plain base64 None = (plain ≡ None) × (base64 ≡ None)
 IsFieldBytes plain base64 (Some bytes) =
@@ -30,7 +30,7 @@ pub is_object : (plain base64 : List ℕ) (value : Data) (bytes : List ℕ) → 
     (members : Members) × (value ≡ object members)
 is_object plain base64 value bytes h = grind arith
 
--- ---- fields, by the law of base64
+-- ---- fields, by the law that `from_base64` computes `IsBase64`
 
 module _ (law : FromBase64IsBase64) where
   field_bytes_takes : (plain base64 : Option Data) (t : Option (List ℕ)) → field_bytes plain base64 ≡ Some t → IsFieldBytes plain base64 t

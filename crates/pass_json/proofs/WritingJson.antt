@@ -1,4 +1,4 @@
--- The result of the writer of JSON, and the proof that its text is read back.
+-- The result of the JSON writer, and the proof that its text is read back.
 use Rattle.pass_json.proofs.Common.{◌≡◌, ◌↔◌, ℕ, Bool, cond, ltb, List, length, Result, Ok, Err, refl, FormFault, TooLong, TooMany, Json, FromBase64IsBase64}
 use Rattle.pass_json.proofs.Common.{Plain, max_caveats, max_text_len, HasBytes, IsReadBack, IsWritableText, IsWriting, SpellsJson, IsJsonText, IsRefusedJson}
 use Rattle.pass_json.proofs.{Common.{MayFailAs, json_text, WritesJsonExactly, arith}, WritingOnce.one_writing_for_each_form}
@@ -12,7 +12,7 @@ answer_by many long text = cond many (Err TooMany) (cond long (Err TooLong) (Ok 
 
 -- ---- the result, a text or a fault
 
--- the computed result, which depends on two tests, is one that the relation allows
+-- The relation allows the computed result, which depends on two tests.
 allowed_by : FromBase64IsBase64 → (pass : Plain) (many long : Bool) → HasBytes pass → length pass.signature ≡ 32
     → ltb max_caveats (length pass.caveats) ≡ many → ltb max_text_len (length (json_text pass)) ≡ long
     → IsWriting IsJsonText pass (answer_by many long (json_text pass))
@@ -32,7 +32,7 @@ exact_json law pass answer are len = grind (arith, computed_is_allowed, one_writ
 pub reads_back_json : (pass : Plain) (text : List ℕ) → IsWritableText IsJsonText pass text → IsReadBack SpellsJson Json text pass text
 reads_back_json pass text written = grind (arith, starts_json)
 
--- ---- a refusal
+-- ---- a fault
 
 refused_by : (pass : Plain) (many long : Bool) → ltb max_caveats (length pass.caveats) ≡ many → ltb max_text_len (length (json_text pass)) ≡ long
     → (fault : FormFault) → MayFailAs (answer_by many long (json_text pass)) fault → IsRefusedJson pass fault
@@ -42,7 +42,7 @@ pub is_refused_json : (pass : Plain) (fault : FormFault) → MayFailAs (writing_
 unfolding writing_json
 is_refused_json pass fault e = refused_by pass (ltb max_caveats (length pass.caveats)) (ltb max_text_len (length (json_text pass))) refl refl fault e
 
--- ---- what the writer answers, by what is computed
+-- ---- the clauses of the writer, from the computed result
 
 pub written_if : {T : Type 0} (law : WritesJsonExactly) (pass : Plain) (bytes_of : T → List ℕ) (result : Result T FormFault) → OnOk result (HasBytes pass) →
     OnOk result (length pass.signature ≡ 32)

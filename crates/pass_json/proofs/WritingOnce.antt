@@ -1,4 +1,4 @@
--- Writing a pass has only one result: either the text and the number of caveats are within their limits, or not both.
+-- Writing a pass has exactly one result, because a pass has at most one text in each form.
 use Rattle.pass_json.proofs.Common.{arith, OneTextEachForm, OneWritingEachForm}
 
 pub one_writing_for_each_form : OneTextEachForm → OneWritingEachForm

@@ -1,4 +1,4 @@
--- The written form of a pass in JSON spells the pass, and is read back.
+-- The JSON text of a pass encodes the pass, and is read back as it.
 use Rattle.pass_json.proofs.Common.{◌≡◌, ℕ, Bool, true, false, eqb, List, [], ◌∷◌, length, map, Option, Some, None, refl, ap, ◌∙◌, arith, AllByRecursion}
 use Rattle.pass_json.proofs.Common.{IsUtf8, is_utf8, eq-eqb, IsBytes, encode_of, object, Items, no_members, read, FromBase64IsBase64, starts_with_brace, Plain}
 use Rattle.pass_json.proofs.Common.{WideCaveat, as_wide_pass, widened_caveat, HasBytes, SpellsJson, caveat_from, caveats_of, field_from, has_only_names}
@@ -8,9 +8,9 @@ use Rattle.pass_json.proofs.ReadsText.{reads_text, utf8_text}
 use Rattle.base64.specs.Engines.{url_safe_no_pad}
 use Rattle.pass_forms.specs.computed.Envelope.{from_base64}
 
--- ---- the members hold the parts of the pass
+-- ---- the members contain the parts of the pass
 
--- the text under a name encodes these bytes
+-- The text under a name encodes these bytes: in UTF-8 under the plain name, else in base64.
 abbrev YieldsBytes : FieldText → List ℕ → Type 0
 YieldsBytes (true, text) bytes = text ≡ bytes
 YieldsBytes (false, text) bytes = from_base64 text ≡ Some bytes
@@ -48,7 +48,7 @@ pub starts_json : (pass : Plain) → starts_with_brace (json_text pass) ≡ true
 unfolding json_text object_of
 starts_json pass = refl
 
--- ---- by the law of base64
+-- ---- lemmas that use the law of base64
 
 module _ (law : FromBase64IsBase64) where
   base64_yields : (bytes : List ℕ) → IsBytes bytes → from_base64 (encode_of url_safe_no_pad bytes) ≡ Some bytes

@@ -4,7 +4,7 @@ use Rattle.pass_forms.specs.{Envelope.IsUnwrapped, Pass.{Plain, WidePass}, Readi
 use Rattle.pass_forms.specs.{Writing.{IsWriteFault, IsV1Text, IsV2Text}, declared.{fault.FormFault.FormFault, form.Form.{Form, TheVariants.{V1, V2, Json}}}}
 use Rattle.pass_json.specs.{Json.SpellsJson, JsonWriting.{IsJsonText, IsRefusedJson}}
 
--- The bytes spell the wide pass in this form.
+-- The bytes encode the wide pass in this form.
 abbrev pub SpellsForm : Form → List ℕ → WidePass → Type 0
 SpellsForm V1 bytes wide = SpellsV1 bytes wide
 SpellsForm V2 bytes wide = SpellsV2 bytes wide
@@ -14,25 +14,25 @@ SpellsForm Json bytes wide = SpellsJson bytes wide
 abbrev pub IsAnyReading : List ℕ → Result (Form × Plain) FormFault → Type 0
 IsAnyReading text answer = IsTextReading SpellsForm text answer
 
--- The result of reading bytes in this form, with the form.
+-- The result of reading bytes in this form, together with the form.
 abbrev pub IsReadingInForm : Form → List ℕ → Result (Form × Plain) FormFault → Type 0
 IsReadingInForm form bytes (Ok read) = (read.0 ≡ form) × IsReadAs (length bytes) (SpellsForm form bytes) (Ok read.1)
 IsReadingInForm form bytes (Err fault) = IsReadAs (length bytes) (SpellsForm form bytes) (Err fault)
 
--- The texts whose reading may run out of memory: in V1 and V2 only a pass that passed all checks, in JSON any text within the limit.
+-- The texts for which reading may run out of memory: any JSON text within the limit, and a V1 or V2 text that passed all checks.
 abbrev pub MayRunOut : List ℕ → Type 0
 MayRunOut text =
     ((read : Form × Plain) × IsAnyReading text (Ok read)) ⊎ ((bytes : List ℕ) × IsUnwrapped text (Ok (Json, bytes)))
 
 -- ---- writing
 
--- The text of this pass in this form.
+-- The text is the text of this pass in this form.
 abbrev pub IsTextIn : Form → Plain → List ℕ → Type 0
 IsTextIn V1 pass text = IsV1Text pass text
 IsTextIn V2 pass text = IsV2Text pass text
 IsTextIn Json pass text = IsJsonText pass text
 
--- The faults of the writer of this form.
+-- The faults that the writer of this form may return.
 abbrev pub IsRefusedIn : Form → Plain → FormFault → Type 0
 IsRefusedIn V1 pass fault = IsWriteFault IsV1Text pass fault
 IsRefusedIn V2 pass fault = IsWriteFault IsV2Text pass fault

@@ -6,16 +6,16 @@ use Rattle.pass_forms.specs.{Pass.{Plain, as_wide_pass}, Reading.max_caveats, Wr
 use Rattle.pass_forms.specs.declared.fault.FormFault.TheVariants.{TooLong, Malformed, ThirdParty, TooMany, Memory}
 use Rattle.pass_json.specs.Json.{SpellsJson}
 
--- URL-safe base64 (RFC 4648, section 5), without padding
+-- A string in URL-safe base64 (RFC 4648, section 5), without padding.
 abbrev pub base64_text : List ℕ → Data
 base64_text bytes = string (encode_of url_safe_no_pad bytes)
 
--- Bytes are written under the plain name if they are UTF-8, else under the `64` name (ours).
+-- Adds bytes under the plain name if they are UTF-8, else in base64 under the `64` name (ours).
 unfoldable pub put_member : List ℕ → List ℕ → List ℕ → Members → Members
 put_member plain base64 bytes members =
     if is_utf8 bytes then put plain (string bytes) members else put base64 (base64_text bytes) members
 
--- an empty location is left out
+-- Adds a location, unless it is empty.
 abbrev pub with_location : List ℕ → Members → Members
 with_location [] members = members
 with_location (byte ∷ bytes) members = put_member (codes "l") (codes "l64") (byte ∷ bytes) members
@@ -26,7 +26,7 @@ caveat_object identifier = object (put_member (codes "i") (codes "i64") identifi
 abbrev pub caveat_objects : List (List ℕ) → Items
 caveat_objects identifiers = items_of (map caveat_object identifiers)
 
--- The object of a pass. The signature is always in base64. The version and the list of caveats are always written.
+-- The object of a pass. The signature is always in base64. The version and the list of caveats are always present.
 unfoldable pub object_of : Plain → Data
 object_of pass =
     object (put (codes "v") (number (unsigned 2))
@@ -34,16 +34,16 @@ object_of pass =
     (put (codes "c") (array (caveat_objects pass.caveats))
     (put_member (codes "i") (codes "i64") pass.identifier (with_location pass.location no_members)))))
 
--- the text of this object as `serde_json` writes it, without white space and with the names in the order of their bytes
+-- The object's text as `serde_json` writes it: without white space, and with the names ordered by their bytes.
 unfoldable pub json_text : Plain → List ℕ
 json_text pass = compact_text (object_of pass)
 
--- The text of this pass is the text of its object, which spells the pass.
+-- The text is that of the pass's object, and it encodes the pass.
 pub record IsJsonText (pass : Plain) (text : List ℕ) : Type 0 where
   pub compact : text ≡ json_text pass
   pub spelling : SpellsJson text (as_wide_pass pass)
 
--- The writer's faults are those of the other forms. Memory may run out even for a text that is too long, since the text is written before it is measured.
+-- The faults are those of the other forms. `Memory` is possible even for a text that is too long, because its length is checked after it is written.
 abbrev pub IsRefusedJson : Plain → FormFault → Type 0
 IsRefusedJson pass Memory = length pass.caveats ≤ max_caveats
 IsRefusedJson pass TooLong = IsWriteFault IsJsonText pass TooLong
@@ -51,7 +51,7 @@ IsRefusedJson pass Malformed = IsWriteFault IsJsonText pass Malformed
 IsRefusedJson pass ThirdParty = IsWriteFault IsJsonText pass ThirdParty
 IsRefusedJson pass TooMany = IsWriteFault IsJsonText pass TooMany
 
--- The fault that a writer may return for this computed result: the same fault, or out of memory instead of a text or of `TooLong`.
+-- The fault that a writer may return for this computed result: the same fault, or `Memory` in place of a text or of `TooLong`.
 abbrev pub MayFailAs : Result (List ℕ) FormFault → FormFault → Type 0
 MayFailAs writing Memory = ¬ (writing ≡ Err TooMany)
 MayFailAs writing TooLong = writing ≡ Err TooLong

@@ -1,10 +1,10 @@
-//! The fields of a pass that was read, one after another.
+//! Iterates over the fields of a pass that was read from JSON or from any form.
 
 use pass_forms::{Field, FieldSource, Pass, PassFields};
 use std::marker::Model;
 
-/// The fields of a pass that `read_json` or `read_any` returned. Nothing is copied: each field is a
-/// slice of the pass. Contracts see them as the list of the fields that are left.
+/// The fields of a pass that `read_json` or `read_any` returned. Each field is a slice of the pass.
+/// Contracts see a `JsonFields` as the list of the fields that it hasn't returned yet.
 #[derive(Drop)]
 pub struct JsonFields<'a> {
     fields: PassFields<'a>,

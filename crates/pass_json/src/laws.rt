@@ -13,21 +13,21 @@ use pass_forms::laws::{
     texts_read_back, wraps_one, writes_exactly,
 };
 
-/// Bytes spell at most one pass in JSON.
+/// Bytes encode at most one pass in JSON.
 pub fn one_pass_for_each_json()
     ensures { OnePassEach SpellsJson }
 {
     from_base64_is_base64();
 }
 
-/// The computed pass of bytes in JSON is the one that they spell.
+/// The pass computed from JSON is the pass that the JSON encodes.
 pub fn computes_json()
     ensures { ComputesSpelled SpellsJson wide_json }
 {
     from_base64_is_base64();
 }
 
-/// The relation allows exactly one result for bytes of JSON: the computed one.
+/// The relation allows exactly one result for bytes in JSON: the computed one.
 #[tactic(auto, using(crate::proofs::JsonExact::reading_json_exact))]
 pub fn reads_json_exactly()
     ensures { ReadsExactly SpellsJson reading_json }
@@ -55,7 +55,7 @@ pub fn reads_what_is_wrapped()
     wraps_one();
 }
 
-/// A text that wraps nothing has the fault of its envelope.
+/// If a text wraps nothing, its reading is the fault of its envelope.
 #[tactic(auto, using(crate::proofs::Wrapped::refused_wrapping))]
 pub fn refuses_what_wraps_nothing()
     ensures { RefusesWhatWrapsNothing }
@@ -74,13 +74,13 @@ pub fn writes_json_exactly()
     from_base64_is_base64();
 }
 
-/// A pass has at most one text in each form that a writer may return.
+/// A pass has at most one text in each form.
 #[tactic(auto, using(crate::proofs::InEachForm::one_text))]
 pub fn one_text_for_each_form()
     ensures { OneTextEachForm }
 {}
 
-/// A written text, in any form, is read back as the same form and the same pass.
+/// A text written in any form is read back as the same form and the same pass.
 #[tactic(auto, using(crate::proofs::InEachForm::in_any_form))]
 pub fn any_form_reads_back()
     ensures { AnyFormReadsBack }

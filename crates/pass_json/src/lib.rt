@@ -1,4 +1,4 @@
-//! Passes as JSON, and as a text in any form.
+//! Passes in JSON, and pass texts in any of the three forms.
 #![tactic(auto)]
 
 mod any;

@@ -1,4 +1,4 @@
-//! The names of an object's members.
+//! Checks the names of an object's members.
 
 ghost use Rattle.std.specs.{BTreeMap.keys, List.{list_all, list_any}, Prelude.{◌≡◌, map}};
 ghost use Rattle.std.specs.{Str.bytes_eq, String.string_bytes};
@@ -7,7 +7,7 @@ ghost use Rattle.pass_json.specs.computed.JsonReading as reading;
 
 use serde_json::{Map, Value};
 
-/// Returns whether the value is an object with no other names than these.
+/// Returns whether the value has only names that are in this list.
 pub fn has_only_names(value: &Value, names: &[&str]) -> bool
     ensures { result ≡ reading.has_only_names (map (λ name. name.now) names.now) (view value.now) }
 {

@@ -1,4 +1,4 @@
-//! The JSON object of a pass, and the objects of its caveats.
+//! Reads the JSON object of a pass, and the objects of its caveats.
 
 ghost use Rattle.std.specs.Prelude.{◌≡◌, Some, codes, option_map, map, IfErr, IfOk};
 ghost use Rattle.pass_forms.specs.computed.Reading.{pass_summary};
@@ -16,8 +16,7 @@ const PASS_NAMES: [&str; 8] = ["v", "l", "l64", "i", "i64", "c", "s", "s64"];
 
 const CAVEAT_NAMES: [&str; 6] = ["i", "i64", "l", "l64", "v", "v64"];
 
-/// The pass of an object, and whether it has a third-party caveat, which the pass itself doesn't
-/// hold.
+/// The pass of an object, and whether it has a third-party caveat. The pass alone can't tell that.
 #[derive(Drop)]
 pub struct Read {
     pub pass: Pass,
@@ -39,7 +38,7 @@ struct Caveats {
     third_party: bool,
 }
 
-/// Returns the pass that an object holds.
+/// Returns the pass that an object represents.
 #[tactic(auto, unfolding(crate::specs::computed::JsonReading::pass_from))]
 pub fn pass_from(alloc: Global, value: &Value) -> Result<Read, FormFault>
     ensures ok { IfOk result (λ read. option_map pass_summary (reading.pass_from (view value.now))
@@ -65,7 +64,7 @@ pub fn pass_from(alloc: Global, value: &Value) -> Result<Read, FormFault>
     })
 }
 
-// Whether the version is the whole number 2 or missing.
+// Returns whether the version is the whole number 2 or missing.
 fn is_version(value: &Value) -> bool
     ensures { result ≡ reading.is_version (get (codes "v") (view value.now)) }
 {
@@ -75,7 +74,7 @@ fn is_version(value: &Value) -> bool
     }
 }
 
-// The bytes of a required field.
+// Returns the bytes of a required field.
 fn must_have(alloc: Global, value: &Value, plain: &str, base64: &str) -> Result<Vec<u8>, FormFault>
     ensures ok { IfOk result
         (λ bytes. reading.must_have (reading.field_from plain.now base64.now (view value.now))
@@ -98,7 +97,7 @@ fn signature(alloc: Global, value: &Value) -> Result<[u8; 32], FormFault>
     Ok(signature)
 }
 
-// The caveats of a pass.
+// Returns the caveats of a pass's object.
 fn read_caveats(alloc: Global, value: &Value) -> Result<Caveats, FormFault>
     ensures ok { IfOk result
         (λ caveats. option_map kept_caveats (reading.caveat_list (get (codes "c") (view value.now)))

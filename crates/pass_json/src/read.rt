@@ -1,4 +1,4 @@
-//! The reader of the JSON form.
+//! Reads passes from JSON.
 
 ghost use Rattle.std.specs.Prelude.{◌≡◌, ◌≤◌, length, Err, IfErr, IfOk, Some};
 ghost use Rattle.pass_forms.specs.Reading.{IsReadAs, UnlessMemory, max_text_len};
@@ -13,7 +13,7 @@ use pass_forms::{FormFault, MAX_CAVEATS, MAX_TEXT, Pass};
 use serde_json::Value;
 use std::alloc::Global;
 
-/// Reads a pass from JSON: one object in the style of libmacaroons' V2 JSON, as `serde_json` parses
+/// Reads a pass from JSON: one object in the style of libmacaroons' V2 JSON. `serde_json` parses
 /// it. The names may come in any order, and white space is allowed.
 ///
 /// # Errors
@@ -22,9 +22,9 @@ use std::alloc::Global;
 /// aren't a pass, `ThirdParty` for a third-party caveat, `TooMany` for more than 64 caveats. Fails
 /// with `Memory` only if an allocation fails, and only for bytes within the limit.
 pub fn read_json(alloc: Global, bytes: &[u8]) -> Result<Pass, FormFault>
-    // The pass that the bytes spell.
+    // The result is the pass that the bytes encode, or the first fault.
     ensures spelling { UnlessMemory (IsReadAs (length bytes.now) (SpellsJson bytes.now)) result }
-    // The result is also the one computed from the bytes.
+    // The result also equals the one computed from the bytes.
     ensures computed { UnlessMemory (λ answer. reading.reading_json bytes.now ≡ answer) result }
     ensures memory { result ≡ Err Memory → length bytes.now ≤ max_text_len }
 {
@@ -32,7 +32,7 @@ pub fn read_json(alloc: Global, bytes: &[u8]) -> Result<Pass, FormFault>
     read_object(alloc, bytes)
 }
 
-// The pass of an object, or else the first fault that applies.
+// Returns the pass of an object, or else the first fault that applies.
 #[tactic(auto, unfolding(crate::specs::computed::JsonReading::reading_json, crate::specs::computed::JsonReading::wide_json))]
 fn read_object(alloc: Global, bytes: &[u8]) -> Result<Pass, FormFault>
     ensures answer { UnlessMemory (λ answer. reading.reading_json bytes.now ≡ answer) result }
@@ -51,7 +51,7 @@ fn read_object(alloc: Global, bytes: &[u8]) -> Result<Pass, FormFault>
     Ok(read.pass)
 }
 
-// The value of the bytes, as `serde_json` parses them.
+// Returns the JSON value of the bytes, as `serde_json` parses it.
 fn value_of(alloc: Global, bytes: &[u8]) -> Result<Value, FormFault>
     ensures ok { IfOk result (λ value. reading.value_of bytes.now ≡ Some (view value)) }
     ensures err { IfErr result (RefusesPart (reading.value_of bytes.now)) }

@@ -1,4 +1,4 @@
-//! The writer of the JSON form.
+//! Writes passes as JSON.
 
 ghost use Rattle.std.specs.List.{AllByRecursion};
 ghost use Rattle.std.specs.Prelude.{◌≡◌, Ok, length, map, IfErr, IfOk, MatchResult, OnOk};
@@ -18,9 +18,8 @@ use pass_forms::{FormFault, MAX_CAVEATS, MAX_TEXT, Pass};
 use serde_json::{Map, Value, put};
 use std::alloc::{AllocError, Global};
 
-/// Returns the text of a pass in JSON, without white space and with the names in the order of their
-/// bytes. A `64` name is written only if the bytes aren't UTF-8. The signature always has its `64`
-/// name.
+/// Returns the text of a pass in JSON, without white space and with the names ordered by their
+/// bytes. A `64` name is written only for the signature, and for bytes that aren't UTF-8.
 ///
 /// # Errors
 ///
@@ -31,7 +30,7 @@ pub fn write_json(alloc: Global, pass: &Pass) -> Result<String, FormFault>
     ensures err { IfErr result (IsRefusedJson pass.now) }
     ensures read_back { IfOk result
         (λ text. IsReadBack SpellsJson Json (string_bytes text) pass.now (string_bytes text)) }
-    // The result is also the one computed from the pass.
+    // The result also equals the one computed from the pass.
     ensures computed { MatchResult result (λ text. writing_json pass.now ≡ Ok (string_bytes text))
         (MayFailAs (writing_json pass.now)) }
 {
@@ -40,7 +39,7 @@ pub fn write_json(alloc: Global, pass: &Pass) -> Result<String, FormFault>
     short_text(alloc, pass)
 }
 
-// The text, or else the first fault that applies.
+// Returns the text if it is within the limits, or else the first fault that applies.
 #[tactic(auto, unfolding(crate::specs::computed::JsonWriting::writing_json, crate::specs::JsonWriting::json_text))]
 fn short_text(alloc: Global, pass: &Pass) -> Result<String, FormFault>
     ensures bytes { OnOk result (HasBytes pass.now) }
@@ -58,7 +57,7 @@ fn short_text(alloc: Global, pass: &Pass) -> Result<String, FormFault>
     Ok(text)
 }
 
-// The text, of any length.
+// Returns the text, which may have any length.
 #[tactic(auto, unfolding(crate::specs::JsonWriting::json_text))]
 fn text_of(alloc: Global, pass: &Pass) -> Result<String, AllocError>
     ensures bytes { OnOk result (HasBytes pass.now) }
@@ -132,7 +131,7 @@ fn caveat_object(alloc: Global, caveat: &[u8]) -> Result<Value, AllocError>
     Ok(Value::Object(members))
 }
 
-// Adds bytes under the plain name if they are UTF-8, else under the `64` name.
+// Adds bytes under the plain name if they are UTF-8, else in base64 under the `64` name.
 #[tactic(auto, unfolding(crate::specs::JsonWriting::put_member))]
 fn put_field(
     alloc: Global,
@@ -151,7 +150,7 @@ fn put_field(
     }
 }
 
-// Bytes as a text in URL-safe base64 without padding.
+// Encodes bytes in URL-safe base64 without padding.
 fn base64_of(alloc: Global, bytes: &[u8]) -> Result<Value, AllocError>
     ensures bytes { IsBytes bytes.now }
     ensures value { IfOk result (λ value. view value ≡ base64_text bytes.now) }

@@ -1,4 +1,4 @@
--- Computes the JSON form: the value of each part of the object.
+-- Parses the JSON form: each function returns the value of one part of the object.
 use Rattle.std.specs.{List.list_any, Prelude.{◌≡◌, ℕ, ◌==◌, ◌&&◌, if◌then◌else◌, Bool, true, false, List, [], ◌∷◌, codes, length, map, Option, None, Some}}
 use Rattle.std.specs.{Prelude.{option_map, unwrap_or, Result}, Str.{bytes_eq, is_utf8}}
 use Rattle.serde_json.specs.{Data.{Data, Items, no_items, item, Members, no_members, member}, Find.{get, as_array, as_number, as_object, as_str, as_u64}}
@@ -7,11 +7,11 @@ use Rattle.pass_forms.specs.{Pass.{Plain, WideCaveat, WidePass, is_third_party, 
 use Rattle.pass_forms.specs.{computed.Reading.reading_of, declared.fault.FormFault.{FormFault, TheVariants.{Malformed, Memory}}}
 use Rattle.pass_json.specs.Json.{caveat_names, pass_names}
 
--- the bytes that a value encodes in base64, if it is a text
+-- The bytes that a value encodes in base64, if the value is a string.
 abbrev pub decoded_text : Data → Option (List ℕ)
 decoded_text value = as_str value >>= from_base64
 
--- the value of a plain name and of its `64` name: bytes or nothing, if both are well formed
+-- The bytes under a plain name or its `64` name. `Some None` means that both are missing; `None` means that the field is malformed.
 abbrev pub field_bytes : Option Data → Option Data → Option (Option (List ℕ))
 field_bytes None None = Some None
 field_bytes (Some value) None = option_map (λ bytes. Some bytes) (as_str value)
@@ -21,7 +21,7 @@ field_bytes (Some value) (Some other) = None
 unfoldable pub field_from : List ℕ → List ℕ → Data → Option (Option (List ℕ))
 field_from plain base64 value = field_bytes (get plain value) (get base64 value)
 
--- the bytes of a required field
+-- The bytes of a required field, if it is present.
 abbrev pub must_have : Option (Option (List ℕ)) → Option (List ℕ)
 must_have None = None
 must_have (Some bytes) = bytes
@@ -56,7 +56,7 @@ abbrev pub is_version : Option Data → Bool
 is_version None = true
 is_version (Some value) = unwrap_or (option_map (λ n. n == 2) (as_number value >>= as_u64)) false
 
--- the bytes, if they have this length
+-- The bytes, if this is their length.
 abbrev pub of_length : ℕ → List ℕ → Option (List ℕ)
 of_length len bytes = if length bytes == len then Some bytes else None
 
@@ -77,7 +77,7 @@ pass_from value = do
     signature = signature;
   })
 
--- the value of a text in UTF-8
+-- The JSON value of the bytes, if they are UTF-8.
 unfoldable pub value_of : List ℕ → Option Data
 value_of bytes = if is_utf8 bytes then read bytes else None
 
@@ -85,18 +85,18 @@ value_of bytes = if is_utf8 bytes then read bytes else None
 unfoldable pub wide_json : List ℕ → Option WidePass
 wide_json bytes = value_of bytes >>= pass_from
 
--- the reading of bytes in JSON
+-- The result of reading bytes in JSON.
 unfoldable pub reading_json : List ℕ → Result Plain FormFault
 reading_json bytes = reading_of (length bytes) (wide_json bytes)
 
--- the parts of a caveat, or of all caveats, that the reader keeps: identifiers, and whether one is a third-party caveat
+-- The parts of a caveat, or of all caveats, that the reader needs: the identifiers, and whether any caveat is a third-party caveat.
 abbrev pub kept_caveat : WideCaveat → List ℕ × Bool
 kept_caveat caveat = (first_party_caveat caveat, is_third_party caveat)
 
 abbrev pub kept_caveats : List WideCaveat → List (List ℕ) × Bool
 kept_caveats caveats = (map first_party_caveat caveats, list_any is_third_party caveats)
 
--- The faults of a part of the reader: malformed if the value isn't well formed, and out of memory at any time.
+-- The faults of a parser of one part: `Malformed` if the value isn't well formed, and `Memory` at any time.
 abbrev pub RefusesPart : {A : Type 0} → Option A → FormFault → Type 0
 RefusesPart found Malformed = found ≡ None
 RefusesPart found Memory = Unit {0}

@@ -1,4 +1,4 @@
--- The caveats so far and those that are left are all caveats.
+-- The caveats read so far and the remaining ones are all caveats.
 use Rattle.pass_json.proofs.{CaveatList.{kept_of, with_kept}, Common.{◌≡◌, map, drop, items_view}}
 use Rattle.pass_json.proofs.object.all_caveats.Given as goal
 

@@ -1,4 +1,4 @@
--- The objects so far are the objects of the caveats so far, which are bytes.
+-- The list contains the objects of the caveats so far, and each of these caveats is a list of bytes.
 use Rattle.pass_json.proofs.Common.{◌≡◌, map, take, AllByRecursion, IsBytes, view, caveat_object}
 use Rattle.pass_json.proofs.write.caveat_objects.Given as goal
 
