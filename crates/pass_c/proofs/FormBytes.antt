@@ -1,4 +1,4 @@
--- The fields of a pass together have at most as many bytes as the pass's spelling, in each form.
+-- In each form, the fields of a pass together have at most as many bytes as the encoded pass.
 use Rattle.std.proofs.Common.{◌≡◌, ℕ, ◌+◌, ◌*◌, ◌/◌, ◌≤◌, ◌⊎◌, inl, inr, List, [], ◌∷◌, ◌++◌, codes, length, map, Option, Some, None, unwrap_or, false}
 use Rattle.std.proofs.{Common.{if◌then◌else◌, replicate, refl, sym, ◌∙◌, ap, arith, is_eq, bytes_eq}, lemmas.{Bool.{true≢false}, List.length-append}}
 use Rattle.std.proofs.lemmas.{List.Sums.sum_by-cons, Map.Text.is_eq-slice_cmp, Slice.Eq.bytes_eq-Decides}

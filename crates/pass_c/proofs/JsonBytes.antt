@@ -1,4 +1,4 @@
--- The texts in a JSON value together have at most as many bytes as the value's source.
+-- The strings in a JSON value together have at most as many bytes as the JSON text of the value.
 use Rattle.std.proofs.Common.{◌≡◌, ℕ, zero, suc, ◌+◌, ◌≤◌, List, [], ◌∷◌, length, Option, Some, None, option_map, option_and_then, refl, subst, arith}
 use Rattle.std.specs.{Cmp.Lexicographic.slice_cmp, Ordering.{nat_cmp, match_ordering}, Prelude.{⊤}, declared.cmp.Ordering.Ordering}
 use Rattle.std.specs.declared.cmp.Ordering.TheVariants.{Less, Equal, Greater}
@@ -126,7 +126,7 @@ value_uses (suc d) =
     one_level (λ ts. items (value d) (length ts) ts) (λ ts. members (value d) (length ts) ts) (λ ts. items_use (value d) (value_uses d) (length ts) ts)
     (λ ts. members_use (value d) (value_uses d) (length ts) ts)
 
--- ---- values as `serde_json` has them
+-- ---- values of `serde_json`
 
 abbrev mutual
   pub data_bytes : Data → ℕ

@@ -1,4 +1,4 @@
--- The texts in the tokens of some JSON together have at most as many bytes as the JSON.
+-- The strings in the tokens of JSON text together have at most as many bytes as the text.
 use Rattle.std.proofs.Common.{◌≡◌, ℕ, suc, ◌+◌, ◌-◌, ◌≤◌, Bool, true, false, cond, ◌==◌, ◌&&◌, nat_eq, List, [], ◌∷◌, length, take, drop, Option, Some, None}
 use Rattle.std.proofs.Common.{refl, arith}
 use Rattle.std.specs.List.{starts_with}

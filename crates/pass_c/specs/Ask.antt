@@ -6,19 +6,19 @@ use Rattle.club_values.specs.declared.slot.Slot.{Slot}
 use Rattle.pass_caveats.specs.{Fault.IsFirstFault, declared.{ask.Ask.Ask, fault.CaveatFault.{CaveatFault, TheVariants.{NotUnderstood, Denied}}}}
 use Rattle.pass_c.specs.{Code.{ok_code, bad_ask_code, not_understood_code, denied_code}, declared.ask.AskObject.AskObject}
 
--- the action with this number
+-- The action with this number, if there is one.
 abbrev pub action_of : ℕ → Option Action
 action_of n = if n == 1 then Some View else if n == 2 then Some Book else if n == 3 then Some Cancel else if n == 4 then Some Account else None
 
--- the kind with this number; 0 stands for an unknown kind
+-- The kind with this number, if there is one. The number 0 means that the kind is unknown.
 abbrev pub kind_of : ℕ → Option (Option Kind)
 kind_of n = if n == 0 then Some None else if n == 1 then Some (Some Court) else if n == 2 then Some (Some Boat) else if n == 3 then Some (Some Room) else None
 
--- the number, if it is within these bounds
+-- The number, if it is within the bounds `low` and `high`.
 abbrev pub number_within : ℕ → ℕ → ℕ → Option ℕ
 number_within low high n = if is_in_range low high n then Some n else None
 
--- The facility of a slot: the name that its bytes spell, or none if they aren't a name.
+-- The name of the slot's facility, or `None` if the bytes aren't a name.
 abbrev pub IsFacilityNamed : AskObject → Option (List ℕ) → Type 0
 IsFacilityNamed object facility =
     Reads (λ name. (object.facility_len ≤ max_name_len) × IsName name × (name ≡ take object.facility_len object.facility)) facility
@@ -32,11 +32,11 @@ slot_in_parts object facility =
     (number_within first_day last_day object.day))
     facility
 
--- the slot of a facility; none if the object has no facility name
+-- The slot at this facility. `Some None` means an ask without a slot; `None` means that a value is out of range.
 abbrev pub slot_within : AskObject → Option (List ℕ) → Option (Option Slot)
 slot_within object facility = if object.facility_len == 0 then Some None else slot_in_parts object facility
 
--- the ask of an object whose facility this is, if each of its values is within its range
+-- The ask of an object whose facility has this name, if each value is within its range.
 abbrev pub ask_at : AskObject → Option (List ℕ) → Option Ask
 ask_at object facility =
     option_and_then (λ action.
@@ -56,13 +56,13 @@ ask_at object facility =
     (slot_within object facility))
     (action_of object.action)
 
--- the ask that an object holds; none if a value is outside its range
+-- The ask that an object represents, or `None` if a value is outside its range.
 pub record IsAskOf (object : AskObject) (ask : Option Ask) : Type 0 where
   pub facility : Option (List ℕ)
   pub named : IsFacilityNamed object facility
   pub values : ask ≡ ask_at object facility
 
--- the code of the first fault, and the number of its caveat
+-- The code of the first fault, or of success if there is none.
 abbrev pub verdict_code : Option CaveatFault → ℕ
 verdict_code None = ok_code
 verdict_code (Some (NotUnderstood n)) = not_understood_code
@@ -73,14 +73,14 @@ verdict_number None = 0
 verdict_number (Some (NotUnderstood n)) = n
 verdict_number (Some (Denied n)) = n
 
--- the first fault of a list of caveats, as a code and a number
+-- The code and the caveat's number are those of the first fault in a list of caveats.
 pub record IsFaultReported (caveats : List (List ℕ)) (ask : Ask) (code number : ℕ) : Type 0 where
   pub fault : Option CaveatFault
   pub first : IsFirstFault caveats ask fault
   pub fault_code : code ≡ verdict_code fault
   pub fault_number : number ≡ verdict_number fault
 
--- The answer for an object: the first fault of the caveats for its ask, or the code for an object without a valid ask.
+-- The code and the number for an object: the first fault of the caveats for its ask, or the code for an invalid ask.
 pub record Answers (caveats : List (List ℕ)) (object : AskObject) (code number : ℕ) : Type 0 where
   pub ask : Option Ask
   pub is_ask : IsAskOf object ask

@@ -1,9 +1,9 @@
--- The numbers of forms and faults in C, as `include/clubpass.h` has them (ours).
+-- The numbers of forms and faults in C, as in `include/clubpass.h` (ours).
 use Rattle.std.specs.Prelude.{ℕ, if◌then◌else◌, ◌==◌, Result, Ok, Err}
 use Rattle.pass_forms.specs.declared.{fault.FormFault.{FormFault, TheVariants.{TooLong, Malformed, ThirdParty, TooMany, Memory}}, form.Form.Form}
 use Rattle.pass_forms.specs.declared.form.Form.TheVariants.{V1, V2, Json}
 
--- the form number of an object without a pass
+-- The number in the field `form` of an object without a pass.
 abbrev pub no_form_number : ℕ
 no_form_number = 0
 
@@ -12,13 +12,13 @@ number_of_form V1 = 1
 number_of_form V2 = 2
 number_of_form Json = 3
 
--- the form with this number; V2 for any other number
+-- The form with this number. Any unknown number counts as V2.
 abbrev pub form_with_number : ℕ → Form
 form_with_number n = if n == 1 then V1 else if n == 3 then Json else V2
 
--- ---- what a call returns
+-- ---- the codes that calls return
 
--- the call succeeded
+-- The call succeeded.
 abbrev pub ok_code : ℕ
 ok_code = 0
 
@@ -34,23 +34,23 @@ third_party_code = 3
 abbrev pub too_many_code : ℕ
 too_many_code = 4
 
--- memory ran out, or the object has no room
+-- Memory ran out, or the object has no room for the pass.
 abbrev pub memory_code : ℕ
 memory_code = 5
 
--- the caller's buffer is too short
+-- The caller's buffer is too short for the output.
 abbrev pub short_buffer_code : ℕ
 short_buffer_code = 6
 
--- there is no caveat with this index
+-- The pass has no caveat with this index.
 abbrev pub no_caveat_code : ℕ
 no_caveat_code = 7
 
--- there is no form with this number
+-- No form has this number.
 abbrev pub no_form_code : ℕ
 no_form_code = 8
 
--- a value of an ask is outside its range
+-- A value of the ask is outside its range.
 abbrev pub bad_ask_code : ℕ
 bad_ask_code = 9
 
@@ -67,12 +67,12 @@ fault_code ThirdParty = third_party_code
 fault_code TooMany = too_many_code
 fault_code Memory = memory_code
 
--- the code of a call without a value
+-- The code of a call that returns no value: success or a fault.
 abbrev pub code_of : {A : Type 0} → Result A FormFault → ℕ
 code_of (Ok done) = ok_code
 code_of (Err fault) = fault_code fault
 
--- the fault with this code; `Memory` for a number that isn't another fault's
+-- The fault with this code. Any unknown code counts as `Memory`.
 abbrev pub fault_with_code : ℕ → FormFault
 fault_with_code n =
     if n == too_long_code then TooLong

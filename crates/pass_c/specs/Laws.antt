@@ -4,10 +4,10 @@ use Rattle.pass_forms.specs.{Pass.Plain, declared.form.Form.Form}
 use Rattle.pass_json.specs.AnyForm.{IsAnyReading}
 use Rattle.pass_c.specs.Object.{room}
 
--- the bytes of a pass that take room in an object
+-- The number of bytes that the fields of a pass take in an object.
 abbrev pub fields_len : Plain → ℕ
 fields_len pass = length pass.location + length pass.identifier + sum_by length pass.caveats
 
--- A pass that a text spells, in any form, has room in an object.
+-- A pass that a text encodes in any form has room in an object.
 abbrev pub ReadablePassesFit : Type 0
 ReadablePassesFit = (text : List ℕ) (form : Form) (pass : Plain) → IsAnyReading text (Ok (form, pass)) → fields_len pass ≤ room

@@ -1,14 +1,14 @@
--- The pass that an object of plain data holds (ours).
+-- The pass that an object of plain data represents (ours).
 use Rattle.std.specs.Prelude.{◌≡◌, ℕ, ◌+◌, nat_le, if◌then◌else◌, List, [], ◌∷◌, ◌++◌, take, drop, sum, Result, Ok, Err}
 use Rattle.pass_forms.specs.{FieldSource.no_fields, Pass.Plain, declared.{fault.FormFault.FormFault, form.Form.Form}}
 use Rattle.pass_c.specs.{Code.{form_with_number, memory_code, no_form_number, ok_code}, declared.object.PassObject.PassObject}
 
--- the pieces of bytes with these lengths, one after another
+-- The pieces that bytes are split into, one after another, by these lengths.
 abbrev pub pieces_of : List ℕ → List ℕ → List (List ℕ)
 pieces_of [] bytes = []
 pieces_of (len ∷ lens) bytes = take len bytes ∷ pieces_of lens (drop len bytes)
 
--- The pass of an object: its location, its identifier and its caveats follow one another in the bytes.
+-- The pass of an object. Its location, its identifier and its caveats follow one another in the bytes.
 abbrev pub held : PassObject → Plain
 held object = record {
   location = take object.location_len object.bytes;
@@ -17,32 +17,32 @@ held object = record {
   signature = object.signature;
 }
 
--- the form of the text that an object was read from
+-- The form of the text that the object was read from.
 abbrev pub form_in : PassObject → Form
 form_in object = form_with_number object.form
 
--- the result of a call that fills an object: the form and the pass that the object then holds, or the fault
+-- The result of a call that fills an object: the object's new form and pass, or the fault.
 abbrev pub filled : Result (Unit {0}) FormFault → PassObject → Result (Form × Plain) FormFault
 filled (Ok done) object = Ok (form_in object, held object)
 filled (Err fault) object = Err fault
 
--- the most bytes of an object's location, identifier and caveats together
+-- The most bytes of an object's location, identifier and caveats together.
 abbrev pub room : ℕ
 room = 8192
 
--- the number of bytes of its room that an object has used, from its lengths
+-- The number of bytes that the location, the identifier and the caveats of an object take.
 abbrev pub taken : PassObject → ℕ
 taken object = object.location_len + object.identifier_len + sum (take object.caveat_count object.caveat_lens)
 
--- the code of a new pass whose fields have this length
+-- The code for a new pass whose fields have this length together.
 abbrev pub room_code : ℕ → ℕ
 room_code len = if nat_le len room then ok_code else memory_code
 
--- the object holds no pass: no form, no fields and a signature of zeros
+-- The object is empty: no form, no fields, and a signature of zeros.
 pub record IsEmpty (object : PassObject) : Type 0 where
   pub form : object.form ≡ no_form_number
   pub fields : held object ≡ no_fields
 
--- a pass with one more caveat, not yet signed
+-- The pass with one more caveat, and with its old signature.
 abbrev pub with_one_more : List ℕ → Plain → Plain
 with_one_more caveat pass = record pass { caveats = pass.caveats ++ caveat ∷ [] }

@@ -4,33 +4,33 @@ use Rattle.pass_forms.specs.{Pass.Plain, Writing.IsWritableText, declared.{fault
 use Rattle.pass_json.specs.AnyForm.{IsAnyReading, IsRefusedIn, IsTextIn}
 use Rattle.pass_c.specs.Code.{fault_code, no_form_code, number_of_form, ok_code, short_buffer_code}
 
--- A part that fits is written to the front of the buffer, and the rest of the buffer is unchanged. A part that doesn't fit changes nothing. In both cases the
--- returned length is the part's.
+-- A part that fits is written to the front of the buffer, and the rest of the buffer is unchanged.
+-- A part that doesn't fit changes nothing. The returned length is the part's length in both cases.
 pub record IsCopied (part old new : List ℕ) (len code : ℕ) : Type 0 where
   pub fits : length part ≤ length old → (code ≡ ok_code) × (new ≡ part ++ drop (length part) old)
   pub too_short : length old < length part → (code ≡ short_buffer_code) × (new ≡ old)
   pub part_len : len ≡ length part
 
--- the buffer is unchanged, the length is 0, and the code says why
+-- The buffer is unchanged, the length is 0, and the code is `why`.
 pub record IsLeft (why : ℕ) (old new : List ℕ) (len code : ℕ) : Type 0 where
   pub unchanged : new ≡ old
   pub no_len : len ≡ 0
   pub reason : code ≡ why
 
--- The text of a pass in a form, or the fault of the library's writer. Memory may run out for any pass, even one without a text in the form, since the pass is
--- copied before it is written.
+-- The text of a pass in a form, or the fault of the library's writer. The pass is copied before it
+-- is written. So memory may run out for any pass, even one without a text in the form.
 abbrev pub IsWrittenAs : Form → Plain → Result (List ℕ) FormFault → Type 0
 IsWrittenAs form pass (Ok text) =
     IsWritableText (IsTextIn form) pass text × IsAnyReading text (Ok (form, pass))
 IsWrittenAs form pass (Err fault) = fault ≢ Memory → IsRefusedIn form pass fault
 
--- the text of a pass, copied to a buffer
+-- The text of the pass in this form was copied to the buffer, or the code says why not.
 pub record IsTextCopied (form : Form) (pass : Plain) (old new : List ℕ) (len code : ℕ) : Type 0 where
   pub writing : Result (List ℕ) FormFault
   pub written : IsWrittenAs form pass writing
   pub copied : MatchResult writing (λ text. IsCopied text old new len code) (λ fault. IsLeft (fault_code fault) old new len code)
 
--- the text of a pass in the form with this number, copied to a buffer; any other number is refused
+-- The text of the pass in the form with this number was copied to the buffer, or the code says why not. A number without a form is refused.
 pub record WritesForm (number : ℕ) (pass : Plain) (old new : List ℕ) (len code : ℕ) : Type 0 where
   pub known : (form : Form) → number ≡ number_of_form form → IsTextCopied form pass old new len code
   pub unknown : ((form : Form) → number ≢ number_of_form form) → IsLeft no_form_code old new len code

@@ -6,28 +6,28 @@ ghost use Rattle.club_values.specs.{Day.{first_day, last_day}, Moment.{first_mom
 
 use pass_caveats::{Action, Ask, Day, Hour, Kind, MAX_NAME_LEN, Moment, Name, Slot};
 
-/// An ask as an object of plain numbers, which C fills.
+/// An ask as an object of plain numbers, which C code fills in.
 #[repr(C)]
 #[derive(Drop)]
 pub struct AskObject {
     /// The points that the request would charge.
     pub owed: u64,
-    /// The points that the key has spent before.
+    /// The points that the key has spent so far.
     pub spent: u64,
     /// The number of the action: 1 to view, 2 to book, 3 to cancel, 4 for the account.
     pub action: u32,
-    /// The number of the facility's kind: 1 for a court, 2 for a boat, 3 for a room, 0 if it isn't
-    /// known.
+    /// The number of the facility's kind: 1 for a court, 2 for a boat, 3 for a room, 0 if the kind
+    /// is unknown.
     pub kind: u32,
     /// The moment of the request, as civil minutes since 1970-01-01T00:00.
     pub moment: u32,
-    /// The slot's day, as days since 1970-01-01.
+    /// The day of the slot, as days since 1970-01-01.
     pub day: u16,
-    /// The slot's hour, 0 to 23.
+    /// The hour of the slot, 0 to 23.
     pub hour: u8,
-    /// The guests of a booking, else 0.
+    /// The number of guests of a booking, else 0.
     pub guests: u8,
-    /// The length of the facility's name in bytes; 0 without a slot.
+    /// The length of the facility's name in bytes, or 0 if the ask has no slot.
     pub facility_len: u8,
     pub facility: [u8; MAX_NAME_LEN],
 }
@@ -61,7 +61,7 @@ impl AskObject {
         })
     }
 
-    // The slot, or `Some(None)` if there is none.
+    // Returns the slot, `Some(None)` if there is none, or `None` if a value is out of range.
     fn slot(&self, facility: Option<Name>) -> Option<Option<Slot>>
         ensures { result ≡ spec.slot_within self.now facility }
     {

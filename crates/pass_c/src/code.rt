@@ -44,7 +44,7 @@ pub const NOT_UNDERSTOOD: u32 = 10;
 /// A caveat denies the ask.
 pub const DENIED: u32 = 11;
 
-/// The number of the form of an object without a pass.
+/// The number in the field `form` of an object without a pass.
 pub const NO_TEXT: u32 = 0;
 
 const V1: u32 = 1;
@@ -89,7 +89,7 @@ pub fn fault_code(fault: FormFault) -> u32
     }
 }
 
-/// Returns the code of a call without a value.
+/// Returns the code of a call that returns no value: success or a fault.
 pub fn code_of(ended: Result<(), FormFault>) -> u32
     ensures code { result ≡ spec.code_of ended }
     ensures back { spec.result_of result ≡ ended }
@@ -100,8 +100,8 @@ pub fn code_of(ended: Result<(), FormFault>) -> u32
     }
 }
 
-/// Returns the code of a list's first fault, and the number of its caveat, counted from 1, or 0
-/// without a fault.
+/// Returns the code of a list's first fault, and the number of the caveat, counted from 1. Without
+/// a fault, the number is 0.
 pub fn verdict_of(fault: Option<CaveatFault>) -> (u32, usize)
     ensures code { result.0 ≡ verdict_code fault }
     ensures number { result.1 ≡ verdict_number fault }

@@ -1,4 +1,4 @@
-//! The exports. A slice is passed as a pointer and a length, and `Global` isn't an argument in C.
+//! The exports. C passes a slice as a pointer and a length. `Global` isn't an argument in C.
 
 ghost use Rattle.std.specs.Prelude.{◌≡◌, ◌≢◌, ◌↔◌, ◌+◌, ◌<◌, ◌≤◌, ◌⊎◌, ℕ, List, Err, IfOk, IsTrue};
 ghost use Rattle.std.specs.Prelude.{MatchOption, length, slice_get};
@@ -25,7 +25,7 @@ use pass_caveats::laws::reads_what_is_understood;
 use pass_forms::Form;
 use std::alloc::Global;
 
-/// Reads a pass from a text in any form. After a fault the object is empty.
+/// Reads a pass from a text in any form. After a fault, the object is empty.
 #[unsafe(no_mangle)]
 pub extern "C" fn clubpass_read(alloc: Global, text: &[u8], pass: &mut PassObject) -> u32
     ensures spelling { UnlessMemory (IsAnyReading text.now) (filled (result_of result) pass.new) }
@@ -100,7 +100,7 @@ pub extern "C" fn clubpass_signature(pass: &PassObject, out: &mut [u8; 32])
     *out = pass.signature;
 }
 
-/// Writes the text of a pass in a form.
+/// Writes the text of a pass in the form with this number to the buffer.
 #[unsafe(no_mangle)]
 pub extern "C" fn clubpass_write(
     alloc: Global,
@@ -120,7 +120,7 @@ pub extern "C" fn clubpass_write(
     }
 }
 
-// Writes the text of a pass in a known form.
+// Writes the text of a pass in a form to the buffer.
 fn write_in(alloc: Global, pass: &PassObject, form: Form, out: &mut [u8], len: &mut usize) -> u32
     ensures { IsTextCopied form (held pass.now) out.old out.new len.new result }
 {
@@ -131,7 +131,7 @@ fn write_in(alloc: Global, pass: &PassObject, form: Form, out: &mut [u8], len: &
     }
 }
 
-/// Makes a new pass without caveats under a root.
+/// Makes a new pass without caveats, signed under a root.
 #[unsafe(no_mangle)]
 pub extern "C" fn clubpass_mint(
     root: &[u8],
@@ -153,7 +153,7 @@ pub extern "C" fn clubpass_mint(
     }
 }
 
-/// Adds a caveat to a pass, and signs it without the root. After a fault the pass is unchanged.
+/// Adds a caveat to a pass, and signs it without the root. After a fault, the pass is unchanged.
 #[unsafe(no_mangle)]
 pub extern "C" fn clubpass_narrow(pass: &mut PassObject, caveat: &[u8]) -> u32
     ensures value { result ≡ ok_code → held pass.new ≡ with_caveat caveat.now (held pass.old) }
@@ -178,7 +178,7 @@ pub extern "C" fn clubpass_is_signed(pass: &PassObject, root: &[u8]) -> bool
     pass.is_signed(root)
 }
 
-/// Finds the first caveat that isn't understood or denies an ask.
+/// Finds the first caveat that isn't understood or that denies an ask.
 #[unsafe(no_mangle)]
 pub extern "C" fn clubpass_first_fault(
     pass: &PassObject,
@@ -196,7 +196,7 @@ pub extern "C" fn clubpass_first_fault(
     code
 }
 
-/// Returns whether a text is a caveat of the language.
+/// Returns whether a text is a caveat of the caveat language.
 #[unsafe(no_mangle)]
 pub extern "C" fn clubpass_is_caveat(text: &[u8]) -> bool
     ensures { IsTrue result ↔ ((caveat : Caveat) × Understood text.now caveat) }

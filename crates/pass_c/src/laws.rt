@@ -2,7 +2,7 @@
 
 ghost use Rattle.pass_c.specs.Laws.{ReadablePassesFit};
 
-/// A pass that a text spells, in any form, has room in an object.
+/// A pass that a text encodes, in any form, has room in an object.
 pub fn readable_passes_fit()
     ensures { ReadablePassesFit }
 {}

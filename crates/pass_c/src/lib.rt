@@ -1,5 +1,5 @@
 //! Passes for C, and for every language that can call C. The exports work on the caller's buffers
-//! and on one object of plain data. Each export calls a library and restates its clauses.
+//! and on one object of plain data. Each export calls a library and repeats its clauses.
 #![tactic(auto)]
 
 mod ask;

@@ -12,12 +12,12 @@ use std::alloc::{AllocError, Global};
 /// The most bytes of a pass's location, identifier and caveats together.
 pub const ROOM: usize = 8192;
 
-/// A pass as an object of plain data, which C can hold, copy and drop without a call. Contracts see
-/// its pass as `held`. Any bytes in the object represent some pass.
+/// A pass as an object of plain data. C code can store, copy and drop it without a call. Contracts
+/// see its pass as `held`. Any bytes in the object represent some pass.
 #[repr(C)]
 #[derive(Drop)]
 pub struct PassObject {
-    /// The number of the form of its text, or 0 if it has no text.
+    /// The number of the form that the pass was read from, or 0 if it wasn't read from a text.
     pub form: u32,
     pub location_len: u32,
     pub identifier_len: u32,
@@ -46,14 +46,14 @@ impl PassObject {
     ghost use Rattle.pass_c.specs.Object.{IsEmpty, filled, form_in, held, room, taken};
     ghost use Rattle.pass_c.specs.Object.{with_one_more};
 
-    /// Returns a hint at where the pass is valid.
+    /// Returns a hint about where the pass is valid.
     pub fn location(&self) -> &[u8]
         ensures { result.now ≡ (held self.now).location }
     {
         cut(&self.bytes, self.location_len as usize).0
     }
 
-    // The identifier, and the bytes of the caveats.
+    // Returns the identifier, and the bytes of the caveats after it.
     fn after_location(&self) -> (&[u8], &[u8])
         ensures identifier { result.0.now ≡ (held self.now).identifier }
         ensures others { result.1.now
@@ -70,7 +70,7 @@ impl PassObject {
         self.after_location().0
     }
 
-    // The lengths of the caveats.
+    // Returns the lengths of the caveats.
     fn lens(&self) -> &[u16]
         ensures value { result.now ≡ take self.now.caveat_count self.now.caveat_lens }
         ensures few { length result.now ≤ 64 }
@@ -96,7 +96,7 @@ impl PassObject {
         piece(self.lens(), self.after_location().1, index)
     }
 
-    /// Empties the object: it then has no form, no fields, and a signature of zeros.
+    /// Empties the object. It then has no form, no fields, and a signature of zeros.
     pub fn clear(&mut self)
         ensures empty { IsEmpty self.new }
         ensures count { self.new.caveat_count ≡ 0 }
@@ -109,7 +109,7 @@ impl PassObject {
         self.signature = [0; 32];
     }
 
-    // Makes the object hold a pass without caveats, if its fields have room.
+    // Stores a pass without caveats in the object, if its fields have room.
     fn start(
         &mut self,
         form: Form,
@@ -162,7 +162,7 @@ impl PassObject {
         true
     }
 
-    // Makes the object hold this pass, if there is room.
+    // Stores this pass in the object, if there is room.
     fn fill(&mut self, form: Form, pass: &Pass) -> Result<(), FormFault>
         ensures value { OnOk result (held self.new ≡ pass.now) }
         ensures form { OnOk result (self.new.form ≡ code.number_of_form form) }
@@ -195,7 +195,7 @@ impl PassObject {
         self.fill(form, &pass)
     }
 
-    /// Makes a new pass under a root.
+    /// Makes a new pass, signed under a root.
     pub fn mint(&mut self, root: &[u8], location: &[u8], identifier: &[u8]) -> bool
         ensures room { IsTrue result ↔ (length location.now + length identifier.now ≤ room) }
         ensures value { IsTrue result
@@ -232,7 +232,7 @@ impl PassObject {
         Ok(())
     }
 
-    /// Returns whether the signature is that of the identifier and the caveats under this root.
+    /// Returns whether the signature is the one of the identifier and the caveats under this root.
     #[tactic(auto, unfolding(pass_forms::specs::computed::Pass::is_signed))]
     pub fn is_signed(&self, root: &[u8]) -> bool
         ensures signed { IsTrue result ↔ IsSigned root.now (held self.now) }
@@ -243,17 +243,17 @@ impl PassObject {
         same(&chain.signature(), &self.signature)
     }
 
-    /// Returns the first caveat that isn't understood or denies the ask.
+    /// Returns the first caveat that isn't understood or that denies the ask.
     pub fn first_fault(&self, ask: &Ask) -> Option<CaveatFault>
         ensures { IsFirstFault (held self.now).caveats ask.now result }
     {
-        // By these laws, the code finds the fault that the clause defines.
+        // These laws say that the code finds the fault that the clause defines.
         finds_the_first_fault();
         reads_what_is_understood();
         first_fault_in(self.lens(), self.after_location().1, 1, ask)
     }
 
-    // A copy of the pass on the heap.
+    // Copies the pass to the heap.
     fn to_pass(&self, alloc: Global) -> Result<Pass, AllocError>
         ensures { IfOk result (λ pass. pass ≡ held self.now) }
     {

@@ -5,7 +5,7 @@ ghost use Rattle.pass_c.specs.Output.{IsCopied};
 
 use crate::code::{OK, SHORT_BUFFER};
 
-/// Writes a part to the front of the buffer, if it fits, and its length to `len`.
+/// Writes a part to the front of the buffer if it fits, and writes the part's length to `len`.
 pub fn put(part: &[u8], out: &mut [u8], len: &mut usize) -> u32
     ensures { IsCopied part.now out.old out.new len.new result }
 {

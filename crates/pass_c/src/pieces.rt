@@ -12,8 +12,8 @@ use pass_forms::MAX_CAVEATS;
 use pass_mac::Chain;
 use std::alloc::{AllocError, Global};
 
-/// Returns the first `len` bytes and the rest. If there are fewer bytes, returns all of them and an
-/// empty rest.
+/// Returns the first `len` bytes, and the bytes after them. If there are fewer than `len`, returns
+/// all bytes and an empty rest.
 pub fn cut(bytes: &[u8], len: usize) -> (&[u8], &[u8])
     ensures first { result.0.now ≡ take len bytes.now }
     ensures others { result.1.now ≡ drop len bytes.now }
@@ -21,7 +21,7 @@ pub fn cut(bytes: &[u8], len: usize) -> (&[u8], &[u8])
     bytes.split_at(len.min(bytes.len()))
 }
 
-/// Overwrites the bytes from this place on with a part.
+/// Overwrites the bytes from index `place` on with a part.
 pub fn overwrite(bytes: &mut [u8; ROOM], place: usize, part: &[u8])
     requires { place + length part.now ≤ room }
     ensures { bytes.new
@@ -55,7 +55,7 @@ pub fn piece<'a>(lens: &[u16], bytes: &'a [u8], index: usize) -> Option<&'a [u8]
     }
 }
 
-/// Returns the chain with a caveat added for each piece.
+/// Extends the chain by a caveat for each piece.
 pub fn extended(mut chain: Chain, lens: &[u16], bytes: &[u8]) -> Chain
     ensures { result ≡ extended_signature chain (pieces_of lens.now bytes.now) }
 {
@@ -87,7 +87,7 @@ pub fn copy_pieces(
     copy_pieces(alloc, list, others, rest)
 }
 
-/// Returns the first fault of the pieces as caveats, numbered from this number on.
+/// Returns the first fault of the pieces as caveats. `number` is the number of the first piece.
 pub fn first_fault_in(lens: &[u16], bytes: &[u8], number: usize, ask: &Ask) -> Option<CaveatFault>
     requires { number + length lens.now ≤ 65 }
     ensures { result
