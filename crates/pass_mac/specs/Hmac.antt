@@ -2,19 +2,19 @@
 use Rattle.std.specs.Prelude.{ℕ, ◌-◌, List, ◌++◌, length, map, replicate, nat_lt, if◌then◌else◌, bit_xor}
 use Rattle.sha2.specs.Sha256.{sha256}
 
--- SHA-256 works on blocks of this many bytes.
+-- The block size of SHA-256, in bytes.
 abbrev pub block_len : ℕ
 block_len = 64
 
--- A key longer than a block is replaced by its hash.
+-- The key, or its hash if the key is longer than a block.
 abbrev pub short_key : List ℕ → List ℕ
 short_key key = if nat_lt block_len (length key) then sha256 key else key
 
--- the key as one block, padded with zero bytes
+-- The key as one block, padded with zero bytes.
 unfoldable pub key_block : List ℕ → List ℕ
 key_block key = short_key key ++ replicate (block_len - length (short_key key)) 0
 
--- each byte of a block XOR the pad's byte
+-- The block with each byte XORed with the pad's byte.
 abbrev pub masked_block : ℕ → List ℕ → List ℕ
 masked_block pad block = map (λ byte. bit_xor byte pad) block
 

@@ -5,7 +5,7 @@ ghost use Rattle.std.specs.Prelude.{◌≡◌, []};
 use crate::mac::{derive, hmac};
 use std::marker::Model;
 
-/// A signature that grows by one HMAC with each caveat. Contracts see it as its 32 bytes.
+/// A signature that changes by one HMAC with each caveat. Contracts see a `Chain` as its 32 bytes.
 #[derive(Drop)]
 pub struct Chain {
     signature: [u8; 32],
@@ -24,14 +24,14 @@ impl Chain {
     ghost use Rattle.pass_mac.specs.Hmac as spec;
     ghost use Rattle.pass_mac.specs.Chain.{derived_key, chain};
 
-    /// Returns the chain of an identifier under a root, before any caveat. Derives the root's key.
+    /// Returns the chain of an identifier, before any caveat. Derives the key from the root.
     pub fn start(root: &[u8], identifier: &[u8]) -> Chain
         ensures { result ≡ chain (derived_key root.now) identifier.now [] }
     {
         Chain::from_key(&derive(root), identifier)
     }
 
-    /// Returns the chain of an identifier under an already derived key.
+    /// Returns the chain of an identifier under a derived key, before any caveat.
     pub fn from_key(derived: &[u8; 32], identifier: &[u8]) -> Chain
         ensures { result ≡ chain derived.now identifier.now [] }
     {
@@ -47,7 +47,7 @@ impl Chain {
         Chain { signature }
     }
 
-    /// Adds a caveat: one more HMAC, with the current signature as its key.
+    /// Adds a caveat. Its HMAC, with the current signature as the key, is the new signature.
     pub fn add(&mut self, caveat: &[u8])
         ensures { self.new ≡ spec.hmac self.old caveat.now }
     {

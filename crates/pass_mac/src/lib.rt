@@ -1,5 +1,5 @@
-//! Message authentication for passes: HMAC-SHA-256, the derivation of keys, and the signature chain
-//! of a macaroon. Nothing here allocates memory, and nothing fails.
+//! Message authentication for passes: HMAC-SHA-256, key derivation, and a macaroon's signature
+//! chain. No function allocates memory, and none fails.
 #![tactic(auto)]
 
 mod chain;

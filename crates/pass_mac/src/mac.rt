@@ -37,7 +37,7 @@ fn masked_block(block: &[u8; BLOCK_LEN], pad: u8) -> [u8; BLOCK_LEN]
     bytes
 }
 
-/// Returns the HMAC-SHA-256 of a text under a key of any length (RFC 2104): 32 bytes.
+/// Returns the HMAC-SHA-256 (RFC 2104) of a text, 32 bytes. The key may have any length.
 #[tactic(auto, unfolding(crate::specs::Hmac::hmac))]
 pub fn hmac(key: &[u8], text: &[u8]) -> [u8; 32]
     ensures { result ≡ spec.hmac key.now text.now }
@@ -52,7 +52,7 @@ pub fn hmac(key: &[u8], text: &[u8]) -> [u8; 32]
     outer.finalize()
 }
 
-/// Returns the key that libmacaroons derives from a root of any length: 32 bytes.
+/// Returns the 32-byte key that libmacaroons derives from a root, which may have any length.
 #[tactic(auto, unfolding(crate::specs::Chain::derived_key))]
 pub fn derive(root: &[u8]) -> [u8; 32]
     ensures { result ≡ derived_key root.now }

@@ -1,4 +1,4 @@
--- A key that fits a block is used as it is.
+-- A key that isn't longer than a block is used unchanged.
 use Rattle.std.proofs.{Common.{◌≡◌, length, false, ltb, arith, refl}, lemmas.{Bool.le-ltb, List.drop-replicate}}
 use Rattle.pass_mac.specs.Hmac.{key_block}
 use Rattle.pass_mac.proofs.mac.key_block.Goals as goal
