@@ -24,7 +24,7 @@ first_at texts ask i text Fault h at before fault =
       fault = fault;
     }
 
--- if all texts before i allow the request, the fault of the text at i is the first
+-- If all texts before index `i` allow the request, a fault of the text at `i` is the first fault.
 pub first_fault_at : (texts : List (List ℕ)) (ask : Ask) (i : ℕ) (text : List ℕ) (fault : CaveatFault) → i < length texts → get_or texts i [] ≡ text →
     Allowed (take i texts) ask → IsFaultAt text (i + 1) ask (Some fault) → IsFirstFault texts ask (Some fault)
 first_fault_at texts ask i text fault h at before is = grind (arith, first_at)

@@ -3,7 +3,7 @@ use Rattle.std.specs.Prelude.{◌≡◌, ◌≢◌, ℕ, Bool, List, [], ◌∷�
 use Rattle.club_values.specs.{Action.action_text, declared.action.Action.{Action, TheVariants.{View, Book, Cancel, Account}}}
 use Rattle.pass_caveats.specs.{Parts.comma_list, declared.actions.Actions.Actions}
 
--- all actions, in the order of a list (ours)
+-- All actions, in the order that a caveat must list them (ours).
 abbrev pub all_actions : List Action
 all_actions = View ∷ Book ∷ Cancel ∷ Account ∷ []
 
@@ -13,10 +13,10 @@ has_action actions Book = actions.book
 has_action actions Cancel = actions.cancel
 has_action actions Account = actions.account
 
--- the texts of the set
+-- The texts of the actions in the set, in order.
 abbrev pub action_texts : Actions → List (List ℕ)
 action_texts actions = map action_text (filter (has_action actions) all_actions)
 
--- the text is the comma-separated list of the set, which isn't empty
+-- The text is the comma-separated list of the actions in the set, which isn't empty.
 abbrev pub SpellsActions : List ℕ → Actions → Type 0
 SpellsActions text actions = (action_texts actions ≢ []) × (text ≡ comma_list (action_texts actions))

@@ -5,7 +5,7 @@ use Rattle.pass_caveats.specs.declared.{ask.Ask.Ask, caveat.Caveat.{Caveat, TheV
 use Rattle.club_values.specs.{Day.{IsDay, day_text}, Digits.two_digits, Hour.hours_a_day, Kind.kind_text, Moment.{IsMoment, moment_text}, Number.number_limit}
 use Rattle.club_values.specs.{Slot.guests_limit, Weekday.weekday_of}
 
--- a caveat's line, the conditions on its values, and the requests that it allows
+-- One row of the language: a caveat's line, the conditions on its values, and the requests that it allows.
 pub record CaveatRow : Type 1 where
   pub text : List ℕ
   pub IsReal : Type 0
@@ -14,7 +14,7 @@ pub record CaveatRow : Type 1 where
 abbrev pub row : List ℕ → Type 0 → (Ask → Type 0) → CaveatRow
 row text IsReal IsAllowed = record { text = text; IsReal = IsReal; IsAllowed = IsAllowed }
 
--- a row for each kind of caveat
+-- The row of each kind of caveat.
 abbrev pub caveat_row : Caveat → CaveatRow
 caveat_row (Facility names) =
     row (codes "facility = " ++ comma_list names) (AreNames names) (λ ask. IsSomeAnd ask.slot (λ slot. Contains names slot.facility))
@@ -36,28 +36,28 @@ caveat_row (Actions actions) =
     row (codes "actions = " ++ comma_list (action_texts actions)) (action_texts actions ≢ [])
     (λ ask. IsTrue (has_action actions ask.action))
 
--- the conditions on a line's values
+-- The values of the caveat meet the conditions of its line.
 abbrev pub IsCaveat : Caveat → Type 0
 IsCaveat caveat = (caveat_row caveat).IsReal
 
--- the line with these values
+-- The caveat's line, with its values.
 abbrev pub caveat_text : Caveat → List ℕ
 caveat_text caveat = (caveat_row caveat).text
 
--- the request is one that the caveat allows
+-- The caveat allows the request.
 abbrev pub Permits : Caveat → Ask → Type 0
 Permits caveat ask = (caveat_row caveat).IsAllowed ask
 
--- the text is the caveat's line
+-- The text is the caveat's line, and its values are valid.
 pub record SpellsCaveat (text : List ℕ) (caveat : Caveat) : Type 0 where
   pub real : IsCaveat caveat
   pub spelling : text ≡ caveat_text caveat
 
--- the most bytes of a caveat (ours)
+-- The most bytes that a caveat may have (ours).
 abbrev pub max_caveat_len : ℕ
 max_caveat_len = 256
 
--- the text is such a line, and not longer than the limit
+-- The text is the caveat's line, and isn't longer than the limit.
 pub record Understood (text : List ℕ) (caveat : Caveat) : Type 0 where
   pub line : SpellsCaveat text caveat
   pub short : length text ≤ max_caveat_len

@@ -1,26 +1,26 @@
--- Lists of caveats, as the texts in a pass.
+-- Lists of caveats, given as the texts in a pass.
 use Rattle.std.specs.{Fmt.decimal, List.AllZip, Prelude.{◌≡◌, ℕ, ◌+◌, List, [], ◌∷◌, ◌++◌, length, All, Option, Some, None, if◌then◌else◌, codes}}
 use Rattle.pass_caveats.specs.{Caveat.{Understood, Permits}, Tests.permits, declared.{ask.Ask.Ask, caveat.Caveat.Caveat, fault.CaveatFault.CaveatFault}}
 use Rattle.pass_caveats.specs.declared.fault.CaveatFault.TheVariants.{NotUnderstood, Denied}
 use Rattle.club_values.specs.Reading.{Reads}
 
--- the text is a caveat that allows the request; a text that isn't understood allows no request (ours)
+-- The text is a caveat that allows the request. A text that isn't understood allows no request (ours).
 abbrev pub Allows : List ℕ → Ask → Type 0
 Allows text ask = (caveat : Caveat) × Understood text caveat × Permits caveat ask
 
--- each text allows the request (Macaroons, NDSS 2014: a caveat is a predicate, and all must hold)
+-- Each text allows the request (Macaroons, NDSS 2014: a caveat is a predicate, and all must hold).
 abbrev pub Allowed : List (List ℕ) → Ask → Type 0
 Allowed texts ask = All (λ text. Allows text ask) texts
 
--- the text isn't a caveat
+-- The text isn't understood as any caveat.
 abbrev pub IsUnknown : List ℕ → Type 0
 IsUnknown text = (caveat : Caveat) → ¬ (Understood text caveat)
 
--- the text is a caveat that doesn't allow the request
+-- The text is understood as a caveat that doesn't allow the request.
 abbrev pub Denies : List ℕ → Ask → Type 0
 Denies text ask = (caveat : Caveat) × Understood text caveat × (¬ (Permits caveat ask))
 
--- text number n, counted from 1, is the first that doesn't allow the request, and Fault is the reason
+-- Text number `n`, counted from 1, is the first one that doesn't allow the request. `Fault` is true of it.
 pub record IsFirstAt (texts : List (List ℕ)) (ask : Ask) (n : ℕ) (Fault : List ℕ → Type 0) : Type 0 where
   pub front : List (List ℕ)
   pub text : List ℕ
@@ -30,24 +30,24 @@ pub record IsFirstAt (texts : List (List ℕ)) (ask : Ask) (n : ℕ) (Fault : Li
   pub before : Allowed front ask
   pub fault : Fault text
 
--- the fault of one text with number n; none if the text allows the request
+-- The fault of one text with number `n`, or `None` if the text allows the request.
 abbrev pub IsFaultAt : List ℕ → ℕ → Ask → Option CaveatFault → Type 0
 IsFaultAt text n ask None = Allows text ask
 IsFaultAt text n ask (Some (NotUnderstood m)) = (m ≡ n) × IsUnknown text
 IsFaultAt text n ask (Some (Denied m)) = (m ≡ n) × Denies text ask
 
--- the first fault, or none if the request is allowed
+-- The first fault of a list of texts, or `None` if the request is allowed.
 abbrev pub IsFirstFault : List (List ℕ) → Ask → Option CaveatFault → Type 0
 IsFirstFault texts ask None = Allowed texts ask
 IsFirstFault texts ask (Some (NotUnderstood n)) = IsFirstAt texts ask n IsUnknown
 IsFirstFault texts ask (Some (Denied n)) = IsFirstAt texts ask n (λ text. Denies text ask)
 
--- the caveats of a list of texts; a text that isn't understood gives none
+-- These are the caveats that the texts are understood as. A text that isn't understood has `None`.
 abbrev pub AreUnderstoodAs : List (List ℕ) → List (Option Caveat) → Type 0
 AreUnderstoodAs texts caveats = AllZip (λ (text : List ℕ) (caveat : Option Caveat). Reads (Understood text) caveat) texts caveats
 
--- The first fault of a list of caveats, where a text that isn't understood is none; the caveats are numbered from this number. The result is none if each
--- caveat permits the request.
+-- The first fault of a list of caveats, or `None` if each one permits the request. The first caveat
+-- has the number `n`. `None` in the list is a text that isn't understood, which is a fault.
 abbrev pub first_fault_from : ℕ → List (Option Caveat) → Ask → Option CaveatFault
 first_fault_from n [] ask = None
 first_fault_from n (None ∷ caveats) ask = Some (NotUnderstood n)
@@ -56,7 +56,7 @@ first_fault_from n (Some caveat ∷ caveats) ask = if permits caveat ask then fi
 abbrev pub first_fault_of : List (Option Caveat) → Ask → Option CaveatFault
 first_fault_of caveats ask = first_fault_from 1 caveats ask
 
--- the text of a fault
+-- The text that describes a fault.
 abbrev pub caveat_fault_text : CaveatFault → List ℕ
 caveat_fault_text (NotUnderstood n) = codes "caveat " ++ (decimal n ++ codes " not understood")
 caveat_fault_text (Denied n) = codes "caveat " ++ (decimal n ++ codes " denies")

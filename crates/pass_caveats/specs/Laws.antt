@@ -8,37 +8,37 @@ use Rattle.club_values.specs.Reading.{Reads}
 abbrev pub Narrows : Type 0
 Narrows = (texts more : List (List ℕ)) (ask : Ask) → Allowed (texts ++ more) ask → Allowed texts ask
 
--- the first fault is none if and only if the request is allowed
+-- A list of caveats has no first fault if and only if it allows the request.
 abbrev pub FaultsOnlyWhereNotAllowed : Type 0
 FaultsOnlyWhereNotAllowed =
     (texts : List (List ℕ)) (ask : Ask) (fault : Option CaveatFault) → IsFirstFault texts ask fault → (fault ≡ None) ↔ Allowed texts ask
 
--- `first_fault_of` returns the first fault of a list of texts, from the caveats that they are understood as
+-- Given the caveats that texts are understood as, `first_fault_of` returns the first fault of the texts.
 abbrev pub FindsTheFirstFault : Type 0
 FindsTheFirstFault =
     (texts : List (List ℕ)) (caveats : List (Option Caveat)) (ask : Ask) (fault : Option CaveatFault) → AreUnderstoodAs texts caveats →
     IsFirstFault texts ask fault ↔ (fault ≡ first_fault_of caveats ask)
 
--- `first_fault_from` returns the fault of one text with this number, from the caveat that it is understood as
+-- Given the caveat that a text is understood as, `first_fault_from` returns the fault of this text.
 abbrev pub FindsTheFaultAt : Type 0
 FindsTheFaultAt =
     (text : List ℕ) (caveat : Option Caveat) (n : ℕ) (ask : Ask) (fault : Option CaveatFault) → Reads (Understood text) caveat →
     IsFaultAt text n ask fault ↔ (fault ≡ first_fault_from n (caveat ∷ []) ask)
 
--- after one caveat is appended, the first fault is that of the earlier caveats, or else that of the last one
+-- After one caveat is appended, the first fault is the one of the earlier caveats, or else the one of the last caveat.
 abbrev pub FindsTheFaultOfOneMore : Type 0
 FindsTheFaultOfOneMore =
     (caveats : List (Option Caveat)) (caveat : Option Caveat) (ask : Ask) →
     first_fault_of (caveats ++ caveat ∷ []) ask ≡ option_or (first_fault_of caveats ask) (first_fault_from (length caveats + 1) (caveat ∷ []) ask)
 
--- `caveat_of` returns a caveat if and only if the text is understood as that caveat
+-- `caveat_of` returns a caveat if and only if the text is understood as that caveat.
 abbrev pub ReadsWhatIsUnderstood : Type 0
 ReadsWhatIsUnderstood = (text : List ℕ) (caveat : Caveat) → Understood text caveat ↔ (caveat_of text ≡ Some caveat)
 
--- `permits` is true if and only if the caveat allows the request
+-- `permits` returns true if and only if the caveat allows the request.
 abbrev pub TestsTheSet : Type 0
 TestsTheSet = (caveat : Caveat) (ask : Ask) → Permits caveat ask ↔ IsTrue (permits caveat ask)
 
--- a text is understood as at most one caveat
+-- A text is understood as at most one caveat.
 abbrev pub IsUnderstoodOnce : Type 0
 IsUnderstoodOnce = (text : List ℕ) (a b : Caveat) → Understood text a → Understood text b → a ≡ b

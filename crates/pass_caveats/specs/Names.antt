@@ -2,11 +2,11 @@
 use Rattle.std.specs.Prelude.{ℕ, ◌<◌, ◌≤◌, List, length, All}
 use Rattle.club_values.specs.Name.{IsName}
 
--- the most names of a list (ours)
+-- The most names in a list (ours).
 abbrev pub max_names : ℕ
 max_names = 8
 
--- one or more names
+-- One or more names, up to the limit.
 pub record AreNames (names : List (List ℕ)) : Type 0 where
   pub some : 0 < length names
   pub few : length names ≤ max_names

@@ -1,15 +1,15 @@
--- Tests whether a caveat permits a request (ours). `Permits` defines these requests; the law `tests_the_set` states that both agree.
+-- Tests whether a caveat permits a request (ours). `Permits` defines the permitted requests, and the law `tests_the_set` states that both agree.
 use Rattle.std.specs.{List.list_any, Option.option_map_or, Prelude.{◌+◌, ◌==◌, ◌&&◌, ◌||◌, Bool, true, false, nat_lt, nat_le, Option, Some, is_some}}
 use Rattle.std.specs.Str.{bytes_eq}
 use Rattle.pass_caveats.specs.{Actions.has_action, Weekdays.has_weekday, declared.{ask.Ask.Ask, caveat.Caveat.Caveat}}
 use Rattle.pass_caveats.specs.declared.caveat.Caveat.TheVariants.{Facility, Kind, Hours, Days, Weekdays, Until, Guests, Spend, Actions}
 use Rattle.club_values.specs.{Weekday.weekday_of, declared.{kind.Kind.{Kind as AKind, TheVariants.{Court, Boat, Room}}, slot.Slot.Slot}}
 
--- the request is about a slot, and the test is true of this slot
+-- The request is for a slot, and the test is true of this slot.
 abbrev pub in_slot : (Slot → Bool) → Ask → Bool
 in_slot test ask = option_map_or test ask.slot false
 
--- the kind is known and equals this one
+-- The facility's kind is known, and it is this kind.
 abbrev pub is_kind : Option AKind → AKind → Bool
 is_kind (Some Court) Court = true
 is_kind (Some Boat) Boat = true

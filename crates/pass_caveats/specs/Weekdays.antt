@@ -4,7 +4,7 @@ use Rattle.jiff_core.specs.declared.civil.weekday.Weekday.{Weekday, TheVariants.
 use Rattle.club_values.specs.Weekday.{weekdays}
 use Rattle.pass_caveats.specs.{Parts.comma_list, declared.weekdays.Weekdays.Weekdays}
 
--- the texts of weekdays (ours)
+-- The text of each weekday (ours).
 abbrev pub weekday_text : Weekday → List ℕ
 weekday_text Monday = codes "mon"
 weekday_text Tuesday = codes "tue"
@@ -23,10 +23,10 @@ has_weekday set Friday = set.friday
 has_weekday set Saturday = set.saturday
 has_weekday set Sunday = set.sunday
 
--- the texts of the set, in the order of the week
+-- The texts of the weekdays in the set, in the order of the week.
 abbrev pub weekday_texts : Weekdays → List (List ℕ)
 weekday_texts set = map weekday_text (filter (has_weekday set) weekdays)
 
--- the text is the comma-separated list of the set, which isn't empty
+-- The text is the comma-separated list of the weekdays in the set, which isn't empty.
 abbrev pub SpellsWeekdays : List ℕ → Weekdays → Type 0
 SpellsWeekdays text set = (weekday_texts set ≢ []) × (text ≡ comma_list (weekday_texts set))

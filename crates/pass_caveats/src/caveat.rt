@@ -1,4 +1,4 @@
-//! The caveats that are understood, and the requests that each allows.
+//! Caveats that are understood, and the requests that each one allows.
 
 ghost use Rattle.std.specs.Prelude.{◌≡◌, ◌⊎◌, ◌+◌, ◌≤◌, ◌↔◌, IsTrue, Some, false};
 ghost use Rattle.club_values.specs.Reading.{Reads};
@@ -19,32 +19,32 @@ use club_values::{Day, Kind, Moment};
 /// The most bytes of an understood caveat.
 pub const MAX_CAVEAT_LEN: usize = 256;
 
-/// An understood caveat. Each kind of line allows a set of requests.
+/// A caveat that is understood. It allows a set of requests.
 #[derive(Debug, Drop)]
 pub enum Caveat<'a> {
     /// The slot's facility is one of the names.
     Facility(Names<'a>),
     /// The slot's facility is of this kind.
     Kind(Kind),
-    /// The slot's hour is `from` or later, and before `until`, 1 to 24.
+    /// The slot's hour is at least `from` and less than `until`. `until` is 1 to 24.
     Hours { from: u8, until: u8 },
-    /// The slot's day is between `first` and `last`, both included.
+    /// The slot's day is from `first` to `last`, both included.
     Days { first: Day, last: Day },
     /// The weekday of the slot's day is in the set.
     Weekdays(Weekdays),
     /// The moment of the request is before this one.
     Until(Moment),
-    /// The booking has at most this many guests, 0 to 49.
+    /// The booking has at most this number of guests, 0 to 49.
     Guests(u8),
-    /// Nothing is owed, or the points spent plus the points owed are at most this many, 0 to
-    /// 999,999,999.
+    /// The request charges nothing, or the points spent and owed are together at most this number,
+    /// 0 to 999,999,999.
     Spend(u32),
     /// The action is in the set.
     Actions(Actions),
 }
 
 impl Caveat<'_> {
-    /// Returns whether this is a caveat on the kind.
+    /// Returns whether this is a caveat on the kind of a facility.
     fn is_on_kind(&self) -> bool
         ensures { result ≡ is_on_kind (Some self.now) }
     {
@@ -92,8 +92,8 @@ fn short_line_of(text: &[u8]) -> Option<Caveat<'_>>
     line_of(text)
 }
 
-/// Returns the caveat of a text; `None` if the text isn't a line of the language, or is longer than
-/// 256 bytes.
+/// Returns the caveat of a text. Returns `None` if the text isn't a line of the language, or has
+/// more than 256 bytes.
 #[tactic(auto, using(crate::proofs::CaveatOfLemmas::reads_caveat_of))]
 pub fn read(bytes: &[u8]) -> Option<Caveat<'_>>
     ensures understood { Reads (Understood bytes.now) result }
@@ -140,8 +140,8 @@ pub fn allows(caveat: &Caveat, ask: &Ask) -> bool
     is_in_set(caveat, ask)
 }
 
-/// Returns whether a text is a caveat on the kind of the slot's facility. The answer is false if
-/// and only if the text's fault is the same for each kind.
+/// Returns whether a text is a caveat on the kind of the slot's facility. The result is false if
+/// and only if the text has the same fault for each kind.
 #[tactic(auto, using(crate::proofs::KindLemmas::blind_to_kind))]
 pub fn looks_at_kind(text: &[u8]) -> bool
     ensures function { result ≡ is_on_kind (caveat_of text.now) }

@@ -1,4 +1,4 @@
-//! The first fault of a list of caveats.
+//! Finds the first fault of a list of caveats.
 
 ghost use Rattle.std.specs.{Prelude.{◌≡◌, [], ◌∷◌, map}, Vec.vec_items};
 ghost use Rattle.pass_caveats.specs.Fault.{IsFaultAt, IsFirstFault, first_fault_from};
@@ -9,12 +9,12 @@ use crate::caveat::{allows, read};
 use std::error::Error;
 use std::fmt;
 
-/// Why a list of caveats refuses a request. Caveats are numbered from 1.
+/// The reason why a list of caveats refuses a request. Caveats are numbered from 1.
 #[derive(Clone, Copy, Debug, PartialEq, Eq)]
 pub enum CaveatFault {
     /// The caveat isn't understood.
     NotUnderstood(usize),
-    /// The caveat is understood and doesn't allow the request.
+    /// The caveat is understood, but doesn't allow the request.
     Denied(usize),
 }
 
@@ -47,9 +47,9 @@ fn fault_of_text(text: &[u8], number: usize, ask: &Ask) -> Option<CaveatFault>
     }
 }
 
-/// Returns the fault of one caveat with this number in its list; `None` if it allows the request. A
-/// caller that tests caveats one by one numbers them from 1; the first fault that it gets is the
-/// fault of the list.
+/// Returns the fault of one caveat, or `None` if it allows the request. `number` is the caveat's
+/// number in its list, counted from 1. If a caller tests one caveat after another, the first fault
+/// that it gets is the fault of the list.
 #[tactic(auto, using(crate::proofs::CaveatOfLemmas::is_fault_at))]
 pub fn fault_at(text: &[u8], number: usize, ask: &Ask) -> Option<CaveatFault>
     ensures cases { IsFaultAt text.now number ask.now result }

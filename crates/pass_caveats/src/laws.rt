@@ -1,4 +1,4 @@
-//! Laws of the definitions, each the contract of a function that does nothing.
+//! Laws of the definitions. Each law is the contract of a function with an empty body.
 
 ghost use Rattle.pass_caveats.specs.Laws.{Narrows, FaultsOnlyWhereNotAllowed, FindsTheFirstFault};
 ghost use Rattle.pass_caveats.specs.Laws.{FindsTheFaultAt, FindsTheFaultOfOneMore};
@@ -10,26 +10,26 @@ pub fn narrows()
     ensures { Narrows }
 {}
 
-/// The first fault is none if and only if the request is allowed.
+/// A list of caveats has no first fault if and only if it allows the request.
 #[tactic(auto, using(crate::proofs::CaveatOfLemmas::none_where_allowed))]
 pub fn faults_only_where_not_allowed()
     ensures { FaultsOnlyWhereNotAllowed }
 {}
 
-/// `first_fault_of` returns the first fault of a list of texts, from the caveats that they are
-/// understood as.
+/// Given the caveats that texts are understood as, `first_fault_of` returns the first fault of the
+/// texts.
 pub fn finds_the_first_fault()
     ensures { FindsTheFirstFault }
 {}
 
-/// `first_fault_from` returns the fault of one text with a number, from the caveat that it is
-/// understood as.
+/// Given the caveat that a text is understood as, `first_fault_from` returns the fault of this
+/// text.
 pub fn finds_the_fault_at()
     ensures { FindsTheFaultAt }
 {}
 
-/// After one caveat is appended, the first fault is that of the earlier caveats, or else that of
-/// the last one. The last one's number is one more than the count of earlier caveats.
+/// After one caveat is appended, the first fault is the one of the earlier caveats, or else the one
+/// of the last caveat. The last caveat's number is one more than the count of earlier caveats.
 #[tactic(auto, using(crate::proofs::CaveatOfLemmas::fault_of_one_more))]
 pub fn finds_the_fault_of_one_more()
     ensures { FindsTheFaultOfOneMore }
@@ -40,7 +40,7 @@ pub fn reads_what_is_understood()
     ensures { ReadsWhatIsUnderstood }
 {}
 
-/// `permits` is true if and only if the caveat allows the request.
+/// `permits` returns true if and only if the caveat allows the request.
 pub fn tests_the_set()
     ensures { TestsTheSet }
 {}
@@ -50,15 +50,15 @@ pub fn is_understood_once()
     ensures { IsUnderstoodOnce }
 {}
 
-/// If nothing is owed, the first fault of a list doesn't depend on what the key has spent.
+/// If the request charges nothing, the first fault doesn't depend on the key's earlier spending.
 #[tactic(auto, using(crate::proofs::SpendingLemmas::free))]
 pub fn owes_nothing()
     ensures { OwesNothing }
 {}
 
-/// If the first fault of a list is the same with nothing spent and with some amount spent, it is
-/// the same for any smaller amount. No spend limit is above 999,999,999 points, so if it is the
-/// same with that much spent, it is the same for any amount.
+/// Suppose that the first fault is the same after spending nothing and after spending some amount.
+/// Then it is the same after spending less. No spend limit is above 999,999,999 points. So if the
+/// amount is at least that, it is the same after spending any amount.
 #[tactic(auto, using(crate::proofs::SpendingLemmas::limits_no_more))]
 pub fn limits_no_more()
     ensures { LimitsNoMore }

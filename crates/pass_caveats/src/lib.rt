@@ -1,5 +1,5 @@
 //! The caveat language of the club's passes: the possible lines, and the requests that each line
-//! allows. Nothing here allocates memory.
+//! allows. No function allocates memory.
 #![tactic(auto)]
 
 mod actions;

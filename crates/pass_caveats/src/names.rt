@@ -8,11 +8,11 @@ use crate::parts::{are_all_names, count_of_parts, has_part};
 use club_values::Name;
 use std::marker::Model;
 
-/// The most names of a list in a caveat.
+/// The most names in a list.
 pub const MAX_NAMES: usize = 8;
 
-/// One to eight comma-separated names, borrowed from a text. Contracts see them as the list of the
-/// names.
+/// One to eight comma-separated names, borrowed from a text. Contracts see a `Names` as the list of
+/// its names.
 #[derive(Debug, Drop)]
 pub struct Names<'a> {
     text: &'a [u8],
@@ -31,8 +31,8 @@ impl<'a> Model for Names<'a> {
 }
 
 impl<'a> Names<'a> {
-    /// Returns the names of a comma-separated list; `None` if it isn't a list of one to eight
-    /// names.
+    /// Returns the names of a comma-separated list. Returns `None` if the text isn't a list of one
+    /// to eight names.
     pub fn read(text: &'a [u8]) -> Option<Names<'a>>
         ensures { Reads (λ names. AreNames names × (text.now ≡ comma_list names)) result }
     {

@@ -1,4 +1,4 @@
-//! The parts of a text between its commas.
+//! Splits a text into the parts between its commas.
 
 ghost use Rattle.std.specs.Option.{option_copied};
 ghost use Rattle.std.specs.Prelude.{◌≡◌, ◌↔◌, ◌∷◌, IsTrue, All, Contains, length};
@@ -7,7 +7,7 @@ ghost use Rattle.pass_caveats.specs.Parts.{comma_parts, parts_left, Skips};
 
 use club_values::Name;
 
-/// Returns how many parts a text has between its commas.
+/// Returns the number of parts between the commas of a text.
 pub(crate) fn count_of_parts(text: &[u8]) -> usize
     ensures { result ≡ length (comma_parts text.now) }
 {
@@ -28,7 +28,7 @@ pub(crate) fn has_part(text: &[u8], name: &[u8]) -> bool
     text.split(|byte| *byte == b',').any(|part| part == name)
 }
 
-/// Returns the part before the first comma, and the text after the comma, if there is one.
+/// Returns the part before the first comma, and the text after the comma if there is one.
 fn first_part(text: &[u8]) -> (&[u8], Option<&[u8]>)
     ensures { comma_parts text.now ≡ result.0.now ∷ parts_left (option_copied result.1) }
 {
@@ -38,8 +38,8 @@ fn first_part(text: &[u8]) -> (&[u8], Option<&[u8]>)
     }
 }
 
-/// Returns whether the next part is the word, and the text after it. If it isn't the word, returns
-/// the whole rest.
+/// Returns whether the next part is the word. Also returns the text after the word, or the whole
+/// rest if the next part is another one.
 pub(crate) fn skip<'a>(rest: Option<&'a [u8]>, word: &[u8]) -> (bool, Option<&'a [u8]>)
     ensures { Skips word.now (parts_left (option_copied rest.entry)) result.0
         (parts_left (option_copied result.1)) }

@@ -7,19 +7,19 @@ use crate::ask::Ask;
 use crate::caveat::{Caveat, allows, read};
 use crate::fault::CaveatFault;
 
-/// The fault for a key that has spent nothing before, and how much it may have spent for the same
-/// fault.
+/// The fault of a caveat for a key that has spent nothing. The slack limits the amounts for which
+/// the fault is the same.
 #[derive(Clone, Copy, Debug, PartialEq, Eq)]
 pub struct Unspent {
-    /// The fault; `None` if the request is allowed.
+    /// The fault, or `None` if the request is allowed.
     pub fault: Option<CaveatFault>,
-    /// The most that the key may have spent before for the same fault; `None` if every amount gives
-    /// the same fault.
+    /// The most points that the key can have spent with the same fault. `None` if the fault is the
+    /// same for every amount.
     pub slack: Option<u64>,
 }
 
-/// Returns the fault of one caveat with this number in its list, for a key that has spent nothing
-/// before. The fault is the same for amounts up to the slack, and for no others.
+/// Returns the fault of one caveat with this number in its list, for a key that has spent nothing.
+/// The fault is the same for amounts spent up to the slack, and for no others.
 pub fn unspent_at(text: &[u8], number: usize, ask: &Ask) -> Unspent
     ensures { HoldsWithin text.now number ask.now result.fault result.slack }
 {
@@ -41,8 +41,8 @@ pub fn unspent_at(text: &[u8], number: usize, ask: &Ask) -> Unspent
     }
 }
 
-/// Returns the part of a spend limit that is left for earlier spending, if the charge alone is
-/// within the limit; `None` if the caveat limits nothing.
+/// Returns the rest of a spend limit after the charge, which must be within the limit. Returns
+/// `None` if there is no spend limit or no charge.
 fn slack_of(caveat: &Caveat, ask: &Ask) -> Option<u64>
     ensures { result ≡ slack_under caveat.now ask.now }
 {
