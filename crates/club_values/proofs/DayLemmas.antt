@@ -1,4 +1,4 @@
--- The date computed by arithmetic is the calendar's date.
+-- Arithmetic on a day's number gives the date that the day has in the calendar.
 use Rattle.std.proofs.Common.{◌≡◌, ℕ, ◌+◌, ◌-◌, ◌*◌, ◌/◌, ◌%◌, ◌<◌, ◌≤◌, ◌≢◌, cond, Bool, true, false, nat_lt, refl, suc, ◌∙◌, ltb-true, ltb-false, sym, List}
 use Rattle.std.proofs.{Common.{◌++◌, arith, to_z, of_z, w16, pos, ◌+ℤ◌}, lemmas.Bool.Decides.nat_tests}
 use Rattle.jiff_core.specs.{Calendar.{IsCivilDate, days_from_civil, day_count}, Date.epoch_day, March.march_days, declared.civil.date.Date.Date}
@@ -8,23 +8,23 @@ use Rattle.jiff_core.proofs.SignedLemmas.{signed_arith, back_small}
 use Rattle.club_values.specs.Day.{IsDay, IsDateOf, march_year, day_of_march_year, year_of, month_of, day_of_month, date_text, day_text, SpellsDay}
 use Rattle.club_values.proofs.{DateTextLemmas.{date_record, from_pos}, DigitLemmas.{two_digits_injective, four_digits_injective}}
 
--- a day's place in its year from March
+-- The bounds of a day's year and of its place in this year, if years begin on 1 March.
 pub march_year_bounds : (n : ℕ) → IsDay n →
     (3 ≤ march_year n) × (march_year n ≤ 103) × (day_of_march_year n < 366) × (n ≡ 9556 + 365 * march_year n + march_year n / 4 + day_of_march_year n)
 march_year_bounds n h = (omega arith, omega arith, omega arith, omega arith)
 
--- the days before a year from March
+-- The number of days before a year that begins on 1 March.
 march_days-1996 : (q : ℕ) → 3 ≤ q → q ≤ 103 → march_days (11996 + q) ≡ 4381449 + 365 * q + q / 4
 march_days-1996 q low high = omega arith
 
--- if a year from March has 366 days, it ends in a leap year
+-- If a year that begins on 1 March has 366 days, it ends in a leap year.
 leap_day-march : (q r : ℕ) → 3 ≤ q → q ≤ 102 → r < 366 → (q % 4 ≢ 3 → r < 365) → r < 365 + leap_day (pos (1997 + q))
 leap_day-march q r low high leap common = grind (arith, nat_tests)
 
 days_from_civil-is : (y m d n : ℕ) → day_count (pos y) m d ≡ n + 4371953 → days_from_civil (pos y) m d ≡ pos n
 days_from_civil-is y m d n e = omega (arith, signed_arith, days_from_civil-day_count (pos y) m d)
 
--- the date from March to December
+-- The date of a day from March to December.
 late_date : (q r n : ℕ) → 3 ≤ q → q ≤ 103 → r < 366 → n ≡ 9556 + 365 * q + q / 4 + r → (5 * r + 461) / 153 ≤ 12 →
     IsCivilDate (pos (1996 + q)) ((5 * r + 461) / 153) ((5 * r + 461) % 153 / 5 + 1) ×
     (days_from_civil (pos (1996 + q)) ((5 * r + 461) / 153) ((5 * r + 461) % 153 / 5 + 1) ≡ pos n)
@@ -37,7 +37,7 @@ late_date q r n low high small e late =
       days_from_civil-is (1996 + q) _ _ n (omega arith),
     )
 
--- the date in January or February
+-- The date of a day in January or February.
 early_date : (q r n : ℕ) → 3 ≤ q → q ≤ 102 → r < 365 + leap_day (pos (1997 + q)) → r < 366 → n ≡ 9556 + 365 * q + q / 4 + r → 12 < (5 * r + 461) / 153 →
     IsCivilDate (pos (1997 + q)) ((5 * r + 461) / 153 - 12) ((5 * r + 461) % 153 / 5 + 1) ×
     (days_from_civil (pos (1997 + q)) ((5 * r + 461) / 153 - 12) ((5 * r + 461) % 153 / 5 + 1) ≡ pos n)
@@ -64,13 +64,13 @@ dated q r n false test low high small common last e =
     let year : 1996 + q + 0 ≡ 1996 + q = omega arith in
     rw year (late_date q r n low high small e late)
 
--- the date of a day is real, and has the day's number
+-- The computed date of a day is a real date, and its number is the day.
 pub civil_date : (n : ℕ) → IsDay n → IsDateOf (year_of n) (month_of n) (day_of_month n) n
 civil_date n h =
     let b = march_year_bounds n h in
     dated (march_year n) (day_of_march_year n) n _ refl b.0 b.1 b.2 (λ common. omega arith) h.1 b.3
 
--- a day has only one date
+-- A day has only one date.
 one_date : (n y m d y₂ m₂ d₂ : ℕ) → IsDateOf y m d n → IsDateOf y₂ m₂ d₂ n → (y ≡ y₂) × (m ≡ m₂) × (d ≡ d₂)
 unfolding date_record
 one_date n y m d y₂ m₂ d₂ a b = grind (arith, epoch_day_injective (date_record y m d a.0) (date_record y₂ m₂ d₂ b.0))
@@ -88,18 +88,18 @@ year_bounds q r n b test low high small h e = grind arith
 pub date_bounds : (n : ℕ) → IsDay n → (2000 ≤ year_of n) × (year_of n ≤ 2099) × (month_of n ≤ 12) × (day_of_month n ≤ 31)
 date_bounds n h = grind (arith, march_year_bounds, year_bounds, civil_date, days_in_month_bounds)
 
--- the year of a day's date, as the code computes it
+-- The year of a day's date is unchanged after the code casts it to 16 bits.
 pub year_after_cast : (n : ℕ) (d : Date) → IsDay n → epoch_day d ≡ pos n → to_z w16 (of_z w16 d.year) ≡ pos (year_of n)
 year_after_cast n d h e = grind (arith, date_bounds, date_of_day, back_small w16)
 
--- the text of a real date is that of its day
+-- The text of a day's date is the text of the day.
 pub date_text-day_text : (n y m d : ℕ) → IsDay n → IsDateOf y m d n → date_text y m d ≡ day_text n
 unfolding day_text
 date_text-day_text n y m d h is =
     let same = one_date n y m d (year_of n) (month_of n) (day_of_month n) is (civil_date n h) in
     rw (same.0, same.1, same.2)
 
--- a text that spells a day is the day's text
+-- If a text encodes a day, it is the text of this day.
 pub spells-day_text : (text : List ℕ) (n : ℕ) → SpellsDay text n → text ≡ day_text n
 spells-day_text text n s = grind (arith, date_text-day_text)
 
@@ -115,7 +115,7 @@ day_text-spells n h =
       within = h;
     }
 
--- different days have different texts, whatever follows them
+-- Different days have different texts, even if other text follows.
 pub day_text_injective : (a b : ℕ) (xs ys : List ℕ) → IsDay a → IsDay b → day_text a ++ xs ≡ day_text b ++ ys → a ≡ b
 unfolding day_text
 day_text_injective a b xs ys h k e = grind (arith, four_digits_injective, two_digits_injective, civil_date, from_pos)

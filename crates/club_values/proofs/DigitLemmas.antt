@@ -1,8 +1,8 @@
--- Digits of a fixed width determine their number.
+-- Different numbers have different digits of a fixed width.
 use Rattle.std.proofs.Common.{◌≡◌, ℕ, ◌+◌, ◌/◌, ◌%◌, List, ◌++◌, get_or, ap, arith}
 use Rattle.club_values.specs.Digits.{two_digits, four_digits}
 
--- two digits determine their number, whatever text follows them
+-- Two digits determine their number, even if other text follows.
 pub two_digits_injective : (a b : ℕ) (xs ys : List ℕ) → two_digits a ++ xs ≡ two_digits b ++ ys → a ≡ b
 two_digits_injective a b xs ys e =
     let tens : 48 + a / 10 ≡ 48 + b / 10 = ap (λ (bytes : List ℕ). get_or bytes 0 0) e in

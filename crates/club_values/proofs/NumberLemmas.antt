@@ -1,4 +1,4 @@
--- Numbers and their digits.
+-- Decimal digits and the numbers that they encode.
 use Rattle.std.proofs.Common.{◌≡◌, ℕ, ◌<◌, ◌≤◌, ◌^◌, Bool, true, List, length, get_or, Result, arith, rules, Decides}
 use Rattle.std.proofs.lemmas.Bool.Decides.{Decides-like, Decides-and, Decides-not, Decides-ltb, Decides-eqb, nat_tests}
 use Rattle.std.proofs.lemmas.Fmt.{decimal-digits_value, digits_decimal, digits_value-decimal, decimal_nonempty, length-decimal-le, first_decimal, decimal_digit}
@@ -24,23 +24,23 @@ Decides-few_digits text = grind (arith, nat_tests)
 value_below : (text : List ℕ) → AreFewDigits text → digits_value 10 text < 10 ^ 9
 value_below text h = grind (arith, digits_value_short own text 9)
 
--- `parse` returns the value of digits
+-- `parse` returns the number that one to nine decimal digits encode.
 pub digits_read : {E : Type 0} (text read : List ℕ) (r : Result ℕ E) → are_few_digits text ≡ true → read ≡ text → ParsesUnsigned 32 10 read r →
     result_ok r ≡ number_of_digits text
 digits_read text read r few e parses = grind (arith, Decides-few_digits, value_below, parse_gives own 32 text r)
 
--- a zero followed by more digits
+-- The text starts with a zero and has more bytes after it.
 abbrev pub leads_with_zero : List ℕ → Bool
 leads_with_zero text = nat_lt 1 (length text) && slice_index text 0 == 48
 
--- digits without a leading zero spell their value
+-- Decimal digits without a leading zero encode their value.
 spells_value : (text : List ℕ) → AreFewDigits text → ¬ ((1 < length text) × (get_or text 0 0 ≡ 48)) → SpellsNumber text (digits_value 10 text)
 spells_value text h no_zero = grind (arith, value_below, decimal-digits_value own text)
 
 leading_zero : (n : ℕ) → n < 2 ^ 64 → get_or (decimal n) 0 0 ≡ 48 → length (decimal n) ≡ 1
 leading_zero n h e = grind (arith, common_steps, first_decimal, decimal_digit)
 
--- a text that spells a number has such digits
+-- If a text encodes a number, it consists of decimal digits without a leading zero.
 are_digits_of : (text : List ℕ) (n : ℕ) → SpellsNumber text n → AreFewDigits text × (¬ ((1 < length text) × (get_or text 0 0 ≡ 48)))
 are_digits_of text n s = grind (arith, decimal_nonempty n, length-decimal-le 9 n, digits_decimal own n, leading_zero n)
 

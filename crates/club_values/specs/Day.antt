@@ -3,7 +3,7 @@ use Rattle.std.specs.Prelude.{◌≡◌, ℕ, ◌+◌, ◌-◌, ◌*◌, ◌/◌
 use Rattle.jiff_core.specs.{Calendar.{IsCivilDate, days_from_civil}, declared.civil.date.Date.Date}
 use Rattle.club_values.specs.Digits.{two_digits, four_digits}
 
--- 2000-01-01 and 2099-12-31, as days since 1970-01-01 (ours)
+-- The days 2000-01-01 and 2099-12-31, as days since 1970-01-01 (ours).
 abbrev pub first_day : ℕ
 first_day = 10_957
 
@@ -13,15 +13,15 @@ last_day = 47_481
 abbrev pub IsDay : ℕ → Type 0
 IsDay n = (first_day ≤ n) × (n ≤ last_day)
 
--- YYYY-MM-DD (RFC 3339, full-date)
+-- The text `YYYY-MM-DD` (RFC 3339, full-date).
 abbrev pub date_text : ℕ → ℕ → ℕ → List ℕ
 date_text year month day = four_digits year ++ 45 ∷ two_digits month ++ 45 ∷ two_digits day
 
--- the date is real, and n is its number (proleptic Gregorian calendar, as jiff has it)
+-- The date is real, and `n` is its day (proleptic Gregorian calendar, as in jiff).
 abbrev pub IsDateOf : ℕ → ℕ → ℕ → ℕ → Type 0
 IsDateOf year month day n = IsCivilDate (pos year) month day × (days_from_civil (pos year) month day ≡ pos n)
 
--- the text is a real date of these years, and n is the date's number (ours)
+-- The text is that of a real date in range, and `n` is the day of this date (ours).
 pub record SpellsDay (text : List ℕ) (n : ℕ) : Type 0 where
   pub year : ℕ
   pub month : ℕ
@@ -30,29 +30,29 @@ pub record SpellsDay (text : List ℕ) (n : ℕ) : Type 0 where
   pub real : IsDateOf year month day n
   pub within : IsDay n
 
--- the digits of a text YYYY-MM-DD
+-- The text has the form `YYYY-MM-DD` with these numbers.
 pub record AreDateParts (text : List ℕ) (year month day : ℕ) : Type 0 where
   pub short_year : year < 10000
   pub short_month : month < 100
   pub short_day : day < 100
   pub spelling : text ≡ date_text year month day
 
--- the text of a date whose year has four digits
+-- The text is that of this date, and the date's year has four digits.
 pub record IsDateText (text : List ℕ) (date : Date) : Type 0 where
   pub year : ℕ
   pub same_year : date.year ≡ pos year
   pub spelling : text ≡ date_text year date.month date.day
 
--- The date of a day by arithmetic. Years begin on 1 March here, so that a leap day is the last of its year; day 9556 is 1996-03-01.
--- the years since 1 March 1996
+-- These functions compute the date of a day. Here a year begins on 1 March, so that a leap day is
+-- the last day of its year. Day 9556 is 1996-03-01, and `march_year` counts the years since then.
 abbrev pub march_year : ℕ → ℕ
 march_year n = (4 * (n - 9556) + 3) / 1461
 
--- the days since 1 March
+-- The days since the last 1 March.
 abbrev pub day_of_march_year : ℕ → ℕ
 day_of_march_year n = n - 9556 - 1461 * march_year n / 4
 
--- the month from 3 to 14, where 13 is January
+-- The month, numbered from 3 to 14, so that 13 is January and 14 is February.
 abbrev pub march_month : ℕ → ℕ
 march_month n = (5 * day_of_march_year n + 461) / 153
 
@@ -65,6 +65,6 @@ month_of n = if nat_lt 12 (march_month n) then march_month n - 12 else march_mon
 abbrev pub day_of_month : ℕ → ℕ
 day_of_month n = (5 * day_of_march_year n + 461) % 153 / 5 + 1
 
--- the only text of a day
+-- The only text of a day.
 unfoldable pub day_text : ℕ → List ℕ
 day_text n = date_text (year_of n) (month_of n) (day_of_month n)

@@ -5,11 +5,11 @@ use Rattle.club_values.specs.Digits.{two_digits}
 abbrev pub hours_a_day : ℕ
 hours_a_day = 24
 
--- an hour begins a slot (ours)
+-- The number is an hour at which a slot can begin (ours).
 abbrev pub IsHour : ℕ → Type 0
 IsHour n = n < hours_a_day
 
--- two digits, 00 to 23
+-- The text is the two digits of an hour, 00 to 23.
 pub record SpellsHour (text : List ℕ) (n : ℕ) : Type 0 where
   pub spelling : text ≡ two_digits n
   pub within : IsHour n

@@ -7,7 +7,7 @@ module _ {n : ℕ} where
   abbrev pub stored_bytes : Inside n → List ℕ
   stored_bytes a = take a.len a.buffer
 
--- the bytes, followed by zeros
+-- The bytes, followed by zeros up to the length `n`.
 abbrev pub with_padding : ℕ → List ℕ → List ℕ
 with_padding n bytes = bytes ++ replicate (n - length bytes) 0
 

@@ -5,8 +5,8 @@ use Rattle.club_values.specs.{Moment.{IsMoment, SpellsMoment, moment_text}, Name
 use Rattle.club_values.specs.computed.TextOf.{name_of_text, decimal_of_text, kind_of_text, action_of_text, day_of_text, hour_of_text, moment_of_text}
 use Rattle.club_values.specs.declared.{action.Action.Action, kind.Kind.Kind}
 
--- The functions `.._of_text` return exactly the value that the text spells, for any list of numbers. A name is returned if and only if the text is a name, and
--- then the name is the text.
+-- Each function `.._of_text` returns a value if and only if the text encodes this value. The text
+-- may be any list of numbers. The value of a name is the text itself.
 abbrev pub ReadsNames : Type 0
 ReadsNames = (text name : List ℕ) → (name_of_text text ≡ Some name) ↔ (IsName text × (name ≡ text))
 
@@ -28,15 +28,15 @@ ReadsHours = (text : List ℕ) (n : ℕ) → (hour_of_text text ≡ Some n) ↔ 
 abbrev pub ReadsMoments : Type 0
 ReadsMoments = (text : List ℕ) (n : ℕ) → (moment_of_text text ≡ Some n) ↔ SpellsMoment text n
 
--- a day's text spells the day, and no other text does
+-- The text of a day encodes the day, and no other text does.
 abbrev pub IsTextOfDay : Type 0
 IsTextOfDay = (text : List ℕ) (n : ℕ) → SpellsDay text n ↔ (IsDay n × (text ≡ day_text n))
 
--- a moment's text spells the moment, and no other text does
+-- The text of a moment encodes the moment, and no other text does.
 abbrev pub IsTextOfMoment : Type 0
 IsTextOfMoment = (text : List ℕ) (n : ℕ) → SpellsMoment text n ↔ (IsMoment n × (text ≡ moment_text n))
 
--- different days have different texts, and so do different moments
+-- Different days have different texts. Different moments have different texts, too.
 abbrev pub DistinctDayTexts : Type 0
 DistinctDayTexts = (a b : ℕ) → IsDay a → IsDay b → day_text a ≡ day_text b → a ≡ b
 

@@ -8,7 +8,7 @@ minutes_an_hour = 60
 abbrev pub minutes_a_day : ℕ
 minutes_a_day = hours_a_day * minutes_an_hour
 
--- the first and the last civil minute, as minutes since 1970-01-01T00:00 (ours)
+-- The first and the last civil minute in range, as minutes since 1970-01-01T00:00 (ours).
 abbrev pub first_moment : ℕ
 first_moment = first_day * minutes_a_day
 
@@ -18,11 +18,11 @@ last_moment = last_day * minutes_a_day + (minutes_a_day - 1)
 abbrev pub IsMoment : ℕ → Type 0
 IsMoment n = (first_moment ≤ n) × (n ≤ last_moment)
 
--- THH:MM
+-- The text `THH:MM` of a time of day.
 abbrev pub time_text : ℕ → ℕ → List ℕ
 time_text hour minute = 84 ∷ two_digits hour ++ 58 ∷ two_digits minute
 
--- an hour from 0 to 23 and a minute from 0 to 59, and n is the minute of the day
+-- The text `THH:MM` has an hour from 0 to 23 and a minute from 0 to 59, and `n` is the minute of the day.
 pub record SpellsTime (text : List ℕ) (n : ℕ) : Type 0 where
   pub hour : ℕ
   pub minute : ℕ
@@ -31,7 +31,7 @@ pub record SpellsTime (text : List ℕ) (n : ℕ) : Type 0 where
   pub minute_within : minute < minutes_an_hour
   pub number : n ≡ hour * minutes_an_hour + minute
 
--- YYYY-MM-DDTHH:MM (ISO 8601)
+-- The text `YYYY-MM-DDTHH:MM` (ISO 8601) encodes the moment `n`.
 pub record SpellsMoment (text : List ℕ) (n : ℕ) : Type 0 where
   pub date : List ℕ
   pub time : List ℕ
@@ -42,7 +42,7 @@ pub record SpellsMoment (text : List ℕ) (n : ℕ) : Type 0 where
   pub spells_time : SpellsTime time minute
   pub number : n ≡ day * minutes_a_day + minute
 
--- the only text of a moment
+-- The only text of a moment.
 unfoldable pub moment_text : ℕ → List ℕ
 moment_text n =
     day_text (n / minutes_a_day) ++ time_text (n % minutes_a_day / minutes_an_hour) (n % minutes_an_hour)

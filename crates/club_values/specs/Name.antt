@@ -1,15 +1,15 @@
 -- The names of members, keys and facilities.
 use Rattle.std.specs.{Int.is_in_range, List.AllPass, Prelude.{◌≢◌, ◌==◌, ◌||◌, ℕ, ◌<◌, ◌≤◌, Bool, List, length, slice_index}}
 
--- a to z, 0 to 9, or a hyphen
+-- The byte is `a` to `z`, `0` to `9`, or a hyphen.
 abbrev pub is_name_byte : ℕ → Bool
 is_name_byte byte = is_in_range 97 122 byte || is_in_range 48 57 byte || byte == 45
 
--- the most bytes of a name (ours)
+-- The most bytes of a name (ours).
 abbrev pub max_name_len : ℕ
 max_name_len = 24
 
--- one or more such bytes; the first isn't a hyphen (ours)
+-- A name is 1 to `max_name_len` such bytes, and the first one isn't a hyphen (ours).
 pub record IsName (bytes : List ℕ) : Type 0 where
   pub nonempty : 0 < length bytes
   pub short : length bytes ≤ max_name_len

@@ -2,10 +2,10 @@
 use Rattle.std.specs.Prelude.{ℕ, ◌+◌, ◌*◌}
 use Rattle.club_values.specs.{Moment.{minutes_a_day, minutes_an_hour}, declared.slot.Slot.Slot}
 
--- the minute at which a slot begins (ours)
+-- The minute at which a slot begins, counted from 1970-01-01T00:00 (ours).
 abbrev pub start_of : Slot → ℕ
 start_of slot = slot.day * minutes_a_day + slot.hour * minutes_an_hour
 
--- the most guests of a booking (ours)
+-- The most guests of a booking (ours).
 abbrev pub guests_limit : ℕ
 guests_limit = 49

@@ -2,10 +2,10 @@
 use Rattle.std.specs.Prelude.{ℕ, ◌+◌, ◌%◌, List, [], ◌∷◌, slice_index_or}
 use Rattle.jiff_core.specs.declared.civil.weekday.Weekday.{Weekday, TheVariants.{Monday, Tuesday, Wednesday, Thursday, Friday, Saturday, Sunday}}
 
--- the week begins on Monday (ISO 8601)
+-- All weekdays, from Monday on (ISO 8601).
 abbrev pub weekdays : List Weekday
 weekdays = Monday ∷ Tuesday ∷ Wednesday ∷ Thursday ∷ Friday ∷ Saturday ∷ Sunday ∷ []
 
--- the weekday of a day: 1970-01-01 was a Thursday
+-- The weekday of a day. 1970-01-01, day 0, was a Thursday.
 abbrev pub weekday_of : ℕ → Weekday
 weekday_of n = slice_index_or weekdays ((n + 3) % 7) Monday

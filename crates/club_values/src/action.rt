@@ -1,4 +1,4 @@
-//! The actions that a request can ask for.
+//! The actions that a request can ask for, and their texts.
 
 ghost use Rattle.std.specs.Prelude.{◌≡◌, Some};
 ghost use Rattle.club_values.specs.{Action.action_text, Reading.Reads};

@@ -22,7 +22,7 @@ pub(crate) const LAST_DAY: u16 = 47_481;
 const DAYS_BEFORE_1970: u32 = 4_371_587;
 
 /// A day from 2000-01-01 to 2099-12-31. Contracts see it as its number, the days since 1970-01-01.
-/// Days are ordered in time.
+/// Days are ordered by time.
 #[derive(Clone, Copy, Debug, PartialEq, Eq, PartialOrd, Ord)]
 pub struct Day {
     number: u16,
@@ -42,7 +42,7 @@ impl Model for Day {
     ghost inverse = { λ n. record { number = n } };
 }
 
-/// Returns the year, month and day of a text `YYYY-MM-DD`, which may have any digits.
+/// Returns the year, month and day of a text `YYYY-MM-DD`. They needn't be a real date.
 fn parts_of(text: &[u8]) -> Option<(u16, u8, u8)>
     ensures { Reads (λ p. AreDateParts text.now p.0 p.1 p.2) result }
 {
@@ -72,7 +72,7 @@ fn day_in(text: &[u8]) -> Option<Day>
 }
 
 impl Day {
-    /// Returns the day with this number of days since 1970-01-01; `None` out of range.
+    /// Returns the day with this number of days since 1970-01-01, or `None` if it is out of range.
     pub fn from_number(number: u16) -> Option<Day>
         ensures within { IsSome result ↔ IsDay number }
         ensures value { IfSome result (λ day. day ≡ number) }
@@ -91,7 +91,7 @@ impl Day {
         self.number
     }
 
-    /// Returns the day of a date; `None` out of range.
+    /// Returns the day of a date, or `None` if the date is out of range.
     pub fn from_date(date: Date) -> Option<Day>
         ensures { Reads (λ day. IsDay day × (epoch_day date ≡ pos day)) result }
     {
@@ -99,7 +99,7 @@ impl Day {
         Day::from_number(number)
     }
 
-    /// Returns the date in the calendar.
+    /// Returns the day's date in the calendar.
     pub fn date(self) -> Date
         ensures same { epoch_day result ≡ pos self }
         ensures within { IsDay self }
@@ -107,7 +107,7 @@ impl Day {
         Date::from_days_since_min(u32::from(self.number) + DAYS_BEFORE_1970)
     }
 
-    /// Returns the year, the month from 1 and the day of the month from 1.
+    /// Returns the year, the month and the day of the month. Months and days count from 1.
     pub fn year_month_day(self) -> (u16, u8, u8)
         ensures date { IsDateOf result.0 result.1 result.2 self }
         ensures years { (2000 ≤ result.0) × (result.0 ≤ 2099) }
@@ -137,7 +137,7 @@ impl Day {
         [y1, y2, y3, y4, b'-', m1, m2, b'-', d1, d2]
     }
 
-    /// Returns the day of a text `YYYY-MM-DD`; `None` if the text isn't a real date in range.
+    /// Returns the day of a text `YYYY-MM-DD`, or `None` if the text isn't a real date in range.
     pub fn read(text: &[u8]) -> Option<Day>
         ensures spelled { Reads (SpellsDay text.now) result }
         ensures function { result ≡ day_of_text text.now }

@@ -14,7 +14,7 @@ const MAX_DIGITS: usize = 9;
 /// The greatest number of `MAX_DIGITS` digits.
 pub const MAX_NUMBER: u32 = 999_999_999;
 
-/// Returns the number that two decimal digits spell; `None` if either isn't a digit.
+/// Returns the number that two decimal digits encode, or `None` if either isn't a digit.
 pub fn read_two(tens: u8, ones: u8) -> Option<u8>
     ensures { Reads (λ n. (n < 100) × (tens ∷ ones ∷ [] ≡ spec.two_digits n)) result }
 {
@@ -45,8 +45,8 @@ fn are_few_digits(text: &[u8]) -> bool
     !text.is_empty() && text.len() <= MAX_DIGITS && are_digits(text)
 }
 
-/// Returns the number that 1 to 9 decimal digits spell, with leading zeros allowed; `None` for any
-/// other text.
+/// Returns the number that 1 to 9 decimal digits encode, or `None` for any other text. Leading
+/// zeros are allowed.
 #[tactic(auto, using(crate::proofs::NumberLemmas::digits_read))]
 pub fn read_digits(text: &[u8]) -> Option<u32>
     ensures { result ≡ number.number_of_digits text.now }
@@ -67,8 +67,8 @@ fn number_in(text: &[u8]) -> Option<u32>
     read_digits(text)
 }
 
-/// Returns the number that decimal digits without leading zeros spell, up to 999,999,999; `None`
-/// for any other text.
+/// Returns the number that decimal digits encode, up to 999,999,999. Returns `None` for any other
+/// text. Leading zeros aren't allowed.
 #[tactic(auto, using(crate::proofs::TextOfLemmas::reads_numbers))]
 pub fn read_number(text: &[u8]) -> Option<u32>
     ensures spelled { Reads (SpellsNumber text.now) result }

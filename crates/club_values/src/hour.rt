@@ -10,10 +10,10 @@ use crate::digits::{read_two, two_digits};
 use std::fmt;
 use std::marker::Model;
 
-/// The hours of a day.
+/// The number of hours in a day.
 pub const HOURS_A_DAY: u8 = 24;
 
-/// An hour of a day, 0 to 23. Contracts see it as its number.
+/// An hour of a day, 0 to 23. Contracts see an `Hour` as its number.
 #[derive(Clone, Copy, Debug, PartialEq, Eq, PartialOrd, Ord)]
 pub struct Hour {
     number: u8,
@@ -41,7 +41,7 @@ fn hour_in(text: &[u8]) -> Option<Hour>
 }
 
 impl Hour {
-    /// Returns the hour with this number; `None` from 24 on.
+    /// Returns the hour with this number, or `None` for a number above 23.
     pub fn from_number(number: u8) -> Option<Hour>
         ensures within { IsSome result ↔ IsHour number }
         ensures value { IfSome result (λ hour. hour ≡ number) }
@@ -61,7 +61,7 @@ impl Hour {
         self.number
     }
 
-    /// Returns the hour of a text of two digits, `00` to `23`; `None` for any other text.
+    /// Returns the hour of a text of two digits, `00` to `23`, or `None` for any other text.
     pub fn read(text: &[u8]) -> Option<Hour>
         ensures spelled { Reads (SpellsHour text.now) result }
         ensures function { result ≡ hour_of_text text.now }
@@ -69,7 +69,7 @@ impl Hour {
         hour_in(text)
     }
 
-    /// Returns the text of two digits.
+    /// Returns the two digits of the hour.
     pub fn text(self) -> [u8; 2]
         ensures value { result ≡ digits.two_digits self }
         ensures spelled { SpellsHour result self }

@@ -1,10 +1,10 @@
-//! Short strings of bytes, stored inline.
+//! Short strings of bytes, stored without a heap allocation.
 
 ghost use Rattle.std.specs.Prelude.{◌≡◌, ◌≤◌, ◌↔◌, length, IsSome, IfSome};
 
 use std::marker::Model;
 
-/// At most `N` bytes, stored inline. Contracts see them as their list.
+/// At most `N` bytes, stored without a heap allocation. Contracts see them as a list of bytes.
 #[derive(Clone, Copy)]
 pub struct InlineBytes<const N: usize> {
     buffer: [u8; N],
@@ -29,7 +29,7 @@ impl<const N: usize> Model for InlineBytes<N> {
 }
 
 impl<const N: usize> InlineBytes<N> {
-    /// Stores these bytes; returns `None` if there are more than `N`.
+    /// Stores these bytes, or returns `None` if there are more than `N`.
     pub fn new(bytes: &[u8]) -> Option<InlineBytes<N>>
         ensures within { IsSome result ↔ (length bytes.now ≤ N) }
         ensures value { IfSome result (λ stored. stored ≡ bytes.now) }

@@ -25,7 +25,7 @@ fn kind_in(text: &[u8]) -> Option<Kind>
 }
 
 impl Kind {
-    /// Returns the kind with this text: `court`, `boat` or `room`.
+    /// Returns the kind with this text (`court`, `boat` or `room`), or `None` for any other text.
     pub fn read(text: &[u8]) -> Option<Kind>
         ensures spelled { Reads (λ kind. text.now ≡ kind_text kind) result }
         ensures function { result ≡ kind_of_text text.now }

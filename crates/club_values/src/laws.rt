@@ -1,52 +1,52 @@
-//! Laws of the definitions, each the contract of a function that does nothing.
+//! Laws of the definitions. Each law is the contract of a function with an empty body.
 
 ghost use Rattle.club_values.specs.Laws.{ReadsNames, ReadsNumbers, ReadsKinds, ReadsActions};
 ghost use Rattle.club_values.specs.Laws.{ReadsDays, ReadsHours, ReadsMoments, IsTextOfDay};
 ghost use Rattle.club_values.specs.Laws.{IsTextOfMoment, DistinctDayTexts, DistinctMomentTexts};
 
-/// `name_of_text` returns a name if and only if the text is a name, and then the name is the text.
+/// `name_of_text` returns a name if and only if the text is a name. The name is the text itself.
 pub fn reads_names()
     ensures { ReadsNames }
 {}
 
-/// `decimal_of_text` returns a number if and only if the text spells that number.
+/// `decimal_of_text` returns a number if and only if the text encodes this number.
 pub fn reads_numbers()
     ensures { ReadsNumbers }
 {}
 
-/// `kind_of_text` returns a kind if and only if the text spells that kind.
+/// `kind_of_text` returns a kind if and only if the text is the text of this kind.
 #[tactic(auto, using(crate::proofs::TextOfLemmas::reads_kinds))]
 pub fn reads_kinds()
     ensures { ReadsKinds }
 {}
 
-/// `action_of_text` returns an action if and only if the text spells that action.
+/// `action_of_text` returns an action if and only if the text is the text of this action.
 #[tactic(auto, using(crate::proofs::TextOfLemmas::reads_actions))]
 pub fn reads_actions()
     ensures { ReadsActions }
 {}
 
-/// `day_of_text` returns a day if and only if the text spells that day.
+/// `day_of_text` returns a day if and only if the text encodes this day.
 pub fn reads_days()
     ensures { ReadsDays }
 {}
 
-/// `hour_of_text` returns an hour if and only if the text spells that hour.
+/// `hour_of_text` returns an hour if and only if the text encodes this hour.
 pub fn reads_hours()
     ensures { ReadsHours }
 {}
 
-/// `moment_of_text` returns a moment if and only if the text spells that moment.
+/// `moment_of_text` returns a moment if and only if the text encodes this moment.
 pub fn reads_moments()
     ensures { ReadsMoments }
 {}
 
-/// A day's text spells the day, and no other text does.
+/// The text of a day encodes the day, and no other text does.
 pub fn is_text_of_day()
     ensures { IsTextOfDay }
 {}
 
-/// A moment's text spells the moment, and no other text does.
+/// The text of a moment encodes the moment, and no other text does.
 pub fn is_text_of_moment()
     ensures { IsTextOfMoment }
 {}

@@ -1,5 +1,5 @@
 //! The values of the club: names, kinds, actions, days, hours, moments and slots. Each value except
-//! the slot has exactly one text. Nothing here allocates memory.
+//! a slot has exactly one text. No function allocates memory.
 #![tactic(auto)]
 
 mod action;

@@ -1,4 +1,4 @@
-//! Civil minutes from 2000 to 2099, and their texts.
+//! Moments: civil minutes from 2000 to 2099, and their texts.
 
 ghost use Rattle.std.specs.Prelude.{◌≡◌, ◌+◌, ◌*◌, ◌/◌, ◌%◌, ◌<◌, ◌↔◌, IsSome, IfSome, Some};
 ghost use Rattle.club_values.specs.{Day.IsDay, Moment.{IsMoment, SpellsTime, SpellsMoment}};
@@ -12,10 +12,10 @@ use crate::hour::HOURS_A_DAY;
 use std::fmt;
 use std::marker::Model;
 
-/// The minutes of an hour.
+/// The number of minutes in an hour.
 pub const MINUTES_AN_HOUR: u16 = 60;
 
-/// The minutes of a day.
+/// The number of minutes in a day.
 pub const MINUTES_A_DAY: u16 = HOURS_A_DAY as u16 * MINUTES_AN_HOUR;
 
 /// The number of the first moment, 2000-01-01T00:00.
@@ -25,7 +25,7 @@ const FIRST_MOMENT: u32 = FIRST_DAY as u32 * MINUTES_A_DAY as u32;
 const LAST_MOMENT: u32 = (LAST_DAY as u32 + 1) * MINUTES_A_DAY as u32 - 1;
 
 /// A civil minute from 2000-01-01T00:00 to 2099-12-31T23:59. Contracts see it as its number, the
-/// minutes since 1970-01-01T00:00. Moments are ordered in time.
+/// minutes since 1970-01-01T00:00. Moments are ordered by time.
 #[derive(Clone, Copy, Debug, PartialEq, Eq, PartialOrd, Ord)]
 pub struct Moment {
     number: u32,
@@ -45,7 +45,7 @@ impl Model for Moment {
     ghost inverse = { λ n. record { number = n } };
 }
 
-/// Returns the minute of the day of a text `THH:MM`.
+/// Returns the minute of the day for a text `THH:MM`.
 fn minute_of(text: &[u8]) -> Option<u16>
     ensures { Reads (SpellsTime text.now) result }
 {
@@ -74,7 +74,7 @@ fn moment_in(text: &[u8]) -> Option<Moment>
 }
 
 impl Moment {
-    /// Returns the moment with this number of minutes since 1970-01-01T00:00; `None` out of range.
+    /// Returns the moment this number of minutes after 1970-01-01T00:00, or `None` if out of range.
     pub fn from_number(number: u32) -> Option<Moment>
         ensures within { IsSome result ↔ IsMoment number }
         ensures value { IfSome result (λ moment. moment ≡ number) }
@@ -85,7 +85,7 @@ impl Moment {
         Some(Moment { number })
     }
 
-    /// Returns the moment at a minute of a day; `None` from minute 1,440 on.
+    /// Returns the moment at this minute of a day, or `None` if the minute is 1,440 or more.
     pub fn new(day: Day, minute: u16) -> Option<Moment>
         ensures within { IsSome result ↔ (minute < minutes_a_day) }
         ensures value { IfSome result (λ moment. moment ≡ day * minutes_a_day + minute) }
@@ -98,7 +98,7 @@ impl Moment {
         })
     }
 
-    /// Returns the minutes since 1970-01-01T00:00.
+    /// Returns the number of minutes from 1970-01-01T00:00 to the moment.
     pub fn number(self) -> u32
         ensures value { result ≡ self }
         ensures within { IsMoment result }
@@ -115,7 +115,7 @@ impl Moment {
         Day::from_number(number as u16).unwrap()
     }
 
-    /// Returns the minutes since the day began, 0 to 1,439.
+    /// Returns the number of minutes since the day began, 0 to 1,439.
     pub fn minute_of_day(self) -> u16
         ensures value { result ≡ self % minutes_a_day }
         ensures within { result < minutes_a_day }
@@ -123,7 +123,7 @@ impl Moment {
         (self.number % u32::from(MINUTES_A_DAY)) as u16
     }
 
-    /// Returns the moment of a text `YYYY-MM-DDTHH:MM`; `None` if the text isn't a moment in range.
+    /// Returns the moment of a text `YYYY-MM-DDTHH:MM`, or `None` if the text isn't one in range.
     pub fn read(text: &[u8]) -> Option<Moment>
         ensures spelled { Reads (SpellsMoment text.now) result }
         ensures function { result ≡ moment_of_text text.now }

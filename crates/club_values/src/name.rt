@@ -19,8 +19,8 @@ use std::marker::Model;
 /// The most bytes of a name.
 pub const MAX_NAME_LEN: usize = 24;
 
-/// A name of a member, a key or a facility: 1 to 24 bytes of `a` to `z`, `0` to `9` and `-`, and
-/// the first byte isn't `-`. Contracts see it as its bytes. Names are ordered by their bytes.
+/// A name of a member, a key or a facility: 1 to 24 bytes of `a` to `z`, `0` to `9` and `-`. The
+/// first byte isn't `-`. Contracts see it as its bytes. Names are ordered by their bytes.
 #[derive(Clone, Copy)]
 pub struct Name {
     bytes: InlineBytes<MAX_NAME_LEN>,
@@ -67,7 +67,7 @@ impl Name {
             && text.iter().all(|byte| is_name_byte(*byte))
     }
 
-    /// Returns the text as a name; `None` if it isn't one.
+    /// Returns the text as a name, or `None` if it isn't one.
     pub fn read(text: &[u8]) -> Option<Name>
         ensures named { IsSome result ↔ IsName text.now }
         ensures value { IfSome result (λ name. name ≡ text.now) }

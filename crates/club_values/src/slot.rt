@@ -1,4 +1,4 @@
-//! Slots: an hour of a facility on a day.
+//! Slots. Each one is an hour of a facility on a day.
 
 ghost use Rattle.std.specs.Prelude.{◌≡◌, ◌+◌, ◌≤◌};
 ghost use Rattle.club_values.specs.Moment.{last_moment, minutes_an_hour};
@@ -8,7 +8,7 @@ use crate::hour::Hour;
 use crate::moment::{MINUTES_A_DAY, MINUTES_AN_HOUR};
 use crate::name::Name;
 
-/// The most guests of a booking, not counting its member.
+/// The most guests of a booking. The member who books isn't a guest.
 pub const MAX_GUESTS: u8 = 49;
 
 /// An hour of a facility on a day.
@@ -25,7 +25,7 @@ impl Slot {
     /// Returns the minute at which the slot begins, counted from 1970-01-01T00:00.
     pub fn start(&self) -> u32
         ensures value { result ≡ start_of self.now }
-        // The day after the last one doesn't exist, so the slot ends with the last day.
+        // A slot ends no later than the last day, because no day in range follows it.
         ensures bound { result + minutes_an_hour ≤ last_moment + 1 }
     {
         u32::from(self.day.number()) * u32::from(MINUTES_A_DAY)
