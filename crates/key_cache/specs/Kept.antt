@@ -3,6 +3,6 @@ use Rattle.std.specs.Prelude.{◌≡◌, [], IfSome}
 use Rattle.lru.specs.LruCache.{lru_cache}
 use Rattle.key_cache.specs.declared.KeptKeys.{KeptKeys}
 
--- An empty cache with room for 64 keys, or no cache at all if memory for it was refused.
+-- The cache is empty and has room for 64 keys, or there is no cache because memory for it was refused.
 abbrev pub IsFresh : KeptKeys → Type 0
 IsFresh keys = IfSome keys.cache (λ cache. cache ≡ lru_cache [] 64)

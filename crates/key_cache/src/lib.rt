@@ -1,4 +1,4 @@
-//! A cache of the 64 derived keys that were used last, each with the root that it is derived from.
+//! Caches the 64 derived keys that were used last. Each one is stored with its root.
 #![tactic(auto)]
 
 use club_rows::Root;
@@ -12,7 +12,7 @@ use std::num::NonZeroUsize;
 /// The most entries of the cache.
 pub const MAX_KEPT_KEYS: usize = 64;
 
-/// A root with its derived key. Contracts see it as the root.
+/// A root together with its derived key. Contracts see a `DerivedKey` as its root.
 #[derive(Clone, Copy)]
 pub struct DerivedKey {
     root: Root,
@@ -46,7 +46,7 @@ impl DerivedKey {
         }
     }
 
-    /// Returns the derived key, 32 bytes.
+    /// Returns the derived key, which has 32 bytes.
     pub fn bytes(&self) -> &[u8; 32]
         ensures { result.now ≡ derived_key self.now }
     {
@@ -54,8 +54,8 @@ impl DerivedKey {
     }
 }
 
-/// A cache of at most 64 derived keys, by the names of their keys. It keeps those that were used
-/// last. If allocating the cache fails, it stays empty.
+/// A cache of at most 64 derived keys, which are found by the names of their keys. It stores those
+/// that were used last. If no memory can be allocated for the cache, it stays empty.
 #[derive(Drop)]
 pub struct KeptKeys {
     cache: Option<LruCache<Name, DerivedKey>>,
@@ -65,7 +65,7 @@ impl KeptKeys {
     ghost use Rattle.std.specs.Prelude.{◌≡◌, IfSome};
     ghost use Rattle.key_cache.specs.Kept.{IsFresh};
 
-    /// Returns an empty cache for 64 keys.
+    /// Returns an empty cache with room for 64 keys. If memory runs out, the cache has no room.
     pub fn new(alloc: Global) -> KeptKeys
         ensures { IsFresh result }
     {
@@ -88,8 +88,8 @@ impl KeptKeys {
         Some(*kept)
     }
 
-    /// Returns the derived key of a root of the key of this name. It comes from the cache or, if it
-    /// isn't there, is computed. The cache is unchanged.
+    /// Returns the derived key of a root. It comes from the cache, or is computed if the cache
+    /// lacks it. `name` is the name of the key with this root. The cache is unchanged.
     pub fn derived(&self, name: &Name, root: &Root) -> DerivedKey
         ensures { result ≡ root.now }
     {
@@ -97,8 +97,8 @@ impl KeptKeys {
             .unwrap_or_else(|| DerivedKey::of(root))
     }
 
-    /// Caches a derived key under this name, in place of any other, as the most recently used one.
-    /// If an allocation fails, the cache is unchanged.
+    /// Caches a derived key under this name and replaces any older one. The key then counts as the
+    /// most recently used one. If an allocation fails, the cache is unchanged.
     pub fn keep(&mut self, name: &Name, key: DerivedKey) {
         if let Some(cache) = &mut self.cache {
             let _ = cache.put(*name, key);

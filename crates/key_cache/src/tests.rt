@@ -1,10 +1,10 @@
-//! Tests which keys are cached.
+//! Tests which keys are cached after lookups and insertions.
 
 use super::*;
 use std::fmt::Debug;
 use std::process::Abort;
 
-// Two roots and their keys by libmacaroons' derivation, computed by an independent program.
+// Two roots and their derived keys, by libmacaroons' method. An independent program computed them.
 const ROOT: &[u8; 16] = b"\x00\x11\x22\x33\x44\x55\x66\x77\x88\x99\xaa\xbb\xcc\xdd\xee\xff";
 
 const DERIVED: &[u8; 32] =
@@ -35,7 +35,7 @@ fn expect_derived(rt: &impl Abort, keys: &KeptKeys, name: &Name, root: &Root, wa
     expect_eq(rt, keys.derived(name, root).bytes(), want);
 }
 
-// Looks up and caches a key, as the desk does for a root under which a pass is signed.
+// Looks up a key and caches it, as the desk does for a root that a pass is signed under.
 fn derive_and_keep(
     rt: &impl Abort,
     keys: &mut KeptKeys,
@@ -48,7 +48,7 @@ fn derive_and_keep(
     keys.keep(name, key);
 }
 
-// The key isn't cached with this root, so it is computed and then cached.
+// The key for this root isn't cached, so it is computed and then cached.
 fn is_derived_anew(
     rt: &impl Abort,
     keys: &mut KeptKeys,
@@ -61,7 +61,7 @@ fn is_derived_anew(
     expect_kept(rt, keys, name, root, Some(*want));
 }
 
-// A root and its derived key, then those of another root, then the first ones again.
+// A root and its derived key, then another root and its key, then the first two again.
 static IN_TURN: [(&[u8; 16], &[u8; 32]); 3] = [
     (ROOT, DERIVED),
     (OTHER_ROOT, OTHER_DERIVED),
@@ -79,7 +79,7 @@ fn are_derived_anew(
     }
 }
 
-// A key that was cached with one root isn't used for another, and the last one stays cached.
+// A key cached for one root isn't used for another root. The last cached key stays.
 #[test]
 fn keeps_a_key_beside_its_root(rt: HostRuntime) {
     are_derived_anew(&rt, &IN_TURN);
@@ -93,7 +93,7 @@ fn derive_many(rt: &impl Abort, keys: &mut KeptKeys, root: &Root, count: u8) {
     }
 }
 
-// Of 65 keys, the least recently used one is evicted and must be computed again.
+// Of 65 keys, the least recently used one is evicted. It must be computed again.
 #[test]
 fn keeps_the_last_of_many_keys(rt: HostRuntime) {
     let root = root(&rt, ROOT);
@@ -103,7 +103,7 @@ fn keeps_the_last_of_many_keys(rt: HostRuntime) {
     is_derived_anew(&rt, &mut keys, &name(&rt, b"00"), &root, DERIVED);
 }
 
-// Of 65 keys, the first one stays cached if it was used again, and the second one is evicted.
+// Of 65 keys, the first one is used again and stays cached. The second one is evicted.
 #[test]
 fn keeps_a_key_that_is_used_again(rt: HostRuntime) {
     let root = root(&rt, ROOT);
@@ -115,8 +115,8 @@ fn keeps_a_key_that_is_used_again(rt: HostRuntime) {
     expect_kept(&rt, &keys, &name(&rt, b"01"), &root, None);
 }
 
-// A lookup alone doesn't cache a key or evict the cached one. So after a rotation, the older root's
-// key stays until a pass is signed under the new root.
+// A lookup alone doesn't cache a key, and doesn't evict the cached one. So after a rotation, the
+// older root's key stays until a pass is signed under the new root.
 #[test]
 fn keeps_a_key_until_another_is_kept(rt: HostRuntime) {
     let (root, older) = (root(&rt, ROOT), root(&rt, OTHER_ROOT));
@@ -131,7 +131,7 @@ fn keeps_a_key_until_another_is_kept(rt: HostRuntime) {
     expect_derived(&rt, &keys, &name, &older, OTHER_DERIVED);
 }
 
-// Without memory for the cache, each key is computed.
+// Without memory for the cache, each key is computed at every lookup.
 #[test]
 fn derives_without_a_cache(rt: HostRuntime) {
     let (name, root) = (name(&rt, b"amy-1"), root(&rt, ROOT));
