@@ -33,7 +33,7 @@ is_decoded text b is = elim is.spelling [
   | inr (inr (inr e)) ↦ inr (inr (inr (decoded_by standard text b refl is.are_bytes e)))
 ]
 
--- If the first present result of four is `b`, then at least one of the four is `b`.
+-- If the first of four results that isn't `None` is `b`, at least one of the four results is `b`.
 first_answer : (w x y z : Option (List ℕ)) (b : List ℕ) → option_or (option_or w x) (option_or y z) ≡ Some b →
     (w ≡ Some b) ⊎ (x ≡ Some b) ⊎ (y ≡ Some b) ⊎ (z ≡ Some b)
 first_answer w x y z b e = grind arith
@@ -73,7 +73,7 @@ spells_from_base64 text b is =
     let bytes : IsBytes text = bytes_from_passes text (spelling_passes (λ byte. ltb byte 256) text b refl refl refl refl is) in
     from_base64_is text bytes ∙ spells_to_decoders text b bytes is
 
--- The buffer's front then contains the decoded bytes, or the engine refused the text.
+-- After an engine's call, the front of the buffer contains the decoded bytes, or the engine refused the text.
 pub decoded_into : (e : GeneralPurpose) (text old new : List ℕ) (r : Result ℕ DecodeError) (answer : Option ℕ) → answer ≡ result_ok r
     → IfOk r (λ n. IsDecodedInto e text n old new) → IfErr r (λ error. decode_of e text ≡ Err error)
     → option_map (λ n. take n new) answer ≡ decoded_of e text

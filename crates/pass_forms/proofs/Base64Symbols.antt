@@ -50,6 +50,6 @@ padding_map : (k : ℕ) → map standard_symbol (replicate k 61) ≡ replicate k
 padding_map zero = refl
 padding_map (suc k) = ap (λ (rest : List ℕ). 61 ∷ rest) (padding_map k)
 
--- The previous lemma also holds for a whole encoding with its padding.
+-- In an encoding with padding, replacing each symbol by its standard counterpart gives the encoding with the standard table.
 pub encode_map : (t m : List ℕ) (padding : Bool) → map standard_symbol (encode t 61 padding m) ≡ encode (map standard_symbol t) 61 padding m
 encode_map t m padding = grind (arith, common_steps, symbols_map, padding_map)

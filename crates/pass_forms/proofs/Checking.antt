@@ -31,9 +31,9 @@ no_third_party : (caveats : List (List ℕ)) → list_any is_third_party (map wi
 no_third_party [] = refl
 no_third_party (caveat ∷ caveats) = no_third_party caveats
 
--- ---- the computed reading is the one that the relation allows
+-- ---- `IsReadAs` allows the computed reading and no other
 
--- The computed wide pass is the only one that is encoded.
+-- The computed wide pass is the only one that `Spelled` allows.
 abbrev pub Computes : (WidePass → Type 0) → Option WidePass → Type 0
 Computes Spelled computed = (wide : WidePass) → Spelled wide ↔ (computed ≡ Some wide)
 
@@ -70,7 +70,7 @@ module _ (len : ℕ) (Spelled : WidePass → Type 0) where
   reading_determined computed (Err Memory) exact h = absurd h
   reading_determined computed answer exact h = rw (le-ltb max_text_len len h.0) (checked_determined computed answer exact h.0 h)
 
-  -- The relation allows exactly one result: the computed one.
+  -- `IsReadAs` allows exactly one result: the computed one.
   pub exactly : (computed : Option WidePass) → Computes Spelled computed → (answer : Result Plain FormFault) →
       IsReadAs len Spelled answer ↔ (reading_of len computed ≡ answer)
   exactly computed exact answer =

@@ -1,8 +1,8 @@
--- `into_pass` collects the fields of an open source into the pass that was read.
+-- `into_pass` collects the fields that were opened into the pass that was read.
 use Rattle.pass_forms.proofs.Common.{◌≡◌, ℕ, List, [], ◌∷◌, ◌++◌, map, Result, Ok, sym, ap, ◌∙◌, append_assoc, append-nil, FormFault, IsOpening, PassField}
 use Rattle.pass_forms.proofs.Common.{caveat_field, pass_fields, no_fields, opening_of, signature_field, with_fields, Plain, arith}
 
--- If a reading is correct, opening it is correct too.
+-- If the result of a reading is correct, the result of opening is correct too.
 pub opens : (Reads : Result Plain FormFault → Type 0) (reading : Result Plain FormFault) (answer : Result (List PassField) FormFault) → Reads reading →
     answer ≡ opening_of reading → IsOpening Reads answer
 opens Reads reading answer h e = grind arith

@@ -36,7 +36,7 @@ decoded_answer text (Some b) exact short brace = by_form (form_of b) refl
         none form other (inr is) = cc ((exact other).1 is.0, is.1, e)
     by_form (Some form) e = (short, inr ((exact b).0 refl, e))
 
--- The relation allows the computed result, `unwrapping text`.
+-- `IsUnwrapped` allows the result that `unwrapping` computes.
 pub unwrapped_answers : (text : List ℕ) → IsUnwrapped text (unwrapping text)
 unfolding unwrapping
 unwrapped_answers text = elim (cases_lt max_text_len (length text)) [
@@ -49,7 +49,7 @@ unwrapped_answers text = elim (cases_lt max_text_len (length text)) [
   ]
 ]
 
--- The relation allows at most one result for a text.
+-- `IsUnwrapped` allows at most one result for a text.
 one_answer : (text : List ℕ) (x y : Answer) → IsUnwrapped text x → IsUnwrapped text y → x ≡ y
 one_answer text (Ok (f, a)) (Ok (g, b)) left right =
     let same = wraps_one text f g a b left.1 right.1 in
@@ -60,11 +60,11 @@ one_answer text (Err TooLong) (Err TooLong) left right = refl
 one_answer text (Err Malformed) (Err Malformed) left right = refl
 one_answer text x y left right = first_of (search rules, omega arith)
 
--- The relation allows exactly one result for a text: `unwrapping text`.
+-- `IsUnwrapped` allows exactly one result for a text: the one that `unwrapping` computes.
 pub unwrapped_is : (text : List ℕ) (answer : Answer) → (unwrapping text ≡ answer) ↔ IsUnwrapped text answer
 unwrapped_is text answer =
     (λ e. subst (IsUnwrapped text) e (unwrapped_answers text), one_answer text (unwrapping text) answer (unwrapped_answers text))
 
--- The relation allows a result that equals `unwrapping text`.
+-- `IsUnwrapped` allows a result that equals the computed one.
 pub answers_as : (text : List ℕ) (answer : Answer) → answer ≡ unwrapping text → IsUnwrapped text answer
 answers_as text answer is = subst (IsUnwrapped text) (sym is) (unwrapped_answers text)

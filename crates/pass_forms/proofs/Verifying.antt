@@ -6,7 +6,7 @@ use Rattle.std.proofs.lemmas.Slice.Eq.{bytes_eq-Decides}
 use Rattle.pass_mac.specs.Hmac.{hmac}
 use Rattle.pass_forms.specs.FieldSource.{AreSignedBy}
 
--- Whether these fields end in the signature of the chain, extended by their caveats.
+-- True if the fields end in the signature of the chain after their caveats.
 abbrev pub signed_in : List ℕ → List PassField → Bool
 signed_in chain [] = false
 signed_in chain (location_field bytes ∷ fields) = false

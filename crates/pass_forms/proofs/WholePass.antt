@@ -29,7 +29,7 @@ whole_again header_at caveat_at footer_at bytes header caveats rest signature h 
 
 -- ---- the signature
 
--- The signature that was found is all of the last part.
+-- If a signature is found, it is all of the last part, and it has 32 bytes.
 pub last_takes : (found : Option (List ℕ × List ℕ)) (signature : List ℕ) → (found >>= last_signature) ≡ Some signature →
     (found ≡ Some (signature, [])) × (length signature ≡ 32)
 last_takes found signature e = grind (arith, common_steps, nat_tests)

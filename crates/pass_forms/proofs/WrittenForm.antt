@@ -22,7 +22,7 @@ module _ (f : BytesForm) (pass : Plain) where
 
   -- ---- the result, a text or a fault
 
-  -- The relation allows the computed result, which depends on two tests.
+  -- `IsWriting` allows the computed result, which depends on two tests.
   abbrev result_by : Bool → Bool → Result (List ℕ) FormFault
   result_by many long = cond many (Err TooMany) (cond long (Err TooLong) (Ok (in_base64 (f.bytes_of pass))))
 
@@ -36,7 +36,7 @@ module _ (f : BytesForm) (pass : Plain) where
     few = ltb-false _ _ m;
   }
 
-  -- The relation allows at most one result.
+  -- `IsWriting` allows at most one result for a pass.
   one_result : (one other : Result (List ℕ) FormFault) → IsWriting (IsTextIn f) pass one → IsWriting (IsTextIn f) pass other → one ≡ other
   one_result one other h k = grind arith
 

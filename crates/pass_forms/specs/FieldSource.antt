@@ -47,7 +47,7 @@ as_field (Identifier bytes) = identifier_field bytes.now
 as_field (Caveat bytes) = caveat_field bytes.now
 as_field (Signature bytes) = signature_field bytes
 
--- The fields begin with caveats and a signature. This signature is the chain's after these caveats (NDSS 2014).
+-- The fields begin with caveats and a signature. The signature is that of the chain after these caveats (NDSS 2014).
 pub record AreSignedBy (chain : List ℕ) (fields : List PassField) : Type 0 where
   pub caveats : List (List ℕ)
   pub rest : List PassField

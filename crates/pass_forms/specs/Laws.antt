@@ -6,7 +6,7 @@ use Rattle.pass_forms.specs.computed.{Envelope.{from_base64, unwrapping}, Pass.i
 use Rattle.pass_forms.specs.{computed.Writing.{writing_v1, writing_v2}, declared.{fault.FormFault.FormFault, form.Form.{Form, TheVariants.{V1, V2}}}}
 use Rattle.base64.specs.GeneralPurpose.{IsBytes}
 
--- If the computed wide pass is the only one that a text encodes, the relation allows exactly one result: the computed one.
+-- If the computed wide pass is the only one that a text encodes, `IsReadAs` allows exactly one result: the computed one.
 abbrev pub AnswersExactly : Type 0
 AnswersExactly = (len : ℕ) (computed : Option WidePass) (answer : Result Plain FormFault) →
     IsReadAs len (λ wide. computed ≡ Some wide) answer ↔ (reading_of len computed ≡ answer)
@@ -21,7 +21,7 @@ OnePassEach Spells = (bytes : List ℕ) (one other : WidePass) → Spells bytes 
 abbrev pub ComputesSpelled : (List ℕ → WidePass → Type 0) → (List ℕ → Option WidePass) → Type 0
 ComputesSpelled Spells wide_at = (bytes : List ℕ) (wide : WidePass) → Spells bytes wide ↔ (wide_at bytes ≡ Some wide)
 
--- The relation allows exactly one result for bytes: the computed reading.
+-- `IsReadAs` allows exactly one result for bytes: the computed reading.
 abbrev pub ReadsExactly : (List ℕ → WidePass → Type 0) → (List ℕ → Result Plain FormFault) → Type 0
 ReadsExactly Spells reading = (bytes : List ℕ) (answer : Result Plain FormFault) →
     IsReadAs (length bytes) (Spells bytes) answer ↔ (reading bytes ≡ answer)
@@ -43,11 +43,11 @@ WrapsBytes = (text : List ℕ) (form : Form) (bytes : List ℕ)
 abbrev pub FromBase64IsBase64 : Type 0
 FromBase64IsBase64 = (text bytes : List ℕ) → (from_base64 text ≡ Some bytes) ↔ IsBase64 text bytes
 
--- The relation `IsUnwrapped` allows exactly one result for a text: `unwrapping text`.
+-- `IsUnwrapped` allows exactly one result for a text: the one that `unwrapping` computes.
 abbrev pub UnwrappedIsTheAnswer : Type 0
 UnwrappedIsTheAnswer = (text : List ℕ) (answer : Result (Form × List ℕ) FormFault) → (unwrapping text ≡ answer) ↔ IsUnwrapped text answer
 
--- The relation allows exactly one result for a text: the computed reading.
+-- `IsTextReading` allows exactly one result for a text: the computed reading.
 abbrev pub ReadsTextsExactly : Type 0
 ReadsTextsExactly = (wide_at : Form → List ℕ → Option WidePass) (text : List ℕ) (answer : Result (Form × Plain) FormFault) →
     IsTextReading (λ form bytes wide. wide_at form bytes ≡ Some wide) text answer ↔ (text_reading wide_at text ≡ answer)
@@ -60,7 +60,7 @@ TextsReadBack = (pass : Plain) (text : List ℕ) → HasBytes pass →
     (IsWritableText IsV1Text pass text → IsReadBack SpellsV1 V1 (v1_bytes pass) pass text)
     × (IsWritableText IsV2Text pass text → IsReadBack SpellsV2 V2 (v2_bytes pass) pass text)
 
--- For a pass with a signature of 32 bytes, the relation allows exactly one result of writing: the computed one.
+-- For a pass with a signature of 32 bytes, `IsWriting` allows exactly one result: the computed one.
 abbrev pub WritesExactly : Type 0
 WritesExactly = (pass : Plain) (answer : Result (List ℕ) FormFault) → length pass.signature ≡ 32 →
     ((writing_v1 pass ≡ answer) ↔ IsWriting IsV1Text pass answer) × ((writing_v2 pass ≡ answer) ↔ IsWriting IsV2Text pass answer)

@@ -27,7 +27,7 @@ is_third_party caveat = is_some caveat.verifier_id || is_some caveat.location
 abbrev pub has_third_party : WidePass → Bool
 has_third_party wide = list_any is_third_party wide.caveats
 
--- A first-party caveat as a caveat of a wide pass.
+-- Converts a first-party caveat to a caveat of a wide pass.
 abbrev pub widened_caveat : List ℕ → WideCaveat
 widened_caveat identifier = record { identifier = identifier; verifier_id = None; location = None }
 
@@ -39,7 +39,7 @@ as_wide_pass pass = record {
   signature = pass.signature;
 }
 
--- A caveat without its verifier id and location.
+-- Converts a caveat of a wide pass to a first-party caveat, which is only its identifier.
 abbrev pub first_party_caveat : WideCaveat → List ℕ
 first_party_caveat caveat = caveat.identifier
 

@@ -2,7 +2,7 @@
 use Rattle.std.specs.Prelude.{◌≡◌, ℕ, ◌<◌, List, ◌++◌, length, Result, Ok, Err}
 use Rattle.pass_forms.specs.declared.fault.FormFault.{FormFault, TheVariants.TooLong}
 
--- The most bytes that base64 text of 8,192 characters can encode.
+-- The maximum number of bytes that base64 text of 8,192 characters can encode.
 abbrev pub buffer_len : ℕ
 buffer_len = 6144
 

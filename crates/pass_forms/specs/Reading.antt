@@ -3,16 +3,16 @@ use Rattle.std.specs.Prelude.{◌≡◌, ℕ, ◌<◌, ◌≤◌, true, false, l
 use Rattle.pass_forms.specs.{Pass.{Plain, WidePass, has_third_party, as_wide_pass}, declared.fault.FormFault.FormFault}
 use Rattle.pass_forms.specs.declared.fault.FormFault.TheVariants.{TooLong, Malformed, ThirdParty, TooMany, Memory}
 
--- The most bytes of a pass's text.
+-- The maximum length of a pass text, in bytes.
 abbrev pub max_text_len : ℕ
 max_text_len = 8192
 
--- The most caveats of a pass.
+-- The maximum number of caveats in a pass.
 abbrev pub max_caveats : ℕ
 max_caveats = 64
 
--- The result of reading a text of length `len`. `Spelled` tells which wide passes the text encodes. The result is the first fault that applies, in the order
--- too long, malformed, third-party, too many caveats; else the pass.
+-- The result of reading a text of length `len`. `Spelled` tells which wide passes the text encodes. The result is the pass, or the first fault that applies, in
+-- this order: too long, malformed, third-party, too many caveats.
 abbrev pub IsReadAs : ℕ → (WidePass → Type 0) → Result Plain FormFault → Type 0
 IsReadAs len Spelled (Err TooLong) = max_text_len < len
 IsReadAs len Spelled (Err Malformed) = (len ≤ max_text_len) × ((wide : WidePass) → ¬ Spelled wide)

@@ -9,7 +9,7 @@ unfoldable pub groups : ℕ → ℕ → List ℕ
 groups zero n = n ∷ []
 groups (suc more) n = if nat_lt n 128 then n ∷ [] else (128 + n % 128) ∷ groups more (n / 128)
 
--- The varint of a number. The number itself is a large enough limit on the bytes.
+-- The varint of a number. `groups` needs a limit, and `n` is large enough.
 unfoldable pub varint : ℕ → List ℕ
 varint n = groups n n
 
@@ -30,7 +30,7 @@ optional_field type (Some bytes) = field type bytes
 abbrev pub end_of_section : List ℕ
 end_of_section = 0 ∷ []
 
--- The section of a caveat: its identifier. A third-party caveat also has a location before it and a verifier id after it.
+-- The section of a caveat: its identifier. A third-party caveat may have a location before it and a verifier id after it.
 abbrev pub caveat_section : WideCaveat → List ℕ
 caveat_section caveat =
     optional_field types.location caveat.location ++ (field types.identifier caveat.identifier

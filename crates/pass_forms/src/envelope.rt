@@ -15,10 +15,10 @@ use base64::engine::general_purpose::{
 };
 use std::alloc::{AllocError, Global};
 
-/// The most bytes of a pass text.
+/// The maximum length of a pass text, in bytes.
 pub const MAX_TEXT: usize = 8192;
 
-/// The most bytes that base64 text of `MAX_TEXT` characters can encode.
+/// The maximum number of bytes that base64 text of `MAX_TEXT` characters can encode.
 pub const MAX_BYTES: usize = 6144;
 
 /// The form of a pass's bytes, and where the bytes are. If `plain` is true, they are the whole

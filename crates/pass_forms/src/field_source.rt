@@ -3,7 +3,7 @@
 /// One field of a pass. Its bytes are a slice of the input.
 #[derive(Clone, Copy, Debug, Drop, PartialEq, Eq)]
 pub enum Field<'a> {
-    /// A hint at where the pass is valid; it may be empty.
+    /// A hint about where the pass is valid. It may be empty.
     Location(&'a [u8]),
     /// The identifier of the pass. It names the root that the pass was signed under.
     Identifier(&'a [u8]),

@@ -1,6 +1,6 @@
 //! The forms of a pass text.
 
-/// The forms in which a pass is written.
+/// The forms that a pass text can have.
 #[derive(Clone, Copy, Debug, PartialEq, Eq)]
 pub enum Form {
     /// Packets, in base64.

@@ -18,12 +18,12 @@ pub fn wraps_bytes()
     ensures { WrapsBytes }
 {}
 
-/// The function `from_base64` computes the relation `IsBase64`.
+/// The function `from_base64` returns bytes if and only if `IsBase64` holds for them.
 pub fn from_base64_is_base64()
     ensures { FromBase64IsBase64 }
 {}
 
-/// The function `unwrapping` computes the relation `IsUnwrapped`, in every case.
+/// The function `unwrapping` returns the only result that `IsUnwrapped` allows.
 #[tactic(auto, using(crate::proofs::EnvelopeLaws::unwrapped_is))]
 pub fn unwrapped_is_the_answer()
     ensures { UnwrappedIsTheAnswer }
@@ -39,7 +39,7 @@ pub fn computes_v1()
     ensures { ComputesSpelled SpellsV1 v1.wide_at }
 {}
 
-/// The relation allows exactly one result for bytes in V1: the computed one.
+/// `IsReadAs` allows exactly one result for bytes in V1: the computed one.
 #[tactic(auto, using(crate::proofs::WholeV1::reads_v1))]
 pub fn reads_v1_exactly()
     ensures { ReadsExactly SpellsV1 v1.reading_v1 }
@@ -55,27 +55,26 @@ pub fn computes_v2()
     ensures { ComputesSpelled SpellsV2 v2.wide_at }
 {}
 
-/// The relation allows exactly one result for bytes in V2: the computed one.
+/// `IsReadAs` allows exactly one result for bytes in V2: the computed one.
 #[tactic(auto, using(crate::proofs::WholeV2::reads_v2))]
 pub fn reads_v2_exactly()
     ensures { ReadsExactly SpellsV2 v2.reading_v2 }
 {}
 
-/// In any form whose pass is computed from the bytes, the relation allows exactly one result.
+/// In any form whose pass is computed from the bytes, `IsReadAs` allows exactly one result.
 #[tactic(auto, using(crate::proofs::Checking::exactly))]
 pub fn answers_exactly()
     ensures { AnswersExactly }
 {}
 
-/// The relation allows exactly one result for a text: the computed one. The encoding of each form
-/// is a parameter.
+/// `IsTextReading` allows exactly one result for a text: the computed one. The encoding of each
+/// form is a parameter.
 #[tactic(auto, using(crate::proofs::TextExact::text_reading_exact))]
 pub fn reads_texts_exactly()
     ensures { ReadsTextsExactly }
 {}
 
-/// The relation allows exactly one result of writing a pass in V1 or V2: the computed text or
-/// fault.
+/// `IsWriting` allows exactly one result for a pass in V1 or V2: the computed text or fault.
 #[tactic(auto, using(crate::proofs::WrittenV1::exact_v1, crate::proofs::WrittenV2::exact_v2))]
 pub fn writes_exactly()
     ensures { WritesExactly }
@@ -92,7 +91,7 @@ pub fn narrowed_stays_signed()
     ensures { NarrowedStaysSigned }
 {}
 
-/// The function `is_signed` decides whether a pass is signed under a root.
+/// The function `is_signed` returns whether a pass is signed under a root.
 #[tactic(auto, unfolding(crate::specs::computed::Pass::is_signed))]
 pub fn decides_signed()
     ensures { DecidesSigned }

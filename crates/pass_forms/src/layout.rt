@@ -103,7 +103,7 @@ pub trait Layout: Copy {
     fn footer(bytes: &[u8]) -> Option<[u8; 32]>
         ensures { result ≡ footer_at bytes.now };
 
-    /// A law: the relation allows exactly one result for bytes, the one computed from these parts.
+    /// A law: `IsReadAs` allows exactly one result for bytes, the one computed from these parts.
     fn reads_exactly()
         ensures spelling { ReadsExactly Spells reading }
         ensures computed { (bytes : List ℕ) → reading bytes

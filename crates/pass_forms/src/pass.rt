@@ -1,4 +1,4 @@
-//! A pass in memory: minted, narrowed, and checked against a root.
+//! Passes in memory. They can be minted, narrowed, and checked against a root.
 
 ghost use Rattle.std.specs.Prelude.{◌≡◌, ◌↔◌, ◌≤◌, ℕ, List, Err, IfErr, OnErr, OnOk, length, map};
 ghost use Rattle.pass_mac.specs.Chain.{chain, derived_key};
@@ -11,7 +11,7 @@ use pass_mac::Chain;
 use std::alloc::{AllocError, Global};
 use std::marker::Model;
 
-/// The most caveats of a pass.
+/// The maximum number of caveats in a pass.
 pub const MAX_CAVEATS: usize = 64;
 
 /// A macaroon of first-party caveats. Contracts see it as the record `Plain` of its four values.
@@ -79,7 +79,7 @@ impl Pass {
         }
     }
 
-    /// Makes a pass with these two fields and no caveats. A root of any length signs it.
+    /// Makes a pass with these two fields and no caveats, and signs it under a root of any length.
     ///
     /// # Errors
     ///

@@ -1,4 +1,4 @@
-//! The reader of V1, libmacaroons' packets.
+//! Reads V1, libmacaroons' packets.
 
 ghost use Rattle.std.specs.Prelude.{◌≡◌, length, option_map, is_some};
 ghost use Rattle.pass_forms.specs.{Reading.{IsReadAs, OrOutOfMemory}, V1.SpellsV1};

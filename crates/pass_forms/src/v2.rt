@@ -1,4 +1,4 @@
-//! The reader of V2, libmacaroons' binary form.
+//! Reads V2, libmacaroons' binary form.
 
 ghost use Rattle.std.specs.Prelude.{◌≡◌, ◌≤◌, IfSome, length, option_map, is_some};
 ghost use Rattle.pass_forms.specs.{Reading.{IsReadAs, OrOutOfMemory}, V2.SpellsV2};
