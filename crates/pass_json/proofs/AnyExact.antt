@@ -8,7 +8,7 @@ use Rattle.pass_forms.specs.computed.V2Reading as v2
 abbrev Relation : Type 1
 Relation = Form → List ℕ → WidePass → Type 0
 
--- If one relation implies another for bytes, it also does for texts.
+-- If an encoding of bytes implies another one, the same implication holds for texts with these bytes.
 same_in : (One Other : Relation) → ((form : Form) (bytes : List ℕ) (wide : WidePass) → One form bytes wide → Other form bytes wide)
     → (text : List ℕ) (form : Form) (wide : WidePass) → SpellsText One text form wide → SpellsText Other text form wide
 same_in One Other to text form wide h = (h.0, h.1, to form h.0 wide h.2)

@@ -12,7 +12,7 @@ use Rattle.json.specs.Tree as tree
 use Rattle.json.proofs.Printed.Utf8.{IsUtf8-are_ascii}
 use Rattle.serde_json.proofs.OnLiterals.{serde_json_on_literals}
 
--- True if the text is under the plain name, and the text itself.
+-- A text, and whether it is under the plain name or (if false) under the `64` name.
 abbrev pub FieldText : Type 0
 FieldText = Bool × List ℕ
 
@@ -69,7 +69,7 @@ caveat_is bytes = ap object (put_is (codes "i") (codes "i64") bytes no_members �
 location_is : (location : List ℕ) → with_location location no_members ≡ located (location_text location) no_members
 location_is location = grind (arith, put_is, put_first)
 
--- The object with its version, signature and caveats, and with the other members.
+-- The object of a pass: its version, signature and caveats are added to the other members.
 with_others : Items → List ℕ → Members → Data
 with_others caveats signature members =
     object (put (codes "v") (number (unsigned 2)) (put (codes "s64") (string signature) (put (codes "c") (array caveats) members)))
@@ -115,7 +115,7 @@ object_reads pass =
 
 -- ---- the numbers, depth, floats and texts of the object
 
--- The conditions for a value to be read back after it is written: valid JSON numbers, a limited depth, no floats, and texts in UTF-8.
+-- The conditions under which a written value is read back: valid JSON numbers, a limited depth, no floats, and texts in UTF-8.
 pub record IsFine (Numbers : Type 0) (depth most : ℕ) (float : Bool) (Texts : Type 0) : Type 0 where
   pub numbers : Numbers
   pub shallow : depth ≤ most

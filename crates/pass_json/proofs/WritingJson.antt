@@ -12,7 +12,7 @@ answer_by many long text = cond many (Err TooMany) (cond long (Err TooLong) (Ok 
 
 -- ---- the result, a text or a fault
 
--- The relation allows the computed result, which depends on two tests.
+-- `IsWriting` allows the computed result, which depends on two tests.
 allowed_by : FromBase64IsBase64 → (pass : Plain) (many long : Bool) → HasBytes pass → length pass.signature ≡ 32
     → ltb max_caveats (length pass.caveats) ≡ many → ltb max_text_len (length (json_text pass)) ≡ long
     → IsWriting IsJsonText pass (answer_by many long (json_text pass))

@@ -19,7 +19,7 @@ abbrev pub IsReadingInForm : Form → List ℕ → Result (Form × Plain) FormFa
 IsReadingInForm form bytes (Ok read) = (read.0 ≡ form) × IsReadAs (length bytes) (SpellsForm form bytes) (Ok read.1)
 IsReadingInForm form bytes (Err fault) = IsReadAs (length bytes) (SpellsForm form bytes) (Err fault)
 
--- The texts for which reading may run out of memory: any JSON text within the limit, and a V1 or V2 text that passed all checks.
+-- Reading may run out of memory for any JSON text within the limit, and for a V1 or V2 text that passed all checks.
 abbrev pub MayRunOut : List ℕ → Type 0
 MayRunOut text =
     ((read : Form × Plain) × IsAnyReading text (Ok read)) ⊎ ((bytes : List ℕ) × IsUnwrapped text (Ok (Json, bytes)))

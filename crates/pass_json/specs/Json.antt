@@ -1,5 +1,5 @@
 -- The JSON spelling of a pass: one object, in the style of libmacaroons' V2 JSON. Two choices are
--- ours: which names may be left out, and that a `64` name takes both alphabets of base64.
+-- ours. Some names may be left out, and a `64` name takes both alphabets of base64.
 use Rattle.std.specs.Prelude.{◌≡◌, ◌⊎◌, ℕ, List, [], ◌∷◌, codes, length, Option, None, Some, unwrap_or, IsSome, IsUtf8, Contains}
 use Rattle.serde_json.specs.{Data.{Data, number, string, array, unsigned, Items, no_items, item}, Find.get, Read.read}
 use Rattle.pass_forms.specs.{Envelope.IsBase64, Pass.{WideCaveat, WidePass}}

@@ -51,7 +51,7 @@ IsRefusedJson pass Malformed = IsWriteFault IsJsonText pass Malformed
 IsRefusedJson pass ThirdParty = IsWriteFault IsJsonText pass ThirdParty
 IsRefusedJson pass TooMany = IsWriteFault IsJsonText pass TooMany
 
--- The fault that a writer may return for this computed result: the same fault, or `Memory` in place of a text or of `TooLong`.
+-- The fault that a writer may return for this computed result: the same fault, or `Memory` in place of a text or of the fault `TooLong`.
 abbrev pub MayFailAs : Result (List ℕ) FormFault → FormFault → Type 0
 MayFailAs writing Memory = ¬ (writing ≡ Err TooMany)
 MayFailAs writing TooLong = writing ≡ Err TooLong

@@ -10,12 +10,12 @@ use Rattle.base64.specs.GeneralPurpose.{IsBytes}
 abbrev pub JsonReadsBack : Type 0
 JsonReadsBack = (pass : Plain) (text : List ℕ) → IsWritableText IsJsonText pass text → IsReadBack SpellsJson Json text pass text
 
--- For a pass of bytes with a signature of 32 bytes, the relation allows exactly one result of writing: the computed one.
+-- For a pass of bytes with a signature of 32 bytes, `IsWriting` allows exactly one result: the computed one.
 abbrev pub WritesJsonExactly : Type 0
 WritesJsonExactly = (pass : Plain) (answer : Result (List ℕ) FormFault) → HasBytes pass → length pass.signature ≡ 32 →
     (writing_json pass ≡ answer) ↔ IsWriting IsJsonText pass answer
 
--- If a text wraps bytes within the limit of texts, the reading of the text is the reading of these bytes in their form.
+-- If a text wraps bytes within the limit of texts, reading the text gives the same result as reading these bytes in their form.
 abbrev pub ReadsWhatIsWrapped : Type 0
 ReadsWhatIsWrapped = (text bytes : List ℕ) (form : Form) (answer : Result (Form × Plain) FormFault)
     → IsUnwrapped text (Ok (form, bytes)) → length bytes ≤ max_text_len
@@ -25,7 +25,7 @@ ReadsWhatIsWrapped = (text bytes : List ℕ) (form : Form) (answer : Result (For
 abbrev pub RefusesWhatWrapsNothing : Type 0
 RefusesWhatWrapsNothing = (text : List ℕ) (fault : FormFault) → IsUnwrapped text (Err fault) → IsAnyReading text (Err fault)
 
--- The relation allows exactly one result for a text in any form: the computed one.
+-- `IsAnyReading` allows exactly one result for a text: the computed one.
 abbrev pub ReadsAnyFormExactly : Type 0
 ReadsAnyFormExactly = (text : List ℕ) (answer : Result (Form × Plain) FormFault) →
     IsBytes text → IsAnyReading text answer ↔ (reading text ≡ answer)
@@ -39,8 +39,8 @@ abbrev pub AnyFormReadsBack : Type 0
 AnyFormReadsBack = (form : Form) (pass : Plain) (text : List ℕ) → HasBytes pass →
     IsWritableText (IsTextIn form) pass text → IsAnyReading text (Ok (form, pass))
 
--- For a pass of bytes with a signature of 32 bytes, the relation allows exactly one result of
--- writing in any form: the computed one.
+-- For a pass of bytes with a signature of 32 bytes, `IsWriting` allows exactly one result in any
+-- form: the computed one.
 abbrev pub WritesAnyFormExactly : Type 0
 WritesAnyFormExactly = (form : Form) (pass : Plain) (answer : Result (List ℕ) FormFault) → HasBytes pass → length pass.signature ≡ 32 →
     (writing form pass ≡ answer) ↔ IsWriting (IsTextIn form) pass answer

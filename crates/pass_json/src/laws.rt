@@ -27,7 +27,7 @@ pub fn computes_json()
     from_base64_is_base64();
 }
 
-/// The relation allows exactly one result for bytes in JSON: the computed one.
+/// `IsReadAs` allows exactly one result for bytes in JSON: the computed one.
 #[tactic(auto, using(crate::proofs::JsonExact::reading_json_exact))]
 pub fn reads_json_exactly()
     ensures { ReadsExactly SpellsJson reading_json }
@@ -36,7 +36,7 @@ pub fn reads_json_exactly()
     answers_exactly();
 }
 
-/// The relation allows exactly one result for a text in any form: the computed one.
+/// `IsAnyReading` allows exactly one result for a text in any form: the computed one.
 #[tactic(auto, using(crate::proofs::AnyExact::reading_exact))]
 pub fn reads_any_form_exactly()
     ensures { ReadsAnyFormExactly }
@@ -47,7 +47,7 @@ pub fn reads_any_form_exactly()
     reads_texts_exactly();
 }
 
-/// The reading of a text is the reading of the bytes that it wraps, in their form.
+/// Reading a text gives the same result as reading the bytes that it wraps, in their form.
 #[tactic(auto, using(crate::proofs::Wrapped::reads_wrapped))]
 pub fn reads_what_is_wrapped()
     ensures { ReadsWhatIsWrapped }
@@ -66,7 +66,7 @@ pub fn json_reads_back()
     ensures { JsonReadsBack }
 {}
 
-/// The relation allows exactly one result of writing a pass in JSON: the computed text or fault.
+/// `IsWriting` allows exactly one result for a pass in JSON: the computed text or fault.
 #[tactic(auto, using(crate::proofs::WritingJson::exact_json))]
 pub fn writes_json_exactly()
     ensures { WritesJsonExactly }
@@ -89,8 +89,7 @@ pub fn any_form_reads_back()
     json_reads_back();
 }
 
-/// The relation allows exactly one result of writing a pass in any form: the computed text or
-/// fault.
+/// `IsWriting` allows exactly one result for a pass in any form: the computed text or fault.
 #[tactic(auto, using(crate::proofs::InEachForm::exact_in_any_form))]
 pub fn writes_any_form_exactly()
     ensures { WritesAnyFormExactly }

@@ -16,7 +16,7 @@ const PASS_NAMES: [&str; 8] = ["v", "l", "l64", "i", "i64", "c", "s", "s64"];
 
 const CAVEAT_NAMES: [&str; 6] = ["i", "i64", "l", "l64", "v", "v64"];
 
-/// The pass of an object, and whether it has a third-party caveat. The pass alone can't tell that.
+/// The pass of an object. Only `third_party` tells whether there was a third-party caveat.
 #[derive(Drop)]
 pub struct Read {
     pub pass: Pass,
