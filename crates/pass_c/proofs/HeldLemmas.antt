@@ -28,7 +28,7 @@ started location identifier bytes low =
       part_in (length location) identifier first len,
     )
 
--- The object's bytes after a caveat was written behind all other fields.
+-- The object's bytes after a caveat was written after all other fields.
 pub pushed : (ll il : ℕ) (lens part bytes : List ℕ) → ll + (il + sum lens) + length part ≤ length bytes
     → (take ll (written (ll + (il + sum lens)) part bytes) ≡ take ll bytes)
     × ((take il (drop ll (written (ll + (il + sum lens)) part bytes)) ≡ take il (drop ll bytes))

@@ -1,4 +1,4 @@
--- The library's parser reads each text as the caveat that the definition gives it.
+-- The texts are understood as the caveats that the library's parser returns for them.
 use Rattle.std.proofs.Common.{◌≡◌, ℕ, List, [], ◌∷◌, map, Option, None, Some, refl, arith}
 use Rattle.club_values.specs.Reading.{Reads}
 use Rattle.pass_caveats.specs.{Caveat.Understood, Fault.AreUnderstoodAs, Laws.ReadsWhatIsUnderstood, computed.CaveatOf.caveat_of, declared.caveat.Caveat.Caveat}

@@ -26,7 +26,7 @@ abbrev pub filled : Result (Unit {0}) FormFault → PassObject → Result (Form 
 filled (Ok done) object = Ok (form_in object, held object)
 filled (Err fault) object = Err fault
 
--- The most bytes of an object's location, identifier and caveats together.
+-- The maximum number of bytes of an object's location, identifier and caveats together.
 abbrev pub room : ℕ
 room = 8192
 

@@ -9,7 +9,7 @@ use pass_json::{read_any, write_any};
 use pass_mac::{Chain, same};
 use std::alloc::{AllocError, Global};
 
-/// The most bytes of a pass's location, identifier and caveats together.
+/// The maximum number of bytes of a pass's location, identifier and caveats together.
 pub const ROOM: usize = 8192;
 
 /// A pass as an object of plain data. C code can store, copy and drop it without a call. Contracts
