@@ -7,7 +7,7 @@ pub fn grows_by_one_hmac()
     ensures { GrowsByOneHmac }
 {}
 
-/// Adding caveats to a signature gives the same result as computing the chain of all caveats.
+/// Adding caveats to a signature gives the same signature as a chain of all caveats.
 pub fn narrows_without_the_key()
     ensures { NarrowsWithoutTheKey }
 {}
