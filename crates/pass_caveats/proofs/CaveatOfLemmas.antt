@@ -1,4 +1,4 @@
--- The computing functions agree with the definitions.
+-- The functions in `CaveatOf` compute what the definitions state.
 use Rattle.pass_caveats.proofs.{CandidateLemmas.candidate-caveat_text, Common.{◌≡◌, ◌↔◌, ℕ, ◌+◌, Bool, true, false, List, [], ◌∷◌, ◌++◌, length, map, ◌⊎◌}}
 use Rattle.pass_caveats.proofs.Common.{Option, Some, None, inl, inr, refl, sym, subst, ◌∙◌, arith, add-zero, option_or, All-head, All-tail, All-push, All-nil}
 use Rattle.pass_caveats.proofs.Common.{All-cons, append-nil, Caveat, Ask, CaveatFault, Understood, permits, candidate, spells, caveat_of, first_fault_from}
@@ -22,7 +22,7 @@ pub caveat_of-unknown : (text : List ℕ) → IsUnknown text → caveat_of text 
 unfolding caveat_of
 caveat_of-unknown text h = grind (arith, Decides-spells, h (candidate text))
 
--- A result that the definition of a parser allows equals the result of `caveat_of`.
+-- If a parser's result is correct, it equals the result of `caveat_of`.
 pub reads_caveat_of : (text : List ℕ) (r : Option Caveat) → Reads (Understood text) r → r ≡ caveat_of text
 reads_caveat_of text (Some caveat) h = sym (caveat_of-understood text caveat h)
 reads_caveat_of text None h = sym (caveat_of-unknown text h)
@@ -55,7 +55,7 @@ is_first_fault texts ask (Some (Denied n)) h =
     let denied = false_from_ne_true (permits h.fault.0 ask) (λ e. h.fault.2 ((Decides-permits h.fault.0 ask).0 e)) in
     sym (rw h.place (passed 1 h.front (h.text ∷ h.rest) ask h.before ∙ rw (caveat_of-understood h.text h.fault.0 h.fault.1, denied, number) refl))
 
--- The caveats that texts are understood as are those that `caveat_of` returns for them.
+-- `caveat_of` returns the caveat that each text is understood as.
 pub all_caveats_of : (texts : List (List ℕ)) (caveats : List (Option Caveat)) → AreUnderstoodAs texts caveats → caveats ≡ map caveat_of texts
 all_caveats_of [] [] h = refl
 all_caveats_of (text ∷ texts) (caveat ∷ caveats) h = grind (arith, reads_caveat_of, all_caveats_of texts caveats h.1)
@@ -98,7 +98,7 @@ first_fault_of-is_first texts ask =
     let P : Option CaveatFault → Type 0 = λ r. IsFirstFault texts ask r in
     subst P (is_first_fault texts ask found.0 found.1) found.1
 
--- The first fault of a list with one more caveat is the list's first fault, or else the last caveat's.
+-- With one more caveat, the first fault is the one of the earlier caveats, or else the one of the last caveat.
 pub fault_of_one_more : (n : ℕ) (caveats : List (Option Caveat)) (caveat : Option Caveat) (ask : Ask) →
     first_fault_from n (caveats ++ caveat ∷ []) ask ≡ option_or (first_fault_from n caveats ask) (first_fault_from (n + length caveats) (caveat ∷ []) ask)
 fault_of_one_more n [] caveat ask = grind arith

@@ -7,7 +7,7 @@ use Rattle.pass_caveats.proofs.PartLemmas.{HasNoComma, all_left, parts_of-joined
 use Rattle.std.proofs.lemmas.Bool.{cond_both}
 use Rattle.std.specs.Str.{bytes_eq}
 
--- The words with a flag that is set.
+-- The words that have the flag true.
 abbrev chosen : List Bool → List (List ℕ) → List (List ℕ)
 chosen [] words = []
 chosen (flag ∷ flags) [] = []

@@ -77,7 +77,7 @@ days_fall text rest front back last a b e front_is back_is dots s t lt x h =
     let same_second = day_text_injective b x.1 [] [] t.within h.real.1 (ap (λ (d : List ℕ). d ++ []) second) in
     absurd (omega (arith, h.real.2))
 
--- If a text is no line of any kind, it isn't a caveat.
+-- A text that matches no kind of line isn't the line of any caveat.
 pub no_line : (text : List ℕ) → ((x : List (List ℕ)) → SpellsCaveat text (Facility x) → ⊥) → ((x : AKind) → SpellsCaveat text (Kind x) → ⊥) →
     ((x : ℕ × ℕ) → SpellsCaveat text (Hours x.0 x.1) → ⊥) → ((x : ℕ × ℕ) → SpellsCaveat text (Days x.0 x.1) → ⊥)
     → ((x : SomeWeekdays) → SpellsCaveat text (Weekdays x) → ⊥) →

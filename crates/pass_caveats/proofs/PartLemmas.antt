@@ -69,7 +69,7 @@ parts_of-no_comma text none = grind (arith, nat_tests, common_steps, slice_split
 pub tail_is : (text : List ℕ) (i : ℕ) → take (length text - (i + 1)) (drop (i + 1) text) ≡ drop (i + 1) text
 tail_is text i = grind (arith, common_steps)
 
--- A step removes the word from the front of the parts, or no part.
+-- A step removes the word from the front of the parts, or removes nothing.
 pub skip_takes : (word : List ℕ) (parts left : List (List ℕ)) (b : Bool) → Skips word parts b left → parts ≡ cond b (word ∷ left) left
 skip_takes word parts left b s = grind arith
 

@@ -65,7 +65,7 @@ limited : (owed spent n : ℕ) → (owed == 0 || nat_le (0 + owed) n) ≡ true
     × (IsWithin (cond (owed == 0) None (Some (n - owed))) spent → (owed == 0 || nat_le (spent + owed) n) ≡ true)
 limited owed spent n h = grind (arith, nat_tests)
 
--- If a caveat allows a request with nothing spent, it allows the request after spending some amount if and only if the slack covers the amount.
+-- If a caveat allows a request with nothing spent, it allows the request if and only if the amount spent is within its slack.
 pub permits_within : (caveat : Caveat) (ask : Ask) (spent : ℕ) → permits caveat (after_spending 0 ask) ≡ true
     → (permits caveat (after_spending spent ask) ≡ true → IsWithin (slack_under caveat ask) spent)
     × (IsWithin (slack_under caveat ask) spent → permits caveat (after_spending spent ask) ≡ true)
@@ -80,7 +80,7 @@ module _ (text : List ℕ) (n : ℕ) (ask : Ask) (caveat : Caveat) (understood :
   pub holds_denied : permits caveat (after_spending 0 ask) ≡ false → HoldsWithin text n ask (Some (Denied n)) None
   holds_denied denies = grind (arith, never)
 
-  -- If a caveat allows a request with nothing spent, it has no fault for any amount within its slack, and a fault for all others.
+  -- If a caveat allows a request with nothing spent, it has no fault if and only if the amount spent is within its slack.
   pub holds_allowed : permits caveat (after_spending 0 ask) ≡ true → HoldsWithin text n ask None (slack_under caveat ask)
   holds_allowed allows = record {
     within = λ spent h.

@@ -3,7 +3,7 @@ use Rattle.std.specs.Prelude.{◌≡◌, ◌≢◌, ℕ, Bool, List, [], ◌∷�
 use Rattle.club_values.specs.{Action.action_text, declared.action.Action.{Action, TheVariants.{View, Book, Cancel, Account}}}
 use Rattle.pass_caveats.specs.{Parts.comma_list, declared.actions.Actions.Actions}
 
--- All actions, in the order that a caveat must list them (ours).
+-- All actions, in the order in which a caveat must list them (ours).
 abbrev pub all_actions : List Action
 all_actions = View ∷ Book ∷ Cancel ∷ Account ∷ []
 

@@ -53,7 +53,7 @@ pub record SpellsCaveat (text : List ℕ) (caveat : Caveat) : Type 0 where
   pub real : IsCaveat caveat
   pub spelling : text ≡ caveat_text caveat
 
--- The most bytes that a caveat may have (ours).
+-- The maximum length of a caveat, in bytes (ours).
 abbrev pub max_caveat_len : ℕ
 max_caveat_len = 256
 

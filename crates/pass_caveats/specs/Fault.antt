@@ -20,7 +20,7 @@ IsUnknown text = (caveat : Caveat) → ¬ (Understood text caveat)
 abbrev pub Denies : List ℕ → Ask → Type 0
 Denies text ask = (caveat : Caveat) × Understood text caveat × (¬ (Permits caveat ask))
 
--- Text number `n`, counted from 1, is the first one that doesn't allow the request. `Fault` is true of it.
+-- Text number `n`, counted from 1, is the first one that doesn't allow the request. `Fault` holds for this text.
 pub record IsFirstAt (texts : List (List ℕ)) (ask : Ask) (n : ℕ) (Fault : List ℕ → Type 0) : Type 0 where
   pub front : List (List ℕ)
   pub text : List ℕ
@@ -42,7 +42,7 @@ IsFirstFault texts ask None = Allowed texts ask
 IsFirstFault texts ask (Some (NotUnderstood n)) = IsFirstAt texts ask n IsUnknown
 IsFirstFault texts ask (Some (Denied n)) = IsFirstAt texts ask n (λ text. Denies text ask)
 
--- These are the caveats that the texts are understood as. A text that isn't understood has `None`.
+-- The caveats that the texts are understood as, or `None` for each text that isn't understood.
 abbrev pub AreUnderstoodAs : List (List ℕ) → List (Option Caveat) → Type 0
 AreUnderstoodAs texts caveats = AllZip (λ (text : List ℕ) (caveat : Option Caveat). Reads (Understood text) caveat) texts caveats
 

@@ -2,7 +2,7 @@
 use Rattle.std.specs.Prelude.{ℕ, ◌<◌, ◌≤◌, List, length, All}
 use Rattle.club_values.specs.Name.{IsName}
 
--- The most names in a list (ours).
+-- The maximum number of names in a list (ours).
 abbrev pub max_names : ℕ
 max_names = 8
 

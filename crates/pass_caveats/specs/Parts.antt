@@ -14,7 +14,7 @@ abbrev pub parts_left : Option (List ℕ) → List (List ℕ)
 parts_left None = []
 parts_left (Some text) = comma_parts text
 
--- With `true`, the word was the first part, and the other parts remain. With `false`, it wasn't, and all parts remain.
+-- With `true`, the word was the first part, and the other parts remain. With `false`, the word wasn't the first part, and all parts remain.
 abbrev pub Skips : List ℕ → List (List ℕ) → Bool → List (List ℕ) → Type 0
 Skips word parts true left = parts ≡ word ∷ left
 Skips word parts false left = (left ≡ parts) × ((others : List (List ℕ)) → parts ≢ word ∷ others)

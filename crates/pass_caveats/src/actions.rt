@@ -18,8 +18,8 @@ pub struct Actions {
 impl Actions {
     ghost use Rattle.pass_caveats.specs.Actions.{has_action, SpellsActions};
 
-    /// Returns the set of actions in a comma-separated list. It must have some of
-    /// `view,book,cancel,account`, in this order. Returns `None` for any other text.
+    /// Returns the set of actions in a comma-separated list: some of `view,book,cancel,account`, in
+    /// this order. Returns `None` for any other text.
     pub fn read(text: &[u8]) -> Option<Actions>
         ensures { Reads (SpellsActions text.now) result }
     {

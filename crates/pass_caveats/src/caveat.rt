@@ -16,7 +16,7 @@ use crate::names::Names;
 use crate::weekdays::Weekdays;
 use club_values::{Day, Kind, Moment};
 
-/// The most bytes of an understood caveat.
+/// The maximum length of an understood caveat, in bytes.
 pub const MAX_CAVEAT_LEN: usize = 256;
 
 /// A caveat that is understood. It allows a set of requests.

@@ -8,7 +8,7 @@ use crate::parts::{are_all_names, count_of_parts, has_part};
 use club_values::Name;
 use std::marker::Model;
 
-/// The most names in a list.
+/// The maximum number of names in a list.
 pub const MAX_NAMES: usize = 8;
 
 /// One to eight comma-separated names, borrowed from a text. Contracts see a `Names` as the list of

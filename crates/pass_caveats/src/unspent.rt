@@ -7,8 +7,8 @@ use crate::ask::Ask;
 use crate::caveat::{Caveat, allows, read};
 use crate::fault::CaveatFault;
 
-/// The fault of a caveat for a key that has spent nothing. The slack limits the amounts for which
-/// the fault is the same.
+/// The fault of a caveat for a key that has spent nothing. For a key that has spent more, the fault
+/// stays the same up to the slack.
 #[derive(Clone, Copy, Debug, PartialEq, Eq)]
 pub struct Unspent {
     /// The fault, or `None` if the request is allowed.

@@ -21,7 +21,7 @@ pub struct Weekdays {
 impl Weekdays {
     ghost use Rattle.pass_caveats.specs.Weekdays.{has_weekday, SpellsWeekdays};
 
-    /// Returns the set of weekdays in a comma-separated list. It must have some of
+    /// Returns the set of weekdays in a comma-separated list: some of
     /// `mon,tue,wed,thu,fri,sat,sun`, in this order. Returns `None` for any other text.
     pub fn read(text: &[u8]) -> Option<Weekdays>
         ensures { Reads (SpellsWeekdays text.now) result }
