@@ -14,7 +14,7 @@ pub parts_from_reads : (text : List ℕ) (century y year month day : ℕ) → le
     get_or text 8 0 ∷ get_or text 9 0 ∷ [] ≡ two_digits day → AreDateParts text year month day
 parts_from_reads text century y year month day len four seven hc hy hm hd e ec ey em ed = grind (arith, text_from_reads text (date_text year month day) len)
 
--- A text is that of at most one year, month and day.
+-- Dates with the same text `YYYY-MM-DD` have the same year, month and day.
 pub parts_are_one : (y m d y₂ m₂ d₂ : ℕ) → date_text y m d ≡ date_text y₂ m₂ d₂ → (y ≡ y₂) × (m ≡ m₂) × (d ≡ d₂)
 parts_are_one y m d y₂ m₂ d₂ e = grind (arith, four_digits_injective, two_digits_injective)
 
@@ -25,7 +25,7 @@ date_record y m d h = record { year = pos y; month = m; day = d; year_in = h.0; 
 pub no_date : (text : List ℕ) → ((p : ℕ × ℕ × ℕ) → AreDateParts text p.0 p.1 p.2 → ⊥) → (d : Date) → IsDateText text d → ⊥
 no_date text never d t = grind (arith, signed_arith, days_in_month_bounds, civil, never (t.year, d.month, d.day))
 
--- A text that isn't the text of a date isn't the text of a day.
+-- If a text isn't the text of a date, it doesn't encode a day.
 pub no_day : (text : List ℕ) → ((d : Date) → IsDateText text d → ⊥) → (n : ℕ) → SpellsDay text n → ⊥
 unfolding date_record
 no_day text never n s = grind (arith, never (date_record s.year s.month s.day s.real.0))
@@ -52,7 +52,7 @@ date_by_parts text y m d (Err e) p can h = λ date t.
     let error = can (rw (same.0, same.1, same.2) (of_civil t.year date.month date.day is)) in
     cc
 
--- The previous lemma, for the integers that the code passes to the constructor.
+-- The date of a text from its parts, given the integers that the code passes to the constructor.
 pub reads_date : {E : Type 0} (text : List ℕ) (y m d : ℕ) (yz mz dz : ℤ) (r : Result Date E) (o : Option Date) → AreDateParts text y m d → yz ≡ pos y →
     mz ≡ pos m → dz ≡ pos d → (IsDate yz mz dz → IsOk r) → IfOk r (IsYmd yz mz dz) → o ≡ result_ok r → Reads (IsDateText text) o
 reads_date text y m d yz mz dz r o p ey em ed can value e =

@@ -8,7 +8,7 @@ use Rattle.jiff_core.proofs.SignedLemmas.{signed_arith, back_small}
 use Rattle.club_values.specs.Day.{IsDay, IsDateOf, march_year, day_of_march_year, year_of, month_of, day_of_month, date_text, day_text, SpellsDay}
 use Rattle.club_values.proofs.{DateTextLemmas.{date_record, from_pos}, DigitLemmas.{two_digits_injective, four_digits_injective}}
 
--- The bounds of a day's year and of its place in this year, if years begin on 1 March.
+-- Bounds on a day's year, and on the day's place in this year, if years begin on 1 March.
 pub march_year_bounds : (n : ℕ) → IsDay n →
     (3 ≤ march_year n) × (march_year n ≤ 103) × (day_of_march_year n < 366) × (n ≡ 9556 + 365 * march_year n + march_year n / 4 + day_of_march_year n)
 march_year_bounds n h = (omega arith, omega arith, omega arith, omega arith)
@@ -64,7 +64,7 @@ dated q r n false test low high small common last e =
     let year : 1996 + q + 0 ≡ 1996 + q = omega arith in
     rw year (late_date q r n low high small e late)
 
--- The computed date of a day is a real date, and its number is the day.
+-- The date that is computed for a day is a real date, and its day number is this day.
 pub civil_date : (n : ℕ) → IsDay n → IsDateOf (year_of n) (month_of n) (day_of_month n) n
 civil_date n h =
     let b = march_year_bounds n h in

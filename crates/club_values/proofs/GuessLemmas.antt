@@ -1,4 +1,4 @@
--- The functions `day_of` and `moment_of` return the day or the moment of its text.
+-- Given the text of a day or of a moment, `day_of` and `moment_of` return this day or this moment.
 use Rattle.std.proofs.Common.{◌≡◌, ℕ, ◌+◌, ◌-◌, ◌*◌, ◌/◌, ◌%◌, ◌<◌, ◌≤◌, Bool, cond, nat_lt, List, ◌++◌, arith}
 use Rattle.jiff_core.proofs.MarchLemmas.{month_and_day}
 use Rattle.club_values.specs.{Day.{IsDay, year_of, month_of, day_of_month, day_text}, Moment.{IsMoment, moment_text}}
@@ -12,11 +12,11 @@ number_again : (q r n : ℕ) (b : Bool) → nat_lt 12 ((5 * r + 461) / 153) ≡ 
     number_of_date (1996 + q + cond b 1 0) (cond b ((5 * r + 461) / 153 - 12) ((5 * r + 461) / 153)) ((5 * r + 461) % 153 / 5 + 1) ≡ n
 number_again q r n b test low high small e = grind (arith, month_and_day r small)
 
--- The computed number of a day's date is the day.
+-- Computing the day number of a day's date gives the day again.
 day_again : (n : ℕ) → IsDay n → number_of_date (year_of n) (month_of n) (day_of_month n) ≡ n
 day_again n h = grind (arith, march_year_bounds, number_again)
 
--- The number that the four digits of a year encode is the year.
+-- The four digits of a year encode this year.
 year_again : (y : ℕ) → 100 * (10 * (48 + y / 100 / 10 - 48) + (48 + y / 100 % 10 - 48)) + (10 * (48 + y % 100 / 10 - 48) + (48 + y % 100 % 10 - 48)) ≡ y
 year_again y = omega arith
 

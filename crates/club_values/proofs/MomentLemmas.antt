@@ -44,7 +44,7 @@ moment_text-spells n h =
       number = omega arith;
     }
 
--- different moments have different texts
+-- Different moments have different texts.
 pub moment_text_injective : (a b : ℕ) → IsMoment a → IsMoment b → moment_text a ≡ moment_text b → a ≡ b
 unfolding moment_text day_text
 moment_text_injective a b h k e =

@@ -33,7 +33,7 @@ digits_read text read r few e parses = grind (arith, Decides-few_digits, value_b
 abbrev pub leads_with_zero : List ℕ → Bool
 leads_with_zero text = nat_lt 1 (length text) && slice_index text 0 == 48
 
--- Decimal digits without a leading zero encode their value.
+-- Decimal digits without a leading zero are the text of the number that they encode.
 spells_value : (text : List ℕ) → AreFewDigits text → ¬ ((1 < length text) × (get_or text 0 0 ≡ 48)) → SpellsNumber text (digits_value 10 text)
 spells_value text h no_zero = grind (arith, value_below, decimal-digits_value own text)
 

@@ -23,7 +23,7 @@ found_where : {A : Type 0} (text : List ℕ) (Spells Fits : A → Type 0) (guess
     ((x : A) → Fits x → guess (text_of x) ≡ x) → (x : A) → (where_spelled text (guess text) (text_of (guess text)) (fits (guess text)) ≡ Some x) ↔ Spells x
 found_where text Spells Fits guess text_of fits decides to from again x = grind (arith, found, decides, to, from, again, bytes_eq-Decides)
 
--- A parser of these values therefore returns the same result as the function.
+-- A parser and a function that both return exactly the encoded values return the same result.
 pub same_reading : {A : Type 0} (Spells : A → Type 0) (found r : Option A) → ((x : A) → (found ≡ Some x) ↔ Spells x) → Reads Spells r → r ≡ found
 same_reading Spells found (Some x) agrees h = sym ((agrees x).1 h)
 same_reading Spells None None agrees h = refl

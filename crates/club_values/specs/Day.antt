@@ -17,7 +17,7 @@ IsDay n = (first_day ≤ n) × (n ≤ last_day)
 abbrev pub date_text : ℕ → ℕ → ℕ → List ℕ
 date_text year month day = four_digits year ++ 45 ∷ two_digits month ++ 45 ∷ two_digits day
 
--- The date is real, and `n` is its day (proleptic Gregorian calendar, as in jiff).
+-- The date exists, and `n` is its day number (proleptic Gregorian calendar, as in jiff).
 abbrev pub IsDateOf : ℕ → ℕ → ℕ → ℕ → Type 0
 IsDateOf year month day n = IsCivilDate (pos year) month day × (days_from_civil (pos year) month day ≡ pos n)
 

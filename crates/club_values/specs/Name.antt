@@ -5,7 +5,7 @@ use Rattle.std.specs.{Int.is_in_range, List.AllPass, Prelude.{◌≢◌, ◌==�
 abbrev pub is_name_byte : ℕ → Bool
 is_name_byte byte = is_in_range 97 122 byte || is_in_range 48 57 byte || byte == 45
 
--- The most bytes of a name (ours).
+-- The maximum length of a name, in bytes (ours).
 abbrev pub max_name_len : ℕ
 max_name_len = 24
 

@@ -2,7 +2,7 @@
 use Rattle.std.specs.{Char.is_ascii_digit, Fmt.decimal, List.list_all}
 use Rattle.std.specs.{Prelude.{◌≡◌, ℕ, ◌≤◌, ◌&&◌, Bool, List, length, nat_lt, nat_le, if◌then◌else◌, Option, Some, None}, Str.Parse.digits_value}
 
--- The most digits of a number, and the greatest number that they can encode (ours).
+-- The maximum number of digits, and the greatest number that they can encode (ours).
 abbrev pub max_digits : ℕ
 max_digits = 9
 

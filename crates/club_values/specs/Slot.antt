@@ -6,6 +6,6 @@ use Rattle.club_values.specs.{Moment.{minutes_a_day, minutes_an_hour}, declared.
 abbrev pub start_of : Slot → ℕ
 start_of slot = slot.day * minutes_a_day + slot.hour * minutes_an_hour
 
--- The most guests of a booking (ours).
+-- The maximum number of guests in a booking (ours).
 abbrev pub guests_limit : ℕ
 guests_limit = 49

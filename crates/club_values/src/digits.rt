@@ -8,7 +8,7 @@ ghost use Rattle.club_values.specs.Number as number;
 
 use crate::ascii::text_of;
 
-/// The most digits of a number.
+/// The maximum number of digits of a number.
 const MAX_DIGITS: usize = 9;
 
 /// The greatest number of `MAX_DIGITS` digits.

@@ -74,7 +74,7 @@ fn moment_in(text: &[u8]) -> Option<Moment>
 }
 
 impl Moment {
-    /// Returns the moment this number of minutes after 1970-01-01T00:00, or `None` if out of range.
+    /// Returns the moment with this number of minutes since 1970-01-01T00:00; `None` out of range.
     pub fn from_number(number: u32) -> Option<Moment>
         ensures within { IsSome result ↔ IsMoment number }
         ensures value { IfSome result (λ moment. moment ≡ number) }

@@ -16,7 +16,7 @@ use std::fmt;
 use std::hash::{Hash, Hasher};
 use std::marker::Model;
 
-/// The most bytes of a name.
+/// The maximum length of a name, in bytes.
 pub const MAX_NAME_LEN: usize = 24;
 
 /// A name of a member, a key or a facility: 1 to 24 bytes of `a` to `z`, `0` to `9` and `-`. The

@@ -8,7 +8,7 @@ use crate::hour::Hour;
 use crate::moment::{MINUTES_A_DAY, MINUTES_AN_HOUR};
 use crate::name::Name;
 
-/// The most guests of a booking. The member who books isn't a guest.
+/// The maximum number of guests in a booking. The member who books isn't a guest.
 pub const MAX_GUESTS: u8 = 49;
 
 /// An hour of a facility on a day.

@@ -1,4 +1,4 @@
--- Functions that compute the values of texts. `IsName`, `SpellsDay` and similar definitions state the meaning. The contracts of the parsers name both.
+-- Functions that compute the values of texts. `IsName`, `SpellsDay` and similar definitions state the meaning. The contracts of the parsers use both.
 use Rattle.std.specs.{Int.is_in_range, List.list_all}
 use Rattle.std.specs.Prelude.{ℕ, ◌+◌, ◌-◌, ◌*◌, ◌/◌, ◌==◌, ◌&&◌, not, Bool, true, List, length, slice_index, nat_lt, nat_le, if◌then◌else◌, Option, Some, None}
 use Rattle.std.specs.Str.{bytes_eq}
@@ -39,7 +39,7 @@ candidate_action text =
     else (if slice_index text 0 == 98 then Book
     else (if slice_index text 0 == 99 then Cancel else Account))
 
--- The value, if it is within its limits and its text equals this text.
+-- The value, if `fits` is true and `text` equals the text of the value, `spelled`.
 abbrev pub where_spelled : {A : Type 0} → List ℕ → A → List ℕ → Bool → Option A
 where_spelled text value spelled fits = if fits && bytes_eq text spelled then Some value else None
 
