@@ -9,7 +9,7 @@ use std::alloc::Global;
 use std::marker::Model;
 use std::num::NonZeroUsize;
 
-/// The most entries of the cache.
+/// The maximum number of entries in the cache.
 pub const MAX_KEPT_KEYS: usize = 64;
 
 /// A root together with its derived key. Contracts see a `DerivedKey` as its root.

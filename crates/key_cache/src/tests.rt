@@ -61,7 +61,7 @@ fn is_derived_anew(
     expect_kept(rt, keys, name, root, Some(*want));
 }
 
-// A root and its derived key, then another root and its key, then the first two again.
+// A root and its derived key, then another root and its key, then the first root and key again.
 static IN_TURN: [(&[u8; 16], &[u8; 32]); 3] = [
     (ROOT, DERIVED),
     (OTHER_ROOT, OTHER_DERIVED),
