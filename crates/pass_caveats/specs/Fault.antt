@@ -1,4 +1,4 @@
--- Lists of caveats, given as the texts in a pass.
+-- Lists of caveats, as the texts in a pass.
 use Rattle.std.specs.{Fmt.decimal, List.AllZip, Prelude.{◌≡◌, ℕ, ◌+◌, List, [], ◌∷◌, ◌++◌, length, All, Option, Some, None, if◌then◌else◌, codes}}
 use Rattle.pass_caveats.specs.{Caveat.{Understood, Permits}, Tests.permits, declared.{ask.Ask.Ask, caveat.Caveat.Caveat, fault.CaveatFault.CaveatFault}}
 use Rattle.pass_caveats.specs.declared.fault.CaveatFault.TheVariants.{NotUnderstood, Denied}
