@@ -14,7 +14,7 @@ derived_key root = hmac derivation_key root
 abbrev pub extended_signature : List ℕ → List (List ℕ) → List ℕ
 extended_signature signature caveats = fold hmac signature caveats
 
--- The signature of an identifier and its caveats, under a derived key.
+-- the signature of an identifier and its caveats under a derived key
 abbrev pub chain : List ℕ → List ℕ → List (List ℕ) → List ℕ
 chain key identifier caveats = extended_signature (hmac key identifier) caveats
 
