@@ -3,11 +3,11 @@ use Rattle.pass_forms.proofs.{CaveatRuns.Reader, Common.{◌≡◌, ℕ, zero, s
 use Rattle.pass_forms.proofs.Common.{flat_map, AllByRecursion, length-append, and_others, caveats_at, WideCaveat, common_steps}
 use Rattle.std.proofs.lemmas.List.Concat.{flat_map-cons}
 
--- The layout reads a written caveat back, if the caveat fits the layout and the bytes after it end a caveat.
+-- A layout reads back each written caveat that fits the layout, if the bytes after it can't belong to the caveat.
 pub record Exact (at : Reader) (text : WideCaveat → List ℕ) (Fits : WideCaveat → Type 0) (Ends : List ℕ → Type 0) : Type 0 where
   pub takes : (bytes : List ℕ) (found : WideCaveat × List ℕ) → at bytes ≡ Some found → (bytes ≡ text found.0 ++ found.1) × Fits found.0
   pub again : (caveat : WideCaveat) (rest : List ℕ) → Fits caveat → Ends rest → at (text caveat ++ rest) ≡ Some (caveat, rest)
-  -- The bytes of a caveat end the caveat before them.
+  -- The bytes of a caveat can't belong to the caveat before them.
   pub next : (caveat : WideCaveat) (rest : List ℕ) → Fits caveat → Ends (text caveat ++ rest)
 
 regrouped : (text : WideCaveat → List ℕ) (caveat : WideCaveat) (caveats : List WideCaveat) (rest : List ℕ) →
@@ -30,7 +30,7 @@ module _ (at : Reader) (text : WideCaveat → List ℕ) (Fits : WideCaveat → T
             (first.0 ∙ ap (λ (x : List ℕ). text found.0 ++ x) more.0 ∙ sym (regrouped text found.0 left.0 left.1), (first.1, more.1))
       ] refl
 
-  -- The next caveat, or the end of the caveats, ends the caveat before it.
+  -- The bytes of the next caveat, or of the end, can't belong to the caveat before them.
   caveats_end : (caveats : List WideCaveat) (rest : List ℕ) → AllByRecursion Fits caveats → Ends rest → Ends (flat_map text caveats ++ rest)
   caveats_end [] rest fits ends = ends
   caveats_end (caveat ∷ caveats) rest fits ends =
