@@ -1,4 +1,4 @@
--- An object has a field if and only if the computed field is the same.
+-- An object has a field if and only if the computed field equals this field.
 use Rattle.pass_json.proofs.Common.{◌≡◌, ℕ, List, Option, Some, None, refl, sym, ap, subst, ◌⊎◌, inl, inr, option_map, Data, string, object, Members, get}
 use Rattle.pass_json.proofs.Common.{as_str, FromBase64IsBase64, IsBase64, IsField, decoded_text, field_bytes, field_from, must_have, arith}
 use Rattle.pass_forms.specs.computed.{Envelope.from_base64, Parts.{◌>>=◌}}

@@ -1,4 +1,4 @@
--- The computed test of an object's names is true if and only if the object has no other names.
+-- The computed test of an object's names is true if and only if all of them are allowed.
 use Rattle.pass_json.proofs.Common.{◌≡◌, ℕ, true, List, Option, Some, refl, sym, ◌∙◌, ◌⊎◌, inl, inr, Contains, IsSome, Data, object, Members, no_members}
 use Rattle.pass_json.proofs.Common.{member, get_member, HasOnly, only_among, has_only_names, arith}
 use Rattle.std.proofs.lemmas.{Cmp.nat_list_eq_equiv, Map.{Text.is_eq-slice_cmp, Views.{Contains-from_any, list_any-from_Contains}}, Slice.Eq.bytes_eq-Decides}

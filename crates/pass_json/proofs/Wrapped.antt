@@ -4,7 +4,7 @@ use Rattle.pass_json.proofs.Common.{IsUnwrapped, Wraps, WrapsOne, Plain, WidePas
 use Rattle.pass_json.proofs.{Common.{MayRunOut, SpellsForm}, SameReading.{Spelling, same_answer}}
 use Rattle.pass_forms.specs.Text.{SpellsText}
 
--- If the envelope refuses a text, the reading is the envelope's fault.
+-- If unwrapping a text fails, reading the text fails with the same fault.
 pub refused_wrapping : (text : List ℕ) (fault : FormFault) → IsUnwrapped text (Err fault) → IsAnyReading text (Err fault)
 refused_wrapping text TooLong h = h
 refused_wrapping text Malformed h = (h.0, λ wide k. h.1 k.0 k.1.0 k.1.1)

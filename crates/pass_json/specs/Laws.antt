@@ -21,7 +21,7 @@ ReadsWhatIsWrapped = (text bytes : List ℕ) (form : Form) (answer : Result (For
     → IsUnwrapped text (Ok (form, bytes)) → length bytes ≤ max_text_len
     → IsAnyReading text answer ↔ IsReadingInForm form bytes answer
 
--- If a text wraps nothing, its reading is the fault of its envelope.
+-- If unwrapping a text fails, reading the text fails with the same fault.
 abbrev pub RefusesWhatWrapsNothing : Type 0
 RefusesWhatWrapsNothing = (text : List ℕ) (fault : FormFault) → IsUnwrapped text (Err fault) → IsAnyReading text (Err fault)
 

@@ -55,7 +55,7 @@ pub fn reads_what_is_wrapped()
     wraps_one();
 }
 
-/// If a text wraps nothing, its reading is the fault of its envelope.
+/// If unwrapping a text fails, reading the text fails with the same fault.
 #[tactic(auto, using(crate::proofs::Wrapped::refused_wrapping))]
 pub fn refuses_what_wraps_nothing()
     ensures { RefusesWhatWrapsNothing }
