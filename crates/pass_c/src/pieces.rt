@@ -87,7 +87,7 @@ pub fn copy_pieces(
     copy_pieces(alloc, list, others, rest)
 }
 
-/// Returns the first fault of the pieces as caveats. `number` is the number of the first piece.
+/// Reads the pieces as caveats and returns the first fault. The first piece has this number.
 pub fn first_fault_in(lens: &[u16], bytes: &[u8], number: usize, ask: &Ask) -> Option<CaveatFault>
     requires { number + length lens.now ≤ 65 }
     ensures { result
