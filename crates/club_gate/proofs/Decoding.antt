@@ -1,4 +1,4 @@
--- The pass that a text decodes to, and the machine's event for an event at the desk.
+-- Lemmas on the pass that a text decodes to, and on the machine's event for an event at the desk.
 use Rattle.club_gate.proofs.Common.{◌≡◌, ◌↔◌, ℕ, Bool, true, false, IsTrue, List, [], ◌∷◌, map, Option, Some, None, Result, Ok, Err, All, refl, sym, ap, ◌∙◌}
 use Rattle.club_gate.proofs.Common.{subst, All-head, All-tail, IsBytes, Caveat, caveat_of, ReadsWhatIsUnderstood, FormFault, Form, Plain, IsSigned}
 use Rattle.club_gate.proofs.Common.{DecidesSigned, is_signed, IsAnyReading, ReadsAnyFormExactly, reading, Request, Pass, Words, AreWordsOf, IsDecoded, IsSeenAs}
@@ -13,13 +13,13 @@ use Rattle.club_core.specs.Run as machine
 use Rattle.club_gate.specs.declared.event.Event.{Event}
 use Rattle.club_gate.specs.declared.event.Event.TheVariants as events
 
--- two options that have the same values are equal
+-- two options are equal if they contain the same values
 same_found : {A : Type 0} (a b : Option A) (P : A → Type 0) → ((x : A) → (a ≡ Some x) ↔ P x) → ((x : A) → (b ≡ Some x) ↔ P x) → a ≡ b
 same_found None None P h k = refl
 same_found None (Some x) P h k = (h x).1 ((k x).0 refl)
 same_found (Some x) b P h k = sym ((k x).1 ((h x).0 refl))
 
--- ---- a caveat, and a list of them
+-- ---- one caveat, and a list of caveats
 
 abbrev IsSeenCaveat : List ℕ → Option Caveat → Type 0
 IsSeenCaveat text one = (caveat : Caveat) → (one ≡ Some caveat) ↔ Understood text caveat
@@ -69,7 +69,7 @@ module _ (finds : FindsNames) (understood : ReadsWhatIsUnderstood) (signed : Dec
 
 -- ---- a text
 
--- the decoded pass of a text, from its reading
+-- if a text parses as a pass, it decodes to that pass as the rules see it
 pub decodes_as : ReadsAnyFormExactly → (text : List ℕ) (form : Form) (pass : Plain) → IsBytes text → IsAnyReading text (Ok (form, pass))
     → decoded_pass text ≡ Ok (machine_pass pass)
 decodes_as reads text form pass bytes h =

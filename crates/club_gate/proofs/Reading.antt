@@ -1,4 +1,4 @@
--- The rows read for a signed pass give the same answer as its key's whole view.
+-- Proves that the rows read for a signed pass give the same answer as the whole view of its key.
 use Rattle.club_gate.proofs.Common.{◌≡◌, inl, inr, ℕ, true, List, Ok, map, refl, sym, ap, ◌∙◌, Option, Some, None, is_some, option_map, option_and_then}
 use Rattle.club_gate.proofs.Common.{if◌then◌else◌, same_Some, caveat_of, first_fault_of, after_spending, Plain, Key, KeyRow, row_of_key, Request, View}
 use Rattle.club_gate.proofs.Common.{answer_by_view, ask_of, owed_at, verdict_in, Basis, account_named, slot_use, state_of, view_in, view_of, Club, IsSound}
@@ -11,7 +11,7 @@ use Rattle.club_core.specs.{Laws.OwnBookings, Looks.{bare_view, books_anew}, Req
 use Rattle.club_core.specs.declared.account.MemberAccount.{MemberAccount}
 use Rattle.club_core.specs.declared.request.Request.TheVariants as asked
 
--- ---- what is read for a signed pass
+-- ---- the rows that are read for a signed pass
 
 -- the view with the state of a slot
 abbrev pub with_slot : Club → Slot → View → View
@@ -25,26 +25,26 @@ with_account club moment view account = record view {
   open_count = count_to_come moment (bookings_of account.member.name club);
 }
 
--- the view with those values of the key's member; none if the club has no such member
+-- the view with the row, balance and open bookings of the key's member; none if the club has no such member
 abbrev pub with_member : Club → ℕ → View → Option View
 with_member club moment view = option_map (with_account club moment view) (account_named view.key.member club)
 
--- the view with what the key has spent, too
+-- the view with a member's row, balance and open bookings, and with what the key has spent
 abbrev pub with_all : Club → ℕ → View → MemberAccount → View
 with_all club moment view account = record (with_account club moment view account) { spent = spent_under view.key.name club.bookings }
 
 abbrev pub with_sums : Club → ℕ → View → Option View
 with_sums club moment view = option_map (with_all club moment view) (account_named view.key.member club)
 
--- the points that the key has spent are added to the member's sums
+-- adding what the key has spent to a view with the member's sums gives the view with all sums
 pub sums_read : (club : Club) (moment : ℕ) (view shown : View) (spent : ℕ) (account : Option MemberAccount)
     → spent ≡ spent_under shown.key.name club.bookings → Some shown ≡ option_map (with_account club moment view) account
     → Some (let all : View = record shown { spent = spent } in all) ≡ option_map (with_all club moment view) account
 sums_read club moment view shown spent None is e = absurd (cc)
 sums_read club moment view shown spent (Some account) is e = rw (is, same_Some shown (with_account club moment view account) e) refl
 
--- the view with what the decision depends on. To show a slot, that is its state. For a new booking, it is the slot's state and the member's sums. For the
--- account, it is the sums of the member and of the key. Otherwise nothing is added.
+-- The view with the values that the decision depends on. For showing a slot, these are the slot's state. For a new booking, they are the slot's state and the
+-- member's sums. For the account, they are the sums of the member and of the key. Otherwise nothing is added.
 abbrev pub last_view : Club → Request → ℕ → View → Option View
 last_view club (asked.View slot) moment view = Some (with_slot club slot view)
 last_view club (asked.Book slot number guests) moment view =
@@ -52,12 +52,12 @@ last_view club (asked.Book slot number guests) moment view =
 last_view club (asked.Cancel slot number) moment view = Some view
 last_view club asked.Account moment view = with_sums club moment view
 
--- nothing is owed under a number that has a booking
+-- a request whose number already has a booking owes nothing
 nothing_owed : (request : Request) (facility : Option Facility) → owed_at request true facility ≡ 0
 nothing_owed (asked.Book slot number guests) facility = refl
 nothing_owed request facility = refl
 
--- a caveat's fault refuses the request, regardless of the rest of the key's view
+-- a caveat's fault refuses the request, whatever else the key's view contains
 refused_by_fault : (view other : View) (request : Request) (moment : ℕ) → view.key ≡ other.key → (fault : Option CaveatFault) → is_some fault ≡ true
     → answer_by_view (Some view) true fault request moment ≡ answer_by_view (Some other) true fault request moment
 refused_by_fault view other request moment e None some = absurd (cc)
@@ -83,7 +83,7 @@ module _ (club : Club) (key : Key) (moment : ℕ) (its : IsOwned club key) where
       ≡ answer_by_view (Some (whole request)) (is_signed_under (machine_pass pass) key moment) (its_fault pass request) request moment
   answered pass request is = rw (is, its.is) refl
 
-  -- the decision from what is read
+  -- for any facility and booking, the last view gives the same decision as the whole view
   decided : (request : Request) (facility : Option Facility) (booking : Option Booking)
       → answer_by_view (last_view club request moment (record (bare_view (row_of_key key)) { facility = facility; booking = booking })) true None request moment
       ≡ answer_by_view (Some (record (whole request) { facility = facility; booking = booking })) true None request moment
@@ -95,7 +95,7 @@ module _ (club : Club) (key : Key) (moment : ℕ) (its : IsOwned club key) where
   decided (asked.Cancel slot number) facility booking = refl
   decided asked.Account facility booking = rw (its.is, its.spent) refl
 
-  -- if the number has a booking, no decision looks at the facility
+  -- if the request's number has a booking, the decision doesn't depend on the facility
   of_booking : (request : Request) (facility other : Option Facility) (booking : Option Booking) → booking ≡ (whole request).booking
       → is_some booking ≡ true
       → answer_by_view (Some (record (whole request) { facility = facility; booking = booking })) true None request moment
@@ -148,7 +148,7 @@ last_reads own club request moment view found sound e pass row (key, named, is) 
     let its = owner own club key.name key sound named in
     rw (e, is, seen club key moment its request key.name named) (decides club key moment its pass request view (rw is at agrees))
 
--- the rows read for the signer of a pass give the machine's verdict
+-- the rows read for the signer of a pass give the same verdict as the machine
 pub verdict_read : OwnBookings → (club : Club) (row : KeyRow) (moment : ℕ) (pass : Plain) (request : Request) (view : View) (fault : Option CaveatFault)
     → IsSound club → signer_of pass moment (key_in club pass.identifier) ≡ Ok row → AgreesOnRecord club row pass request view
     → fault ≡ first_fault_of (map caveat_of pass.caveats) (after_spending (spent_under row.name club.bookings) (ask_of view request moment))
@@ -168,7 +168,7 @@ verdict_read own club row moment pass request view fault sound signer agrees f =
       λ some. refused_by_fault view (whole club is.key moment its request) request moment there.key_is fault some,
     )
 
--- a key's sums are those in its view of its account
+-- the sums read for a key are the sums in the key's view of its account
 pub account_seen : OwnBookings → (club : Club) (name : List ℕ) (key : Key) (moment : ℕ) → IsSound club → key_named name club ≡ Some key
     → with_sums club moment (bare_view (row_of_key key)) ≡ view_in club name asked.Account moment
 account_seen own club name key moment sound row =

@@ -5,21 +5,21 @@ use Rattle.pass_mac.specs.Chain.{chain, derived_key, extended_signature}
 use Rattle.club_rows.specs.declared.key.OlderRoot.{OlderRoot}
 use Rattle.club_core.specs.KeyParts.{older_root_of}
 
--- if the answer is true, the chain that starts here ends in the signature after these fields
+-- the answer says whether the chain that starts here and continues over these caveats ends in the signature
 abbrev EndsIn : List ℕ → List PassField → Bool → Type 0
 EndsIn start fields answer = (caveats : List (List ℕ)) (signature : List ℕ) → fields ≡ map caveat_field caveats ++ signature_field signature ∷ []
     → answer ≡ bytes_eq (extended_signature start caveats) signature
 
 module _ (pass : Plain) (identifier : List ℕ) (fields : List PassField) (named : identifier ≡ pass.identifier)
     (left : fields ≡ drop 2 (pass_fields pass)) where
-  -- the chain under one root
+  -- the chain under a root tells whether the pass is signed under that root
   pub signed_by : (root derived start : List ℕ) (answer : Bool) → derived ≡ derived_key root → start ≡ chain derived identifier []
       → EndsIn start fields answer → answer ≡ is_signed root pass
   unfolding is_signed
   signed_by root derived start answer d s ends =
       ends pass.caveats pass.signature left ∙ rw (s, named, d) refl
 
--- the older root that was read with a key's row is the key's
+-- the older root that was read with a key's row is that key's older root
 pub older_of : (club : Club) (key : Key) (row : KeyRow) (older : Option OlderRoot) (whole : Key) (moment : ℕ) → key_named key.name club ≡ Some key
     → row ≡ row_of_key key → older ≡ older_root_of row.name club → whole ≡ key_of_row row older
     → older_root_at whole.older moment ≡ older_root_at key.older moment

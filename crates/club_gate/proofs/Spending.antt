@@ -4,7 +4,7 @@ use Rattle.club_gate.proofs.{Common.{bookings_of, cost_of, spent_under, key_in, 
 use Rattle.club_core.specs.declared.account.MemberAccount.{MemberAccount}
 use Rattle.club_laws.specs.Spending.{AccountsShowWhatIsUsed, SpendsWithinItsMember}
 
--- the row under which a pass is signed is the row of a key of the club
+-- if a pass is signed under a row, the row is that of a key of the club
 pub on_record : (club : Club) (pass : Plain) (moment : ℕ) (row : KeyRow) → signer_of pass moment (key_in club pass.identifier) ≡ Ok row
     → IsOnRecord club row
 on_record club pass moment row e =

@@ -1,4 +1,4 @@
--- From the pass that a source yields to the text that spells it.
+-- Lemmas that lead from the pass that a source yields to the text that spells it.
 use Rattle.club_gate.proofs.Common.{◌≡◌, ◌≢◌, inl, inr, ℕ, ◌≤◌, length, List, Option, Result, Ok, Err, refl, ap, ◌∙◌, subst, IfOk, IsBytes, FormFault, Form}
 use Rattle.club_gate.proofs.Common.{PassField, pass_fields, ReadsExactly, Plain, IsReadingInForm, SpellsForm, ReadsAnyFormExactly, ReadsWhatIsWrapped, reading}
 use Rattle.club_gate.proofs.Common.{reading_in_form, Change, Request, StoreFault, Verdict, verdict_in, Club, words_with, machine_pass, without_form}
@@ -32,7 +32,7 @@ verdict_by_text club request moment text form bytes result wrapped h =
     let same : without_form (reading text) ≡ reading_in_form form bytes = ap without_form wrapped ∙ formless form (reading_in_form form bytes) in
     rw same h
 
--- a fault of the text is a fault of the bytes
+-- if reading a text gives a fault, reading the bytes that it wraps gives the same fault
 pub fault_in : (form : Form) (read : Result Plain FormFault) (text : List ℕ) (fault : FormFault)
     → reading text ≡ in_form form read → reading text ≡ Err fault → read ≡ Err fault
 fault_in form (Ok pass) text fault wrapped e = absurd (cc)
@@ -43,14 +43,14 @@ with_its_form : (form : Form) (bytes : List ℕ) (read : Result Plain FormFault)
 with_its_form form bytes (Ok pass) h = (refl, h)
 with_its_form form bytes (Err fault) h = h
 
--- the fault of a text, from the laws of each form
+-- the readings of bytes and texts, from the laws of each form
 module _ (packets : ReadsExactly SpellsV1 reading_v1) (sections : ReadsExactly SpellsV2 reading_v2) (json : ReadsExactly SpellsJson reading_json) where
   reads_in : (form : Form) (bytes : List ℕ) → IsReadAs (length bytes) (SpellsForm form bytes) (reading_in_form form bytes)
   reads_in V1 bytes = (packets bytes (reading_v1 bytes)).1 refl
   reads_in V2 bytes = (sections bytes (reading_v2 bytes)).1 refl
   reads_in Json bytes = (json bytes (reading_json bytes)).1 refl
 
-  -- the reading of a text, from the bytes that it wraps
+  -- the reading of a text is the reading of the bytes that it wraps
   pub read_wrapped : ReadsAnyFormExactly → ReadsWhatIsWrapped → (text : List ℕ) (form : Form) (bytes : List ℕ) → IsBytes text
       → IsUnwrapped text (Ok (form, bytes)) → length bytes ≤ max_text_len
       → reading text ≡ in_form form (reading_in_form form bytes)
@@ -62,7 +62,7 @@ module _ (packets : ReadsExactly SpellsV1 reading_v1) (sections : ReadsExactly S
 json_in : (text : List ℕ) (form : Form) (bytes : List ℕ) → IsUnwrapped text (Ok (form, bytes)) → form ≡ Json → IsUnwrapped text (Ok (Json, bytes))
 json_in text form bytes h json = subst (λ (f : Form). IsUnwrapped text (Ok (f, bytes))) json h
 
--- bytes that are read in place are no JSON
+-- if a text isn't JSON, the form of the bytes that it wraps isn't JSON either
 pub other_form : (text : List ℕ) (form : Form) (bytes : List ℕ) → IsUnwrapped text (Ok (form, bytes)) → ¬ IsJson text → form ≢ Json
 other_form text form bytes h in_place json = in_place (bytes, json_in text form bytes h json)
 

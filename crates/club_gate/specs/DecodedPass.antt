@@ -16,7 +16,7 @@ pub record IsSeenAs (pass : Plain) (seen : Pass) : Type 0 where
       AllZip (λ (text : List ℕ) (one : Option Caveat). (caveat : Caveat) → (one ≡ Some caveat) ↔ Understood text caveat) pass.caveats seen.caveats
   pub signed : (root : List ℕ) → IsTrue (seen.is_signed root) ↔ IsSigned root pass
 
--- the fault of a text; `ReadsNoLackOfMemory` says that no text reads as `Memory`
+-- the fault of a text as the rules see it; `ReadsNoLackOfMemory` says that reading a text never gives `Memory`
 abbrev pub fault_of : FormFault → PassFault
 fault_of faults.TooLong = TooLong
 fault_of faults.Malformed = Malformed

@@ -9,7 +9,7 @@ use Rattle.club_gate.specs.{DecodedPass.AreWordsOf, Response.desk_presentation, 
 use Rattle.club_gate.specs.declared.fault.Fault.{Fault}
 use Rattle.club_gate.specs.declared.fault.Fault.TheVariants as faults
 
--- holds for every club that the store represented before the call, if its disk is clean after the call
+-- the property holds for every club that the store represented before the call, if the store's disk is clean after the call
 abbrev pub OfItsClub : {S : Type 0} → (S → Type 0) → (S → Club → List Club → Type 0) → S → S → (Club → Type 0) → Type 0
 OfItsClub IsClean Represents old new IsSo = IsClean new → (club : Club) (others : List Club) → Represents old club others → IsSo club
 
@@ -22,12 +22,12 @@ abbrev pub change_of : Club → Event → Option Change
 change_of club (Asked words moment) = (verdict_in club words moment).change
 change_of club (Commanded command) = change_by (office_verdict club command)
 
--- a change, if there is one, fits
+-- if there is a change, it fits the club
 abbrev pub FitsIfAny : Option Change → Club → Type 0
 FitsIfAny None club = Unit {0}
 FitsIfAny (Some change) club = FitsClub change club
 
--- other possible crash states: none after a committed change; unchanged if nothing was changed
+-- the other possible crash states: none after a committed change, unchanged if there was no change
 abbrev pub others_after : Option Change → List Club → List Club
 others_after None others = others
 others_after (Some change) others = []
@@ -52,7 +52,7 @@ pub record HasFailed {S : Type 0} (Represents : S → Club → List Club → Typ
   pub unavailable : reply ≡ member_replies.Refused Unavailable
   pub represents : Represents new club others ⊎ Represents new club (after_change verdict.change club ∷ others)
 
--- For each club that the store may have represented, the request was decided by that club's verdict on these words, or it failed.
+-- For each club that the store may have represented, the request was decided by that club's verdict on these words, or the request failed.
 abbrev pub DecidesOrFails : {S : Type 0} → (S → Club → List Club → Type 0) → S → S → Words → ℕ → Reply → Type 0
 DecidesOrFails Represents old new words moment reply =
     (club : Club) (others : List Club) → Represents old club others
@@ -72,13 +72,13 @@ pub record IsRefusedBy {S : Type 0} (Represents : S → Club → List Club → T
   pub failure : IsTrue (has_failed desk_presentation event response)
   pub represents : Represents new club others ⊎ Represents new club ((step club event).club ∷ others)
 
--- For each club that the store may have represented, the event was answered, or it failed.
+-- For each club that the store may have represented, the event was answered or failed.
 abbrev pub Steps : {S : Type 0} → (S → Club → List Club → Type 0) → S → S → Event → Response OfficeReply → Type 0
 Steps Represents old new event response =
     (club : Club) (others : List Club) → Represents old club others
     → IsAnsweredBy Represents new club others event response ⊎ IsRefusedBy Represents new club others event response
 
--- The store failed with this fault, at a read or while it wrote the change, if there is one.
+-- The store failed with this fault, either at a read, or while it wrote the change if there is one.
 abbrev pub FailsAt : {S : Type 0} → (Option Change → S → StoreFault → S → Type 0) → S → S → Option Change → StoreFault → Type 0
 FailsAt Fails old new change fault = Fails None old fault new ⊎ Fails change old fault new
 
@@ -95,12 +95,12 @@ FailsForCause Fails old new club text request moment reply =
     → ((fault : StoreFault) × ((words : Words) → AreWordsOf text request words → FailsAt Fails old new (verdict_in club words moment).change fault))
     ⊎ (IsJson text × (new ≡ old))
 
--- memory or storage was refused
+-- the fault says that memory ran out or storage failed
 abbrev pub IsStoreFault : Fault → Type 0
 IsStoreFault (faults.Store failure) = Unit {0}
 IsStoreFault (faults.Refused refusal) = ⊥
 
--- Why there is no sheet: the store failed with this fault while it read the rows; or it read them, but there was no memory for the text.
+-- Why there is no sheet: the store failed with this fault while it read the rows; or the rows were read, but there was no memory for the text.
 abbrev pub IsSheetFault : {S : Type 0} → (Option Change → S → StoreFault → S → Type 0) → S → S → Fault → Type 0
 IsSheetFault Fails old new fault =
     ((failure : StoreFault) × Fails None old failure new × (fault ≡ faults.Store failure)) ⊎ ((fault ≡ faults.Store Memory) × IsRead Fails old new)

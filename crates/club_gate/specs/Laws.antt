@@ -10,7 +10,7 @@ use Rattle.club_core.specs.Run as machine
 use Rattle.club_gate.specs.{DecodedPass.{IsDecoded, IsSeenAs}, Events.{AreEventsOf, IsEventOfBytes}, Minted.identifier_of}
 use Rattle.club_gate.specs.{computed.DecodedPass.{decoded_pass, machine_events, machine_pass}, declared.event.Event.Event}
 
--- the rules see a text's pass as `machine_pass` computes it, and as no other
+-- the rules see a pass in exactly one way, which `machine_pass` computes
 abbrev pub SeenAlike : Type 0
 SeenAlike = (pass : Plain) (seen : Pass) → IsSeenAs pass seen ↔ (machine_pass pass ≡ seen)
 
@@ -18,7 +18,7 @@ SeenAlike = (pass : Plain) (seen : Pass) → IsSeenAs pass seen ↔ (machine_pas
 abbrev pub Decodes : Type 0
 Decodes = (text : List ℕ) (seen : Result Pass PassFault) → IsBytes text → IsDecoded text seen ↔ (decoded_pass text ≡ seen)
 
--- the machine sees events at the desk as `machine_events` computes them, and as no other list
+-- the machine sees events at the desk as exactly one list of events, which `machine_events` computes
 abbrev pub SeesEvents : Type 0
 SeesEvents = (events : List Event) (seen : List machine.Event) → All IsEventOfBytes events → AreEventsOf events seen ↔ (machine_events events ≡ seen)
 
@@ -30,6 +30,6 @@ NamesItsRows =
     → IsName key.name → pass.identifier ≡ identifier_of key.name → key_named key.name club ≡ Some key
     → basis_of club words ≡ basis_under club words.request key
 
--- no text reads as `Memory`
+-- reading a text never gives the fault `Memory`
 abbrev pub ReadsNoLackOfMemory : Type 0
 ReadsNoLackOfMemory = (text : List ℕ) → ¬ IsAnyReading text (Err Memory)

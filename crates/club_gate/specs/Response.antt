@@ -20,17 +20,17 @@ debug_text replies.Done = codes "Done"
 debug_text (replies.Key signature) = codes "Key(..)"
 debug_text (replies.Refused fault) = codes "Refused(" ++ desk_fault_text fault ++ codes ")"
 
--- memory or storage was refused
+-- the reply to a request if memory ran out or storage failed
 abbrev pub unavailable : Reply
 unavailable = member_replies.Refused Unavailable
 
--- the reply to the office for an answer of the machine; a new key or root is answered with its signature
+-- the reply to the office for an answer of the machine; for a new key or root, it contains the signature
 abbrev pub office_reply_of : OfficeAnswer → OfficeReply
 office_reply_of answers.Done = replies.Done
 office_reply_of (answers.NewKey name root) = replies.Key (minted_signature name root)
 office_reply_of (answers.NotDone fault) = replies.Refused (faults.Refused fault)
 
--- whether the reply says that memory or storage was refused
+-- whether the reply says that memory ran out or storage failed
 abbrev pub is_failure : OfficeReply → Bool
 is_failure (replies.Refused (faults.Store fault)) = true
 is_failure reply = false

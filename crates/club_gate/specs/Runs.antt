@@ -1,5 +1,5 @@
--- The responses to a list of events, and the club and crash states of the store after it (ours). An event failed if its response says that
--- memory or storage was refused.
+-- The responses to a list of events, and the club and crash states of the store after it (ours). An event failed if its response says that memory ran out or
+-- storage failed.
 use Rattle.std.specs.Prelude.{◌≡◌, ◌⊎◌, ℕ, ◌≤◌, IsTrue, IsFalse, List, [], ◌∷◌, ◌++◌, length, map, sum_by, All, Contains, Option, Some, None}
 use Rattle.club_values.specs.declared.slot.Slot.{Slot}
 use Rattle.club_rows.specs.declared.{booking.Booking.Booking, member.Member.Member}
@@ -29,7 +29,7 @@ events_answered events responses = answered_events desk_presentation events resp
 abbrev pub club_left : Club → List machine.Event → List DeskResponse → Club
 club_left club events responses = club_after club (events_answered events responses)
 
--- the machine's run of the answered events gives them these responses, and the failed ones leave the club unchanged
+-- the machine's run of the answered events gives these responses, and the failed events leave the club unchanged
 abbrev pub IsAnsweredRun : Club → List machine.Event → List DeskResponse → Type 0
 IsAnsweredRun club events responses = IsRun desk_presentation club events responses (club_left club events responses)
 
@@ -37,7 +37,7 @@ IsAnsweredRun club events responses = IsRun desk_presentation club events respon
 abbrev pub MakesNoChange : Club → List machine.Event → List DeskResponse → Type 0
 MakesNoChange club events responses = All (λ event. change_of club event ≡ None) (events_answered events responses)
 
--- The event failed after the last change: the events before it leave the last club, and no event after it changes that.
+-- The event failed after the last change. The events before it lead to the club `last`, and no event after it changes that club.
 pub record FailedLast (club last : Club) (events : List machine.Event) (responses : List DeskResponse) (event : machine.Event) : Type 0 where
   pub front : List machine.Event
   pub rest : List machine.Event
@@ -51,25 +51,25 @@ pub record FailedLast (club last : Club) (events : List machine.Event) (response
   pub failure : IsTrue (has_failed desk_presentation event response)
   pub no_change : MakesNoChange last rest since
 
--- a club that was a possible crash state before the run, which changed nothing
+-- the run changed nothing, and the club was a possible crash state before it
 abbrev pub WasLeftBefore : Club → List Club → Club → List machine.Event → List DeskResponse → Club → Type 0
 WasLeftBefore club others last events responses left = (last ≡ club) × MakesNoChange last events responses × Contains others left
 
--- the last club after one event that failed since the last change
+-- the club that one failed event would have made of the last club, if the event failed after the last change
 abbrev pub IsLeftByFailure : Club → Club → List machine.Event → List DeskResponse → Club → Type 0
 IsLeftByFailure club last events responses left =
     (event : machine.Event) × FailedLast club last events responses event × (left ≡ (step last event).club)
 
--- another possible crash state after a run that began with a club and its possible crash states, and ended with the last club
+-- a possible crash state after a run from `club`, with the crash states `others` before it, to the club `last`
 abbrev pub MayBeLeft : Club → List Club → Club → List machine.Event → List DeskResponse → Club → Type 0
 MayBeLeft club others last events responses left =
     WasLeftBefore club others last events responses left ⊎ IsLeftByFailure club last events responses left
 
--- this club, or a club that one event makes of it
+-- the club itself, or a club that one event makes of it
 abbrev pub IsWithinOneEvent : Club → Club → Type 0
 IsWithinOneEvent club now = (now ≡ club) ⊎ ((event : machine.Event) × (now ≡ (step club event).club))
 
--- The store represents the club after the answered events, and has no other possible crash states than these. In that club, and in each crash state that is one
+-- The store represents the club after the answered events, and `MayBeLeft` allows each of its other possible crash states. In that club, and in each club one
 -- event away from it, a repeat of a served request gets the same response and changes nothing.
 pub record LeavesClub {S : Type 0} (Represents : S → Club → List Club → Type 0) (new : S) (club : Club) (others : List Club) (events : List machine.Event)
     (responses : List DeskResponse) : Type 0 where
@@ -78,15 +78,14 @@ pub record LeavesClub {S : Type 0} (Represents : S → Club → List Club → Ty
   pub each : All (MayBeLeft club others (club_left club events responses) events responses) left
   pub again : (now : Club) → IsWithinOneEvent (club_left club events responses) now → RepeatsServedReplies now events responses
 
--- the replies to a member's requests are the replies of the solo machine on the member's part and own events
+-- the replies to a member's requests are the solo machine's replies on the member's part and own events
 abbrev pub IsSolo : Club → List machine.Event → List DeskResponse → Type 0
 IsSolo club events responses =
     (name : List ℕ)
     → replies_to name club (events_answered events responses) (answers desk_presentation events responses)
     ≡ map ToMember (solo_replies (part_of name club) (own_events name club (events_answered events responses)))
 
--- The replies to a member's requests are the same in any other run that begins with the same part of the member and has the same events of
--- the member's own.
+-- A second run may begin with the same part of a member, and have the same own events of the member. Then the member's requests get the same replies in it.
 abbrev pub IsAsInAnother : Club → List machine.Event → List DeskResponse → Type 0
 IsAsInAnother club events responses =
     (name : List ℕ) (other end : Club) (others : List machine.Event) (replies : List DeskResponse)
@@ -97,8 +96,8 @@ IsAsInAnother club events responses =
     → replies_to name club (events_answered events responses) (answers desk_presentation events responses)
     ≡ replies_to name other (events_answered others replies) (answers desk_presentation others replies)
 
--- If a booking or a cancellation was served, an accepted repeat of it anywhere later gets the same response, unless it fails. Without the
--- repeat all other responses are the same, and so is the club at the end.
+-- If a booking or a cancellation was served, an accepted repeat of it anywhere later gets the same response, unless the repeat fails. If the repeat is left
+-- out, all other responses and the club at the end are the same.
 abbrev pub IsOnce : Club → List machine.Event → List DeskResponse → Type 0
 IsOnce club events responses =
     (history rest : List machine.Event) (before since : List DeskResponse) (words : Words) (moment : ℕ) (reply : Reply) (again : DeskResponse)
@@ -110,8 +109,8 @@ IsOnce club events responses =
     → (IsFalse (has_failed desk_presentation (Asked words moment) again) → again ≡ ToMember reply)
     × IsRun desk_presentation club (history ++ rest) (before ++ since) (club_left club events responses)
 
--- If the office cancelled a booking, an accepted cancellation of it anywhere later gets the recorded refund, unless it fails. Without that request
--- all other responses are the same, and so is the club at the end.
+-- If the office cancelled a booking, an accepted cancellation of it anywhere later gets the recorded refund, unless that request fails. If the request is left
+-- out, all other responses and the club at the end are the same.
 abbrev pub ReturnsTheRecord : Club → List machine.Event → List DeskResponse → Type 0
 ReturnsTheRecord club events responses =
     (history rest : List machine.Event) (before since : List DeskResponse) (words : Words) (moment : ℕ) (key : List ℕ) (number : ℕ) (booking : Booking)
@@ -144,21 +143,21 @@ IsNeverOverbooked club = (slot : Slot) → HasPlaces slot club
 
 -- The laws of a run from a club.
 pub record IsLawfulRun (club : Club) (events : List machine.Event) (responses : List DeskResponse) : Type 0 where
-  -- the replies are the machine's, failed events left out
+  -- without the failed events, the replies are the machine's
   pub run : IsAnsweredRun club events responses
-  -- a member's replies depend on its own part and events, and on how much of its slots others take
+  -- a member's replies depend on its own part and events, and on the places that others take in its slots
   pub solo : IsSolo club events responses
   pub solo_of_two : IsAsInAnother club events responses
   -- a repeat of a served request gets the same reply, and changes nothing
   pub once : IsOnce club events responses
-  -- so does a cancellation of a booking that the office cancelled: it gets the recorded refund
+  -- a cancellation of a booking that the office cancelled gets the recorded refund, and changes nothing
   pub returns_the_record : ReturnsTheRecord club events responses
   -- points are neither created nor lost, and no slot is overbooked
   pub conserves : Conserves club events responses
   pub never_negative : IsNeverNegative (club_left club events responses)
   pub never_overbooked : IsNeverOverbooked (club_left club events responses)
 
--- if an event failed, the store failed during it, as with `Desk::ask` and `Desk::office`
+-- if an event failed, it failed for a cause that `Desk::ask` or `Desk::office` allows
 abbrev pub EventFailsForCause : {S : Type 0} → (Option Change → S → StoreFault → S → Type 0) → S → S → Club → Event → EventReply → Type 0
 EventFailsForCause Fails old new club (events.Asked words moment) (Replied reply) =
     FailsForCause Fails old new club words.pass.now words.request moment reply
@@ -166,13 +165,13 @@ EventFailsForCause Fails old new club (events.Commanded command) (Answered reply
 EventFailsForCause Fails old new club event reply = ⊥
 
 module _ {S : Type 0} (IsClean : S → Type 0) (Represents : S → Club → List Club → Type 0) (Fails : Option Change → S → StoreFault → S → Type 0) where
-  -- One event, with the store before and after.
+  -- The desk handled one event, with the store before and after it.
   pub record IsHandled (old : S) (event : Event) (reply : EventReply) (new : S) : Type 0 where
     pub was_clean : IsClean new → IsClean old
     pub steps : IsClean new → (seen : machine.Event) × IsEventOf event seen × Steps Represents old new seen (response_of reply)
     pub failed : OfItsClub IsClean Represents old new (λ club. EventFailsForCause Fails old new club event reply)
 
-  -- The events in order, each handled from the store that the previous one left.
+  -- The desk handled the events in order, each with the store that the previous event left.
   pub data AreHandled (old : S) : List Event → List EventReply → S → Type 0 where
     no_event : AreHandled old [] [] old
     one_event : (events : List Event) (replies : List EventReply) (event : Event) (reply : EventReply) (now new : S) → AreHandled old events replies now

@@ -1,4 +1,4 @@
--- The law of the desk, stated of the texts that it is sent (ours).
+-- The law of the desk, stated for the texts that clients send it (ours).
 use Rattle.std.specs.Prelude.{◌≡◌, ◌≢◌, ℕ, false, List, ◌++◌, Some, None, Ok, Err}
 use Rattle.base64.specs.GeneralPurpose.{IsBytes}
 use Rattle.pass_caveats.specs.Fault.{Allowed}
@@ -34,13 +34,13 @@ pub record EntitlesTo (club : Club) (text : List ℕ) (request : Request) (momen
   pub known : basis_under club request key ≡ Some basis
   pub permission : Allowed pass.caveats (ask_of (view_of basis request moment) request moment)
 
--- Any other club in which the words of the text name the same rows gives the same reply.
+-- In any other club where the text's words name the same rows, the reply is the same.
 abbrev pub DependsOnTheBasis : Club → List ℕ → Request → ℕ → Reply → Type 0
 DependsOnTheBasis club text request moment reply =
     (words : Words) (other : Club) → AreWordsOf text request words → basis_of other words ≡ basis_of club words
     → reply ≢ Refused Unavailable → reply ≡ (verdict_in other words moment).reply
 
--- If the words name no such rows, the reply is the fault of the text, or `NotVerified`.
+-- If the words name no rows of the club, the reply is the fault of the text, or `NotVerified`.
 abbrev pub IsBlind : Club → List ℕ → Request → Reply → Type 0
 IsBlind club text request reply =
     (words : Words) → AreWordsOf text request words → basis_of club words ≡ None
@@ -81,18 +81,18 @@ pub record IsLawful (club : Club) (text : List ℕ) (request : Request) (moment 
   pub entitles : IsServed reply → EntitlesTo club text request moment
   -- the reply depends on the words, the moment and the rows that the words name, and on nothing else
   pub depends : DependsOnTheBasis club text request moment reply
-  -- if the words name no such rows, the reply depends on the words alone
+  -- if the words name no rows of the club, the reply depends on the words alone
   pub blind : IsBlind club text request reply
   -- the same pass in another form gets the same reply
   pub forms : AnswersItsForms club text request moment reply
-  -- a pass with more caveats never opens more
+  -- a request that is served with more caveats gets the same reply without them
   pub less : OpensNoMore club text request moment reply
 
 -- The text is JSON, which needs memory to be parsed. Any other form is parsed in place, without memory.
 abbrev pub IsJson : List ℕ → Type 0
 IsJson text = (bytes : List ℕ) × IsUnwrapped text (Ok (Json, bytes))
 
--- If a text that isn't JSON isn't a pass, its fault is always the reply: never `Unavailable`.
+-- If a text is neither JSON nor a pass, the reply is always the text's fault, and never `Unavailable`.
 abbrev pub RefusesByFormFault : List ℕ → Reply → Type 0
 RefusesByFormFault text reply =
     (fault : FormFault) → ¬ IsJson text → IsAnyReading text (Err fault) → reply ≡ Refused (form_refusal (fault_of fault))

@@ -1,4 +1,4 @@
--- Account and slot listings for the office (ours): a line for each value, which begins with its name.
+-- Account and slot listings for the office (ours): a line for each value, which begins with the value's name.
 use Rattle.std.specs.{Fmt.decimal, Prelude.{◌≡◌, ◌⊎◌, ℕ, Bool, true, false, List, [], ◌∷◌, ◌++◌, codes, IfErr, Option, Some, None, option_and_then, option_map}}
 use Rattle.std.specs.{Prelude.{Result, Ok, Err, String}, String.string_bytes}
 use Rattle.club_values.specs.{Day.day_text, Kind.kind_text, Moment.moment_text, declared.{kind.Kind.Kind, slot.Slot.Slot}}
@@ -19,7 +19,7 @@ abbrev pub yes_or_no : Bool → List ℕ
 yes_or_no true = codes "yes"
 yes_or_no false = codes "no"
 
--- the values that say which slot it is
+-- the values that identify a slot
 abbrev pub values_of_slot : Slot → List (List ℕ × List ℕ)
 values_of_slot slot =
     (codes "facility", slot.facility) ∷ (codes "day", day_text slot.day) ∷ (codes "hour", decimal slot.hour) ∷ []
@@ -68,7 +68,7 @@ account_with_key club name moment =
 abbrev pub shown_account : Club → List ℕ → ℕ → Option (List ℕ)
 shown_account club name moment = option_map (λ (seen : Key × View). shown_account_text seen.0 seen.1) (account_with_key club name moment)
 
--- the reply that shows a slot, its facility and how much is taken; none if the facility is unknown
+-- the reply that shows a slot, its facility and how much of it is taken; none if the facility is unknown
 abbrev pub slot_reply : Club → Slot → Option Reply
 slot_reply club slot =
     option_map (λ facility. SlotShown slot facility.kind facility.price facility.places (slot_use club slot).taken (slot_use club slot).closed)
@@ -93,7 +93,7 @@ ShowsSlotsToKeys =
     → view_in club name (asked.View slot) moment ≡ Some view
     → shown_slot club slot ≡ reply_lines (unless_refused (verdict_of view (asked.View slot) moment).reply)
 
--- why nothing is shown: nothing has the name, or memory or storage was refused
+-- the fault says why nothing is shown: nothing has the name, memory ran out, or storage failed
 abbrev pub IsUnshown : Option (List ℕ) → Fault → Type 0
 IsUnshown shown (Refused Unknown) = shown ≡ None
 IsUnshown shown (Store failure) = Unit {0}
@@ -104,19 +104,19 @@ abbrev pub ReturnsShown : {Z : Type 0} → Option (List ℕ) → Result (String 
 ReturnsShown shown (Ok text) = shown ≡ Some (string_bytes text)
 ReturnsShown shown (Err fault) = IsUnshown shown fault
 
--- the faults with which nothing is shown
+-- the faults with which a listing can fail
 abbrev pub IsShowingFault : Fault → Type 0
 IsShowingFault (Refused Unknown) = Unit {0}
 IsShowingFault (Store failure) = Unit {0}
 IsShowingFault fault = ⊥
 
--- The fault is the one with which the store failed at a read; or everything was read, but nothing has the name, or there was no memory for the text.
+-- Either the store failed at a read with this fault; or everything was read, but nothing has the name, or there was no memory for the text.
 abbrev pub FailsToShow : {S : Type 0} → (Option Change → S → StoreFault → S → Type 0) → S → S → Fault → Type 0
 FailsToShow Fails old new fault =
     ((failure : StoreFault) × Fails None old failure new × (fault ≡ Store failure))
     ⊎ (((fault ≡ Refused Unknown) ⊎ (fault ≡ Store Memory)) × IsRead Fails old new)
 
--- A listing changes nothing, and the club and the result satisfy this relation.
+-- A listing changes nothing, and its result satisfies this relation to the club.
 pub record ShowsClub {S A : Type 0} (IsClean : S → Type 0) (Represents : S → Club → List Club → Type 0)
     (Fails : Option Change → S → StoreFault → S → Type 0) (old new : S) (result : Result A Fault) (IsSo : Club → Type 0) : Type 0 where
   pub was_clean : IsClean new → IsClean old

@@ -7,7 +7,7 @@ use Rattle.club_core.specs.declared.{change.Change.Change, refusal.Refusal.{Refu
 use Rattle.club_core.specs.declared.verdict.Verdict.{Verdict}
 use Rattle.club_gate.specs.{DecodedPass.fault_of, computed.DecodedPass.machine_pass}
 
--- holds for the pass that has these fields, if it has at most 64 caveats
+-- the property holds for the pass with these fields, if that pass has at most 64 caveats
 abbrev pub OfItsPass : List PassField → (Plain → Type 0) → Type 0
 OfItsPass fields IsSo = (pass : Plain) → fields ≡ pass_fields pass → length pass.caveats ≤ max_caveats → IsSo pass
 
@@ -18,7 +18,7 @@ signer_of pass moment (Some key) =
     first_of (line_if (not (is_signed_under (machine_pass pass) key moment)) (Err NotVerified) ∷ line_if key.revoked (Err KeyRevoked) ∷ [])
     (Ok (row_of_key key))
 
--- The verdict was read, or the store failed with this fault at a read; or the text is JSON, and the store wasn't called.
+-- Either the verdict was read, or the store failed with this fault at a read, or the text is JSON and the store wasn't called.
 abbrev pub ReadsOrLacksMemory : {S : Type 0} → (Option Change → S → StoreFault → S → Type 0) → Type 0 → S → S → Result Verdict StoreFault → Type 0
 ReadsOrLacksMemory Fails IsJsonText old new (Ok verdict) = IsRead Fails old new
 ReadsOrLacksMemory Fails IsJsonText old new (Err fault) = Fails None old fault new ⊎ (IsJsonText × (new ≡ old))

@@ -41,7 +41,7 @@ use std::marker::Model;
 /// The desk of a club: it answers requests of members (`ask`) and commands of the office
 /// (`office`), and prints the sheet of a day (`sheet`).
 ///
-/// Its store has everything that it knows of the club. Contracts see a desk as its store.
+/// Everything that it knows of the club is in its store. Contracts see a desk as its store.
 #[derive(Drop)]
 pub struct Desk<S: ClubStore> {
     pub(crate) store: S,
@@ -64,7 +64,7 @@ pub(crate) fn are_bytes(text: &[u8])
     let _text = text;
 }
 
-/// Returns a view without rows, in which nothing is taken.
+/// Returns a view without rows, in which no place is taken.
 fn nothing_seen() -> CommandView
     ensures { result ≡ rows_seen None None None }
 {
@@ -106,7 +106,7 @@ impl<S: ClubStore> Desk<S> {
         store
     }
 
-    /// Applies a change to the store, if there is one. An event writes nothing else. If the store
+    /// Applies a change to the store, if there is one. An event makes no other write. If the store
     /// fails, the club is unchanged, but after a crash the store may recover to the changed club.
     fn settle(&mut self, change: Option<Change>) -> Result<(), StoreFault>
         ensures was_clean { S.disk_is_clean self.new → S.disk_is_clean self.old }
@@ -124,8 +124,8 @@ impl<S: ClubStore> Desk<S> {
         }
     }
 
-    /// Decides a request at a moment, applies its change, and returns the reply. Fails if memory or
-    /// storage was refused.
+    /// Decides a request at a moment, applies its change, and returns the reply. Fails if memory
+    /// ran out or storage failed.
     fn reply_to(&mut self, moment: Moment, words: &SentWords) -> Result<Reply, StoreFault>
         ensures was_clean { S.disk_is_clean self.new → S.disk_is_clean self.old }
         ensures steps { S.disk_is_clean self.new → DecidesOrFails S.represents self.old self.new
@@ -212,7 +212,7 @@ impl<S: ClubStore> Desk<S> {
     }
 
     /// Decides a command of the office, applies its change, and returns the answer. Fails if memory
-    /// or storage was refused.
+    /// ran out or storage failed.
     fn answer_to(&mut self, command: &Command) -> Result<OfficeAnswer, StoreFault>
         ensures was_clean { S.disk_is_clean self.new → S.disk_is_clean self.old }
         ensures steps { S.disk_is_clean self.new → Steps S.represents self.old self.new
@@ -237,9 +237,9 @@ impl<S: ClubStore> Desk<S> {
     /// A refusal changes nothing.
     ///
     /// A refusal names the first cause that applies: the form of the text, the pass, its caveats in
-    /// order, then the rules for the request. `Unavailable` means that the store failed, or that
-    /// memory for a pass in JSON was refused, and nothing else. The club is then unchanged, but a
-    /// store that failed to write may recover to the changed club after a crash.
+    /// order, then the rules for the request. `Unavailable` means only that the store failed, or
+    /// that there was no memory to parse a pass in JSON. The club is then unchanged, but a store
+    /// that failed to write may recover to the changed club after a crash.
     pub fn ask(&mut self, moment: Moment, words: &SentWords) -> Reply
         ensures was_clean { S.disk_is_clean self.new → S.disk_is_clean self.old }
         // Either the reply is the one that the rules give to the text's words, and the store
@@ -250,13 +250,13 @@ impl<S: ClubStore> Desk<S> {
             × DecidesOrFails S.represents self.old self.new decoded moment result }
         ensures lawful { OfItsClub S.disk_is_clean S.represents self.old self.new
             (λ club. IsLawful club words.now.pass.now words.now.request moment result) }
-        // If the reply is `Unavailable`, then either the store itself failed, at a read or at the
-        // request's change; or the text is JSON, and the store is unchanged.
+        // `Unavailable` has only two causes. The store failed, at a read or at the request's
+        // change; or the text is JSON, and the store is unchanged.
         ensures failed { OfItsClub S.disk_is_clean S.represents self.old self.new
             (λ club. FailsForCause S.fails self.old self.new club words.now.pass.now
             words.now.request moment result) }
-        // A text that isn't a pass leaves the store unchanged, and is refused without memory unless
-        // it is JSON.
+        // A text that isn't a pass leaves the store unchanged. Its refusal needs memory only if it
+        // is JSON.
         ensures untouched { (fault : FormFault) → IsAnyReading words.now.pass.now (Err fault)
             → self.new ≡ self.old }
         ensures in_place { RefusesByFormFault words.now.pass.now result }
@@ -278,9 +278,9 @@ impl<S: ClubStore> Desk<S> {
     /// Carries out a command of the office. When `office` returns, the change of a successful
     /// command is stored. A refusal changes nothing.
     ///
-    /// `Fault::Refused` names the rule that forbids the command. `Fault::Store` means that memory
-    /// or storage was refused, and nothing else. A store that failed to write may recover to the
-    /// changed club after a crash.
+    /// `Fault::Refused` names the rule that forbids the command. `Fault::Store` means only that
+    /// memory ran out or storage failed. A store that failed to write may recover to the changed
+    /// club after a crash.
     pub fn office(&mut self, command: &Command) -> OfficeReply
         ensures was_clean { S.disk_is_clean self.new → S.disk_is_clean self.old }
         ensures steps { S.disk_is_clean self.new → Steps S.represents self.old self.new
@@ -311,7 +311,7 @@ impl<S: ClubStore> Desk<S> {
     ///
     /// # Errors
     ///
-    /// Fails with `Store` if memory or storage was refused.
+    /// Fails with `Store` if memory ran out or storage failed.
     pub fn sheet(&mut self, day: Day) -> Result<String, Fault>
         ensures was_clean { S.disk_is_clean self.new → S.disk_is_clean self.old }
         ensures kept { S.disk_is_clean self.new → KeepsClub S.represents self.old self.new }

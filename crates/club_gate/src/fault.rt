@@ -8,9 +8,9 @@ use std::fmt;
 /// Why a command, a sheet or a listing for the office is refused or fails.
 #[derive(Clone, Copy, Debug, PartialEq, Eq)]
 pub enum Fault {
-    /// A rule of the club refuses it.
+    /// A rule of the club refuses the call.
     Refused(OfficeFault),
-    /// Memory or storage was refused.
+    /// Memory ran out or storage failed.
     Store(StoreFault),
 }
 

@@ -51,7 +51,7 @@ pub fn sees_events()
     decodes();
 }
 
-/// The rows that the words of a text name are the club's rows for the key of its pass.
+/// If the pass of a text is for a key of the club, the text's words name the rows of that key.
 pub fn names_its_rows()
     ensures { NamesItsRows }
 {

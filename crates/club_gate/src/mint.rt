@@ -17,7 +17,7 @@ pub const LOCATION: &[u8; 9] = b"club-desk";
 /// The most bytes of a key's identifier.
 const MAX_IDENTIFIER_LEN: usize = 28;
 
-/// Returns the signature of a key's pass without caveats, 32 bytes: the chain of `key:NAME` under a
+/// Returns the 32-byte signature of a key's pass without caveats: the chain of `key:NAME` under a
 /// root. Allocates nothing.
 pub fn key_signature(name: &Name, root: &Root) -> [u8; 32]
     ensures { result ≡ minted_signature name.now root.now }

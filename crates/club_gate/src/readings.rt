@@ -22,8 +22,8 @@ use pass_caveats::{Ask, CaveatFault, Unspent};
 use pass_forms::FieldSource;
 
 impl<S: ClubStore> Desk<S> {
-    /// Reads the booking under the request's number, and the facility. Caveats depend on nothing
-    /// else, except what the key has spent. If there is such a booking, the facility is read only
+    /// Reads the booking under the request's number, and the facility. Besides these, caveats
+    /// depend only on what the key has spent. If there is such a booking, the facility is read only
     /// if a caveat looks at its kind. The source yields the fields of the pass.
     pub(crate) fn first_view<'a, F: FieldSource<'a> + Drop>(
         &mut self,
@@ -74,8 +74,8 @@ impl<S: ClubStore> Desk<S> {
         Ok(fault_after(source, ask, spent))
     }
 
-    /// Returns whether the member of a key has used at most this much. If so, the key has spent at
-    /// most this much, too.
+    /// Returns whether the member of a key has used at most `most` points. If so, the key has also
+    /// spent at most `most`.
     fn has_spent_within(&mut self, key: &KeyRow, most: u64) -> Result<bool, StoreFault>
         ensures { ReadsStore S.disk_is_clean S.represents S.fails self.old self.new result
             (λ club within. within ≡ true → IsOnRecord club key.now
@@ -149,9 +149,9 @@ impl<S: ClubStore> Desk<S> {
         Ok(Some(View { spent, ..view }))
     }
 
-    /// Adds the rows and sums that the decision depends on to the view that caveats were tested by.
-    /// Returns `None` if the club doesn't have the key's member. The resulting view gives the same
-    /// answer as the key's full view.
+    /// Adds the rows and sums that the decision depends on to the view by which the caveats were
+    /// tested. Returns `None` if the club doesn't have the key's member. The resulting view gives
+    /// the same answer as the key's full view.
     pub(crate) fn last_view(
         &mut self,
         view: View,

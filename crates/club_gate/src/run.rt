@@ -19,7 +19,7 @@ use club_laws::runs_with_failures::{
 };
 use std::alloc::AllocError;
 
-/// The types of an event's values keep them within their limits.
+/// The type of each value in an event ensures that the value is within its limits.
 fn event_within(event: &Event)
     ensures within { IsEvent (machine_event event.now) }
     ensures bytes { IsEventOfBytes event.now }
@@ -34,7 +34,7 @@ fn event_within(event: &Event)
 }
 
 impl<S: ClubStore> Desk<S> {
-    /// Answers events in their order, each from the club that the one before it left.
+    /// Answers events in their order, each for the club that the previous event left.
     ///
     /// # Errors
     ///
@@ -46,15 +46,14 @@ impl<S: ClubStore> Desk<S> {
         ensures lawful { S.disk_is_clean self.new → Returns S.represents self.old result
             (λ club replies. (seen : List machine.Event) → AreEventsOf events.now seen
             → IsLawfulRun club seen (responses_of replies.items)) }
-        // Each event was answered by one step, or the store failed during it, as with `ask` and
-        // `office`.
+        // Each event was answered by one step, or failed for a cause that `ask` or `office` allows.
         ensures handled { IfOk result (λ replies. AreHandled S.disk_is_clean S.represents S.fails
             self.old events.now replies.items self.new) }
-        // After a crash the store holds the club of the answered events, or that club after one
-        // event that failed since the last change. If the run changed nothing, it may also hold a
-        // club that a crash could have left before the run. A repeat of a served request gets the
-        // same reply and changes nothing, in the club of the answered events and in each other club
-        // one event away from it.
+        // After a crash the store has the club after the answered events, or that club after one
+        // more event, which failed since the last change. If the run changed nothing, the store may
+        // also have a club that a crash could have left before the run. A repeat of a served
+        // request gets the same reply and changes nothing. That holds in the club after the
+        // answered events and in each other club one event away from it.
         ensures represents { S.disk_is_clean self.new → (club : Club) (others : List Club)
             → S.represents self.old club others
             → IfOk result (λ replies. (seen : List machine.Event) → AreEventsOf events.now seen

@@ -13,13 +13,13 @@ use club_values::{Kind, Moment, Name, Slot};
 use std::alloc::{AllocError, Global};
 
 impl<S: ClubStore> Desk<S> {
-    /// Lists what a key sees of its account at a moment, whether it is revoked, and until when its
-    /// older root is good, with one value per line. No root is shown, and the rows are unchanged.
+    /// Lists what a key sees of its account at a moment, one value per line. Also lists whether the
+    /// key is revoked, and until when its older root is good. Shows no root, and changes no row.
     ///
     /// # Errors
     ///
-    /// Fails with `Refused(Unknown)` if no key has the name, and with `Store` if memory or storage
-    /// was refused.
+    /// Fails with `Refused(Unknown)` if no key has the name, and with `Store` if memory ran out or
+    /// storage failed.
     pub fn show_account(&mut self, key: &Name, moment: Moment) -> Result<String, Fault>
         ensures { spec.ShowsClub S.disk_is_clean S.represents S.fails self.old self.new result
             (λ club. spec.ReturnsShown (spec.shown_account club key.now moment) result) }
@@ -30,12 +30,12 @@ impl<S: ClubStore> Desk<S> {
         Ok(account_text(self.alloc, &key, &view)?)
     }
 
-    /// Lists what every key sees of a slot, with one value per line. The rows are unchanged.
+    /// Lists what every key sees of a slot, one value per line. Changes no row.
     ///
     /// # Errors
     ///
-    /// Fails with `Refused(Unknown)` if there is no such facility, and with `Store` if memory or
-    /// storage was refused.
+    /// Fails with `Refused(Unknown)` if there is no such facility, and with `Store` if memory ran
+    /// out or storage failed.
     pub fn show_slot(&mut self, slot: &Slot) -> Result<String, Fault>
         ensures { spec.ShowsClub S.disk_is_clean S.represents S.fails self.old self.new result
             (λ club. spec.ReturnsShown (spec.shown_slot club slot.now) result) }
@@ -46,7 +46,7 @@ impl<S: ClubStore> Desk<S> {
         Ok(reply_text(self.alloc, &reply)?)
     }
 
-    // A key, and its view of its account; `None` if no key has the name.
+    // Returns a key and its view of its account; `None` if no key has the name.
     fn account_view(
         &mut self,
         key: &Name,
@@ -65,7 +65,7 @@ impl<S: ClubStore> Desk<S> {
         }
     }
 
-    // The reply to a request to view a slot, which is the same for every key; `None` if the
+    // Returns the reply to a request to view a slot, which is the same for every key; `None` if the
     // facility is unknown.
     fn slot_reply(&mut self, slot: &Slot) -> Result<Option<Reply>, StoreFault>
         ensures { ReadsStore S.disk_is_clean S.represents S.fails self.old self.new result
@@ -86,7 +86,7 @@ impl<S: ClubStore> Desk<S> {
     }
 }
 
-// The lines of an account and of the key that asks for it.
+// Returns the lines of an account and of the key that asks for it.
 fn account_text(alloc: Global, key: &Key, view: &View) -> Result<String, AllocError>
     ensures { IfOk result (λ text. string_bytes text ≡ spec.shown_account_text key.now view.now) }
 {
@@ -95,7 +95,7 @@ fn account_text(alloc: Global, key: &Key, view: &View) -> Result<String, AllocEr
     Ok(text)
 }
 
-// The lines of a reply that shows an account or a slot. Any other reply has none.
+// Returns the lines of a reply that shows an account or a slot. Any other reply has none.
 fn reply_text(alloc: Global, reply: &Reply) -> Result<String, AllocError>
     ensures { IfOk result (λ text. string_bytes text ≡ spec.lines (spec.named_values reply.now)) }
 {
@@ -125,7 +125,7 @@ fn reply_text(alloc: Global, reply: &Reply) -> Result<String, AllocError>
     }
 }
 
-// The lines that name a slot.
+// Returns the lines that name a slot.
 fn slot_name(alloc: Global, slot: &Slot) -> Result<String, AllocError>
     ensures { IfOk result
         (λ text. string_bytes text ≡ spec.lines (spec.values_of_slot slot.now)) }
@@ -137,7 +137,7 @@ fn slot_name(alloc: Global, slot: &Slot) -> Result<String, AllocError>
     )
 }
 
-// The lines of a facility and of how much of a slot is taken.
+// Appends the lines of a facility and of how much of a slot is taken.
 fn push_state(
     text: &mut String,
     kind: Kind,
@@ -156,7 +156,7 @@ fn push_state(
     )
 }
 
-// The lines of a key, without its roots.
+// Appends the lines of a key, without its roots.
 fn push_key(text: &mut String, key: &Key) -> Result<(), AllocError>
     ensures { OnOk result
         (string_bytes text.new ≡ string_bytes text.old ++ spec.lines (spec.values_of_key key.now)) }

@@ -14,9 +14,9 @@ use pass_forms::{FieldSource, is_signed_by};
 use pass_mac::Chain;
 
 impl<S: ClubStore> Desk<S> {
-    /// Returns whether a pass is signed under a root of the key of this row that is good at the
-    /// moment. It reads the older root only for a pass that isn't signed under the current one. The
-    /// source has already yielded the identifier.
+    /// Returns whether a pass is signed under a root of this row's key that is good at the moment.
+    /// Reads the older root only if the pass isn't signed under the current root. The source has
+    /// already yielded the identifier.
     ///
     /// The current root's derived key is cached once a pass is signed under it. Until then the
     /// cache keeps the older root's derived key, if a pass was signed under it before the rotation.

@@ -95,9 +95,9 @@ impl<S: ClubStore> Desk<S> {
         }
     }
 
-    /// Returns the row of the key that a pass names and is signed under, or the refusal. It reads
-    /// nothing else of the club, except the older root for a pass that isn't signed under the
-    /// current one. An unknown key and a wrong signature get the same refusal.
+    /// Returns the row of the key that a pass names and is signed under, or the refusal. Reads
+    /// nothing else of the club, except the older root if the pass isn't signed under the current
+    /// one. An unknown key and a wrong signature get the same refusal.
     fn signer<'a, F: FieldSource<'a> + Drop>(
         &mut self,
         source: &F,
@@ -124,8 +124,8 @@ impl<S: ClubStore> Desk<S> {
     }
 
     /// Returns the verdict on a request with a pass whose signer is this key. If a caveat refuses
-    /// the request, the call reads no sums except the member's use and the key's spending, and
-    /// these only if a caveat depends on them.
+    /// the request, the call reads at most two sums: the member's use and the key's spending. It
+    /// reads them only if a caveat depends on them.
     fn verdict_under<'a, F: FieldSource<'a> + Drop>(
         &mut self,
         key: &KeyRow,

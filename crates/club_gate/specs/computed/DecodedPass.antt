@@ -1,4 +1,4 @@
--- A text, decoded for the rules of the club, and an event at the desk as the machine sees it, computed.
+-- Computes the decoded pass of a text, and the machine's form of an event at the desk.
 use Rattle.std.specs.Prelude.{ℕ, List, map, Result, Ok, Err}
 use Rattle.pass_caveats.specs.computed.CaveatOf.{caveat_of}
 use Rattle.pass_forms.specs.{Pass.Plain, computed.Pass.is_signed, declared.{fault.FormFault.FormFault, form.Form.Form}}
@@ -33,7 +33,7 @@ decoded_pass text = decoded_or_fault (without_form (reading text))
 abbrev pub decoded_words : List ℕ → Request → Words
 decoded_words text request = record { pass = decoded_pass text; request = request }
 
--- the words of a request whose pass is these bytes in a form
+-- the words of a request whose pass is spelled by these bytes in this form
 abbrev pub words_in_form : Form → List ℕ → Request → Words
 words_in_form form bytes request = record { pass = decoded_or_fault (reading_in_form form bytes); request = request }
 

@@ -1,4 +1,4 @@
--- The first fault from here on is the first of all fields.
+-- The first fault of the remaining fields is the first fault of all fields.
 use Rattle.club_gate.proofs.{Common.{◌≡◌, length}, Walking.fault_in}
 use Rattle.club_gate.proofs.walk.fault_after.Given as goal
 

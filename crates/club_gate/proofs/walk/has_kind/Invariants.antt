@@ -1,4 +1,4 @@
--- If the fields from here on are blind to kinds, all are.
+-- If no caveat among the remaining fields depends on the kind, none among all fields does.
 use Rattle.club_gate.proofs.{Common.length, KindScans.AreBlind}
 use Rattle.club_gate.proofs.walk.has_kind.Given as goal
 

@@ -1,4 +1,4 @@
--- For any amount within the slack, the first fault from here on is the first of all fields.
+-- For any amount within the slack, the first fault of the remaining fields is the first fault of all fields.
 use Rattle.club_gate.proofs.{Common.{◌≡◌, ℕ, length, IsWithin, after_spending}, Walking.fault_in}
 use Rattle.club_gate.proofs.walk.unspent_fault.Given as goal
 
