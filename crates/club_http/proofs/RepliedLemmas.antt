@@ -25,7 +25,7 @@ replied_to_all Answers (Some all) (Some rest) bytes old reply new keeps stays re
   | inr none ↦ rw (received.came, none, append-nil) replied
 ]
 
--- an exchange whose request was received, and whose reply is also the reply to everything that the reader would return
+-- if a request was received, the reply of its exchange is also the reply to everything that the reader would return
 pub exchanged_to_all : {Desk : Type 0} (Answers : AnswerRelation Desk) (before after : Option (List ℕ)) (bytes : List ℕ) (old new : Desk) (Unasked : Type 0)
     (Writes : List ℕ → Type 0) → WholeKeepsItsReading → BodyStays → Receives before after bytes → (outcome : Result Reply AnswerFault)
     → Exchanges (λ reply. IsReplied Answers bytes old reply new) ⊥ Writes outcome

@@ -5,7 +5,7 @@ use Rattle.pass_json.specs.AnyForm.{IsAnyReading}
 use Rattle.club_core.specs.{Club.Club, Pass.Words, declared.{change.Change.Change, reply.Reply.Reply, request.Request.Request, store.StoreFault.StoreFault}}
 use Rattle.club_gate.specs.{DecodedPass.AreWordsOf, Desk.{DecidesOrFails, FailsForCause, OfItsClub}, Served.{IsLawful, RefusesByFormFault}}
 
--- the store below the desk did as the rules say, provided that its disk was clean
+-- the desk replied and its store changed as the rules say, provided that the store's disk was clean
 pub record AnswersBy {S : Type 0} (IsClean : S → Type 0)
     (Represents : S → Club → List Club → Type 0)
     (Fails : Option Change → S → StoreFault → S → Type 0) (moment : ℕ) (text : List ℕ)
@@ -15,6 +15,6 @@ pub record AnswersBy {S : Type 0} (IsClean : S → Type 0)
   pub lawful : OfItsClub IsClean Represents old new (λ club. IsLawful club text request moment reply)
   -- the reply is `Unavailable` only if the store itself failed, or the text is JSON
   pub failed : OfItsClub IsClean Represents old new (λ club. FailsForCause Fails old new club text request moment reply)
-  -- a text that isn't a pass is refused without calling the store, and without memory unless it is JSON
+  -- a text that isn't a pass is refused without calling the store; the refusal needs memory only if the text is JSON
   pub no_change : (fault : FormFault) → IsAnyReading text (Err fault) → new ≡ old
   pub in_place : RefusesByFormFault text reply

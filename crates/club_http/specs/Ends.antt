@@ -2,11 +2,11 @@
 use Rattle.std.specs.{Io.KnownBytes.{Keeps, Appends, Consumes, IsAtEnd}, Prelude.{ℕ, ◌==◌, ◌+◌, ◌-◌, ◌^◌, ◌<◌, ◌&&◌, min, List, length, take, nat_lt}}
 use Rattle.std.specs.Prelude.{if◌then◌else◌, Option, Some, None, ◌≡◌, MatchOption, MatchResult, Result}
 
--- one more failure; the count is a u64 that saturates
+-- the count after one more failure, a u64 that saturates
 abbrev pub one_more : ℕ → ℕ
 one_more failures = min (failures + 1) (2 ^ 64 - 1)
 
--- a call read the next bytes into the buffer; it read 0 bytes only at the end or into an empty buffer; a failed call read none
+-- A call read the next bytes into the buffer, or it failed and read none. It read 0 bytes only at the end of the input or into an empty buffer.
 abbrev pub Fills : Option (List ℕ) → Option (List ℕ) → Option ℕ → List ℕ → Type 0
 Fills old new result room = MatchOption result
     (Keeps old new)
@@ -17,13 +17,13 @@ abbrev pub read_failures : {A : Type 0} → ℕ → Option A → ℕ
 read_failures failures None = one_more failures
 read_failures failures (Some found) = failures
 
--- a call took the first bytes; a failed call took none
+-- a call took a prefix of the bytes, or it failed and took none
 abbrev pub Takes : Option (List ℕ) → Option (List ℕ) → Option ℕ → List ℕ → Type 0
 Takes old new result bytes = MatchOption result
     (Keeps old new)
     (λ n. Appends old new (take n bytes))
 
--- either all the bytes were taken, or only the first n of them before one failure
+-- either all the bytes were taken, or only the first n of them, before one failure
 abbrev pub TakesAll : {A : Type 0} → Option (List ℕ) → Option (List ℕ) → ℕ → ℕ → List ℕ → Result A ℕ → Type 0
 TakesAll old new failures failures' bytes result = MatchResult result
     (λ _. Appends old new bytes × (failures' ≡ failures))

@@ -10,10 +10,10 @@ pub record Replies {Desk : Type 0} (Answers : AnswerRelation Desk) (before after
     (bytes : List ℕ) (old : Desk) (reply : Reply) (new : Desk) : Type 0 where
   pub receives : Receives before after bytes
   pub reply_is : IsReplied Answers bytes old reply new
-  -- it is also the reply to everything that the reader would return up to its end
+  -- the reply is also the reply to everything that the reader would return up to its end
   pub to_all : IfSome before (λ all. IsReplied Answers all old reply new)
 
--- the effect of an exchange: it wrote the text of the desk's reply, or a prefix of that text, or didn't ask the desk
+-- the effect of an exchange: either the desk replied and the reply's text or a prefix of it was written, or the desk wasn't asked
 abbrev pub Exchanges :
     (Reply → Type 0) → Type 0 → (List ℕ → Type 0) → Result Reply AnswerFault → Type 0
 Exchanges Decides Unasked Writes (Ok reply) = Decides reply × Writes (reply_text reply)
@@ -21,13 +21,13 @@ Exchanges Decides Unasked Writes (Err Read) = Unasked
 Exchanges Decides Unasked Writes (Err (Write n)) =
     (reply : Reply) × Decides reply × (n < length (reply_text reply)) × Writes (take n (reply_text reply))
 
--- the reader's failures after an exchange
+-- the count of the reader's failures after an exchange
 abbrev pub reader_failures : ℕ → Result Reply AnswerFault → ℕ
 reader_failures failures (Err Read) = one_more failures
 reader_failures failures (Err (Write n)) = failures
 reader_failures failures (Ok reply) = failures
 
--- the writer's failures after an exchange
+-- the count of the writer's failures after an exchange
 abbrev pub writer_failures : ℕ → Result Reply AnswerFault → ℕ
 writer_failures failures (Err Read) = failures
 writer_failures failures (Err (Write n)) = one_more failures

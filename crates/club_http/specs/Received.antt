@@ -2,7 +2,7 @@
 use Rattle.std.specs.{Io.KnownBytes.{Consumes, IsAtEnd}, Prelude.{ℕ, ◌≤◌, ◌⊎◌, List, length, Option}}
 use Rattle.http_request.specs.{Frame.IsWhole, Limits.max_request_len}
 
--- the bytes arrived, at most as many as a request may have; they begin with a complete request, or are the whole input
+-- bytes within the limit of a request arrived; they begin with a complete request, or are the whole input
 pub record Receives (old new : Option (List ℕ)) (bytes : List ℕ) : Type 0 where
   pub came : Consumes old new bytes
   pub within : length bytes ≤ max_request_len

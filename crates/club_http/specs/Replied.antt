@@ -7,8 +7,8 @@ use Rattle.http_request.specs.Words.{DecodedRequest, IsRequestReading, HoldsBody
 abbrev pub AnswerRelation : Type 0 → Type 1
 AnswerRelation Desk = List ℕ → Request → Desk → Reply → Desk → Type 0
 
--- the reply to a request's bytes, with the desk before and after: the parser's refusal, the desk's reply, or `Unavailable` if parsing the body ran out of
--- memory
+-- The reply to a request's bytes, with the desk before and after. It is the parser's refusal, the desk's reply, or `Unavailable` if there was no memory to
+-- parse the body.
 pub data IsReplied {Desk : Type 0} (Answers : AnswerRelation Desk) (bytes : List ℕ) (old : Desk)
     (reply : Reply) (new : Desk) : Type 0 where
   parser_refusal : (refusal : Refusal) → IsRequestReading bytes (Err refusal)

@@ -1,4 +1,4 @@
-//! A `Desk` as a responder.
+//! Makes `Desk` a `Responder`.
 
 use crate::responder::Responder;
 use club_core::{ClubStore, Reply};

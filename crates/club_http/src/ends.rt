@@ -30,16 +30,16 @@ pub trait Outlet {
     ghost use Rattle.std.specs.Prelude.{◌≡◌, ◌≤◌, ℕ, List, length, Option, IfSome};
     ghost use Rattle.club_http.specs.{Calls.Call, Ends.{Takes, put_failures}};
 
-    // the bytes that it took, if they are known
+    // the bytes that the writer took, if they are known
     ghost taken: { Self → Option (List ℕ) };
 
     // the number of calls that failed, or took nothing although they were given bytes
     ghost failures: { Self → ℕ };
 
-    // the known effects of one call on the bytes that it is given
+    // the known effects of one call on the bytes that are passed to it
     ghost puts: { Call Self };
 
-    /// Takes the first of the bytes, and returns how many. `None` means that the call failed.
+    /// Takes a prefix of the bytes, and returns its length. `None` means that the call failed.
     fn put(&mut self, bytes: &[u8]) -> Option<usize>
         ensures within { IfSome result (λ n. n ≤ length bytes.now) }
         ensures bytes { Takes (taken self.old) (taken self.new) result bytes.now }

@@ -15,11 +15,11 @@ use http_request::laws::{body_stays, whole_keeps_its_reading};
 
 /// Reads a request, asks the desk, and writes the text of its reply.
 ///
-/// It stops calling the reader once the request is complete. If the input ends before that, the
-/// bytes that arrived are the request. Each call may fill the rest of the buffer, so bytes after
-/// the request may be read with it. They change nothing, and at most `MAX_REQUEST_LEN` bytes are
-/// read in all. The face keeps the bytes that were read. Parsing the body and asking the desk need
-/// memory; after the desk has replied, no memory is needed.
+/// Stops calling the reader once the request is complete. If the input ends before that, the bytes
+/// that arrived are the request. A call may also read bytes after the request into the buffer. Such
+/// bytes change nothing. At most `MAX_REQUEST_LEN` bytes are read in all, and the face keeps them.
+/// Parsing the body and asking the desk need memory; after the desk has replied, no memory is
+/// needed.
 ///
 /// # Errors
 ///

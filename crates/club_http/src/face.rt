@@ -18,8 +18,8 @@ use http_request::{HeadScan, MAX_REQUEST_LEN, Routes, words_by_scan};
 use std::alloc::{AllocError, Global};
 use std::marker::Model;
 
-/// The routes of the desk, and a buffer that holds any request. One face serves all exchanges of a
-/// server. It keeps the bytes read for the last request; contracts see a face as these bytes.
+/// The routes of the desk, and a buffer with room for any request. One face serves all exchanges of
+/// a server. It keeps the bytes read for the last request, and contracts see it as these bytes.
 #[derive(Drop)]
 pub struct Face {
     routes: Routes,
@@ -57,7 +57,7 @@ fn reply_to<D: Responder>(
 }
 
 impl Face {
-    /// Makes a face: the routes, and a buffer of `MAX_REQUEST_LEN` bytes. It holds no request.
+    /// Makes a face without a request: the routes, and a buffer of `MAX_REQUEST_LEN` bytes.
     ///
     /// # Errors
     ///
@@ -75,7 +75,7 @@ impl Face {
     }
 
     /// Returns the bytes of the last request, and any bytes after it that the reader returned in
-    /// the same call. If the reader failed, these are the bytes that arrived before.
+    /// the same call. If the reader failed, these are the bytes that arrived before the failure.
     pub fn request(&self) -> &[u8]
         ensures { result.now ≡ self.now }
     {
@@ -85,10 +85,10 @@ impl Face {
     /// Reads a request and keeps its bytes. Returns `None` if the reader fails before the request
     /// is complete.
     ///
-    /// It stops calling the reader once the request is complete. If the input ends before that, the
-    /// bytes that arrived are the request. Each call may fill the rest of the buffer, so bytes
-    /// after the request may be read with it, at most `MAX_REQUEST_LEN` bytes in all. The returned
-    /// scan covers the bytes that were read.
+    /// Stops calling the reader once the request is complete. If the input ends before that, the
+    /// bytes that arrived are the request. A call may also read bytes after the request into the
+    /// buffer, at most `MAX_REQUEST_LEN` bytes in all. The returned scan covers the bytes that were
+    /// read.
     pub fn receive<R: Inlet>(&mut self, reader: &mut R) -> Option<HeadScan>
         ensures covered { IfSome result (λ scan. Covers scan self.new) }
         ensures received { IfSome result
@@ -120,8 +120,8 @@ impl Face {
         reply_to(&self.routes, self.request(), scan, desk, moment)
     }
 
-    /// Asks the desk for the reply to the request in the face, which the scan covers, and writes
-    /// its text. This is the second step of an exchange, after `receive`.
+    /// Asks the desk for the reply to the request in the face, and writes the reply's text. The
+    /// scan covers that request. This is the second step of an exchange, after `receive`.
     ///
     /// # Errors
     ///

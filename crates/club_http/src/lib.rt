@@ -1,7 +1,7 @@
 //! One HTTP/1.1 exchange with the desk: it reads a request, asks the desk, and writes the reply.
 //!
-//! It re-exports what a program uses of the crates below: the desk and its commands, the values and
-//! rows in them, and the status lines of replies.
+//! It re-exports what a program needs of the crates below: the desk and its commands, their values
+//! and rows, and the status lines of replies.
 #![tactic(auto)]
 
 mod desk;

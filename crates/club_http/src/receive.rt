@@ -14,7 +14,7 @@ use http_request::HeadScan;
 ///
 /// # Errors
 ///
-/// Returns how many bytes arrived, if the reader failed before the request was complete.
+/// Fails with the number of arrived bytes if the reader failed before the request was complete.
 pub(crate) fn receive<R: Inlet>(
     reader: &mut R,
     room: &mut [u8],

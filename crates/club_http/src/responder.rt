@@ -9,7 +9,7 @@ pub trait Responder {
     ghost use Rattle.std.specs.Prelude.{ℕ};
     ghost use Rattle.club_http.specs.Replied.{AnswerRelation};
 
-    // the replies that it may give at a moment, with its state before and after
+    // the replies that a responder may give at a moment, with its state before and after
     ghost answers: { ℕ → AnswerRelation Self };
 
     /// Answers a request at a moment.

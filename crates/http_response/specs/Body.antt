@@ -33,11 +33,11 @@ member_text member = name_text member.0 ++ value_text member.1
 abbrev pub object_text : List Member → List ℕ
 object_text members = codes "{" ++ join_by member_text (codes ",") members ++ codes "}"
 
--- a booking's key and its number
+-- the member with a booking's key and number
 abbrev pub booking_member : List ℕ → ℕ → Member
 booking_member key n = (codes "booking", text (key ++ codes "/" ++ decimal n))
 
--- the number of the caveat that refuses, if one does
+-- the member with the number of the caveat that refused the request, if one did
 abbrev pub caveat_member : Option ℕ → List Member
 caveat_member None = []
 caveat_member (Some n) = (codes "caveat", number n) ∷ []

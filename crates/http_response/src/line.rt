@@ -3,7 +3,7 @@
 use itoa::Buffer;
 use std::marker::Model;
 
-/// The most bytes of a line, which is half of the longest reply: head and body are a line each.
+/// The most bytes of a line. Head and body are one line each, so a reply has at most twice as many.
 pub const MAX_LINE_LEN: usize = 256;
 
 /// A text that grows by `push`. Contracts see it as the list of its bytes, at most 256.
