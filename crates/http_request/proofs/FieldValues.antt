@@ -1,4 +1,4 @@
--- The values of fields, one field at a time.
+-- Lemmas on the values of fields, one field at a time.
 use Rattle.http_request.proofs.Common.{◌≡◌, ℕ, ◌+◌, ◌<◌, Bool, List, ◌∷◌, cond, length, get_or, drop, refl, at_drop_more, HeaderSpan, same_word, values_in_head}
 use Rattle.httparse.specs.Spans.{header_bytes}
 
@@ -6,7 +6,7 @@ use Rattle.httparse.specs.Spans.{header_bytes}
 abbrev pub no_field : HeaderSpan
 no_field = record { name = record { start = 0; end = 0 }; value = record { start = 0; end = 0 } }
 
--- a field of a head by its place
+-- the name of the field with this index in a head
 abbrev pub name_at : List ℕ → List HeaderSpan → ℕ → List ℕ
 name_at head fields i = (header_bytes head (get_or fields i no_field)).0
 

@@ -1,4 +1,4 @@
--- Bytes have only one frame.
+-- Lemmas on frames: bytes have only one.
 use Rattle.http_request.proofs.Common.{◌≡◌, ℕ, ◌<◌, ◌≤◌, inl, inr, false, List, [], ◌++◌, length, take, drop, nat_eq, sym, ap, ◌∙◌, arith, length-append}
 use Rattle.http_request.proofs.Common.{ends_with, cases_order, take-append-le, take-append-drop, length-take-le, HeaderSpan, RequestHead, Head, empty_line}
 use Rattle.http_request.proofs.Common.{IsHeadOf, IsPiece, AsksForBody, IsFramed, IsOneRequest, IsRefusedHead, HasNoPiece, IsHeadAt}
@@ -29,7 +29,7 @@ pub asks_at : {bytes : List ℕ} {fields : List HeaderSpan} {found : Head} (at :
     → Asks bytes at.head found.body_len (drop found.len bytes)
 asks_at {bytes} {found} at = record { piece = take found.len bytes; cut = cut_at bytes found.len at.cut; asks = at.asks }
 
--- a frame from a head and its body
+-- a head and a complete body after it are a frame
 pub whole_frame : {bytes : List ℕ} {fields : List HeaderSpan} {found : Head} (at : IsHeadAt bytes fields found)
     → found.body_len ≤ length (drop found.len bytes)
     → IsFramed bytes at.head (take found.body_len (drop found.len bytes))
@@ -66,7 +66,7 @@ one_piece {p} {q} {r} {s} is other = elim (cases_order (length p) (length q)) [
   | inr (inr more) ↦ absurd (not_shorter other is more)
 ]
 
--- bytes that begin with a piece have a piece
+-- bytes that begin with a piece don't satisfy `HasNoPiece`
 pub no_piece : {bytes piece rest : List ℕ} → IsCut bytes piece rest → ¬ (HasNoPiece bytes)
 no_piece {piece} {rest} is none =
     let front : take (length piece) (piece ++ rest) ≡ piece = take-append_seam piece rest in
@@ -75,17 +75,17 @@ no_piece {piece} {rest} is none =
     let yes = is.cut.ends in
     cc
 
--- a head that asks for a body isn't refused
+-- bytes that begin with an allowed head don't satisfy `IsRefusedHead`
 pub not_refused : {bytes rest : List ℕ} {head : RequestHead} {n : ℕ} → Asks bytes head n rest → ¬ (IsRefusedHead bytes)
 not_refused {head} {n} is refused =
     let same = one_piece is.cut (record { cut = refused.cut; parts = refused.parts }) in
     refused.refusal head n (rw same.0 at is.asks)
 
--- a piece is only one head
+-- a piece parses to only one head
 pub one_head : {piece : List ℕ} {head other : RequestHead} → IsHeadOf piece head → IsHeadOf piece other → other ≡ head
 one_head {piece} {head} {other} is again = (request_unique piece other head [] [] again.reads is.reads).0
 
--- bytes ask for only one body
+-- bytes have only one head, one length of the body, and one rest after the head
 pub same_asked : {bytes r s : List ℕ} {head other : RequestHead} {n m : ℕ} → Asks bytes head n r → Asks bytes other m s
     → (other ≡ head) × (n ≡ m) × (r ≡ s)
 same_asked {head} {other} {n} {m} is again =

@@ -10,7 +10,7 @@ use Rattle.club_rows.specs.{Limits.{IsBookingNumber, booking_number_limit}, Rows
 use Rattle.http_request.specs.{Path.{HasRealValues, IsPlace, place_parts}, computed.Parts.{number_of_text, slot_of_parts, within_limits, ◌>>=◌}}
 use Rattle.http_request.specs.declared.path.Place.{Place, TheVariants.{SlotPlace, BookingPlace, AccountPlace}}
 
--- a property of a value that is found by a test, by two steps, or by mapping a found value
+-- if a property holds for each value found, it holds for a value found after a test, in two steps, or by mapping
 if_all : {A : Type 0} (P : A → Type 0) (test : Bool) (found : Option A) → (test ≡ true → IfSome found P) → IfSome (cond test found None) P
 if_all P true found is = is refl
 if_all P false found is = tt
@@ -24,18 +24,18 @@ map_all : {A B : Type 0} (P : B → Type 0) (found : Option A) (f : A → B) →
 map_all P None f is = tt
 map_all P (Some a) f is = is a refl
 
--- a test that finds two texts equal
+-- if the test finds two texts equal, they are equal
 same : (text other : List ℕ) → bytes_eq text other ≡ true → text ≡ other
 same text other e = (bytes_eq-Decides text other).0 e
 
 within : (n : ℕ) → IsBookingNumber n → within_limits n ≡ Some n
 within n h = cond-true (nat_le 1 n && nat_le n booking_number_limit) (Some n) None (grind (arith, nat_tests, h.0, h.1))
 
--- the parts of a place, and its values
+-- the values of a place are within their limits, and these are the parts of its path
 abbrev Spells : List (List ℕ) → Place → Type 0
 Spells parts place = (parts ≡ place_parts place) × HasRealValues place
 
--- the values of a slot's parts
+-- these are the texts of a slot's facility, day and hour, which are within their limits
 abbrev SpellsSlot : List ℕ → List ℕ → List ℕ → Slot → Type 0
 SpellsSlot facility day hour slot =
     IsSlot slot × (facility ≡ slot.facility) × (day ≡ day_text slot.day) × (hour ≡ two_digits slot.hour)

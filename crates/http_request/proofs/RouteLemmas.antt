@@ -1,4 +1,4 @@
--- Every place of the desk has a route.
+-- Proves that every place of the desk has a route.
 use Rattle.http_request.proofs.Common.{◌≡◌, ℕ, ◌<◌, List, [], ◌∷◌, ◌++◌, length, Some, true, false, cond, ◌==◌, append-nil, codes, refl, sym, ap, subst, ◌∙◌}
 use Rattle.http_request.proofs.{Common.{arith, IsSome, eqb-true, ReadsPlaces, with_front, segments}, Segments.first_part}
 use Rattle.http_request.proofs.Walks.{over_bytes, over_part, takes_two, takes_one, takes_last, takes_end}
@@ -9,7 +9,7 @@ use Rattle.club_values.specs.{Day.day_text, Digits.two_digits}
 use Rattle.http_request.specs.{Path.{HasRealValues, IsPlace, place_parts}, Routes.KnowsPlaces, declared.path.Place.Place}
 use Rattle.http_request.specs.declared.path.Place.TheVariants.{SlotPlace, BookingPlace, AccountPlace}
 
--- the path with these parts
+-- the path with these parts, separated by slashes
 abbrev glued : List (List ℕ) → List ℕ
 glued [] = []
 glued (part ∷ []) = part
@@ -24,7 +24,7 @@ glued_more : (b : ℕ) (part : List ℕ) (parts : List (List ℕ)) → glued ((b
 glued_more b part [] = refl
 glued_more b part (other ∷ parts) = refl
 
--- a path consists of its parts
+-- a path is its parts separated by slashes, and no part has a slash
 parted : (path : List ℕ) → (path ≡ glued (segments path)) × AreParts (segments path)
 parted [] = (refl, (refl, tt))
 parted (byte ∷ path) =
@@ -62,7 +62,7 @@ some_day : (day : ℕ) → 0 < length (day_text day)
 unfolding day_text
 some_day day = omega arith
 
--- a part of a path that a route's parameter accepts
+-- a route's parameter accepts this part of a path
 abbrev IsPart : List ℕ → Type 0
 IsPart part = (0 < length part) × (has_slash part ≡ false)
 
@@ -81,7 +81,7 @@ at_hour account booking slot facility day rest f d is =
     (over_part _ _ _ day (47 ∷ rest) d.0 refl (takes_two _ _ _ _ day rest d.0 d.1)
     (over_bytes (codes "/") _ rest is))))
 
--- the parts of a place's path, without slashes, have a route
+-- if no part of a place's path has a slash, the path has a route
 placed : {K : Type 0} (a b s : K) (place : Place) → HasRealValues place → AreParts (place_parts place)
     → IsSome (first (routes a b s) (47 ∷ glued (place_parts place)))
 unfolding hour_routes

@@ -1,4 +1,4 @@
--- The conditions under which a request is complete, and the bytes after it.
+-- Lemmas on the conditions under which a request is complete, and on the bytes after it.
 use Rattle.http_request.proofs.Common.{◌≡◌, ◌⊎◌, ℕ, ◌-◌, ◌<◌, ◌≤◌, ◌↔◌, inl, inr, List, ◌++◌, length, take, drop, sym, ap, ◌∙◌, arith, append_assoc}
 use Rattle.http_request.proofs.Common.{length-append, take-append-le, take-append-drop, length-drop, HeaderSpan, RequestHead, Head, IsFramed, IsOneRequest}
 use Rattle.http_request.proofs.Common.{IsRefusedHead, HasNoPiece, IsWhole, has_frame, endless, bad_head, IsHeadAt, IsFrontOf, OneReading, ReadsPlaces}
@@ -7,13 +7,13 @@ use Rattle.http_request.proofs.FrameLemmas.{Asks, asks_at, cut_frame, framed, no
 use Rattle.http_request.specs.declared.front.Front.{Front, TheVariants.{Refused, Asking}}
 use Rattle.http_request.specs.Words as words
 
--- if no head has ended within the limit, the bytes have no complete request
+-- if no head has ended, and more bytes may still be in it, the bytes have no complete request
 pub open_head : (bytes : List ℕ) → HasNoPiece bytes → length bytes < 16384 → ¬ (IsWhole bytes)
 open_head bytes none short (has_frame head body is) = no_piece (framed is).cut none
 open_head bytes none short (endless empty long) = omega arith
 open_head bytes none short (bad_head is) = no_piece (record { cut = is.cut; parts = is.parts }) none
 
--- if the body is cut off, the bytes have no complete request
+-- if the body isn't complete, the bytes have no complete request
 pub open_body : {bytes rest : List ℕ} {head : RequestHead} {n : ℕ} → Asks bytes head n rest → length rest < n → ¬ (IsWhole bytes)
 open_body asks short (has_frame other body is) = cut_frame asks short other body is
 open_body asks short (endless none long) = no_piece asks.cut none
@@ -47,7 +47,7 @@ one reads bytes a b (words.has_frame head body place is at decoded) (words.lacks
 one reads bytes a b (words.lacks_frame none returned) (words.has_frame head body place is at decoded) = absurd (none head body is)
 one reads bytes a b (words.lacks_frame none returned) (words.lacks_frame again decoded) = cc
 
--- the front of bytes stays the same if more bytes follow
+-- a frame at the front of bytes is still there if more bytes follow
 frame_more : (bytes more : List ℕ) (head : RequestHead) (body : List ℕ) → IsFramed bytes head body → IsFramed (bytes ++ more) head body
 frame_more bytes more head body is = record {
   piece = is.piece;

@@ -4,7 +4,7 @@ use Rattle.std.specs.Str.{bytes_eq, is_utf8}
 use Rattle.serde_json.specs.{Data.{Data, Members, no_members, member}, Find.{get, as_number, as_object, as_u64}, Read.read}
 use Rattle.club_values.specs.Slot.{guests_limit}
 
--- every name of the object is this one
+-- all names of the object are this name
 abbrev pub only_named : List ℕ → Members → Bool
 only_named name no_members = true
 only_named name (member key value members) = bytes_eq key name && only_named name members
@@ -16,12 +16,12 @@ has_only_name name value = unwrap_or (option_map (only_named name) (as_object va
 abbrev pub whole_number : Option Data → Option ℕ
 whole_number value = option_and_then as_u64 (option_and_then as_number value)
 
--- this many guests, if a booking may have them
+-- the number of guests, if a booking may have as many
 abbrev pub few_guests : Option ℕ → Option ℕ
 few_guests None = None
 few_guests (Some n) = if nat_le n guests_limit then Some n else None
 
--- an object whose only name is `guests`, with a whole number within the limit
+-- the number of guests in an object whose only name is `guests`; none if it isn't a whole number within the limit
 unfoldable pub guests_of_value : Data → Option ℕ
 guests_of_value value = if has_only_name (codes "guests") value then few_guests (whole_number (get (codes "guests") value)) else None
 

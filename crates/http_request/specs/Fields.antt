@@ -3,11 +3,11 @@ use Rattle.std.specs.{Char.to_ascii_lowercase, Prelude.{◌≡◌, ℕ, Bool, Li
 use Rattle.httparse.specs.{Spans.header_bytes, declared.spans.HeaderSpan.HeaderSpan}
 use Rattle.http_request.specs.declared.fields.Values.{Values, TheVariants.{None, One, More}}
 
--- two names are the same, ignoring case (RFC 9110, section 5.1)
+-- two names are equal if case is ignored (RFC 9110, section 5.1)
 abbrev pub same_word : List ℕ → List ℕ → Bool
 same_word a b = bytes_eq (map to_ascii_lowercase a) (map to_ascii_lowercase b)
 
--- the values of the fields with a name, in order; a field is a name and a value
+-- the values of the fields with a name, in order; each field is a name with its value
 abbrev pub values_of : List ℕ → List (List ℕ × List ℕ) → List (List ℕ)
 values_of name [] = []
 values_of name (field ∷ fields) = if same_word field.0 name then field.1 ∷ values_of name fields else values_of name fields

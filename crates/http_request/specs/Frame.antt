@@ -24,7 +24,7 @@ pub record IsFramed (bytes : List ℕ) (head : RequestHead) (body : List ℕ) : 
 abbrev pub HasNoPiece : List ℕ → Type 0
 HasNoPiece bytes = (n : ℕ) → n ≤ length bytes → n ≤ max_head_len → ends_with nat_eq (take n bytes) empty_line ≡ false
 
--- the bytes begin with a piece that isn't a head, or whose body isn't allowed
+-- the bytes begin with a piece that isn't a head, or with a head whose body isn't allowed
 pub record IsRefusedHead (bytes : List ℕ) : Type 0 where
   pub piece : List ℕ
   pub rest : List ℕ

@@ -4,7 +4,7 @@ use Rattle.httparse.specs.{Grammar.RequestHead, Spans.{IsRequestWithin, IsReques
 use Rattle.http_request.specs.{Frame.{AsksForBody, HasNoPiece, IsRefusedHead}, Head.IsPiece, declared.front.Front.Front}
 use Rattle.http_request.specs.declared.{front.{Front.TheVariants.{NoPiece, Refused, Asking}, Head.Head}, scan.HeadScan.HeadScan}
 
--- the bytes begin with this head; its spans and the fields are the positions of its parts
+-- the bytes begin with a head; the fields and the spans are the positions of its parts
 pub record IsHeadAt (bytes : List ℕ) (fields : List HeaderSpan) (found : Head) : Type 0 where
   pub head : RequestHead
   pub inside : found.len ≤ length bytes
@@ -13,12 +13,12 @@ pub record IsHeadAt (bytes : List ℕ) (fields : List HeaderSpan) (found : Head)
   pub within : IsRequestWithin (take found.len bytes) fields found.spans
   pub spans : IsRequestAt (take found.len bytes) fields found.spans head
 
--- the bytes have no complete head yet, begin with a head that is refused, or begin with a head whose body has a known length
+-- the bytes have no complete head yet, begin with a refused head, or begin with a head whose body has a known length
 abbrev pub IsFrontOf : List ℕ → List HeaderSpan → Front → Type 0
 IsFrontOf bytes fields NoPiece = HasNoPiece bytes
 IsFrontOf bytes fields Refused = IsRefusedHead bytes
 IsFrontOf bytes fields (Asking found) = IsHeadAt bytes fields found
 
--- the scan keeps what the bytes parse to
+-- the scan has the result of looking for a head at the front of these bytes
 abbrev pub Covers : HeadScan → List ℕ → Type 0
 Covers scan bytes = IsFrontOf bytes scan.fields scan.front

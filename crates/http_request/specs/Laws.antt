@@ -4,7 +4,7 @@ use Rattle.club_core.specs.declared.refusal.Refusal.{Refusal}
 use Rattle.http_request.specs.{Frame.IsWhole, Path.IsPlaceOf, Words.{DecodedRequest, IsRequestReading, HoldsBody}, computed.Path.place_of}
 use Rattle.http_request.specs.declared.path.Place.{Place}
 
--- a target names at most one place, which is the computed one
+-- a target names at most one place, and `place_of` computes that place
 abbrev pub ReadsPlaces : Type 0
 ReadsPlaces = (target : List ℕ) (place : Option Place) → IsPlaceOf target place ↔ (place_of target ≡ place)
 

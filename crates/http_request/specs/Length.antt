@@ -3,26 +3,26 @@ use Rattle.std.specs.{Prelude.{ℕ, ◌==◌, ◌||◌, List, [], ◌∷◌, len
 use Rattle.club_values.specs.Number.{number_of_digits}
 use Rattle.http_request.specs.{Fields.values_of, Limits.max_body_len}
 
--- the length, if it is at most that of the longest body
+-- the length, if it is within the limit of a body
 abbrev pub body_length : ℕ → Option ℕ
 body_length n = if nat_le n max_body_len then Some n else None
 
--- the number that 1 to 4 digits spell, at most the length of the longest body (ours)
+-- the number that 1 to 4 digits spell, if it is within the limit of a body (ours)
 abbrev pub length_in : List ℕ → Option ℕ
 length_in value = if nat_le (length value) 4 then option_and_then body_length (number_of_digits value) else None
 
--- no field means no body; two fields are refused
+-- without a field, the length is 0; with two fields, the head is refused
 abbrev pub declared_length : List (List ℕ) → Option ℕ
 declared_length [] = Some 0
 declared_length (value ∷ []) = length_in value
 declared_length (value ∷ other ∷ more) = None
 
--- only a PUT has a body (ours)
+-- a body that isn't empty is allowed only with PUT (ours)
 abbrev pub where_allowed : List ℕ → Option ℕ → Option ℕ
 where_allowed method None = None
 where_allowed method (Some n) = if n == 0 || bytes_eq method (codes "PUT") then Some n else None
 
--- a transfer coding is refused (ours)
+-- a head with a transfer coding is refused (ours)
 abbrev pub unless_coded : List (List ℕ) → Option ℕ → Option ℕ
 unless_coded [] found_len = found_len
 unless_coded (coding ∷ more) found_len = None

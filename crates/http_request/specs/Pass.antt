@@ -2,11 +2,11 @@
 use Rattle.std.specs.Prelude.{ℕ, List, [], ◌∷◌, take, drop, codes, if◌then◌else◌, Option, Some, None}
 use Rattle.http_request.specs.Fields.{same_word, values_of}
 
--- the text of the pass is everything after `Bearer`, in any case, and one space
+-- the text of the pass is everything after `Bearer`, in capital or small letters, and one space
 abbrev pub bearer_text : List ℕ → Option (List ℕ)
 bearer_text value = if same_word (take 7 value) (codes "bearer ") then Some (drop 7 value) else None
 
--- the text, if there is exactly one field
+-- the text of the pass, if there is exactly one field
 abbrev pub only_text : List (List ℕ) → Option (List ℕ)
 only_text [] = None
 only_text (value ∷ []) = bearer_text value

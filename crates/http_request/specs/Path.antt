@@ -4,7 +4,7 @@ use Rattle.club_values.specs.{Day.day_text, Digits.two_digits, declared.slot.Slo
 use Rattle.club_rows.specs.{Limits.IsBookingNumber, Rows.IsSlot}
 use Rattle.http_request.specs.{Parts.segments, declared.path.Place.{Place, TheVariants.{SlotPlace, BookingPlace, AccountPlace}}}
 
--- the parts of a slot's path, followed by further parts
+-- the parts of a slot's path, followed by these parts
 abbrev pub slot_parts : Slot → List (List ℕ) → List (List ℕ)
 slot_parts slot parts = codes "slots" ∷ slot.facility ∷ day_text slot.day ∷ two_digits slot.hour ∷ parts
 
@@ -14,13 +14,13 @@ place_parts (SlotPlace slot) = slot_parts slot []
 place_parts (BookingPlace slot number) = slot_parts slot (codes "bookings" ∷ decimal number ∷ [])
 place_parts AccountPlace = codes "account" ∷ []
 
--- the values of a place are within their limits
+-- all values of a place are within their limits
 abbrev pub HasRealValues : Place → Type 0
 HasRealValues (SlotPlace slot) = IsSlot slot
 HasRealValues (BookingPlace slot number) = IsSlot slot × IsBookingNumber number
 HasRealValues AccountPlace = Unit {0}
 
--- the target is the place's path: a slash, followed by the parts separated by slashes
+-- the target is the path of the place: a slash, then the parts with slashes between them
 pub record IsPlace (target : List ℕ) (place : Place) : Type 0 where
   pub path : List ℕ
   pub slash : target ≡ 47 ∷ path

@@ -41,7 +41,7 @@ decoded_request method place fields body = do
   pass ← ok_or (pass_text_of fields) NoPass
   Ok (record { pass = pass; request = request })
 
--- bytes decode by the head and the body at their front; if there are none, the result is `BadRequest`
+-- the bytes decode by the head and the body at their front; without these, the result is `BadRequest`
 pub data IsRequestReading (bytes : List ℕ) (answer : Result DecodedRequest Refusal) : Type 0 where
   has_frame : (head : RequestHead) (body : List ℕ) (place : Option Place) → IsFramed bytes head body → IsPlaceOf head.target place
       → answer ≡ decoded_request head.method place (header_fields head) body → IsRequestReading bytes answer
@@ -54,7 +54,7 @@ NeedsMemory method body = (method ≡ codes "PUT") × (0 < length body)
 abbrev pub HoldsBody : List ℕ → Type 0
 HoldsBody bytes = (head : RequestHead) × (body : List ℕ) × IsFramed bytes head body × NeedsMemory head.method body
 
--- this holds for the answer, or the answer is `Unavailable` because memory was needed and there was none
+-- the relation holds for the answer, or the answer is `Unavailable` because the decoding needed memory and there was none
 abbrev pub OrUnavailable : Type 0 → (Result DecodedRequest Refusal → Type 0) → Result Words Refusal → Type 0
 OrUnavailable Needs Answers (Ok words) = Answers (Ok (record { pass = words.pass.now; request = words.request }))
 OrUnavailable Needs Answers (Err refusal) = ((refusal ≡ Unavailable) × Needs) ⊎ Answers (Err refusal)

@@ -42,7 +42,7 @@ fn next_value<'a, 'b>(
     None
 }
 
-/// Returns the values of the fields with a name, which is compared in any case.
+/// Returns the values of the fields with a name. Case doesn't matter in names.
 pub(crate) fn values_of<'a>(head: &'a [u8], fields: &[HeaderSpan], name: &[u8]) -> Values<'a>
     requires { All (IsHeaderWithin (length head.now)) fields.now }
     ensures { ClassifiesValues (values_in_head head.now name.now fields.now) result }

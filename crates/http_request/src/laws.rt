@@ -4,7 +4,7 @@ ghost use Rattle.http_request.specs.Laws.{OneReading, WholeKeepsItsReading, Body
 
 use club_values::laws::{is_text_of_day, reads_days, reads_hours, reads_names, reads_numbers};
 
-/// A target names at most one place, which is the computed one.
+/// A target names at most one place, and `place_of` computes that place.
 pub fn reads_places()
     ensures { ReadsPlaces }
 {

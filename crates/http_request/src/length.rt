@@ -14,7 +14,7 @@ pub const MAX_BODY_LEN: usize = 256;
 /// The most digits of a body's length.
 const MAX_DIGITS: usize = 4;
 
-/// Parses a length: 1 to 4 digits, at most `MAX_BODY_LEN`.
+/// Parses the length of a body: 1 to 4 digits that spell at most `MAX_BODY_LEN`.
 fn length_in(value: &[u8]) -> Option<usize>
     ensures { result ≡ spec.length_in value.now }
 {

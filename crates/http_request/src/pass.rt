@@ -7,7 +7,7 @@ ghost use Rattle.http_request.specs.Pass as spec;
 use crate::fields::{Values, values_of};
 use httparse::spans::HeaderSpan;
 
-/// `Bearer` and one space.
+/// The number of bytes of `Bearer` and one space.
 const SCHEME_LEN: usize = 7;
 
 /// Returns the text of the pass in a field's value, after `Bearer` and one space.
@@ -25,7 +25,7 @@ fn bearer_text(value: &[u8]) -> Option<&[u8]>
     }
 }
 
-/// Returns the text of the pass, if exactly one field `Authorization` holds one.
+/// Returns the text of the pass if there is exactly one field `Authorization`, and it holds a pass.
 pub(crate) fn pass_text_of<'a>(head: &'a [u8], fields: &[HeaderSpan]) -> Option<&'a [u8]>
     requires { All (IsHeaderWithin (length head.now)) fields.now }
     ensures { option_map (λ text. text.now) result

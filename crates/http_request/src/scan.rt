@@ -12,7 +12,7 @@ use httparse::spans::{EMPTY_HEADER_SPAN, HeaderSpan};
 /// The most bytes of a request.
 pub const MAX_REQUEST_LEN: usize = MAX_HEAD_LEN + MAX_BODY_LEN;
 
-/// A scan for the head of a request. Keeps what the scanned bytes parse to. The head is parsed
+/// A scan for the head of a request. It keeps what the scanned bytes parse to. The head is parsed
 /// once, when its end has arrived.
 #[derive(Drop)]
 pub struct HeadScan {
@@ -32,9 +32,9 @@ impl HeadScan {
         }
     }
 
-    /// Extends the scan from the first `searched` bytes, which it already covers, to all of them.
-    /// Until a head has ended, it searches the new bytes for the end, and parses the head once it
-    /// finds that. After that it looks at no more bytes.
+    /// Extends the scan from the first `searched` bytes, which it already covers, to all the bytes.
+    /// If no head has ended yet, it searches the new bytes for the end of one, and parses the head
+    /// that it finds. Once a head has ended, it looks at no more bytes.
     pub fn go_on(&mut self, bytes: &[u8], searched: usize)
         requires inside { searched ≤ length bytes.now }
         requires before { Covers self.old (take searched bytes.now) }
@@ -47,7 +47,7 @@ impl HeadScan {
     }
 
     /// Returns whether the bytes that the scan covers begin with a complete request. If they don't,
-    /// there are fewer than `MAX_REQUEST_LEN` bytes.
+    /// they are fewer than `MAX_REQUEST_LEN`.
     pub fn is_whole(&self, bytes: &[u8]) -> bool
         requires { Covers self.now bytes.now }
         ensures whole { IsTrue result ↔ IsWhole bytes.now }

@@ -7,11 +7,11 @@ infixl 10 ◌>>=◌
 abbrev pub ◌>>=◌ : {A B : Type 0} → Option A → (A → Option B) → Option B
 o >>= f = option_and_then f o
 
--- the number of a booking, from 1 to its limit
+-- the number, if it is from 1 to the limit of a booking's number
 abbrev pub within_limits : ℕ → Option ℕ
 within_limits n = if nat_le 1 n && nat_le n booking_number_limit then Some n else None
 
--- decimal digits, at most nine, without leading zeros
+-- the number of a booking that decimal digits spell, at most nine and without leading zeros
 unfoldable pub number_of_text : List ℕ → Option ℕ
 number_of_text text = decimal_of_text text >>= within_limits
 

@@ -4,7 +4,7 @@ use Rattle.club_values.specs.declared.slot.Slot.{Slot}
 use Rattle.http_request.specs.{Parts.segments, computed.Parts.{number_of_text, slot_of_parts, ◌>>=◌}, declared.path.Place.Place}
 use Rattle.http_request.specs.declared.path.Place.TheVariants.{SlotPlace, BookingPlace, AccountPlace}
 
--- the place at a slot, from the parts that follow
+-- the place of a slot, or of a booking in it, from the parts that follow the slot's parts
 abbrev pub at_slot : Slot → List (List ℕ) → Option Place
 at_slot slot [] = Some (SlotPlace slot)
 at_slot slot (word ∷ []) = None
