@@ -1,4 +1,4 @@
--- Properties that the calls of an accepted connection preserve.
+-- Lemmas on properties that each call of an accepted connection preserves.
 use Rattle.std.proofs.{Common.{◌∙◌, ℕ, List, Option, ap, refl}, KnownBytes.{Keeps-refl, Keeps-trans}}
 use Rattle.desk_server.specs.{Accepted.{HasMoved, HasWaited}, declared.timed.Accepted.Accepted}
 

@@ -1,4 +1,4 @@
--- The lines of a log, from the fates that it notes.
+-- Lemmas on the lines of a log for the fates that it notes.
 use Rattle.std.proofs.Common.{◌≡◌, ℕ, List, [], ◌∷◌, ◌++◌, append_assoc, append-nil, ap, sym, ◌∙◌}
 use Rattle.std.specs.Prelude.{Option}
 use Rattle.desk_server.specs.{Laws.WritesLines, Log.{AreWritten, IsTextWritten, line_text}, Served.{AreNotedMeanwhile, IsBegun, Notes, Turn, fates_in}}
@@ -6,14 +6,14 @@ use Rattle.desk_server.specs.declared.log.Fate.{Fate, TheVariants.{Absent, Overr
 use Rattle.desk_server.specs.Log as log
 use Rattle.desk_server.specs.Served as served
 
--- the fates after one more turn
+-- one more turn adds the fates of its commands, then its own fate
 fates_more : (turns : List Turn) (turn : Turn) → fates_in (turns ++ turn ∷ []) ≡ fates_in turns ++ (turn.meanwhile ++ turn.fate ∷ [])
 fates_more [] turn = append-nil (turn.meanwhile ++ turn.fate ∷ [])
 fates_more (first ∷ turns) turn =
     ap (λ (fates : List Fate). (first.meanwhile ++ first.fate ∷ []) ++ fates) (fates_more turns turn)
     ∙ sym (append_assoc (first.meanwhile ++ first.fate ∷ []) (fates_in turns) (turn.meanwhile ++ turn.fate ∷ []))
 
--- a log that writes a line for each note
+-- lemmas on a log that writes a line for each note
 module _ {Log : Type 0} (Begins : Log → Log → Type 0) (Noted : Notes Log) (taken : Log → Option (List ℕ)) (failures : Log → ℕ)
     (keeps : (old new : Log) → Begins old new → (taken new ≡ taken old) × (failures new ≡ failures old))
     (writes : (old : Log) (fate : Fate) (new : Log) → Noted old fate new
@@ -21,13 +21,13 @@ module _ {Log : Type 0} (Begins : Log → Log → Type 0) (Noted : Notes Log) (t
   abbrev Written : Log → List Fate → Log → Type 0
   Written old fates new = AreWritten (taken old) (failures old) fates (taken new) (failures new)
 
-  -- the lines after one more note
+  -- one more note adds the line of its fate
   line_behind : (old l : Log) (fates : List Fate) (fate : Fate) (new : Log) → Written old fates l → Noted l fate new → Written old (fates ++ fate ∷ []) new
   line_behind old l fates fate new before noted =
       let line = writes l fate new noted in
       log.one_line fates fate line.0 (taken l) (failures l) (taken new) (failures new) before line.1
 
-  -- a log that is begun has the same lines
+  -- beginning an arrival leaves the lines of the log unchanged
   begun_keeps : (old l begun : Log) (fates : List Fate) → Begins l begun → Written old fates l → Written old fates begun
   begun_keeps old l begun fates begins before = let same = keeps l begun begins in rw (same.0, same.1) before
 
@@ -36,7 +36,7 @@ module _ {Log : Type 0} (Begins : Log → Log → Type 0) (Noted : Notes Log) (t
   if_begun old l begun fates Overrun same before = rw same before
   if_begun old l begun fates fate begins before = begun_keeps old l begun fates begins before
 
-  -- the lines after the notes of further commands meanwhile
+  -- noting further commands adds the lines of their fates
   lines_behind : (old l new : Log) (fates more : List Fate) → Written old fates l → AreNotedMeanwhile Begins Noted l more new
       → Written old (fates ++ more) new
   lines_behind old l _ fates _ before served.no_note = rw (append-nil fates) before

@@ -5,7 +5,7 @@ use borrow.Rule.Slice.PartMut.{put_mid}
 use Rattle.std.specs.Io.KnownBytes.{Keeps}
 use Rattle.desk_server.specs.{Limits.{AreInterrupted, Calls}, declared.limit.Limit.Limit}
 
--- a buffer after bytes were read into it at a position
+-- after n bytes are read into a buffer at position `len`, its first `len + n` bytes are the earlier bytes, then the new ones
 pub filled : (room part : List ℕ) (len n k : ℕ) → len ≤ length room → n ≤ length part → take (len + n) (put_mid len k room part) ≡ take len room ++ take n part
 filled room part len n k within few =
     let front = length-take-le len room within in

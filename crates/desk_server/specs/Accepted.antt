@@ -6,18 +6,18 @@ use Rattle.club_http.specs.declared.fault.AnswerFault.{AnswerFault, TheVariants.
 use Rattle.http_request.specs.Frame.{IsOneRequest}
 use Rattle.desk_server.specs.{Between.Awaits, Limits.{Calls, IsCalledUnder, StartsLimit, TakesAtMost}, declared.timed.Accepted.Accepted}
 
--- only its stream changed
+-- nothing but the stream of the connection changed
 abbrev pub HasMoved : {S C : Type 0} → Accepted S C → Accepted S C → Type 0
 HasMoved old new = new ≡ record old { stream = new.stream }
 
 module _ {S C : Type 0} (Shows : C → Option ℕ → Type 0) (Does : Calls S) (kept : S → Option (List ℕ)) where
-  -- A read under the limit of the reads, which doesn't wait once that is over. The stream took no bytes.
+  -- A read under the time limit of the reads. Once that limit is over, the read doesn't wait. No bytes were written.
   pub record IsRead (old : Accepted S C) (result : Option ℕ) (room : List ℕ) (new : Accepted S C) : Type 0 where
     pub same : new ≡ record old { stream = new.stream; read_failures = new.read_failures }
     pub limited : IsCalledUnder Shows Does old.reading old.stream result new.stream
     pub writes_nothing : Keeps (kept old.stream) (kept new.stream)
 
-  -- A write under the limit of the writes, which starts with the first write. It doesn't wait once that limit is over. No bytes were read from the stream.
+  -- A write under the time limit of the writes, which starts with the first write. Once that limit is over, the write doesn't wait. No bytes were read.
   pub record IsWritten (old : Accepted S C) (result : Option ℕ) (bytes : List ℕ) (new : Accepted S C) : Type 0 where
     pub same : new ≡ record old { stream = new.stream; writing = new.writing; write_failures = new.write_failures }
     pub begins : StartsLimit Shows old.clock.now (as_nanos old.patience) old.writing new.writing
@@ -37,20 +37,20 @@ module _ {S C : Type 0} (to_come taken : S → Option (List ℕ)) where
     pub bytes : TakesAtMost 65_536 (to_come old.stream) (to_come new.stream)
     pub writes_nothing : Keeps (taken old.stream) (taken new.stream)
 
-  -- the bytes that came are those of the request, or those that came before the reader failed
+  -- the bytes that came are those of a request, or those that came before the reader failed
   abbrev pub Comes : Result Reply AnswerFault → Accepted S C → List ℕ → Accepted S C → Type 0
   Comes (Ok reply) old bytes new = Receives (to_come old.stream) (to_come new.stream) bytes
   Comes (Err (Write n)) old bytes new = Receives (to_come old.stream) (to_come new.stream) bytes
   Comes (Err Read) old bytes new = IsCutOff (to_come old.stream) (to_come new.stream) bytes
 
-  -- after a reply that was completely written, the rest of the input is read if more than one request may come
+  -- After a completely written reply, bytes that the client still sends are read, unless exactly one request came. After a fault nothing is read.
   abbrev pub IsEnded : Result Reply AnswerFault → List ℕ → Accepted S C → Accepted S C → Type 0
   IsEnded (Ok reply) bytes old new = (IsOneRequest bytes → new ≡ old) × TakesRest old new
   IsEnded (Err fault) bytes old new = new ≡ old
 
   module _ (Shows : C → Option ℕ → Type 0) (Reads Writes : Calls S) where
-    -- The course of an exchange. The request came by calls of the reader, and no call was made once it was complete. Then the reply was written by calls of the
-    -- writer alone, and after that the connection was ended. Exactly these bytes were written.
+    -- The course of an exchange. The request came by calls of the reader, and no call was made once it was complete. Then only the writer was called, for the
+    -- reply. After that the connection was ended. Exactly the bytes `written` were written.
     pub record Talks (old : Accepted S C) (bytes written : List ℕ) (outcome : Result Reply AnswerFault) (new : Accepted S C) : Type 0 where
       pub heard : Accepted S C
       pub sent : Accepted S C

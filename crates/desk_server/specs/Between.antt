@@ -4,7 +4,7 @@ use Rattle.club_clock.specs.Moments.{GivesMoment}
 use Rattle.club_http.specs.Calls.{Call}
 use Rattle.desk_server.specs.{Served.{CommandRelation, Meanwhile, Notes}, declared.between.Between.Between}
 
--- a wait: the reader before and after it
+-- a wait, with the reader before and after it
 abbrev pub Wait : Type 0 → Type 1
 Wait Reader = Reader → Reader → Type 0
 
@@ -20,7 +20,7 @@ pub record Awaits {Reader : Type 0} (Waits : Wait Reader) (Fills : Call Reader) 
   pub waits : AreWaits Waits old awaited
   pub fills : Fills awaited result room new
 
--- Only commands changed the values that the reader borrows, and it still borrows the same ones.
+-- The reader borrows the same values as before, and only commands changed these values.
 pub record CommandsAlone {R M D G : Type 0} (Gives : GivesMoment M) (Carries : CommandRelation D) (Begins : G → G → Type 0) (Noted : Notes G)
     (old new : Between R M D G) : Type 0 where
   pub same_reader : new.reader.ghost_name ≡ old.reader.ghost_name

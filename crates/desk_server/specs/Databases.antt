@@ -11,15 +11,15 @@ Opening Databases Store = Databases → List ℕ → Result Store StoreFault →
 abbrev pub Closing : Type 0 → Type 0 → Type 1
 Closing Databases Store = Databases → Store → Databases → Type 0
 
--- the result of reaching a name, with the databases before and after: a store that was opened, or a server that takes commands
+-- the result of reaching a name, with the databases before and after; a name reaches an opened store, or a server that takes commands
 abbrev pub Reaching : Type 0 → Type 0 → Type 0 → Type 1
 Reaching Databases Store Visit = Databases → List ℕ → Result (Reached Store Visit) StoreFault → Databases → Type 0
 
--- the result of giving the bytes of a command to a server: the status of its answer and the bytes of the text, if there is an answer
+-- the result of giving a command's bytes to a server: the status of its answer and the bytes of the answer's text, if there is an answer
 abbrev pub Giving : Type 0 → Type 1
 Giving Visit = Visit → List ℕ → Option (ℕ × List ℕ) → Type 0
 
--- an answer with the bytes of its text
+-- an answer whose text is given as bytes
 abbrev pub in_bytes : {Z : Type 0} → Option (ℕ × String Z) → Option (ℕ × List ℕ)
 in_bytes None = None
 in_bytes (Some answer) = Some (answer.0, string_bytes answer.1)

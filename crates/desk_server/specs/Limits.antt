@@ -8,12 +8,12 @@ use Rattle.desk_server.specs.declared.{limit.Limit.Limit, timed.Waited.{Waited, 
 abbrev pub nanos_of : Option Instant → Option ℕ
 nanos_of instant = option_map instant_nanos instant
 
--- a time of the clock plus this many nanoseconds; none if the clock can't be read or has no such time
+-- a time of the clock plus this many nanoseconds; none if the clock can't be read or can't show such a time
 abbrev pub due_after : ℕ → Option ℕ → Option ℕ
 due_after patience None = None
 due_after patience (Some now) = if nat_lt (now + patience) (2 ^ 63 * 1_000_000_000) then Some (now + patience) else None
 
--- the nanoseconds until a deadline; 0 if it has passed, if there is none, or if the clock can't be read
+-- the nanoseconds until a deadline; 0 if the deadline has passed, if there is no deadline, or if the clock can't be read
 abbrev pub left_until : Option ℕ → Option ℕ → ℕ
 left_until (Some due) (Some now) = due - now
 left_until due now = 0
@@ -22,7 +22,7 @@ left_until due now = 0
 abbrev pub AtShown : (Option ℕ → Type 0) → (Option ℕ → Type 0) → Type 0
 AtShown Shows P = (shown : Option ℕ) × Shows shown × P shown
 
--- a limit that starts with the first call: unchanged if it has started, else this much later than the call
+-- a limit that starts with the first call: a limit that has started stays unchanged, any other is due this much later than the call
 abbrev pub StartsLimit : {C : Type 0} → (C → Option ℕ → Type 0) → C → ℕ → Option (Limit C) → Option (Limit C) → Type 0
 StartsLimit Shows clock patience (Some limit) new = new ≡ Some limit
 StartsLimit Shows clock patience None new = IsSomeAnd new (λ limit. (limit.clock.now ≡ clock)
@@ -32,7 +32,7 @@ StartsLimit Shows clock patience None new = IsSomeAnd new (λ limit. (limit.cloc
 abbrev pub Calls : Type 0 → Type 1
 Calls Stream = Stream → ℕ → Waited → Stream → Type 0
 
--- the number of bytes that a call moved, if it moved any
+-- the number of bytes that a call moved; none if the call was interrupted or failed
 abbrev pub moved : Waited → Option ℕ
 moved (Moved n) = Some n
 moved Interrupted = None
@@ -43,18 +43,18 @@ abbrev pub ended : Option ℕ → Waited
 ended (Some n) = Moved n
 ended None = Failed
 
--- a call with `left` nanoseconds left: with none left it is still made, but may not wait
+-- a call with `left` nanoseconds left; with none left, the call is still made but may not wait
 abbrev pub IsCalled : {Stream : Type 0} → Calls Stream → ℕ → Stream → Option ℕ → Stream → Type 0
 IsCalled Does left old result new = Does old left (ended result) new
 
--- this many calls that a signal interrupted, each with the time left of a limit, at a time that its clock may show
+-- signals interrupted this many calls, each made with the time left of a limit, at a time that the limit's clock may show
 pub data AreInterrupted {C Stream : Type 0} (Shows : C → Option ℕ → Type 0) (Does : Calls Stream) (limit : Limit C) (first : Stream) : ℕ → Stream → Type 0 where
   not_called : AreInterrupted Shows Does limit first 0 first
   once_more : (n : ℕ) (old new : Stream) → AreInterrupted Shows Does limit first n old
       → AtShown (Shows limit.clock.now) (λ shown. Does old (left_until (nanos_of limit.due) shown) Interrupted new)
       → AreInterrupted Shows Does limit first (n + 1) new
 
--- A call with the time left of a limit. If a signal interrupts it, it is repeated with the time then left, fewer than 2 ^ 64 times.
+-- A call with the time left of a limit. If a signal interrupts the call, it is repeated with the time then left, fewer than 2 ^ 64 times.
 pub record IsCalledUnder {C Stream : Type 0} (Shows : C → Option ℕ → Type 0) (Does : Calls Stream) (limit : Limit C) (old : Stream) (result : Option ℕ)
     (new : Stream) : Type 0 where
   pub interruptions : ℕ
@@ -63,7 +63,7 @@ pub record IsCalledUnder {C Stream : Type 0} (Shows : C → Option ℕ → Type 
   pub called : AtShown (Shows limit.clock.now) (λ shown. IsCalled Does (left_until (nanos_of limit.due) shown) last result new)
       ⊎ (interruptions ≡ 2 ^ 64 - 1) × (result ≡ None) × (new ≡ last)
 
--- a call under a limit, and the number of bytes that it moved, at most this many; at the stream's other end nothing moved
+-- a call under a limit moved at most this many bytes, as `Moved` says; at the stream's other end nothing moved, as `Still` says
 pub record EndsUnder {C Stream : Type 0} (Shows : C → Option ℕ → Type 0) (Does : Calls Stream) (limit : Limit C) (old : Stream) (result : Option ℕ)
     (new : Stream) (most : ℕ) (Moved Still : Type 0) : Type 0 where
   pub within : IfSome result (λ n. n ≤ most)

@@ -23,7 +23,7 @@ words_text moment method path status microseconds =
     ++ or_dash (option_map decimal status) ++ codes " " ++ decimal microseconds ++ codes "\n"
 
 -- The line of a client has the moment, the method, the path, the status, and the time taken in microseconds. The line of a command has the moment, `office`,
--- its name, its exit status and the time taken in microseconds; name and status are missing if no complete command came.
+-- its name, its exit status and the time taken in microseconds. Without a complete command, name and status are missing.
 unfoldable pub line_text : Fate → ℕ → List ℕ
 line_text Absent microseconds = words_text None None None None microseconds
 line_text Overrun microseconds = words_text None None None None microseconds
@@ -34,13 +34,13 @@ line_text (Commanded moment (Some carried)) microseconds =
 line_text (Exchanged moment line outcome) microseconds =
     words_text (Some moment) (method_of line) (path_of line) (written_status outcome) microseconds
 
--- the writer took all of the text, or it failed and took a prefix
+-- the writer took all of the text, or failed after a prefix of it
 abbrev pub IsTextWritten : Option (List ℕ) → Option (List ℕ) → ℕ → ℕ → List ℕ → Type 0
 IsTextWritten taken taken' failures failures' text =
     (Appends taken taken' text × (failures' ≡ failures))
     ⊎ ((n : ℕ) × (n < length text) × Appends taken taken' (take n text) × (failures' ≡ one_more failures))
 
--- the writer took the lines of the arrivals, in their order, each with some number of microseconds
+-- the writer took a line for each arrival, in their order, each with some number of microseconds
 pub data AreWritten (taken : Option (List ℕ)) (failures : ℕ) : List Fate → Option (List ℕ) → ℕ → Type 0 where
   no_line : AreWritten taken failures [] taken failures
   one_line : (fates : List Fate) (fate : Fate) (microseconds : ℕ) (t : Option (List ℕ)) (f : ℕ) (t' : Option (List ℕ)) (f' : ℕ)

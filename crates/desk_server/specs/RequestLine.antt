@@ -15,7 +15,7 @@ two_words bytes = option_and_then
     (λ first. let rest = drop (first + 1) bytes in option_map (λ second. (take first bytes, take second rest)) (place_of_space rest))
     (place_of_space bytes)
 
--- a small letter, a digit, a dash or a slash, the characters of the desk's own paths
+-- a small letter, a digit, a dash or a slash; the desk's own paths have only these
 abbrev pub is_path_byte : ℕ → Bool
 is_path_byte byte = is_ascii_lowercase byte || is_ascii_digit byte || byte == 45 || byte == 47
 
@@ -25,10 +25,10 @@ is_method word = nat_lt 0 (length word) && nat_le (length word) 7 && list_all is
 abbrev pub is_path : List ℕ → Bool
 is_path word = nat_lt 0 (length word) && list_all is_path_byte word
 
--- the method of a request with these first bytes: its first word, if it is 1 to 7 capital letters
+-- the method of a request with these first bytes: the first word, if it is 1 to 7 capital letters
 unfoldable pub method_of : List ℕ → Option (List ℕ)
 method_of bytes = option_and_then (λ words. if is_method words.0 then Some words.0 else None) (two_words bytes)
 
--- the path of a request with these first bytes: its second word, if it consists of the bytes of a path
+-- the path of a request with these first bytes: the second word, if it consists of the bytes of a path
 unfoldable pub path_of : List ℕ → Option (List ℕ)
 path_of bytes = option_and_then (λ words. if is_path words.1 then Some words.1 else None) (two_words bytes)

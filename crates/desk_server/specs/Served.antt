@@ -8,15 +8,15 @@ use Rattle.club_http.specs.{Ends.one_more, Exchange.Exchanges, Replied.{AnswerRe
 use Rattle.desk_server.specs.declared.{log.Fate.{Fate, TheVariants.{Absent, Overrun, Unanswered, Exchanged, Commanded}}, office.Answer.Answer}
 use Rattle.desk_server.specs.declared.{office.Carried.Carried, serve.ClockOutOfRange.ClockOutOfRange}
 
--- a u64 counter grows by this number, as long as it doesn't overflow
+-- a u64 counter grows by this number, unless it overflows
 abbrev pub CountsOn : ℕ → ℕ → ℕ → Type 0
 CountsOn count more count' = count + more < 2 ^ 64 → count' ≡ count + more
 
--- the effect of a command's bytes: the desk before, the answer, and the desk after
+-- the effect of a command's bytes, with the desk before, the answer, and the desk after
 abbrev pub CommandRelation : Type 0 → Type 1
 CommandRelation Desk = List ℕ → Desk → Answer → Desk → Type 0
 
--- an exchange with a connection: the connection before, the bytes that came, the bytes that it took, the outcome, and the connection after
+-- an exchange with a connection: the connection before, the bytes that came, the bytes that were written, the outcome, and the connection after
 abbrev pub Talk : Type 0 → Type 1
 Talk Client = Client → List ℕ → List ℕ → Result Reply AnswerFault → Client → Type 0
 
@@ -24,12 +24,12 @@ Talk Client = Client → List ℕ → List ℕ → Result Reply AnswerFault → 
 abbrev pub Ends : Type 1
 Ends = List ℕ → List ℕ → Result Reply AnswerFault → Type 0
 
--- some connection may have such an exchange
+-- an exchange with some connection may have these bytes and this outcome
 abbrev pub HasTalked : {Client : Type 0} → Talk Client → Ends
 HasTalked {Client} Talks bytes written outcome = (old : Client) × (new : Client) × Talks old bytes written outcome new
 
--- The effect of an exchange with this outcome on the desk, and the bytes that it wrote. The reply is the desk's reply to the bytes that came. Exactly its text
--- was written, or the first n bytes of it if the writer failed. If the reader failed, the desk is unchanged, and nothing was written.
+-- The effect of an exchange with this outcome on the desk, and the bytes that the exchange wrote. The reply is the desk's reply to the bytes that came. Exactly
+-- its text was written, or the first n bytes of it if the writer failed. If the reader failed, the desk is unchanged, and nothing was written.
 abbrev pub IsExchanged : {Desk : Type 0} → AnswerRelation Desk → List ℕ → Desk → List ℕ → Result Reply AnswerFault → Desk → Type 0
 IsExchanged Answers bytes old written outcome new = Exchanges
     (λ reply. IsReplied Answers bytes old reply new)
@@ -37,7 +37,7 @@ IsExchanged Answers bytes old written outcome new = Exchanges
     (λ text. written ≡ text)
     outcome
 
--- The effect of a connection of the office on the desk: one command was carried out, exactly once, whether or not its answer was taken. If no complete command
+-- The effect of a connection of the office on the desk. One command was carried out, exactly once, even if its answer wasn't taken. If no complete command
 -- came, the desk is unchanged.
 abbrev pub IsCarriedOut : {Desk : Type 0} → CommandRelation Desk → Desk → Option Carried → Desk → Type 0
 IsCarriedOut Carries old None new = new ≡ old
@@ -48,7 +48,7 @@ IsCarriedOut Carries old (Some carried) new =
 abbrev pub answer_bytes : ℕ → List ℕ → List ℕ
 answer_bytes status text = status ∷ text ++ 0 ∷ []
 
--- A command was carried out, and its answer was written, or a prefix of it.
+-- A command was carried out, and its answer or a prefix of it was written.
 pub record AnswersCommand {Desk : Type 0} (Carries : CommandRelation Desk) (bytes : List ℕ) (old : Desk) (taken : Option (List ℕ)) (carried : Carried)
     (new : Desk) (taken' : Option (List ℕ)) : Type 0 where
   pub answer : Answer
@@ -56,7 +56,7 @@ pub record AnswersCommand {Desk : Type 0} (Carries : CommandRelation Desk) (byte
   pub same : carried ≡ answer.carried
   pub writes : (n : ℕ) × Appends taken taken' (take n (answer_bytes answer.carried.status (string_bytes answer.text)))
 
--- A turn of the server: an arrival with its fate, and the fates of the commands that were carried out while its request was awaited.
+-- A turn of the server: the fate of an arrival, and the fates of the commands that were carried out while the arrival's request was awaited.
 pub record Turn : Type 0 where
   pub meanwhile : List Fate
   pub fate : Fate
@@ -70,7 +70,7 @@ abbrev pub fates_in : List Turn → List Fate
 fates_in [] = []
 fates_in (turn ∷ turns) = (turn.meanwhile ++ turn.fate ∷ []) ++ fates_in turns
 
--- the number of clients that a fate counts as: 1, or 0 for a command
+-- the number of clients that a fate counts as: 0 for a command, otherwise 1
 abbrev pub client_in : Fate → ℕ
 client_in (Commanded moment carried) = 0
 client_in fate = 1
@@ -88,7 +88,7 @@ IsDue turns fate = Unit {0}
 -- ---- the clock, the desk and what arrives
 
 module _ {Clock Desk : Type 0} (Gives : GivesMoment Clock) (Carries : CommandRelation Desk) where
-  -- consecutive commands, each carried out whether or not the clock gives a moment
+  -- consecutive commands, each carried out even if the clock gives no moment
   pub data AreCommanded (clock : Clock) (desk : Desk) : List Fate → Clock → Desk → Type 0 where
     no_command : AreCommanded clock desk [] clock desk
     one_command : (fates : List Fate) (moment : Option ℕ) (carried : Option Carried) (c : Clock) (d : Desk) (c' : Clock) (d' : Desk)
@@ -96,8 +96,8 @@ module _ {Clock Desk : Type 0} (Gives : GivesMoment Clock) (Carries : CommandRel
         → AreCommanded clock desk (fates ++ Commanded moment carried ∷ []) c' d'
 
 module _ {Clock Desk : Type 0} (Gives : GivesMoment Clock) (Answers : ℕ → AnswerRelation Desk) (Carries : CommandRelation Desk) (Ended : Ends) where
-  -- The effect of a client on the clock and the desk. The clock gave its moment. Commands were carried out meanwhile, each at its own moment. Then the client
-  -- had an exchange with the desk that the commands left, with an outcome that such a connection may have.
+  -- The effect of a client on the clock and the desk. The clock gave the client's moment. Then commands were carried out, each at its own moment. Last came the
+  -- exchange with the desk that the commands left; its outcome is one that such a connection may have.
   pub record IsAttended (meanwhile : List Fate) (moment : ℕ) (line : List ℕ) (outcome : Result Reply AnswerFault) (clock : Clock) (desk : Desk)
       (clock' : Clock) (desk' : Desk) : Type 0 where
     pub given : Clock
@@ -110,8 +110,8 @@ module _ {Clock Desk : Type 0} (Gives : GivesMoment Clock) (Answers : ℕ → An
     pub exchanged : IsExchanged (Answers moment) bytes left written outcome desk'
     pub ended : Ended bytes written outcome
 
-  -- The effect of one arrival on the clock, the desk and the count of failed calls. If waiting failed, only the count grew. A command is carried out whether or
-  -- not the clock gives a moment. Only during a client's turn can commands come meanwhile. An overrun counts as one client that never came.
+  -- The effect of one arrival on the clock, the desk and the count of failed calls. If waiting failed, only the count grew. A command is carried out even if
+  -- the clock gives no moment. Only during a client's turn can commands come meanwhile. An overrun counts as one client that never came.
   abbrev pub ServesOne : Clock → Desk → ℕ → List Fate → Fate → Clock → Desk → ℕ → Type 0
   ServesOne clock desk failures meanwhile Absent clock' desk' failures' =
       (meanwhile ≡ []) × (failures' ≡ one_more failures) × (clock' ≡ clock) × (desk' ≡ desk)
@@ -130,8 +130,8 @@ module _ {Clock Desk : Type 0} (Gives : GivesMoment Clock) (Answers : ℕ → An
         → AreServed clock desk failures turns c d f → IsDue turns turn.fate → ServesOne c d f turn.meanwhile turn.fate c' d' f'
         → AreServed clock desk failures (turns ++ turn ∷ []) c' d' f'
 
-  -- The end of a server for this many clients: it served them all, or it stopped because the clock failed. These are the turns of all arrivals that it waited
-  -- for.
+  -- The end of a server for this many clients: it served them all, or it stopped because the clock failed. The turns are those of all arrivals that the server
+  -- waited for.
   pub record ServesTurns (all : List Turn) (count : ℕ) (clock : Clock) (desk : Desk) (failures : ℕ) (outcome : Result Unit ClockOutOfRange)
       (clock' : Clock) (desk' : Desk) (failures' : ℕ) : Type 0 where
     pub turns : List Turn
@@ -141,7 +141,7 @@ module _ {Clock Desk : Type 0} (Gives : GivesMoment Clock) (Answers : ℕ → An
         (λ done. (clients_in turns ≡ count) × (clock' ≡ last) × (all ≡ turns))
         (λ stopped. (clients_in turns < count) × Gives last None clock' × (all ≡ turns ++ alone Unanswered ∷ []))
 
-  -- such a server, with a further property of its turns
+  -- such a server, whose turns have a further property
   pub record Serves (count : ℕ) (clock : Clock) (desk : Desk) (failures : ℕ) (outcome : Result Unit ClockOutOfRange) (clock' : Clock) (desk' : Desk)
       (failures' : ℕ) (Besides : List Turn → Type 0) : Type 0 where
     pub all : List Turn
@@ -150,25 +150,25 @@ module _ {Clock Desk : Type 0} (Gives : GivesMoment Clock) (Answers : ℕ → An
 
 -- ---- the log
 
--- the effect of noting the fate of an arrival on a log
+-- the effect on a log of noting the fate of an arrival
 abbrev pub Notes : Type 0 → Type 1
 Notes Log = Log → Fate → Log → Type 0
 
 module _ {Log : Type 0} (Begins : Log → Log → Type 0) (Noted : Notes Log) where
-  -- the commands meanwhile, each begun and then noted, in order
+  -- the log notes that each command meanwhile begins, and then its fate, in order
   pub data AreNotedMeanwhile (log : Log) : List Fate → Log → Type 0 where
     no_note : AreNotedMeanwhile log [] log
     one_note : (fates : List Fate) (fate : Fate) (l begun l' : Log) → AreNotedMeanwhile log fates l → Begins l begun → Noted begun fate l'
         → AreNotedMeanwhile log (fates ++ fate ∷ []) l'
 
-  -- if the arrival was accepted, the log notes that it begins
+  -- if the arrival was accepted, the log notes that it begins, else the log is unchanged
   abbrev pub IsBegun : Log → Fate → Log → Type 0
   IsBegun log Absent begun = begun ≡ log
   IsBegun log Overrun begun = begun ≡ log
   IsBegun log fate begun = Begins log begun
 
-  -- The log of a turn. An arrival that was accepted is begun, then the commands meanwhile are begun and noted, and then its own fate is noted. Any other
-  -- arrival is only noted.
+  -- The log of a turn. If the arrival was accepted, the log notes that it begins, then the beginnings and fates of the commands meanwhile, and last its own
+  -- fate. For any other arrival the log notes only the fate.
   pub record IsNoted (log : Log) (turn : Turn) (log' : Log) : Type 0 where
     pub begun : Log
     pub awaited : Log
@@ -184,13 +184,13 @@ module _ {Log : Type 0} (Begins : Log → Log → Type 0) (Noted : Notes Log) wh
 -- ---- the clock, the desk and the log
 
 module _ {Clock Desk Log : Type 0} (Gives : GivesMoment Clock) (Carries : CommandRelation Desk) (Begins : Log → Log → Type 0) (Noted : Notes Log) where
-  -- the commands meanwhile, carried out and noted in order
+  -- the commands that came meanwhile were carried out and noted, in order
   pub record Meanwhile (clock : Clock) (desk : Desk) (log : Log) (clock' : Clock) (desk' : Desk) (log' : Log) : Type 0 where
     pub fates : List Fate
     pub commanded : AreCommanded Gives Carries clock desk fates clock' desk'
     pub noted : AreNotedMeanwhile Begins Noted log fates log'
 
-  -- An exchange: while the request was awaited, commands were carried out and noted; then the exchange took place with the desk that they left.
+  -- An exchange. While the request was awaited, commands were carried out and noted. Then the exchange took place with the desk that these commands left.
   pub record ExchangesBetween {Client : Type 0} (Answers : AnswerRelation Desk) (ToCome : Client → Option (List ℕ)) (Talks : Talk Client)
       (bytes : List ℕ) (clock : Clock) (desk : Desk) (log : Log) (client : Client) (outcome : Result Reply AnswerFault) (clock' : Clock)
       (desk' : Desk) (log' : Log) (client' : Client) : Type 0 where
@@ -198,6 +198,6 @@ module _ {Clock Desk Log : Type 0} (Gives : GivesMoment Clock) (Carries : Comman
     pub written : List ℕ
     pub meanwhile : Meanwhile clock desk log clock' left log'
     pub exchanged : IsExchanged Answers bytes left written outcome desk'
-    -- the same holds for everything that the client would send up to its end
+    -- the exchange has the same effect for everything that the client would send up to its end
     pub to_all : IfSome (ToCome client) (λ all. IsExchanged Answers all left written outcome desk')
     pub talked : Talks client bytes written outcome client'

@@ -48,8 +48,8 @@ pub trait Waits: Inlet {
     // the known effects of one wait
     ghost waits: { Self → Self → Type 0 };
 
-    /// Waits until the client can be read, or a command comes first, which is returned. The client
-    /// can be read once its bytes or its end have arrived, its time is over, or waiting failed.
+    /// Waits until the client can be read, or returns a command that comes before. The client can
+    /// be read once its bytes or its end have arrived, its time is over, or waiting failed.
     fn command_before(&mut self) -> Option<Self::Command>
         ensures reads_nothing { Keeps (Self.to_come self.old) (Self.to_come self.new) }
         ensures counted { Self.failures self.new ≡ Self.failures self.old }
@@ -117,7 +117,7 @@ pub fn receive_between<R: Waits, M: Moments, D: Office, G: Log>(
     receive_in(face, &mut between)
 }
 
-// Reads a request.
+// Reads a request, and carries out the commands that come while it waits.
 fn receive_in<R: Waits, M: Moments, D: Office, G: Log>(
     face: &mut Face,
     between: &mut Between<'_, '_, '_, '_, R, M, D, G>,

@@ -15,10 +15,10 @@ pub trait Connection {
     ghost use Rattle.std.specs.Prelude.{ℕ, List, Option};
     ghost use Rattle.desk_server.specs.Served.{ExchangesBetween, Talk};
 
-    // the bytes still to come from it, if they are known
+    // the bytes that are still to come from the client, if they are known
     ghost to_come: { Self → Option (List ℕ) };
 
-    // the outcomes that an exchange with it may have
+    // the outcomes that an exchange with the connection may have
     ghost talks: { Talk Self };
 
     /// Carries out one exchange with the desk at a moment. While it waits for the request, it
@@ -42,8 +42,8 @@ pub trait Connection {
             result moments.new desk.new log.new self.new };
 }
 
-/// If both its bytes and commands are ready, they take turns, even after a command that couldn't be
-/// accepted. Carrying out a command doesn't extend the client's patience.
+/// If both the client's bytes and a command are ready, they take turns, even after a command that
+/// couldn't be accepted. Carrying out a command doesn't extend the client's patience.
 impl<S: ClientStream, C: MonotonicClock> Waits for Accepted<'_, S, C> {
     ghost use Rattle.desk_server.specs.Accepted.{HasWaited};
 
@@ -73,8 +73,8 @@ impl<S: ClientStream, C: MonotonicClock> Waits for Accepted<'_, S, C> {
     }
 }
 
-/// Takes the two steps of `club_http::answer` at this connection's ends, except that it carries out
-/// commands while it waits for the request.
+/// Takes the two steps of `club_http::answer` with the connection as reader and writer. While it
+/// waits for the request, it also carries out commands.
 impl<S: ClientStream, C: MonotonicClock> Connection for Accepted<'_, S, C> {
     ghost use Rattle.desk_server.specs.{Accepted.Talks, Served.ExchangesBetween};
 
@@ -116,8 +116,8 @@ impl<S: ClientStream, C: MonotonicClock> Accepted<'_, S, C> {
     ghost use Rattle.desk_server.specs.Accepted.{TakesRest};
 
     // Ends a connection whose reply was written. Closing a socket with unread bytes resets the
-    // connection, and a client that is still sending may then lose its reply. So if more bytes may
-    // come, this shuts down the writing side first, and then reads the bytes that the client still
+    // connection, and a client that is still sending may then lose its reply. So unless `over`
+    // holds, this shuts down the writing side first, and then reads the bytes that the client still
     // sends.
     fn end(&mut self, over: bool)
         ensures over { IsTrue over → self.new ≡ self.old }

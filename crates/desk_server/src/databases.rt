@@ -1,21 +1,20 @@
-//! The databases that a server and the office open, as a trait, and the door between server and
-//! office.
+//! The databases that a server and the office open, as a trait, and the door by which the office
+//! reaches a server.
 
 use club_http::{ClubStore, StoreFault};
 use std::os::unix::net::UnixListener;
 
-/// The door of a server, where commands of the office arrive. The door is removed when this value
-/// is dropped.
+/// The door of a server, where commands of the office arrive. Dropping this value removes the door.
 pub trait Door {
     /// Returns the listener for commands, or `None` if there is no door.
     fn listener(&self) -> Option<&UnixListener>;
 }
 
-/// A server whose door was found and which has sent its greeting.
+/// A server that the office found by its door, and that has sent its greeting.
 pub trait Visit {
     ghost use Rattle.desk_server.specs.Databases.{Giving, in_bytes};
 
-    // the results of giving it the bytes of a command
+    // the results of giving the bytes of a command to the server
     ghost gives: { Giving Self };
 
     /// Hands over the bytes of a command, and returns the answer's status and text. Returns `None`
@@ -45,27 +44,27 @@ pub trait Databases {
     // the results of opening a name, with the databases before and after
     ghost opens: { Opening Self Self.Store };
 
-    // the results of reaching a name
+    // the results of reaching a name, with the databases before and after
     ghost reaches: { Reaching Self Self.Store Self.Visit };
 
-    // the effect of closing a database on the databases
+    // the databases before and after closing a store
     ghost closes: { Closing Self Self.Store };
 
-    /// Opens the database of a name, for a server; creates an empty one if there is none. While
-    /// another program has it open, this retries for a while.
+    /// Opens the database of a name for a server, or creates an empty one if there is none. If
+    /// another program has the database open, this retries for a while.
     fn open(&mut self, name: &str) -> Result<Self::Store, StoreFault>
         ensures { opens self.old name.now result self.new };
 
-    /// Reaches the database of a name for the office: finds the server that has it open, or else
-    /// opens it as `open` does.
+    /// Reaches the database of a name for the office. If a server has the database open, this finds
+    /// that server, otherwise it opens the database as `open` does.
     fn reach(&mut self, name: &str) -> Result<Reached<Self::Store, Self::Visit>, StoreFault>
         ensures { reaches self.old name.now result self.new };
 
-    /// Closes a database. Committed changes are kept, even if that fails.
+    /// Closes a database. Committed changes are kept, even if closing fails.
     fn close(&mut self, store: Self::Store)
         ensures { closes self.old store self.new };
 
-    /// Makes the door of a server that has the database of a name open. Replaces the door that a
-    /// killed server left.
+    /// Makes the door of a server that has the database of a name open. Replaces the door of a
+    /// server that was killed.
     fn make_door(&self, name: &str) -> Result<Self::Door, StoreFault>;
 }

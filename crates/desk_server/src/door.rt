@@ -13,26 +13,26 @@ use std::io;
 use std::os::unix::net::{UnixListener, UnixStream};
 use std::time::Duration;
 
-/// The byte that the server sends when it has accepted a connection of the office. The sender sends
-/// its command only after this greeting, so a sender that left earlier has sent none.
+/// The byte that the server sends once it has accepted a connection of the office. The sender sends
+/// its command only after this greeting. So a sender that left before it has sent no command.
 pub const GREETING: [u8; 1] = *b"!";
 
 /// The size of the buffer for a command, in bytes: one more than the longest command.
 pub const MAX_COMMAND_LEN: usize = 8_192;
 
-/// The last byte of an answer. Arguments have no zero byte, so no answer's text has one, and a
-/// truncated answer doesn't end with it.
+/// The last byte of an answer. No text of an answer has a zero byte, because arguments have none.
+/// So a truncated answer doesn't end with this byte.
 pub const ANSWER_END: [u8; 1] = [0];
 
-/// The status of the answer to bytes that aren't a complete command: nothing was done, and nothing
-/// will be.
+/// The status of the answer to bytes that aren't a complete command. It means that nothing was
+/// done, and nothing will be.
 pub const NOTHING_DONE: u8 = 9;
 
 /// The text of the answer with status `NOTHING_DONE`.
 pub const NOTHING_DONE_TEXT: &str = "nothing was done";
 
-/// The timeout for the office to send its command, and again for it to take the answer, in
-/// milliseconds. Clients wait meanwhile.
+/// The timeout for the office to send its command, in milliseconds. The same timeout holds again
+/// for taking the answer. Clients wait meanwhile.
 const OFFICE_MILLISECONDS: u64 = 200;
 
 /// A connection of the office that a door accepted.
@@ -43,21 +43,21 @@ pub struct Handed<'c, C> {
 }
 
 impl<'c, C: MonotonicClock> Handed<'c, C> {
-    // The next connection of a door.
+    // Accepts the next connection of a door.
     pub(crate) fn accept(door: &UnixListener, clock: &'c C) -> io::Result<Handed<'c, C>> {
         let (stream, _) = door.accept()?;
         Ok(Handed { stream, clock })
     }
 
-    // Both ends of the connection, with the office's time limit starting now.
+    // Returns both ends of the connection. The office's time limit starts now.
     fn ends(&self) -> Accepted<'c, &UnixStream, C> {
         let patience = Duration::from_millis(OFFICE_MILLISECONDS);
         Accepted::new(&self.stream, self.clock, patience)
     }
 }
 
-/// Reads the bytes of a command up to the end of the input, and returns how many. Returns `None` if
-/// the reader fails, or the buffer is full before the end.
+/// Reads the bytes of a command up to the end of the input, and returns their number. Returns
+/// `None` if the reader fails, or if the buffer is full before the end.
 pub fn read_command<R: Inlet>(reader: &mut R, room: &mut [u8]) -> Option<usize>
     ensures { IfSome result (λ n. (n ≤ length room.new)
         × Consumes (R.to_come reader.old) (R.to_come reader.new) (take n room.new)

@@ -8,14 +8,14 @@ pub trait MonotonicClock {
     ghost use Rattle.std.specs.Prelude.{ℕ, Option};
     ghost use Rattle.desk_server.specs.Limits.{nanos_of};
 
-    // the times that it may show, in nanoseconds; none if it can't be read
+    // the times that the clock may show, in nanoseconds; none if the clock can't be read
     ghost shows: { Self → Option ℕ → Type 0 };
 
     /// Returns the instant now; `None` if the clock can't be read.
     fn instant_now(&self) -> Option<Instant>
         ensures { shows self.now (nanos_of result) };
 
-    /// Sleeps for a while.
+    /// Sleeps for this duration.
     fn rest(&self, duration: Duration);
 }
 
@@ -43,7 +43,7 @@ impl<'c, C: MonotonicClock> Limit<'c, C> {
     ghost use Rattle.std.specs.{Duration.as_nanos, Prelude.{◌≡◌}};
     ghost use Rattle.desk_server.specs.Limits.{AtShown, due_after, left_until, nanos_of};
 
-    /// Returns the deadline that is this much later than now. If the clock can't be read or has no
+    /// Returns the deadline that is `patience` later than now. If the clock can't be read or has no
     /// such time, the deadline has already passed.
     pub fn after(clock: &'c C, patience: Duration) -> Limit<'c, C>
         ensures clock { result.clock ≡ clock.entry }

@@ -14,21 +14,21 @@ use std::os::fd::{AsRawFd, RawFd};
 use std::os::unix::net::UnixListener;
 use std::time::Duration;
 
-/// The server's sleep after waiting or accepting failed, in milliseconds. Without this pause, a
+/// The server's sleep after waiting or accepting failed, in milliseconds. Without this sleep, a
 /// listener that keeps failing would use up the count of clients at once.
 const REST_MILLISECONDS: u64 = 10;
 
-/// No descriptor; `poll` ignores it.
+/// Stands for a missing descriptor; `poll` ignores it.
 const NO_DESCRIPTOR: RawFd = -1;
 
-/// The timeout of an endless wait, as `poll` takes it.
+/// The timeout of `poll` for an endless wait.
 const NO_END: i32 = -1;
 
 /// A client of a listener, or a command that came through a door.
 type Arrived<'a, C> = Arrival<Accepted<'a, ClientSocket<'a, C>, C>, Handed<'a, C>>;
 
-/// Clients of a listener, each with the same patience, and commands of the office if there is a
-/// door. If both are waiting, they take turns.
+/// The clients of a listener, each with the same patience, and the commands of the office if there
+/// is a door. If a client and a command are both waiting, they take turns.
 #[derive(Drop)]
 pub struct Listening<'a, C> {
     clients: &'a TcpListener,
@@ -44,7 +44,7 @@ pub struct Listening<'a, C> {
 impl<'a, C: MonotonicClock> Listening<'a, C> {
     ghost use Rattle.std.specs.Prelude.{◌≡◌};
 
-    /// Returns a source on which `next` hasn't been called. The clock measures its time limits.
+    /// Returns a source on which `next` hasn't been called. The given clock measures time limits.
     pub fn new(
         clients: &'a TcpListener,
         door: Option<&'a UnixListener>,
@@ -66,8 +66,8 @@ impl<'a, C: MonotonicClock> Listening<'a, C> {
     }
 
     // Waits until a command or a client has arrived. Drops a connection that was gone before it was
-    // accepted. A connection of the office that can't be accepted doesn't count as a client:
-    // accepting it is tried again after a pause, and waiting clients come first.
+    // accepted. If a connection of the office can't be accepted, the server tries again after a
+    // pause, and waiting clients come first. Such a connection doesn't count as a client.
     fn wait(&self) -> Arrived<'a, C> {
         let door = match self.door {
             Some(door) => door.as_raw_fd(),
@@ -92,7 +92,7 @@ impl<'a, C: MonotonicClock> Listening<'a, C> {
         Arrival::Nobody
     }
 
-    // Accepts a command, or a client.
+    // Accepts a command if `command` holds, else a client.
     fn take(&self, command: bool) -> io::Result<Arrived<'a, C>> {
         match self.door {
             Some(door) if command => {

@@ -9,7 +9,7 @@ use crate::request_line::RequestLine;
 use club_http::{AnswerFault, Line, Moment, Outlet, Reply, put_all, status_of};
 use std::time::{Clock, Instant};
 
-/// The word that the line of a command has in place of a method.
+/// The word in the line of a command that replaces a method.
 const OFFICE: &[u8] = b"office";
 
 /// The outcome of an arrival.
@@ -28,8 +28,8 @@ pub enum Fate {
         moment: Option<Moment>,
         carried: Option<Carried>,
     },
-    /// A client had an exchange at this moment: the start of its request, and the reply or the
-    /// fault that `club_http::answer` returned.
+    /// A client had an exchange at this moment. `line` has the start of its request, and `outcome`
+    /// is the result of `club_http::answer`: the reply or the fault.
     Exchanged {
         moment: Moment,
         line: RequestLine,
@@ -37,9 +37,9 @@ pub enum Fate {
     },
 }
 
-/// A log of clients and commands. It is called when each begins and ends, and doesn't affect the
-/// outcome. Commands that come while the server waits for a client's request begin and end between
-/// that client's two calls.
+/// A log of clients and commands. The server calls it when each begins and ends, and the log
+/// doesn't affect the outcome. Commands that come while the server waits for a client's request
+/// begin and end between that client's two calls.
 pub trait Log {
     ghost use Rattle.desk_server.specs.Served.{Notes};
 
@@ -73,23 +73,23 @@ impl Log for Unlogged {
 }
 
 /// Writes a line for each client: the moment, the method, the path, the status of the reply and the
-/// time taken in microseconds, separated by spaces. A dash replaces a missing value, and the status
-/// of a reply that wasn't completely written. The line of a command has the moment, `office`, its
-/// name, its exit status and the time taken in microseconds. If the writer fails, the server goes
-/// on.
+/// time taken in microseconds, separated by spaces. A dash stands for a missing value, and for the
+/// status of a reply that wasn't completely written. The line of a command has the moment,
+/// `office`, its name, its exit status and the time taken in microseconds. If the writer fails, the
+/// server goes on.
 #[derive(Drop)]
 pub struct LogLines<'a, W, C> {
     /// The writer of the lines.
     pub writer: W,
     clock: &'a C,
-    // the start times of the client or command that began last and hasn't ended, and of the one
-    // around it
+    // `began` is the start of the client or command that began last and hasn't ended. If a command
+    // came during a client's turn, `around` is the start of the client.
     began: Option<Instant>,
     around: Option<Instant>,
 }
 
 impl<'a, W: Outlet, C: Clock> LogLines<'a, W, C> {
-    /// Writes to this writer, with times from this clock.
+    /// Makes a log that writes lines to this writer and reads times from this clock.
     pub fn new(writer: W, clock: &'a C) -> LogLines<'a, W, C> {
         LogLines {
             writer,
@@ -99,7 +99,7 @@ impl<'a, W: Outlet, C: Clock> LogLines<'a, W, C> {
         }
     }
 
-    // The microseconds since `begin`; 0 if the clock can't be read.
+    // Returns the microseconds since `begin` was called; 0 if the clock can't be read.
     fn microseconds(&self) -> u64 {
         let Some(began) = self.began else {
             return 0;
@@ -134,7 +134,7 @@ impl<'a, W: Outlet, C: Clock> Log for LogLines<'a, W, C> {
     }
 }
 
-// The line of an arrival.
+// Returns the line of an arrival.
 #[tactic(auto, unfolding(crate::specs::Log::line_text))]
 fn line_of(fate: &Fate, microseconds: u64) -> Line
     ensures { result ≡ spec.line_text fate.now microseconds }
@@ -173,7 +173,7 @@ fn line_of(fate: &Fate, microseconds: u64) -> Line
     }
 }
 
-// A line of these words, with a dash for each missing one.
+// Returns a line of these words, with a dash for each missing one.
 #[tactic(auto, unfolding(crate::specs::Log::words_text))]
 fn words(
     moment: &Option<Moment>,
@@ -207,7 +207,7 @@ fn words(
     line
 }
 
-// The HTTP status of a reply that was written completely.
+// Returns the HTTP status of a reply that was written completely, else `None`.
 fn written_status(outcome: &Result<Reply, AnswerFault>) -> Option<u16>
     ensures { result ≡ spec.written_status outcome.now }
 {

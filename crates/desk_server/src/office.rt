@@ -3,7 +3,7 @@
 use crate::request_line::RequestLine;
 use club_http::Responder;
 
-/// The parts of a carried-out command that a log shows.
+/// The parts of a carried-out command that the log shows.
 #[derive(Drop)]
 pub struct Carried {
     /// The first bytes of a line whose second word is the command's name.
@@ -25,10 +25,10 @@ pub struct Answer {
 pub trait Office: Responder {
     ghost use Rattle.desk_server.specs.Served.{CommandRelation};
 
-    // the effects that it may have on the bytes of a command
+    // the effects that the bytes of a command may have
     ghost commands: { CommandRelation Self };
 
-    /// Carries out the command that the bytes spell. Bytes that spell none change nothing.
+    /// Carries out the command that the bytes spell. If they spell no command, nothing changes.
     fn command(&mut self, bytes: &[u8]) -> Answer
         ensures { commands bytes.now self.old result self.new };
 }

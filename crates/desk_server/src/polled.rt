@@ -16,8 +16,8 @@ pub(crate) enum Next {
     Failed,
 }
 
-/// Waits at most `milliseconds` for a command at a door or a client, or endlessly if that is -1.
-/// Returns which of them goes first.
+/// Waits for a command at a door or for a client, and returns which of them goes first. It waits at
+/// most `milliseconds`, or endlessly if that is -1.
 pub(crate) fn next_of(door: RawFd, client: RawFd, milliseconds: i32, command_first: bool) -> Next {
     let mut asked = [waits_for(door, c::POLLIN), waits_for(client, c::POLLIN)];
     let ready = c::poll(&mut asked, milliseconds);
@@ -35,8 +35,8 @@ pub(crate) fn next_of(door: RawFd, client: RawFd, milliseconds: i32, command_fir
     }
 }
 
-/// Returns whether a read of a descriptor wouldn't block, because bytes, the end or a fault has
-/// arrived.
+/// Returns whether a read of a descriptor wouldn't block, because bytes, the end of the input or a
+/// fault has arrived.
 pub(crate) fn is_readable(fd: RawFd) -> bool {
     c::poll(&mut [waits_for(fd, c::POLLIN)], 0) > 0
 }

@@ -1,4 +1,4 @@
-//! The server.
+//! Serves the clients and commands that arrive.
 
 ghost use Rattle.desk_server.specs.{Served.HasTalked, Server.{ServesLogged, ServesOn}};
 
@@ -12,7 +12,7 @@ use club_http::Face;
 use std::error::Error;
 use std::fmt;
 
-/// The clock shows a year before 2000 or after 2099, or can't be read.
+/// The clock shows a year before 2000 or after 2099, or it can't be read.
 #[derive(Clone, Copy, Debug, PartialEq, Eq)]
 pub struct ClockOutOfRange;
 
@@ -30,8 +30,8 @@ impl Error for ClockOutOfRange {}
 
 /// Serves this many clients of a listener, one after the other. Carries out each command of the
 /// office that comes before a client or while a client's request is awaited. A client gets the
-/// clock's moment at its start. A client whose connection or exchange fails counts like any other,
-/// and so does one whose request was refused. Commands don't count.
+/// clock's moment at its start. A client counts even if its connection or exchange fails, or if its
+/// request is refused. Commands don't count.
 ///
 /// # Errors
 ///
@@ -51,7 +51,7 @@ pub fn serve_on<L: Arrivals, M: Moments, D: Office>(
     serve_logged(listener, count, moments, face, desk, &mut Unlogged)
 }
 
-/// Serves as `serve_on` does, and logs each client and each command, which doesn't affect the
+/// Serves as `serve_on` does, and logs each client and each command. The log doesn't affect the
 /// service.
 ///
 /// # Errors

@@ -1,4 +1,4 @@
-//! The stream of a client, with the office's door next to it.
+//! The stream of a client, which also waits at the office's door.
 
 use crate::between::Handover;
 use crate::door::Handed;
@@ -16,14 +16,14 @@ use std::time::Duration;
 pub enum Woken<O> {
     /// A command came.
     Command(O),
-    /// The client can be read: its bytes or its end have arrived, the time is over, or waiting
-    /// failed.
+    /// The client can be read: its bytes or its end have arrived, the time limit is over, or
+    /// waiting failed.
     Client,
-    /// A command's connection was gone before it was accepted, or couldn't be accepted.
+    /// The connection of a command was gone before it was accepted, or it couldn't be accepted.
     Nobody,
 }
 
-/// A client's stream, with the office's door next to it. No contract states which commands come.
+/// A client's stream, which also waits at the door. No contract states which commands come.
 pub trait ClientStream: TimedStream {
     ghost use Rattle.std.specs.Io.KnownBytes.{Keeps};
 
@@ -44,7 +44,7 @@ pub trait ClientStream: TimedStream {
 /// The server's sleep after it couldn't accept a connection of the office, in milliseconds.
 const REST_MILLISECONDS: u64 = 10;
 
-/// A client's socket, with the office's door next to it, if there is one.
+/// A client's socket, and the office's door if there is one.
 #[derive(Drop)]
 pub struct ClientSocket<'a, C> {
     stream: TcpStream,
@@ -55,7 +55,7 @@ pub struct ClientSocket<'a, C> {
 }
 
 impl<'a, C: MonotonicClock> ClientSocket<'a, C> {
-    // A socket that was just accepted.
+    // Makes the socket of a client that was just accepted.
     pub(crate) fn new(
         stream: TcpStream,
         door: Option<&'a UnixListener>,
@@ -144,7 +144,7 @@ impl<'a, C: MonotonicClock> ClientStream for ClientSocket<'a, C> {
     }
 }
 
-// A duration in milliseconds, rounded up, as `poll` takes it.
+// Returns a duration in milliseconds, rounded up, for `poll`.
 fn milliseconds_of(limit: Duration) -> i32 {
     i32::try_from(limit.as_millis())
         .unwrap_or(i32::MAX)

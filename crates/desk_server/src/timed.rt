@@ -20,7 +20,7 @@ pub enum Waited {
     Moved(usize),
     /// A signal interrupted the call before any byte was read or written.
     Interrupted,
-    /// The call failed, or its time was over before any byte was read or written.
+    /// The call failed, or its time limit was over before any byte was read or written.
     Failed,
 }
 
@@ -35,7 +35,7 @@ pub trait TimedStream {
     // the bytes still to come, if they are known
     ghost to_come: { Self → Option (List ℕ) };
 
-    // the bytes that it took, if they are known
+    // the bytes that the stream took, if they are known
     ghost taken: { Self → Option (List ℕ) };
 
     // a read that waits at most this long, with the stream before and after
@@ -52,7 +52,7 @@ pub trait TimedStream {
         ensures writes_nothing { Keeps (taken self.old) (taken self.new) }
         ensures limited { reads self.old (as_nanos limit) result self.new };
 
-    /// Takes the first of the bytes, and returns how many.
+    /// Takes a prefix of the bytes, and returns its length.
     fn write_within(&mut self, limit: Duration, bytes: &[u8]) -> Waited
         ensures within { IfSome (moved result) (λ n. n ≤ length bytes.now) }
         ensures bytes { Takes (taken self.old) (taken self.new) (moved result) bytes.now }
@@ -60,8 +60,8 @@ pub trait TimedStream {
         ensures limited { writes self.old (as_nanos limit) result self.new };
 }
 
-/// The shortest timeout that a socket takes, in microseconds. A write of more bytes than there is
-/// room for needs a timeout so that it doesn't wait.
+/// The shortest timeout that a socket takes, in microseconds. A write that mustn't wait needs a
+/// timeout if it has more bytes than there is room for.
 pub(crate) const LEAST_MICROSECONDS: u64 = 1;
 
 /// No contract states which bytes a socket gives or takes.
@@ -111,8 +111,8 @@ pub(crate) fn outcome_of(returned: io::Result<usize>) -> Waited
     }
 }
 
-// Reads within the time left of a limit. Once that is over, the read doesn't wait, but still
-// returns bytes that came while the server was stopped.
+// Reads within the time left of a limit. Once the limit is over, the read doesn't wait, but it
+// still returns bytes that came while the server was stopped.
 fn read_under<R: TimedStream, C: MonotonicClock>(
     reader: &mut R,
     limit: &Limit<'_, C>,
@@ -132,7 +132,7 @@ fn read_under<R: TimedStream, C: MonotonicClock>(
     None
 }
 
-// Writes within the time left of a limit. Once that is over, the write doesn't wait.
+// Writes within the time left of a limit. Once the limit is over, the write doesn't wait.
 fn write_under<W: TimedStream, C: MonotonicClock>(
     writer: &mut W,
     limit: &Limit<'_, C>,
@@ -155,17 +155,17 @@ fn write_under<W: TimedStream, C: MonotonicClock>(
 /// The most bytes that `take_rest` takes.
 pub const MAX_REST: usize = 65_536;
 
-/// The time that `take_rest` waits for the next bytes or the end, in milliseconds.
+/// The time for which `take_rest` waits for the next bytes or the end, in milliseconds.
 const REST_MILLISECONDS: u64 = 200;
 
 /// The most bytes that `take_rest` reads in one call.
 const MAX_REST_AT_ONCE: usize = 4_096;
 
-/// Both ends of an accepted connection, with time limits. All reads together must end within the
-/// patience, counted from when the connection was accepted. All writes together have the same time,
-/// counted from the first write. A call waits at most for the time left of its limit. If no time is
-/// left or the clock can't be read, the call is still made, but doesn't wait. A call that a signal
-/// interrupted is repeated with the time that is left.
+/// Both ends of an accepted connection, with time limits. The limit of all reads together is the
+/// patience, counted from when the connection was accepted. The limit of all writes together is the
+/// patience, counted from the first write. A call waits at most for the time left of its limit. If
+/// no time is left or the clock can't be read, the call is still made, but doesn't wait. A call
+/// that a signal interrupted is repeated with the time that is left.
 #[derive(Drop)]
 pub struct Accepted<'c, S, C> {
     pub(crate) stream: S,
@@ -177,7 +177,7 @@ pub struct Accepted<'c, S, C> {
     writing: Option<Limit<'c, C>>,
     read_failures: u64,
     write_failures: u64,
-    // whether a command goes before the client's bytes
+    // whether a command goes before the client's bytes if both are ready
     pub(crate) command_first: bool,
 }
 
@@ -221,8 +221,8 @@ impl<'c, S: TimedStream, C: MonotonicClock> Accepted<'c, S, C> {
         self.stream
     }
 
-    /// Reads the bytes that still come, up to the end of the input and at most `MAX_REST` bytes. It
-    /// stops once the patience, counted from now, is over, or no byte came for 200 milliseconds.
+    /// Reads the bytes that still come, up to the end of the input, at most `MAX_REST`. Stops once
+    /// the patience, counted from now, is over, or no byte came for 200 milliseconds.
     pub fn take_rest(&mut self)
         ensures taken { TakesAtMost 65_536 (S.to_come self.old.stream) (S.to_come self.new.stream) }
         ensures writes_nothing { Keeps (S.taken self.old.stream) (S.taken self.new.stream) }

@@ -1,4 +1,4 @@
--- The commands so far.
+-- So far there were only waits and commands, and no byte was read.
 use Rattle.std.proofs.Common.{◌≡◌}
 use Rattle.std.specs.Io.KnownBytes.{Keeps}
 use Rattle.desk_server.specs.Between.{AreWaits, CommandsAlone}

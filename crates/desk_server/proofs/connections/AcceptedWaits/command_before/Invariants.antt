@@ -1,4 +1,4 @@
--- The waits so far.
+-- So far the connection has only waited.
 use Rattle.desk_server.specs.Accepted.{HasWaited}
 use Rattle.desk_server.proofs.connections.AcceptedWaits.command_before.Given as goal
 
