@@ -66,7 +66,7 @@ json_in text form bytes h json = subst (λ (f : Form). IsUnwrapped text (Ok (f, 
 pub other_form : (text : List ℕ) (form : Form) (bytes : List ℕ) → IsUnwrapped text (Ok (form, bytes)) → ¬ IsJson text → form ≢ Json
 other_form text form bytes h in_place json = in_place (bytes, json_in text form bytes h json)
 
--- if parsing JSON bytes lacks memory, so does parsing the text
+-- if there is no memory to parse JSON bytes, there is none to parse the text that wraps them
 pub lacks_memory : {S : Type 0} (Fails : Option Change → S → StoreFault → S → Type 0) (text : List ℕ) (form : Form) (bytes : List ℕ) (old new : S)
     (result : Result Verdict StoreFault) → IsUnwrapped text (Ok (form, bytes)) → ReadsOrLacksMemory Fails (form ≡ Json) old new result
     → ReadsOrLacksMemory Fails (IsJson text) old new result

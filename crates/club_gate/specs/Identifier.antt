@@ -13,7 +13,7 @@ key_name_in identifier = if bytes_eq (take 4 identifier) (codes "key:") then nam
 abbrev pub key_in : Club → List ℕ → Option Key
 key_in club identifier = option_and_then (λ (name : List ℕ). key_named name club) (key_name_in identifier)
 
--- An identifier names a key if and only if it is the identifier of that name.
+-- An identifier gives a name if and only if it is `key:` followed by that name, and the name is valid.
 abbrev pub FindsNames : Type 0
 FindsNames =
     (identifier name : List ℕ) → (key_name_in identifier ≡ Some name) ↔ (IsName name × (identifier ≡ identifier_of name))

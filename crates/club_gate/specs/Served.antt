@@ -12,7 +12,7 @@ use Rattle.club_core.specs.declared.{reply.Reply.TheVariants.Refused, request.Re
 use Rattle.club_laws.specs.SingleRequest.{blind_refusal}
 use Rattle.club_gate.specs.{DecodedPass.{AreWordsOf, fault_of}, Minted.identifier_of}
 
--- the pass is signed under a root of the key's row that is good at the moment
+-- the pass is signed under a root of this key, and the root is good at the moment
 pub record IsSignedFor (pass : Plain) (key : Key) (moment : ℕ) : Type 0 where
   pub root : List ℕ
   pub good : IsGoodRoot key moment root
@@ -77,7 +77,7 @@ OpensNoMore club text request moment reply =
 
 -- The law of the desk, for one reply.
 pub record IsLawful (club : Club) (text : List ℕ) (request : Request) (moment : ℕ) (reply : Reply) : Type 0 where
-  -- the request is served only if its pass entitles its holder to it
+  -- a request is served only if its pass entitles the holder to the request
   pub entitles : IsServed reply → EntitlesTo club text request moment
   -- the reply depends on the words, the moment and the rows that the words name, and on nothing else
   pub depends : DependsOnTheBasis club text request moment reply

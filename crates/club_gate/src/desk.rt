@@ -242,8 +242,8 @@ impl<S: ClubStore> Desk<S> {
     /// that failed to write may recover to the changed club after a crash.
     pub fn ask(&mut self, moment: Moment, words: &SentWords) -> Reply
         ensures was_clean { S.disk_is_clean self.new → S.disk_is_clean self.old }
-        // Either the reply is the one that the rules give to the text's words, and the store
-        // represents the club after it. Or the request failed, and the store represents the same
+        // Either the reply is what the rules decide for the decoded text, and the store represents
+        // the club after that decision. Or the request failed, and the store represents the same
         // club.
         ensures steps { S.disk_is_clean self.new → (decoded : Words)
             × AreWordsOf words.now.pass.now words.now.request decoded
@@ -306,7 +306,7 @@ impl<S: ClubStore> Desk<S> {
         }
     }
 
-    /// Returns the sheet of a day, the text that the desk prints. The club and the possible crash
+    /// Returns the text of a day's sheet, which the desk prints. The club and the possible crash
     /// states are unchanged.
     ///
     /// # Errors

@@ -1,11 +1,11 @@
-//! Why a call of the desk is refused or fails.
+//! The reasons why calls of the desk are refused or fail.
 
 use club_core::{OfficeFault, StoreFault};
 use std::alloc::AllocError;
 use std::error::Error;
 use std::fmt;
 
-/// Why a command, a sheet or a listing for the office is refused or fails.
+/// The reason why a command, a sheet or a listing for the office is refused or fails.
 #[derive(Clone, Copy, Debug, PartialEq, Eq)]
 pub enum Fault {
     /// A rule of the club refuses the call.

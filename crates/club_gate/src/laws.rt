@@ -9,7 +9,7 @@ use pass_caveats::laws::reads_what_is_understood;
 use pass_forms::laws::decides_signed;
 use pass_json::laws::reads_any_form_exactly;
 
-/// An identifier names a key if and only if it is the identifier of that name.
+/// An identifier gives a name if and only if it is `key:` followed by that name.
 pub fn finds_names()
     ensures { FindsNames }
 {

@@ -51,7 +51,7 @@ impl<S: ClubStore> Desk<S> {
 
     /// Returns the first caveat that refuses a request with this key. The source yields the fields
     /// of the pass. The points that the key has spent are read only if the points that its member
-    /// has used leave the result open.
+    /// has used don't settle the result.
     pub(crate) fn caveat_fault<'a, F: FieldSource<'a> + Drop>(
         &mut self,
         source: &F,
@@ -149,9 +149,9 @@ impl<S: ClubStore> Desk<S> {
         Ok(Some(View { spent, ..view }))
     }
 
-    /// Adds the rows and sums that the decision depends on to the view by which the caveats were
-    /// tested. Returns `None` if the club doesn't have the key's member. The resulting view gives
-    /// the same answer as the key's full view.
+    /// Adds the rows and sums that the decision depends on to a view that has what the caveats
+    /// depend on. Returns `None` if the club doesn't have the key's member. The resulting view
+    /// gives the same answer as the key's full view.
     pub(crate) fn last_view(
         &mut self,
         view: View,

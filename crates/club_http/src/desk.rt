@@ -6,7 +6,7 @@ use club_gate::Desk;
 use club_values::Moment;
 use http_request::Words;
 
-/// Answers with `Desk::ask`, under its contract.
+/// Answers with `Desk::ask`. The contract of a responder follows from the contract of that call.
 impl<S: ClubStore> Responder for Desk<S> {
     ghost use Rattle.club_http.specs.Desk.{AnswersBy};
 

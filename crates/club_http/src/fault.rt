@@ -1,9 +1,9 @@
-//! Why an exchange failed.
+//! The reason why an exchange failed.
 
 use std::error::Error;
 use std::fmt;
 
-/// Why an exchange failed.
+/// The reason why an exchange failed.
 #[derive(Clone, Copy, Debug, PartialEq, Eq)]
 pub enum AnswerFault {
     /// The reader failed before the request was complete. The desk wasn't asked, and nothing was

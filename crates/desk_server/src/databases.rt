@@ -1,5 +1,5 @@
-//! The databases that a server and the office open, as a trait, and the door by which the office
-//! reaches a server.
+//! The databases that a server and the office open, as a trait, and the door between server and
+//! office.
 
 use club_http::{ClubStore, StoreFault};
 use std::os::unix::net::UnixListener;
@@ -17,8 +17,8 @@ pub trait Visit {
     // the results of giving the bytes of a command to the server
     ghost gives: { Giving Self };
 
-    /// Hands over the bytes of a command, and returns the answer's status and text. Returns `None`
-    /// if there is no answer; the command may or may not have been carried out then.
+    /// Hands over the bytes of a command, and returns the answer's status and text. `None` means
+    /// that there is no answer. The command may then have been carried out, or may not.
     fn give(self, command: &[u8]) -> Option<(u8, String)>
         ensures { gives self command.now (in_bytes result) };
 }

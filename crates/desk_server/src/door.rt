@@ -1,4 +1,4 @@
-//! The office's door, as the server sees it.
+//! The server's side of the office's door.
 
 ghost use Rattle.std.specs.Io.KnownBytes.{Appends, Consumes, IsAtEnd};
 ghost use Rattle.std.specs.Prelude.{◌≡◌, ◌≤◌, ℕ, length, take, IfSome};

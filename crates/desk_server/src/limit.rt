@@ -1,4 +1,4 @@
-//! Time limits by a monotonic clock.
+//! Time limits that a monotonic clock measures.
 
 use std::thread;
 use std::time::{Clock, Duration, Instant};
@@ -32,7 +32,7 @@ impl<C: Clock> MonotonicClock for C {
     }
 }
 
-/// A deadline by a clock.
+/// A deadline that a clock measures.
 #[derive(Drop)]
 pub struct Limit<'c, C> {
     pub(crate) clock: &'c C,

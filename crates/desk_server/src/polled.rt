@@ -46,7 +46,7 @@ pub(crate) fn is_writable(fd: RawFd) -> bool {
     c::poll(&mut [waits_for(fd, c::POLLOUT)], 0) > 0
 }
 
-// Asks `poll` to wait until a descriptor has bytes, a new connection, or room.
+// Returns the entry that makes `poll` wait for these events of a descriptor.
 fn waits_for(fd: RawFd, events: i16) -> pollfd {
     pollfd {
         fd,

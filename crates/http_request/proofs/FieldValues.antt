@@ -2,7 +2,7 @@
 use Rattle.http_request.proofs.Common.{◌≡◌, ℕ, ◌+◌, ◌<◌, Bool, List, ◌∷◌, cond, length, get_or, drop, refl, at_drop_more, HeaderSpan, same_word, values_in_head}
 use Rattle.httparse.specs.Spans.{header_bytes}
 
--- a parser's buffer before it is written to
+-- the empty span in a parser's buffer that wasn't written to
 abbrev pub no_field : HeaderSpan
 no_field = record { name = record { start = 0; end = 0 }; value = record { start = 0; end = 0 } }
 

@@ -5,12 +5,12 @@ use Rattle.http_request.proofs.Common.{IsHeadOf, IsPiece, AsksForBody, IsFramed,
 use Rattle.std.proofs.Math.Seq.{take-append_seam, drop-append_seam}
 use Rattle.httparse.proofs.GrammarLemmas.{request_unique}
 
--- the bytes are a piece and the rest
+-- the bytes are a head's piece, followed by the rest
 pub record IsCut (bytes piece rest : List ℕ) : Type 0 where
   pub cut : IsPiece piece
   pub parts : bytes ≡ piece ++ rest
 
--- the bytes are a piece and the rest, and the piece is a head whose body has this length
+-- the bytes are a piece, followed by the rest, and the piece is a head whose body has this length
 pub record Asks (bytes : List ℕ) (head : RequestHead) (body_len : ℕ) (rest : List ℕ) : Type 0 where
   pub piece : List ℕ
   pub cut : IsCut bytes piece rest
@@ -41,7 +41,7 @@ whole_frame {bytes} {found} at long = record {
   asks = rw (length-take-le found.body_len (drop found.len bytes) long) at.asks;
 }
 
--- if one of two prefixes is shorter, the longer one isn't the piece
+-- of two pieces at the front of the same bytes, the first isn't shorter than the second
 not_shorter : {bytes p q r s : List ℕ} → IsCut bytes p r → IsCut bytes q s → ¬ (length p < length q)
 not_shorter {p} {q} {r} {s} is other h =
     let le : length p ≤ length q = omega arith in
@@ -96,7 +96,7 @@ same_asked {head} {other} {n} {m} is again =
     let second = rw same_head at again.asks.requests in
     (same_head, cc, same.1)
 
--- bytes whose body is cut off have no frame
+-- bytes whose body isn't complete have no frame
 pub cut_frame : {bytes rest : List ℕ} {head : RequestHead} {n : ℕ} → Asks bytes head n rest → length rest < n
     → (other : RequestHead) (body : List ℕ) → ¬ (IsFramed bytes other body)
 cut_frame {rest} {n} asks short other body frame =

@@ -1,4 +1,4 @@
--- The computed place of a target is the place that it names.
+-- Proves that the computed place of a target is the place that the target names.
 use Rattle.http_request.proofs.Common.{◌≡◌, ℕ, ◌==◌, Bool, true, false, cond, List, [], ◌∷◌, Option, Some, None, codes, refl, sym, ap, ◌∙◌, arith, ◌&&◌, nat_le}
 use Rattle.http_request.proofs.Common.{option_map, IfSome, bytes_eq, cond-true, eqb-true, nat_tests, segments, account_at, place_of, under_root, under_slots}
 use Rattle.http_request.proofs.Common.{ReadsPlaces}
@@ -41,7 +41,7 @@ SpellsSlot facility day hour slot =
     IsSlot slot × (facility ≡ slot.facility) × (day ≡ day_text slot.day) × (hour ≡ two_digits slot.hour)
 
 module _ (names : ReadsNames) (days : ReadsDays) (texts : IsTextOfDay) (hours : ReadsHours) (numbers : ReadsNumbers) where
-  -- ---- from the values to what is computed
+  -- ---- the place computed from the texts of some values has these values
 
   number_found : (n : ℕ) → IsBookingNumber n → number_of_text (decimal n) ≡ Some n
   unfolding number_of_text
@@ -61,7 +61,7 @@ module _ (names : ReadsNames) (days : ReadsDays) (texts : IsTextOfDay) (hours : 
   place_found (BookingPlace slot n) h = rw (slot_found slot h.0, number_found n h.1) refl
   place_found AccountPlace h = refl
 
-  -- ---- from what is computed to the values
+  -- ---- each computed place has the values whose texts were given
 
   number_spelled : (text : List ℕ) → IfSome (number_of_text text) (λ n. IsBookingNumber n × (text ≡ decimal n))
   unfolding number_of_text
@@ -110,7 +110,7 @@ module _ (names : ReadsNames) (days : ReadsDays) (texts : IsTextOfDay) (hours : 
         | false ↦ λ is. account_spelled word parts
       ] refl
 
-  -- ---- the target
+  -- ---- the place of a target
 
   target_spelled : (target : List ℕ) → IfSome (place_of target) (IsPlace target)
   target_spelled [] = tt

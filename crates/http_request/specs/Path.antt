@@ -1,4 +1,4 @@
--- The paths of the desk (ours): /slots/FACILITY/DAY/HOUR, the same with /bookings/NUMBER, and /account.
+-- The paths of the desk (ours): /slots/FACILITY/DAY/HOUR, /slots/FACILITY/DAY/HOUR/bookings/NUMBER, and /account.
 use Rattle.std.specs.{Fmt.decimal, Prelude.{◌≡◌, ℕ, List, [], ◌∷◌, codes, Option, Some, None}}
 use Rattle.club_values.specs.{Day.day_text, Digits.two_digits, declared.slot.Slot.Slot}
 use Rattle.club_rows.specs.{Limits.IsBookingNumber, Rows.IsSlot}

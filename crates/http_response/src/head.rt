@@ -15,7 +15,7 @@ fn status_code(reply: &Reply) -> StatusCode
     StatusCode::from_u16(status_of(reply)).unwrap()
 }
 
-/// Appends the field `Allow` if the status is 405, with the methods of the path's resource.
+/// Appends the field `Allow` with the methods of the path's resource, if the status is 405.
 fn push_allow(line: &mut Line, reply: &Reply)
     requires { length line.old + 20 ≤ max_line_len }
     ensures text { line.new ≡ line.old ++ spec.allow_field reply.now }

@@ -14,8 +14,8 @@ pub const MAX_REPLY_LEN: usize = 512;
 /// The rest of the buffer is unchanged. Every reply fits.
 ///
 /// The text is an HTTP/1.1 response (RFC 9112) whose body is a JSON object. Its fields are the
-/// content type, the content length, for 401 the challenge `Bearer` (RFC 6750), for 405 the methods
-/// of the path, and `Connection: close`.
+/// content type, the content length and `Connection: close`. Status 401 adds the challenge `Bearer`
+/// (RFC 6750), and status 405 adds the methods of the path.
 #[tactic(auto, unfolding(crate::specs::Text::reply_text, crate::specs::Text::head_text))]
 pub fn reply_bytes(reply: &Reply, room: &mut [u8; MAX_REPLY_LEN]) -> usize
     ensures len { result ≡ length (reply_text reply.now) }
