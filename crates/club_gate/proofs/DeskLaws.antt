@@ -86,7 +86,7 @@ module _ (serves : ServesOnlyTheEntitled) (alone : DependsOnTheBasisAlone) (refu
             (rw (ap (λ (p : Pass). p.caveats) found.2) entitled.permission);
       }
 
-  -- two texts that spell the same pass get the same reply
+  -- two texts that encode the same pass get the same reply
   forms_alike : (other : List ℕ) (form other_form : Form) (plain : Plain) → IsBytes other → IsAnyReading text (Ok (form, plain))
       → IsAnyReading other (Ok (other_form, plain)) → reply_in club text request moment ≡ reply_in club other request moment
   forms_alike other form other_form plain its h k =

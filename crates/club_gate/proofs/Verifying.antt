@@ -1,4 +1,4 @@
--- Lemmas that lead from the pass that a source yields to the text that spells it.
+-- Lemmas that lead from the pass that a source yields to the text that encodes the pass.
 use Rattle.club_gate.proofs.Common.{◌≡◌, ◌≢◌, inl, inr, ℕ, ◌≤◌, length, List, Option, Result, Ok, Err, refl, ap, ◌∙◌, subst, IfOk, IsBytes, FormFault, Form}
 use Rattle.club_gate.proofs.Common.{PassField, pass_fields, ReadsExactly, Plain, IsReadingInForm, SpellsForm, ReadsAnyFormExactly, ReadsWhatIsWrapped, reading}
 use Rattle.club_gate.proofs.Common.{reading_in_form, Change, Request, StoreFault, Verdict, verdict_in, Club, words_with, machine_pass, without_form}
@@ -11,7 +11,7 @@ use Rattle.club_gate.specs.Served.{IsJson}
 abbrev IsVerdict : Result Verdict StoreFault → Verdict → Type 0
 IsVerdict result verdict = IfOk result (λ found. found ≡ verdict)
 
--- the verdict on the pass is the verdict on the bytes that spell it
+-- the verdict on the pass is the verdict on the bytes that encode it
 pub verdict_by_bytes : {fields : List PassField} (club : Club) (request : Request) (moment : ℕ) (form : Form) (bytes : List ℕ) (pass : Plain)
     (result : Result Verdict StoreFault) → reading_in_form form bytes ≡ Ok pass → fields ≡ pass_fields pass → length pass.caveats ≤ max_caveats
     → IfOk result (λ found. OfItsPass fields (λ it. found ≡ verdict_in club (words_with (machine_pass it) request) moment))

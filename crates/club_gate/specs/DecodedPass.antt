@@ -24,7 +24,7 @@ fault_of faults.ThirdParty = ThirdParty
 fault_of faults.TooMany = TooMany
 fault_of faults.Memory = Malformed
 
--- a text as the rules see it: the pass that it spells in any form, or else its fault
+-- a text as the rules see it: the pass that the text encodes in any form, or else the text's fault
 abbrev pub IsDecoded : List ℕ → Result Pass PassFault → Type 0
 IsDecoded text (Ok seen) = (form : Form) × (pass : Plain) × IsAnyReading text (Ok (form, pass)) × IsSeenAs pass seen
 IsDecoded text (Err fault) = (reason : FormFault) × IsAnyReading text (Err reason) × (fault ≡ fault_of reason)

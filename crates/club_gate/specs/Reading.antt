@@ -13,8 +13,8 @@ IsBlindPass pass =
     (ask : Ask) (kind : Option Kind)
     → first_fault_of (map caveat_of pass.caveats) (at_kind kind ask) ≡ first_fault_of (map caveat_of pass.caveats) ask
 
--- The view that was read for a key agrees with the club on the values that caveats and the decision look at first: the booking under the request's number, and
--- the facility. The facility may be missing if the booking exists and no caveat looks at the kind. The view has nothing else.
+-- The view that was read for a key agrees with the club on the booking under the request's number, and on the facility. Caveats and the decision look at these
+-- first. The facility may be missing if the booking exists and no caveat looks at the kind. The view has nothing else.
 pub record AgreesOnRecord (club : Club) (key : KeyRow) (pass : Plain) (request : Request) (view : View) : Type 0 where
   pub key_is : view.key ≡ key
   pub booking_is : view.booking ≡ option_and_then (λ (number : ℕ). booking_under key.name number club.bookings) (request_number request)

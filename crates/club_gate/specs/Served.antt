@@ -18,8 +18,8 @@ pub record IsSignedFor (pass : Plain) (key : Key) (moment : ℕ) : Type 0 where
   pub good : IsGoodRoot key moment root
   pub signed : IsSigned root pass
 
--- The text spells a pass that entitles its holder to the request. The identifier names a key of the club that isn't revoked. The signature is the chain under a
--- root of that key that is good at the moment. Each caveat allows the request, given the club's rows for that key.
+-- The text encodes a pass that entitles its holder to the request. The identifier names a key of the club that isn't revoked. The signature is the chain under
+-- one of that key's roots, which is good at the moment. Each caveat allows the request, given the club's rows for that key.
 pub record EntitlesTo (club : Club) (text : List ℕ) (request : Request) (moment : ℕ) : Type 0 where
   pub form : Form
   pub pass : Plain
@@ -46,14 +46,14 @@ IsBlind club text request reply =
     (words : Words) → AreWordsOf text request words → basis_of club words ≡ None
     → reply ≢ Refused Unavailable → reply ≡ Refused (blind_refusal words.pass)
 
--- Any other text that spells the same pass, in any form, gets the same reply.
+-- Any other text that encodes the same pass, in any form, gets the same reply.
 abbrev pub AnswersItsForms : Club → List ℕ → Request → ℕ → Reply → Type 0
 AnswersItsForms club text request moment reply =
     (other : List ℕ) (words : Words) (form other_form : Form) (pass : Plain) → IsBytes other
     → IsAnyReading text (Ok (form, pass)) → IsAnyReading other (Ok (other_form, pass)) → AreWordsOf other request words
     → reply ≢ Refused Unavailable → reply ≡ (verdict_in club words moment).reply
 
--- The narrow text spells the wide text's pass with more caveats. Both have the same identifier, and the wide pass is signed for the key.
+-- The narrow text encodes the wide text's pass with more caveats. Both have the same identifier, and the wide pass is signed for the key.
 pub record IsNarrowedText (club : Club) (wide narrow : List ℕ) (moment : ℕ) : Type 0 where
   pub form : Form
   pub other_form : Form

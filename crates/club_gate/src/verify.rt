@@ -148,7 +148,7 @@ impl<S: ClubStore> Desk<S> {
         Ok(answer(view.as_ref(), true, None, request, moment))
     }
 
-    /// Returns the verdict on a request with the pass whose fields a source yields. It scans the
+    /// Returns the verdict on a request with the pass whose fields a source yields. Scans the
     /// fields for the signature, and scans them again for the caveats only if the pass is signed.
     fn verdict_of<'a, F: FieldSource<'a> + Drop>(
         &mut self,
@@ -166,8 +166,8 @@ impl<S: ClubStore> Desk<S> {
         }
     }
 
-    /// Returns the verdict on a request with the pass that these bytes spell in a form. A pass in
-    /// JSON is parsed first, which needs memory; in the other forms the fields are parts of the
+    /// Returns the verdict on a request with the pass that these bytes encode in a form. A pass in
+    /// JSON is parsed first, which needs memory. In the other forms the fields are parts of the
     /// bytes.
     fn verdict_on(
         &mut self,

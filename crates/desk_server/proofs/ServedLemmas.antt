@@ -45,7 +45,7 @@ module _ {Clock Desk Source Log : Type 0} {Gives : GivesMoment Clock} {Answers :
   one_call s' waits fits = let before = first.called (omega arith) in let last = waits (omega arith) in omega arith
 
 module _ {Log : Type 0} {Begins : Log → Log → Type 0} {Noted : Notes Log} where
-  -- for a turn without commands meanwhile, the log notes only its fate
+  -- for a turn during which no commands came, the log notes only the turn's own fate
   pub noted_alone : {log log' : Log} (begun : Log) (fate : Fate) → IsBegun Begins Noted log fate begun → Noted begun fate log'
       → IsNoted Begins Noted log (alone fate) log'
   noted_alone begun fate begins notes =

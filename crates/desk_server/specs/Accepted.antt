@@ -49,8 +49,8 @@ module _ {S C : Type 0} (to_come taken : S → Option (List ℕ)) where
   IsEnded (Err fault) bytes old new = new ≡ old
 
   module _ (Shows : C → Option ℕ → Type 0) (Reads Writes : Calls S) where
-    -- The course of an exchange. The request came by calls of the reader, and no call was made once it was complete. Then only the writer was called, for the
-    -- reply. After that the connection was ended. Exactly the bytes `written` were written.
+    -- The course of an exchange. The request came by calls of the reader, and no call was made once it was complete. Then only the writer was called, to write
+    -- the reply. After that the connection was ended. Exactly the bytes `written` were written.
     pub record Talks (old : Accepted S C) (bytes written : List ℕ) (outcome : Result Reply AnswerFault) (new : Accepted S C) : Type 0 where
       pub heard : Accepted S C
       pub sent : Accepted S C

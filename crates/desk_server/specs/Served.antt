@@ -61,11 +61,11 @@ pub record Turn : Type 0 where
   pub meanwhile : List Fate
   pub fate : Fate
 
--- a turn without commands meanwhile
+-- a turn during which no commands came
 abbrev pub alone : Fate → Turn
 alone fate = record { meanwhile = []; fate = fate }
 
--- the fates in the order in which they ended: a client's fate comes after those of the commands meanwhile
+-- the fates in the order in which they ended; a client's fate comes after the fates of the commands during its turn
 abbrev pub fates_in : List Turn → List Fate
 fates_in [] = []
 fates_in (turn ∷ turns) = (turn.meanwhile ++ turn.fate ∷ []) ++ fates_in turns
@@ -111,7 +111,7 @@ module _ {Clock Desk : Type 0} (Gives : GivesMoment Clock) (Answers : ℕ → An
     pub ended : Ended bytes written outcome
 
   -- The effect of one arrival on the clock, the desk and the count of failed calls. If waiting failed, only the count grew. A command is carried out even if
-  -- the clock gives no moment. Only during a client's turn can commands come meanwhile. An overrun counts as one client that never came.
+  -- the clock gives no moment. Other commands can come only during a client's turn. An overrun counts as one client that never came.
   abbrev pub ServesOne : Clock → Desk → ℕ → List Fate → Fate → Clock → Desk → ℕ → Type 0
   ServesOne clock desk failures meanwhile Absent clock' desk' failures' =
       (meanwhile ≡ []) × (failures' ≡ one_more failures) × (clock' ≡ clock) × (desk' ≡ desk)
@@ -155,7 +155,7 @@ abbrev pub Notes : Type 0 → Type 1
 Notes Log = Log → Fate → Log → Type 0
 
 module _ {Log : Type 0} (Begins : Log → Log → Type 0) (Noted : Notes Log) where
-  -- the log notes that each command meanwhile begins, and then its fate, in order
+  -- for each command during a turn, in order, the log notes that it begins, and then its fate
   pub data AreNotedMeanwhile (log : Log) : List Fate → Log → Type 0 where
     no_note : AreNotedMeanwhile log [] log
     one_note : (fates : List Fate) (fate : Fate) (l begun l' : Log) → AreNotedMeanwhile log fates l → Begins l begun → Noted begun fate l'
@@ -167,8 +167,8 @@ module _ {Log : Type 0} (Begins : Log → Log → Type 0) (Noted : Notes Log) wh
   IsBegun log Overrun begun = begun ≡ log
   IsBegun log fate begun = Begins log begun
 
-  -- The log of a turn. If the arrival was accepted, the log notes that it begins, then the beginnings and fates of the commands meanwhile, and last its own
-  -- fate. For any other arrival the log notes only the fate.
+  -- The log of a turn. If the arrival was accepted, the log notes that it begins. Then it notes the beginning and the fate of each command during the turn, and
+  -- last the arrival's own fate. For any other arrival the log notes only the fate.
   pub record IsNoted (log : Log) (turn : Turn) (log' : Log) : Type 0 where
     pub begun : Log
     pub awaited : Log
@@ -184,7 +184,7 @@ module _ {Log : Type 0} (Begins : Log → Log → Type 0) (Noted : Notes Log) wh
 -- ---- the clock, the desk and the log
 
 module _ {Clock Desk Log : Type 0} (Gives : GivesMoment Clock) (Carries : CommandRelation Desk) (Begins : Log → Log → Type 0) (Noted : Notes Log) where
-  -- the commands that came meanwhile were carried out and noted, in order
+  -- the commands that came during a turn were carried out and noted, in order
   pub record Meanwhile (clock : Clock) (desk : Desk) (log : Log) (clock' : Clock) (desk' : Desk) (log' : Log) : Type 0 where
     pub fates : List Fate
     pub commanded : AreCommanded Gives Carries clock desk fates clock' desk'

@@ -48,8 +48,8 @@ pub trait Waits: Inlet {
     // the known effects of one wait
     ghost waits: { Self → Self → Type 0 };
 
-    /// Waits until the client can be read, or returns a command that comes before. The client can
-    /// be read once its bytes or its end have arrived, its time is over, or waiting failed.
+    /// Waits for a command, and returns it. Returns `None` once the client can be read: its bytes
+    /// or its end have arrived, its time is over, or waiting failed.
     fn command_before(&mut self) -> Option<Self::Command>
         ensures reads_nothing { Keeps (Self.to_come self.old) (Self.to_come self.new) }
         ensures counted { Self.failures self.new ≡ Self.failures self.old }

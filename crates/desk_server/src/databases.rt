@@ -64,7 +64,7 @@ pub trait Databases {
     fn close(&mut self, store: Self::Store)
         ensures { closes self.old store self.new };
 
-    /// Makes the door of a server that has the database of a name open. Replaces the door of a
-    /// server that was killed.
+    /// Makes a door for the server that has opened the database of this name. Replaces the door of
+    /// a server that was killed.
     fn make_door(&self, name: &str) -> Result<Self::Door, StoreFault>;
 }

@@ -44,7 +44,7 @@ pub struct Listening<'a, C> {
 impl<'a, C: MonotonicClock> Listening<'a, C> {
     ghost use Rattle.std.specs.Prelude.{◌≡◌};
 
-    /// Returns a source on which `next` hasn't been called. The given clock measures time limits.
+    /// Returns a new source, whose `next` hasn't been called. The given clock measures time limits.
     pub fn new(
         clients: &'a TcpListener,
         door: Option<&'a UnixListener>,

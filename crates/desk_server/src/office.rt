@@ -28,7 +28,7 @@ pub trait Office: Responder {
     // the effects that the bytes of a command may have
     ghost commands: { CommandRelation Self };
 
-    /// Carries out the command that the bytes spell. If they spell no command, nothing changes.
+    /// Carries out the command that the bytes encode. If they encode no command, nothing changes.
     fn command(&mut self, bytes: &[u8]) -> Answer
         ensures { commands bytes.now self.old result self.new };
 }

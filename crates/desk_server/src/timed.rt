@@ -155,7 +155,7 @@ fn write_under<W: TimedStream, C: MonotonicClock>(
 /// The most bytes that `take_rest` takes.
 pub const MAX_REST: usize = 65_536;
 
-/// How long `take_rest` waits for the next bytes or the end, in milliseconds.
+/// The time limit of `take_rest` for the next bytes or the end, in milliseconds.
 const REST_MILLISECONDS: u64 = 200;
 
 /// The most bytes that `take_rest` reads in one call.

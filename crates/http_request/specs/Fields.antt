@@ -16,7 +16,7 @@ values_of name (field ∷ fields) = if same_word field.0 name then field.1 ∷ v
 abbrev pub values_in_head : List ℕ → List ℕ → List HeaderSpan → List (List ℕ)
 values_in_head head name fields = values_of name (map (header_bytes head) fields)
 
--- whether there is no value, one value, or several
+-- the result tells whether there is no value, one value, or several
 abbrev pub ClassifiesValues : List (List ℕ) → Values → Type 0
 ClassifiesValues values None = values ≡ []
 ClassifiesValues values (One value) = values ≡ value.now ∷ []

@@ -7,7 +7,7 @@ use Rattle.http_request.specs.{Fields.values_of, Limits.max_body_len}
 abbrev pub body_length : ℕ → Option ℕ
 body_length n = if nat_le n max_body_len then Some n else None
 
--- the number that 1 to 4 digits spell, if it is within the limit of a body (ours)
+-- the number that 1 to 4 digits represent, if it is within the limit of a body (ours)
 abbrev pub length_in : List ℕ → Option ℕ
 length_in value = if nat_le (length value) 4 then option_and_then body_length (number_of_digits value) else None
 

@@ -14,7 +14,7 @@ pub const MAX_BODY_LEN: usize = 256;
 /// The most digits of a body's length.
 const MAX_DIGITS: usize = 4;
 
-/// Parses the length of a body: 1 to 4 digits that spell at most `MAX_BODY_LEN`.
+/// Parses the length of a body: 1 to 4 digits for a number of at most `MAX_BODY_LEN`.
 fn length_in(value: &[u8]) -> Option<usize>
     ensures { result ≡ spec.length_in value.now }
 {

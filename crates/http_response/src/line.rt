@@ -3,7 +3,7 @@
 use itoa::Buffer;
 use std::marker::Model;
 
-/// The most bytes of a line. Head and body are one line each, so a reply has at most twice as many.
+/// The most bytes of a `Line`. A reply consists of two: its head and its body.
 pub const MAX_LINE_LEN: usize = 256;
 
 /// A text that grows by `push`. Contracts see it as the list of its bytes, at most 256.

@@ -25,7 +25,7 @@ abbrev pub without_form : Result (Form × Plain) FormFault → Result Plain Form
 without_form (Ok read) = Ok read.1
 without_form (Err fault) = Err fault
 
--- the pass that a text spells, or the fault of the text
+-- the pass that a text encodes, or the fault of the text
 abbrev pub decoded_pass : List ℕ → Result Pass PassFault
 decoded_pass text = decoded_or_fault (without_form (reading text))
 
@@ -33,7 +33,7 @@ decoded_pass text = decoded_or_fault (without_form (reading text))
 abbrev pub decoded_words : List ℕ → Request → Words
 decoded_words text request = record { pass = decoded_pass text; request = request }
 
--- the words of a request whose pass is spelled by these bytes in this form
+-- the words of a request whose pass is encoded by these bytes in this form
 abbrev pub words_in_form : Form → List ℕ → Request → Words
 words_in_form form bytes request = record { pass = decoded_or_fault (reading_in_form form bytes); request = request }
 
