@@ -1,4 +1,4 @@
--- Lemmas that lead from the pass that a source yields to the text that encodes the pass.
+-- Lemmas on the verdict: from the fields of a pass to the bytes of the pass, and from these to the text.
 use Rattle.club_gate.proofs.Common.{◌≡◌, ◌≢◌, inl, inr, ℕ, ◌≤◌, length, List, Option, Result, Ok, Err, refl, ap, ◌∙◌, subst, IfOk, IsBytes, FormFault, Form}
 use Rattle.club_gate.proofs.Common.{PassField, pass_fields, ReadsExactly, Plain, IsReadingInForm, SpellsForm, ReadsAnyFormExactly, ReadsWhatIsWrapped, reading}
 use Rattle.club_gate.proofs.Common.{reading_in_form, Change, Request, StoreFault, Verdict, verdict_in, Club, words_with, machine_pass, without_form}

@@ -9,7 +9,7 @@ use Rattle.club_core.specs.{Pass.{Pass, Words}, declared.pass_fault.PassFault.{P
 use Rattle.club_core.specs.declared.request.Request.{Request}
 use Rattle.club_gate.specs.Minted.{identifier_of}
 
--- A pass as the rules see it: the key that its identifier names, the meaning of each caveat that is understood, and the roots that sign the pass.
+-- The rules see these parts of a pass: the key that its identifier names, the meaning of each understood caveat, and the roots under which it is signed.
 pub record IsSeenAs (pass : Plain) (seen : Pass) : Type 0 where
   pub names : (name : List ℕ) → (seen.key ≡ Some name) ↔ (IsName name × (pass.identifier ≡ identifier_of name))
   pub understood :

@@ -69,8 +69,8 @@ MayBeLeft club others last events responses left =
 abbrev pub IsWithinOneEvent : Club → Club → Type 0
 IsWithinOneEvent club now = (now ≡ club) ⊎ ((event : machine.Event) × (now ≡ (step club event).club))
 
--- The store represents the club after the answered events, and `MayBeLeft` allows each of its other possible crash states. In that club, and in each club one
--- event away from it, a repeat of a served request gets the same response and changes nothing.
+-- The store represents the club after the answered events, and `MayBeLeft` allows each of its other possible crash states. A repeat of a served request gets
+-- the same response and changes nothing, in that club and in each club one event away from it.
 pub record LeavesClub {S : Type 0} (Represents : S → Club → List Club → Type 0) (new : S) (club : Club) (others : List Club) (events : List machine.Event)
     (responses : List DeskResponse) : Type 0 where
   pub left : List Club

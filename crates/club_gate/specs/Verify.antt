@@ -18,7 +18,7 @@ signer_of pass moment (Some key) =
     first_of (line_if (not (is_signed_under (machine_pass pass) key moment)) (Err NotVerified) ∷ line_if key.revoked (Err KeyRevoked) ∷ [])
     (Ok (row_of_key key))
 
--- Either the verdict was read, or the store failed with this fault at a read, or the text is JSON and the store wasn't called.
+-- Either the verdict was read, or the store failed with this fault at a read. Or the text is JSON, and the store wasn't called.
 abbrev pub ReadsOrLacksMemory : {S : Type 0} → (Option Change → S → StoreFault → S → Type 0) → Type 0 → S → S → Result Verdict StoreFault → Type 0
 ReadsOrLacksMemory Fails IsJsonText old new (Ok verdict) = IsRead Fails old new
 ReadsOrLacksMemory Fails IsJsonText old new (Err fault) = Fails None old fault new ⊎ (IsJsonText × (new ≡ old))

@@ -1,7 +1,7 @@
 //! The verifier, which returns the verdict on a request. It checks the signature first. For this it
-//! reads only the row of the key that the pass names, and the key's older root if the pass isn't
-//! signed under the current one. Next it reads what the caveats depend on, and last what the
-//! decision depends on.
+//! reads only the row of the key that the pass names. If the pass isn't signed under the current
+//! root, it also reads the key's older root. Next it reads what the caveats depend on, and last
+//! what the decision depends on.
 
 ghost use Rattle.std.specs.Prelude.{◌≡◌, ◌≢◌, ◌≤◌, ℕ, List, length, IfOk, IsSomeAnd, None, Some};
 ghost use Rattle.std.specs.Prelude.{Ok, Err, drop, option_map};

@@ -9,9 +9,9 @@ use pass_caveats::laws::{finds_the_fault_at, reads_what_is_understood};
 use pass_caveats::{Ask, CaveatFault, Unspent, fault_at, looks_at_kind, unspent_at};
 use pass_forms::{Field, FieldSource};
 
-/// Returns the first caveat that isn't understood, or that denies a request of a key that has
-/// already spent `spent` points. Returns `None` if all caveats allow it. The source yields the
-/// fields of the pass, and stays unchanged.
+/// Returns the first caveat that isn't understood or denies a request, if the key has already spent
+/// `spent` points. Returns `None` if all caveats allow the request. The source yields the fields of
+/// the pass, and stays unchanged.
 pub(crate) fn fault_after<'a, F: FieldSource<'a> + Drop>(
     source: &F,
     ask: &Ask,
@@ -35,8 +35,8 @@ pub(crate) fn fault_after<'a, F: FieldSource<'a> + Drop>(
     None
 }
 
-/// Returns the first caveat that refuses the request if the key has spent nothing, and the most
-/// that a key may have spent for the same result. The source stays unchanged.
+/// Returns the first caveat that refuses the request if the key has spent nothing. Also returns the
+/// most that the key may have spent for the same result. The source stays unchanged.
 pub(crate) fn unspent_fault<'a, F: FieldSource<'a> + Drop>(source: &F, ask: &Ask) -> Unspent
     ensures { OfItsPass (F.left source.now) (λ pass. (spent : ℕ) → IsWithin result.slack spent
         → first_fault_of (map caveat_of pass.caveats) (after_spending spent ask.now)

@@ -2,7 +2,7 @@
 use Rattle.std.specs.Prelude.{◌⊎◌, ℕ, ◌<◌, ◌≤◌, List, [], ◌++◌, length, take, Option, Some, None}
 use Rattle.http_request.specs.{Frame.IsWhole, Limits.max_request_len}
 
--- A call of a reader or writer: the end before, the number of bytes returned, the buffer or the bytes to write, and the end after.
+-- A call of a reader or writer: its state before, the number of bytes returned, the buffer of a read or the bytes to write, and its state after.
 abbrev pub Call : Type 0 → Type 1
 Call End = End → Option ℕ → List ℕ → End → Type 0
 

@@ -1,4 +1,4 @@
--- The effect of a reader's and a writer's calls (ours): on the bytes still to come or already taken, if they are known, and on a count of failures.
+-- The effect of a reader's and a writer's calls (ours): on the bytes still to come or already taken, if known, and on a count of failures.
 use Rattle.std.specs.{Io.KnownBytes.{Keeps, Appends, Consumes, IsAtEnd}, Prelude.{ℕ, ◌==◌, ◌+◌, ◌-◌, ◌^◌, ◌<◌, ◌&&◌, min, List, length, take, nat_lt}}
 use Rattle.std.specs.Prelude.{if◌then◌else◌, Option, Some, None, ◌≡◌, MatchOption, MatchResult, Result}
 

@@ -13,7 +13,7 @@ pub record Replies {Desk : Type 0} (Answers : AnswerRelation Desk) (before after
   -- the reply is also the reply to everything that the reader would return up to its end
   pub to_all : IfSome before (λ all. IsReplied Answers all old reply new)
 
--- the effect of an exchange: either the desk replied and the reply's text or a prefix of it was written, or the desk wasn't asked
+-- The effect of an exchange. Either the desk replied and the reply's text or a prefix of it was written, or the desk wasn't asked.
 abbrev pub Exchanges :
     (Reply → Type 0) → Type 0 → (List ℕ → Type 0) → Result Reply AnswerFault → Type 0
 Exchanges Decides Unasked Writes (Ok reply) = Decides reply × Writes (reply_text reply)

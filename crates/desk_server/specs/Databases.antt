@@ -15,7 +15,7 @@ Closing Databases Store = Databases → Store → Databases → Type 0
 abbrev pub Reaching : Type 0 → Type 0 → Type 0 → Type 1
 Reaching Databases Store Visit = Databases → List ℕ → Result (Reached Store Visit) StoreFault → Databases → Type 0
 
--- the result of giving a command's bytes to a server: the status of its answer and the bytes of the answer's text, if there is an answer
+-- the result of giving a command's bytes to a server: the status and the bytes of the text, or none if the server doesn't answer
 abbrev pub Giving : Type 0 → Type 1
 Giving Visit = Visit → List ℕ → Option (ℕ × List ℕ) → Type 0
 

@@ -22,7 +22,7 @@ left_until due now = 0
 abbrev pub AtShown : (Option ℕ → Type 0) → (Option ℕ → Type 0) → Type 0
 AtShown Shows P = (shown : Option ℕ) × Shows shown × P shown
 
--- a limit that starts with the first call: a limit that has started stays unchanged, any other is due this much later than the call
+-- A limit that starts with the first call. A limit that has started stays unchanged. Any other is due this much later than the call.
 abbrev pub StartsLimit : {C : Type 0} → (C → Option ℕ → Type 0) → C → ℕ → Option (Limit C) → Option (Limit C) → Type 0
 StartsLimit Shows clock patience (Some limit) new = new ≡ Some limit
 StartsLimit Shows clock patience None new = IsSomeAnd new (λ limit. (limit.clock.now ≡ clock)

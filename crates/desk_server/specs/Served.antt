@@ -56,7 +56,7 @@ pub record AnswersCommand {Desk : Type 0} (Carries : CommandRelation Desk) (byte
   pub same : carried ≡ answer.carried
   pub writes : (n : ℕ) × Appends taken taken' (take n (answer_bytes answer.carried.status (string_bytes answer.text)))
 
--- A turn of the server: the fate of an arrival, and the fates of the commands that were carried out while the arrival's request was awaited.
+-- A turn of the server: the fate of an arrival, and the fates of the commands that came while the arrival's request was awaited.
 pub record Turn : Type 0 where
   pub meanwhile : List Fate
   pub fate : Fate

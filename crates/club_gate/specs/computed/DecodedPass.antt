@@ -8,7 +8,7 @@ use Rattle.club_core.specs.Run as machine
 use Rattle.club_gate.specs.{DecodedPass.fault_of, Identifier.key_name_in, declared.event.Event.Event}
 use Rattle.club_gate.specs.declared.event.Event.TheVariants as events
 
--- a pass as the rules see it: the key that it names, the meanings of its caveats, and the roots under which it is signed
+-- the parts of a pass that the rules see: the key that it names, the meanings of its caveats, and the roots that sign it
 abbrev pub machine_pass : Plain → Pass
 machine_pass pass = record {
   key = key_name_in pass.identifier;
