@@ -1,4 +1,4 @@
--- The walk of clap over the values that a row is given.
+-- Lemmas on how clap walks over a command's arguments, if their values are given.
 use Rattle.std.proofs.Common.{◌≡◌, ◌∙◌, ℕ, ◌==◌, ◌&&◌, Bool, true, false, not, List, [], ◌∷◌, ◌++◌, Option, Some, None, is_some, append_assoc, fold, refl, sym}
 use Rattle.std.proofs.{Common.{ap, ap₂, inl, inr, codes, cond, map, subst, arith}, Math.Bool.and-false, lemmas.Bool.{and_parts, cond_both, cases_Bool}}
 use Rattle.std.proofs.lemmas.{Bool.Decides.nat_tests, List.{append-nil, Folds.list_any_at}}
@@ -31,11 +31,11 @@ long_alone first name named = ap (λ parts. Some parts) (name_and_value-without 
 abbrev held_with : List Found → Option (Text × List Text) → Held
 held_with rows pending = record { rows = rows; pending = pending; skip = 0 }
 
--- the walk between two options
+-- the walk at a point between two options
 abbrev at_option : List Found → Option (Text × List Text) → Walk
 at_option rows pending = record (walk_from nothing_held) { held = held_with rows pending }
 
--- the walk after `--`, where the positional argument at this place comes next
+-- the walk after `--`, when the next text belongs to the positional argument at this place
 abbrev at_place : List Found → Option (Text × List Text) → Waiting → ℕ → Walk
 at_place rows pending waiting place = record {
   held = held_with rows pending;
@@ -62,11 +62,11 @@ module _ (s : Shape) where
   IsStep : Walk → Text → Walk → Type 0
   IsStep w argument next = (walked s.rules [] w argument ≡ next) × (turn_fault s [] w argument ≡ [])
 
-  -- using the pending argument gives these rows, and doesn't fail
+  -- storing the values of the pending argument succeeds, and gives these rows
   abbrev Holds : Held → List Found → Type 0
   Holds held now = ((settled s.rules held).rows ≡ now) × (settle_fault s.rules again held ≡ [])
 
-  -- the walk over the arguments ends with these rows, and nothing fails
+  -- the walk over the arguments succeeds, and ends with these rows
   Settles : Walk → List Text → List Found → Type 0
   Settles w arguments now = (end : Walk) × (fold (walked s.rules []) w arguments ≡ end) × (walk_fault s [] w arguments ≡ []) × Holds end.held now
 
@@ -80,14 +80,14 @@ module _ (s : Shape) where
     on.3,
   )
 
-  -- the walk ends at this point
+  -- if no arguments are left, the walk has ended
   stands : (w : Walk) (arguments : List Text) (now : List Found) → arguments ≡ [] → Holds w.held now → Settles w arguments now
   unfolding Settles walk_fault
   stands w arguments now none holds = rw none (w, refl, refl, holds)
 
   -- ---- options
 
-  -- the effect of an argument that is parsed as a long option, and why it fails
+  -- the walk after an argument that looks like a long option
   abbrev after_long : Text → Held → Option (Text × Option Text) → Walk
   after_long argument held long =
       let met = long_or_other s.rules idle argument long held in after_step s.rules argument (record (walk_from nothing_held) { held = held }) met.0 met.1
@@ -110,7 +110,7 @@ module _ (s : Shape) where
           ap (long_fails argument (held_with rows pending)) long ∙ rw (by_name, holds.1, holds.0, new) refl,
         )
 
-    -- an option whose value is the next argument, which doesn't begin with a dash
+    -- the walk after an option whose value is the next argument
     abbrev waits : Walk
     waits = record (at_option now (Some (first ∷ name, []))) { waiting = option (first ∷ name) }
 
@@ -155,7 +155,7 @@ module _ (s : Shape) where
 
   -- ---- positional arguments
 
-  -- a plain text: the pending argument is used, and the text becomes pending
+  -- at a positional text, the values of the pending argument are stored, and the text becomes pending
   positional_step : (rule : Rule) (place : ℕ) (rows now : List Found) (pending : Option (Text × List Text)) (waiting : Waiting) (argument : Text)
       → arg_by_index s.rules place ≡ Some rule → takes_several rule ≡ false → Holds (held_with rows pending) now
       → IsStep (at_place rows pending waiting place) argument
@@ -170,7 +170,7 @@ module _ (s : Shape) where
     rw by_place (cond_both (is_pending rule pending && takes_several rule) [] _ (λ kinds. kinds ≡ []) (λ _. refl) (λ _. holds.1)),
   )
 
-  -- more texts for the argument that takes several
+  -- the walk over further texts for the positional argument that takes several
   more_walked : (required : Bool) (name : Text) (place : ℕ) (rows before : List Found) (some : List Text) (last : Text) (more : List Text)
       → IsFound s.rules (with_index place (filled (record (positionals_named name) { required = required }))) → has_row name before ≡ false
       → Holds (held_with rows (Some (name, last ∷ []))) (before ++ row_given name some ∷ [])
@@ -221,13 +221,13 @@ module _ (s : Shape) where
 
   -- ---- the options, and then the positional arguments
 
-  -- the walk continues from these rows
+  -- from the rows found so far, the walk over the tail succeeds and adds the last rows
   GoesOn : List Text → List Found → List Found → Type 0
   GoesOn tail last now = (rows : List Found) (pending : Option (Text × List Text)) → Holds (held_with rows pending) now → are_new now last ≡ true
       → Settles (at_option rows pending) tail (now ++ last)
 
   module _ (tail : List Text) (last : List Found) where
-    -- the walk continues from these rows with the rows of the given values
+    -- from the rows found so far, the walk over the given options and the tail adds the rows of both
     OptionsGoOn : List Given → List Found → Type 0
     OptionsGoOn given now = (rows : List Found) (pending : Option (Text × List Text)) → Holds (held_with rows pending) now
         → are_new now (option_rows given ++ last) ≡ true → Settles (at_option rows pending) (options_spelled given ++ tail) (now ++ (option_rows given ++ last))
@@ -273,7 +273,7 @@ module _ (s : Shape) where
     options_walked i (one ∷ given) now found named then rows pending holds new =
         options_walked (index_after i (rule_given one)) given now found.1 named then rows pending holds new
 
-  -- no positional argument follows the options
+  -- the claim for options that no positional argument follows
   ends_with_options : (given : List Given) → has_no_positionals given ≡ true → GoesOn [] (positional_rows given) (option_rows given)
   unfolding GoesOn
   ends_with_options given none rows pending holds new =
@@ -285,7 +285,7 @@ module _ (s : Shape) where
   positionals_after_options given found ordered rows pending holds new = step_on _ _ (codes "--") (positionals_spelled given) _ (dashes_step rows pending)
       (positionals_walked 1 given rows (option_rows given) pending idle found new ordered holds)
 
-  -- nothing fails, and the rows of the given values are found
+  -- the walk succeeds, and finds the rows of the given values
   pub given_taken : (given : List Given) (others : List Rule) (arguments : List Text) → s.rules ≡ filled_from 1 (map rule_given given ++ others)
       → are_apart [] s.rules ≡ true → are_options_named given ≡ true → are_new [] (rows_given given) ≡ true → is_in_order given ≡ true
       → end_fault s (rows_given given) ≡ [] → AreSpelled given arguments

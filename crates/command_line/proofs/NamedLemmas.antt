@@ -1,4 +1,4 @@
--- The words that clap accepts name one of a program's commands.
+-- Arguments that clap accepts name one of a program's commands.
 use Rattle.std.proofs.Common.{◌≡◌, ℕ, Bool, true, false, List, [], ◌∷◌, Option, Some, None, is_some, refl, codes, fold, not, ◌&&◌}
 use Rattle.std.proofs.lemmas.Bool.{false_from_ne_true, cond_both}
 use Rattle.std.specs.{List.list_any, Str.bytes_eq}
@@ -14,7 +14,7 @@ or_else_nil : (a b : Kinds) → or_else a b ≡ [] → (a ≡ []) × (b ≡ [])
 or_else_nil [] b h = (refl, h)
 or_else_nil (k ∷ ks) b h = cc
 
--- no subcommand was met, or one that isn't `help`
+-- the walk met no subcommand, or met one other than `help`
 abbrev pub StopsNotAtHelp : Option (Text × List Text) → Type 0
 StopsNotAtHelp None = Unit {0}
 StopsNotAtHelp (Some p) = bytes_eq p.0 (codes "help") ≡ false
@@ -41,7 +41,7 @@ other_enters_none : (c : List Rule) (waiting : Waiting) (word : Text) (long : Op
 other_enters_none c waiting word (Some p) h = flag_enters_none c waiting word _ _
 other_enters_none c waiting word None h = short_enters_none c waiting word _ h
 
--- ---- a walk whose words give no fault doesn't stop at `help`
+-- ---- if the words have no fault, the walk over them doesn't stop at `help`
 
 module _ (s : Shape) (helps : s.disable_help_subcommand ≡ false) (names : Names) where
   name_met : (name : Text) (word : Text) (h : Held) → other_fault s (Some name) word h ≡ [] → bytes_eq name (codes "help") ≡ false
@@ -99,7 +99,7 @@ check_needs s rows false needs clear =
     (not (s.subcommand_negates_reqs && false) && list_any (λ a. a.required && not (is_given a.id rows)) s.rules) clear in
     cc
 
--- a command that needs a subcommand has entered one, which isn't `help` even if `help` is among the subcommands
+-- if a command requires a subcommand and clap finds no fault, clap entered a subcommand other than `help`
 pub enters_command : (a : App) (words : List Text) → a.top.subcommand_required ≡ true → built_fault a nothing_held words ≡ []
     → let stop = stop_after a.top.rules (names_of a) words in
     (is_some (entered a stop) ≡ true) × (a.top.disable_help_subcommand ≡ false → StopsNotAtHelp stop)

@@ -1,4 +1,4 @@
--- The table's row of a name takes the values that it is given.
+-- Clap accepts the values that are given to a row of the table, and finds them.
 use Rattle.std.proofs.Common.{◌≡◌, ◌∙◌, true, false, List, [], ◌∷◌, ◌++◌, Option, Some, None, append_assoc, fold, refl, sym, ap, ap₂, codes, map, find, drop}
 use Rattle.std.proofs.{Common.{is_some, IsSome, option_map, subst, inl, inr}, lemmas.Bool.{and_parts, false_from_ne_true, both_ways, cases_Bool}}
 use Rattle.std.proofs.lemmas.{List.append-nil, Slice.Eq.bytes_eq-Decides}
@@ -14,7 +14,7 @@ use Rattle.command_line.specs.JobLaws.{RowsTakeWhatTheyAreGiven, WordsNameARow}
 use Rattle.command_line.specs.Table.{Entry, Table, asked, asked_in, entry_app, entry_named, refusals, with_entries}
 use Rattle.command_line.proofs.{GivenLemmas.given_taken, NamedLemmas.{StopsNotAtHelp, enters_command}}
 
--- ---- what clap builds of a table
+-- ---- the program that clap builds from a table
 
 rules_added : (app : App) (rules : List Rule) → fold with_rule app rules ≡ on_top (λ s. record s { rules = s.rules ++ rules }) app
 rules_added app [] = ap (λ (rules : List Rule). on_top (λ s. record s { rules = rules }) app) (sym (append-nil app.top.rules))
@@ -41,7 +41,7 @@ no_other_name : (name : Text) → bytes_eq name (codes "help") ≡ false → byt
 no_other_name name other =
     false_from_ne_true _ (λ is. both_ways _ other ((bytes_eq-Decides name (codes "help")).1 (sym ((bytes_eq-Decides (codes "help") name).0 is))))
 
--- the row of a name other than `help`, as clap builds it for the program
+-- clap's built program finds the command of a row by its name, if the name isn't `help`
 shape_found : {C : Type 0} (above : Shape) (entries : List (Entry C)) (name : Text) → bytes_eq name (codes "help") ≡ false
     → find (λ s. answers_to name (label_of s)) (map built_leaf (map (inherited above) (map shape_of_entry entries) ++ help_shape ∷ []))
     ≡ option_map (λ entry. built_leaf (inherited above (shape_of_entry entry))) (entry_named name entries)
@@ -51,9 +51,9 @@ shape_found above (next ∷ entries) name other = elim (cases_Bool (bytes_eq nex
   | inr past ↦ rw past (shape_found above entries name other)
 ]
 
--- ---- the arguments after a command's name
+-- ---- the arguments after the name of a command
 
--- the walk has met the command of this name, and these arguments after it
+-- the walk that has stopped at the command of this name, with the arguments after the name
 abbrev at_command : Text → List Text → Walk
 at_command name arguments = record (walk_from nothing_held) { stopped = Some (name, arguments) }
 

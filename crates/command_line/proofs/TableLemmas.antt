@@ -10,14 +10,14 @@ one_last : {C : Type 0} (app : App) (rows : List (Row C)) (row : Row C)
 one_last app [] row = refl
 one_last app (r ∷ rows) row = one_last (with_subcommand app (entry_app (entry_of r)).top) rows row
 
--- one more row
+-- the application with one more row is the application so far with the row's command added
 pub entry_more : {C : Type 0} (app : App) (rows : List (Row C)) (i : ℕ) (row : Row C) → i < length rows → row ≡ get_or rows i row
     → with_entries app (map entry_of (take (i + 1) rows)) ≡ with_subcommand (with_entries app (map entry_of (take i rows))) (entry_app (entry_of row)).top
 entry_more {C = C} app rows i row within is =
     ap (λ (some : List (Row C)). with_entries app (map entry_of some)) (take_more rows i row within ∙ ap (λ (r : Row C). take i rows ++ r ∷ []) (sym is))
     ∙ one_last app (take i rows) row
 
--- the search for a name among the rows from a position on
+-- the search for a name, from one position in the rows and from the next
 module _ {C : Type 0} (name : Text) (rows : List (Row C)) (i : ℕ) (row : Row C) (within : i < length rows) (is : row ≡ get_or rows i row) where
   left_from : entry_named name (map entry_of (drop i rows)) ≡ entry_named name (map entry_of (row ∷ drop (i + 1) rows))
   left_from =

@@ -1,30 +1,30 @@
--- Options, and the results of `clap` for arguments (ours).
+-- Values of options, and the kinds of results that `clap` has for arguments (ours).
 use Rattle.std.specs.{Prelude.{◌≡◌, ◌≢◌, ◌⊎◌, Bool, List, [], codes, unwrap_or}, Str.bytes_eq}
 use Rattle.clap.specs.{Words.{IsAmong, Kinds, Row, Text, first_of, kind_of}, declared.error.kind.ErrorKind.ErrorKind}
 use Rattle.clap.specs.declared.error.kind.ErrorKind.TheVariants as kind
 use Rattle.command_line.specs.declared.errors.ArgumentsFault.{ArgumentsFault, TheVariants.{Refused, BadValue, Memory}}
 
--- the value of an option, empty if it was left out
+-- the value of an option, or an empty text if the option was left out
 abbrev pub value_in : Text → List Row → Text
 value_in id rows = unwrap_or (first_of id rows) []
 
--- a flag was given, which clap represents by the text `true`
+-- whether a flag was given, which clap represents by the text `true`
 abbrev pub is_set : Text → List Row → Bool
 is_set id rows = bytes_eq (value_in id rows) (codes "true")
 
--- arguments that ask for a text, which is the help or the version
+-- whether the arguments ask for the text of help or of the version
 abbrev pub HasText : Kinds → Type 0
 HasText kinds = IsAmong kind.DisplayHelp kinds ⊎ IsAmong kind.DisplayVersion kinds
 
--- the kind of an error that isn't a request for a text
+-- an error of this kind is a real error, and doesn't stand for help or the version
 abbrev pub IsNoText : ErrorKind → Type 0
 IsNoText of_kind = (of_kind ≢ kind.DisplayHelp) × (of_kind ≢ kind.DisplayVersion)
 
--- the kind of an error that clap may return for the arguments
+-- clap may refuse the arguments with an error of this kind
 abbrev pub IsRefusedAs : Kinds → ErrorKind → Type 0
 IsRefusedAs kinds of_kind = IsAmong of_kind kinds × IsNoText of_kind
 
--- an error of this kind, or out of memory
+-- the fault is clap's error of this kind, or memory ran out
 abbrev pub IsOfKind : {V : Type 0} → ErrorKind → ArgumentsFault V → Type 0
 IsOfKind of_kind (Refused error) = kind_of error ≡ of_kind
 IsOfKind of_kind (BadValue value) = ⊥

@@ -1,5 +1,5 @@
-//! The faults of arguments, including the errors that `clap` doesn't find itself, with the usage
-//! text that `clap` makes.
+//! The faults of arguments. Some are errors that `clap` doesn't find itself; their usage text comes
+//! from `clap`.
 
 ghost use Rattle.clap.specs.declared.error.kind.ErrorKind.TheVariants as kinds;
 ghost use Rattle.command_line.specs.Arguments.{IsOfKind};
@@ -9,10 +9,10 @@ use clap::Error;
 use clap::error::ErrorKind;
 use std::alloc::{AllocError, Global};
 
-/// Why arguments don't ask for a job.
+/// Why arguments ask for no job.
 #[derive(Debug, Drop)]
 pub enum ArgumentsFault<V> {
-    /// `clap`'s error, with its text.
+    /// An error of `clap`, or one made like it, with its text.
     Refused(Error),
     /// An argument isn't a valid value.
     BadValue(V),
@@ -31,7 +31,7 @@ impl<V> From<AllocError> for ArgumentsFault<V> {
     }
 }
 
-/// Returns the fault of arguments that aren't UTF-8. `clap` never gets such arguments.
+/// Returns the fault of arguments that aren't UTF-8, which are never passed to `clap`.
 pub fn text_fault<C: Commands, V>(alloc: Global) -> ArgumentsFault<V>
     ensures { IsOfKind kinds.ValueValidation result }
 {
@@ -39,7 +39,7 @@ pub fn text_fault<C: Commands, V>(alloc: Global) -> ArgumentsFault<V>
     arguments_fault::<C, V>(alloc, ErrorKind::ValueValidation, message)
 }
 
-/// Returns the fault of an unknown form's name.
+/// Returns the fault of a name that no form has.
 pub fn form_fault<C: Commands, V>(alloc: Global, name: &str) -> ArgumentsFault<V>
     ensures { IsOfKind kinds.InvalidValue result }
 {
@@ -51,7 +51,7 @@ pub fn form_fault<C: Commands, V>(alloc: Global, name: &str) -> ArgumentsFault<V
     }
 }
 
-/// Returns a fault of this kind with this message.
+/// Returns a fault with `clap`'s error of this kind and with this message.
 pub fn arguments_fault<C: Commands, V>(
     alloc: Global,
     kind: ErrorKind,

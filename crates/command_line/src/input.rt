@@ -1,4 +1,4 @@
-//! Reading the input.
+//! Reads the input of a program.
 
 ghost use Rattle.std.specs.Io.{BufRead.strip_last, KnownBytes.{Consumes, IsAtEnd, Keeps}};
 ghost use Rattle.std.specs.{IoError.error_kind, Prelude.{◌≡◌, ◌≢◌, ◌+◌, ◌<◌, ◌≤◌, take, drop}};
@@ -12,8 +12,7 @@ use std::io::{self, ErrorKind, Read};
 /// read. Retries a read that a signal interrupts.
 ///
 /// # Errors
-///
-/// Returns the reader's error, except an interruption by a signal.
+/// Returns the reader's error, unless it is an interruption by a signal.
 pub fn fill<R: Read>(reader: &mut R, buffer: &mut [u8]) -> io::Result<usize>
     ensures bytes { IfOk result (λ count. (count ≤ length buffer.new)
         × ReadsAtMost (length buffer.new) (R.remaining reader.old) (R.remaining reader.new)
@@ -38,7 +37,7 @@ pub fn fill<R: Read>(reader: &mut R, buffer: &mut [u8]) -> io::Result<usize>
     Err(io::Error::from(ErrorKind::TimedOut))
 }
 
-// Reads once, into the buffer after the first `filled` bytes.
+// Reads once into the part of the buffer after its first `filled` bytes.
 fn read_after<R: Read>(reader: &mut R, buffer: &mut [u8], filled: usize) -> io::Result<usize>
     requires { filled < length buffer.old }
     ensures front { take filled buffer.new ≡ take filled buffer.old }
@@ -51,7 +50,7 @@ fn read_after<R: Read>(reader: &mut R, buffer: &mut [u8], filled: usize) -> io::
     reader.read(&mut buffer[filled..])
 }
 
-/// Returns the bytes without one line feed at their end.
+/// Returns the bytes without the line feed at their end, if there is one.
 pub fn without_line_feed(bytes: &[u8]) -> &[u8]
     ensures { result.now ≡ strip_last 10 bytes.now }
 {

@@ -1,4 +1,4 @@
-//! Parses arguments into a job: the command of a row, with the values of its arguments.
+//! Parses arguments into a job, which is the command of a row with the values of its arguments.
 
 ghost use Rattle.std.specs.Prelude.{◌≡◌, IsSome, map};
 ghost use Rattle.clap.specs.Words.{found_of, rows_of, subcommand_rows_of};
@@ -16,29 +16,29 @@ use pass_forms::Form;
 use std::alloc::Global;
 use std::convert::AsStr;
 
-/// The request of a program's arguments: a text, or a command.
+/// What the arguments ask for: a text or a job.
 #[derive(Drop)]
 pub enum Asked<J> {
-    /// The help text or the version, which `clap` made.
+    /// The text of help or of the version, which `clap` made.
     ShowText(Error),
-    /// A command of the program, with its values.
+    /// A job, which is a command with the values of its arguments.
     Perform(J),
 }
 
-/// A command of a program with the values of its arguments.
+/// A command with the values of its arguments.
 pub trait Job<'a> {
     type Command: Commands;
 
-    /// The kind of an invalid argument.
+    /// The type that says which argument is invalid.
     type BadValue;
 
     ghost use Rattle.clap.specs.Words.{found_of, rows_of};
     ghost use Rattle.command_line.specs.Job.{ReadsRow};
 
-    // the results that reading a row's values may have
+    // the results that `read` may have
     ghost Reads: { ReadsRow Self.Command Self Self.BadValue };
 
-    /// Returns the job of a command, from the arguments that `clap` found.
+    /// Returns the job of a command, from the values that `clap` found for its arguments.
     fn read(
         alloc: Global,
         command: Self::Command,
@@ -47,20 +47,20 @@ pub trait Job<'a> {
         ensures { Reads command (rows_of (found_of options.now)) result };
 }
 
-/// Returns what the arguments ask of the program. The first argument is the program's name. `clap`
-/// checks the arguments first, then the command checks its values.
+/// Returns the text or the job that the arguments ask for. The first argument is the program's
+/// name. `clap` checks the arguments first, then the command checks the values.
 ///
 /// # Errors
 ///
-/// Fails with `Refused` if `clap` refuses the arguments or the command does, with `BadValue` if the
-/// command finds an invalid value, and with `Memory` only if an allocation fails.
+/// Fails with `Refused` if `clap` or the command refuses the arguments, and with `BadValue` if the
+/// command finds an invalid value. Fails with `Memory` only if an allocation fails.
 pub fn read_job<'a, J: Job<'a>, S: AsStr>(
     alloc: Global,
     arguments: &'a [S],
 ) -> Result<Asked<J>, ArgumentsFault<J::BadValue>>
     ensures { ReadsJob J.Command.table J.Reads (map S.text arguments.entry.now) result }
 {
-    // By this law, arguments that are accepted name a row.
+    // By this law, arguments that `clap` accepts name a row.
     arguments_name_a_row::<J::Command>();
     let Ok(application) = J::Command::application(alloc) else {
         return Err(ArgumentsFault::Memory);
@@ -79,7 +79,7 @@ pub fn read_job<'a, J: Job<'a>, S: AsStr>(
     }
 }
 
-// The job of the row that the arguments name.
+// Returns the job of the row that the arguments name.
 fn job_found<'a, J: Job<'a>>(
     alloc: Global,
     mut matches: ArgMatches<'a>,
@@ -101,8 +101,7 @@ fn job_found<'a, J: Job<'a>>(
 ///
 /// # Errors
 ///
-/// Fails with `Refused` if the name is none of the three, and with `Memory` only if an allocation
-/// fails.
+/// Fails with `Refused` if no form has the name, and with `Memory` only if an allocation fails.
 pub fn read_form<C: Commands, V>(
     alloc: Global,
     options: &ArgMatches<'_>,

@@ -1,5 +1,5 @@
-//! The parts that both command-line programs share: building and parsing a command line, roots and
-//! forms as arguments, reading input up to a limit, and writing a whole text.
+//! The code that both command-line programs share. It builds and parses command lines, parses roots
+//! and forms, reads input up to a limit, and writes texts.
 #![tactic(auto)]
 
 mod errors;

@@ -1,4 +1,4 @@
-//! Makes options, and reads the values that `clap` found for them.
+//! Makes arguments of commands, and reads the values that `clap` found for them.
 
 ghost use Rattle.std.specs.Prelude.{◌≡◌, false};
 ghost use Rattle.clap.specs.Words.{found_of, rows_of, rule_of};
@@ -38,7 +38,7 @@ pub fn make_positional<'a>(alloc: Global, name: &'a str) -> Arg<'a>
     Arg::new(alloc, name).value_name(name)
 }
 
-/// Makes an argument that takes any number of positional values.
+/// Makes a positional argument that takes any number of values.
 pub fn make_positionals<'a>(alloc: Global, name: &'a str, value: &'a str, help: &'a str) -> Arg<'a>
     ensures rule { rule_of result ≡ spec.positionals_named name.entry.now }
     ensures local { result.global ≡ false }
@@ -56,7 +56,7 @@ pub fn value_of<'a>(options: &ArgMatches<'a>, id: &str) -> &'a str
     options.get_str(id).unwrap_or("")
 }
 
-/// Returns whether a flag was given, which `clap` represents by the text `true`.
+/// Returns whether a flag was given. `clap` represents a given flag by the text `true`.
 pub fn is_set(options: &ArgMatches<'_>, id: &str) -> bool
     ensures { result ≡ is_set id.now (rows_of (found_of options.now)) }
 {

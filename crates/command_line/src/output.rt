@@ -1,4 +1,4 @@
-//! Writing a text.
+//! Writes texts.
 
 ghost use Rattle.std.specs.{Io.KnownBytes.{Appends, Keeps}, IoError.error_kind};
 ghost use Rattle.std.specs.Prelude.{◌≢◌, ◌+◌, ◌≤◌, IfErr, IfOk, OnErr, OnOk, drop, length, take};
@@ -11,8 +11,8 @@ use std::io::{self, ErrorKind, Write};
 ///
 /// # Errors
 ///
-/// Returns the writer's error, except an interruption by a signal. A prefix of the text, or all of
-/// it, may have been written by then.
+/// Returns the writer's error, unless it is an interruption by a signal. By then the writer may
+/// have got a prefix of the text, or all of it.
 pub fn write_text<W: Write>(writer: &mut W, text: &str) -> io::Result<()>
     ensures ok { OnOk result (Appends (W.contents writer.old) (W.contents writer.new) text.now) }
     ensures err { OnErr result
@@ -27,7 +27,7 @@ pub fn write_text<W: Write>(writer: &mut W, text: &str) -> io::Result<()>
 ///
 /// # Errors
 ///
-/// Returns the writer's error, except an interruption by a signal.
+/// Returns the writer's error, unless it is an interruption by a signal.
 pub fn flush<W: Write>(writer: &mut W) -> io::Result<()>
     ensures bytes { Keeps (W.contents writer.old) (W.contents writer.new) }
     ensures retried { IfErr result (λ error. error_kind error ≢ ErrorKind.Interrupted) }
@@ -41,8 +41,8 @@ pub fn flush<W: Write>(writer: &mut W) -> io::Result<()>
     Err(io::Error::from(ErrorKind::TimedOut))
 }
 
-// Writes until all bytes are taken. Unlike that of `write_all`, its contract states how much was
-// written when an error occurs.
+// Writes until the writer has got all bytes. Its contract says how many bytes were written before
+// an error, which the contract of `write_all` doesn't say.
 fn write_bytes<W: Write>(writer: &mut W, bytes: &[u8]) -> io::Result<()>
     ensures ok { OnOk result (Appends (W.contents writer.old) (W.contents writer.new) bytes.now) }
     ensures err { OnErr result
@@ -67,7 +67,7 @@ fn write_bytes<W: Write>(writer: &mut W, bytes: &[u8]) -> io::Result<()>
     Err(io::Error::from(ErrorKind::TimedOut))
 }
 
-// Writes once, from the bytes after the first `written` bytes.
+// Writes once, starting after the first `written` bytes.
 fn write_after<W: Write>(writer: &mut W, bytes: &[u8], written: usize) -> io::Result<usize>
     requires { written ≤ length bytes.now }
     ensures fits { IfOk result (λ count. written + count ≤ length bytes.now) }

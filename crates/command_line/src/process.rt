@@ -1,4 +1,4 @@
-//! Reads the arguments of a process, and prints the line of a fault.
+//! Reads the arguments of a process, and prints the text of a fault.
 
 ghost use Rattle.std.specs.{Prelude.{IfErr, IfOk, map}, String.string_bytes};
 ghost use Rattle.clap.specs.declared.error.kind.ErrorKind.TheVariants as kinds;
@@ -11,25 +11,25 @@ use std::env::{self, Env};
 use std::fmt::{self, Display};
 use std::io;
 
-/// A process that got arguments.
+/// A process that was started with arguments.
 pub trait GivenArguments {
     ghost use Rattle.std.specs.{Prelude.{List, IfOk, map}, String.string_bytes};
     ghost use Rattle.clap.specs.Words.{Text};
 
-    // the arguments that it may have got
+    // the arguments that the process may have
     ghost given: { Self → List Text → Type 0 };
 
     /// Returns all arguments. The first one is the program's name.
     ///
     /// # Errors
     ///
-    /// Fails with `OutOfMemory` if an allocation fails, and with any other kind if an argument
-    /// isn't UTF-8.
+    /// Fails with `OutOfMemory` if an allocation fails, and with another kind if an argument isn't
+    /// UTF-8.
     fn arguments(&self, alloc: Global) -> io::Result<Vec<String>>
         ensures { IfOk result (λ arguments. given self.now (map string_bytes arguments.items)) };
 }
 
-/// The process that the program runs in; the contract promises nothing about its arguments.
+/// The process in which the program runs. The contract promises nothing about its arguments.
 impl<R: Env + AllocGlobal> GivenArguments for R {
     ghost given = { λ _ _. Unit {0} };
 
@@ -38,19 +38,19 @@ impl<R: Env + AllocGlobal> GivenArguments for R {
     }
 }
 
-/// A place where a program prints the line of a fault.
+/// A place to which a program prints the text of a fault.
 pub trait FaultLines {
     ghost use Rattle.std.specs.Prelude.{ℕ, List, Option};
 
-    // a text that it was asked to print, if known
+    // a text that was to be printed, if the text is known
     ghost asked: { Self → Option (List ℕ) → Type 0 };
 
-    /// Prints a text. A failure to print is ignored, since it can't be reported anywhere.
+    /// Prints a text. Ignores a failure to print, since no place is left to report it.
     fn print_text<F: Display>(&self, text: &F)
         ensures { asked self.now (F.output text.now) };
 }
 
-/// Standard error; the contract promises nothing about what is printed.
+/// Standard error. The contract promises nothing about the printed bytes.
 impl<R: Eprint> FaultLines for R {
     ghost asked = { λ _ _. Unit {0} };
 
@@ -79,8 +79,8 @@ pub fn given_arguments<P: GivenArguments, C: Commands, V>(
     }
 }
 
-/// Prints the line of a fault on standard error. It adds a line feed, except to a text from `clap`,
-/// which already ends with one.
+/// Prints a fault on standard error, as a line. A text of `clap` already ends with a line feed, and
+/// any other text gets one.
 pub fn report<P: FaultLines, F: Display>(process: &P, fault: &F, is_text_of_clap: bool)
     ensures { P.asked process.now (printed is_text_of_clap (F.output fault.now)) }
 {
@@ -91,7 +91,7 @@ pub fn report<P: FaultLines, F: Display>(process: &P, fault: &F, is_text_of_clap
     }
 }
 
-// A text with a line feed after it.
+// A text, followed by a line feed.
 #[derive(Drop)]
 struct Line<'a, F> {
     text: &'a F,

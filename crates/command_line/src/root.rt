@@ -1,11 +1,11 @@
-//! The root that a pass is signed under.
+//! The root under which a pass is signed.
 
 ghost use Rattle.std.specs.Prelude.{◌≡◌, ◌≤◌, length};
 ghost use Rattle.command_line.specs.Root.{root_of};
 
 use std::marker::Model;
 
-/// The most bytes of a root.
+/// The number of bytes of the longest root.
 const MAX_ROOT_LEN: usize = 64;
 
 /// A root of 1 to 64 bytes, stored inline.
@@ -27,7 +27,7 @@ impl Model for Root {
 }
 
 impl Root {
-    /// Parses a root in hexadecimal, upper or lower case.
+    /// Parses a root in hexadecimal, with letters in either case.
     pub fn from_hex(text: &str) -> Option<Root>
         ensures { result ≡ root_of text.now }
     {

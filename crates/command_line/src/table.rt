@@ -10,30 +10,30 @@ use crate::tree::{make_program, new_command, with_argument, with_command};
 use clap::{Arg, Command};
 use std::alloc::{AllocError, Global};
 
-/// An argument of a command: its name, what its help calls the value, and the help.
+/// An argument of a command: its name, the name of its value in the help, and the help's text.
 #[derive(Clone, Copy)]
 pub enum Argument {
     /// `--NAME VALUE`
     Value(&'static str, &'static str, &'static str),
-    /// `--NAME VALUE`, which is required.
+    /// `--NAME VALUE`, which is required
     Needed(&'static str, &'static str, &'static str),
-    /// `--NAME VALUE`, with a default as its last part.
+    /// `--NAME VALUE`, whose default is the last field
     Or(&'static str, &'static str, &'static str, &'static str),
     /// `--NAME`
     Flag(&'static str, &'static str),
-    /// A positional argument. Its name is what its help calls it, and it has no other help.
+    /// A positional argument. The help shows its name, and no other text.
     Positional(&'static str),
     /// A required positional argument, like `Positional`.
     NeededPositional(&'static str),
-    /// A required positional argument, which its help calls by another name.
+    /// A required positional argument. The help shows the second field in place of its name.
     NeededPositionalAs(&'static str, &'static str),
-    /// Any number of positional arguments.
+    /// A positional argument that takes any number of values.
     Positionals(&'static str, &'static str, &'static str),
-    /// One or more positional arguments.
+    /// A positional argument that takes one or more values.
     NeededPositionals(&'static str, &'static str, &'static str),
 }
 
-/// A command: what it asks for, its name, its help with the text at the end, and its arguments.
+/// A command: its value, its name, its help and the help's last text, and its arguments.
 pub struct Row<C: Copy> {
     pub command: C,
     pub name: &'static str,
@@ -50,16 +50,16 @@ pub struct Program<C: Copy + 'static> {
     pub rows: &'static [Row<C>],
 }
 
-/// The commands of a program, as the rows of its table name them.
+/// The type whose values are the commands of a program.
 pub trait Commands: Copy {
     ghost use Rattle.std.specs.Prelude.{◌≡◌, IfOk, option_map};
     ghost use Rattle.clap.specs.Words.{app_of};
     ghost use Rattle.command_line.specs.Table.{IsGood, Table, app_of_table, entry_named};
 
-    // the rows
+    // the rows of the program's table
     ghost table: { Table Self };
 
-    /// Returns the program as `clap` takes it, whose arguments its contract covers.
+    /// Returns the program for `clap`, whose contract covers the program's arguments.
     fn application<'a>(alloc: Global) -> Result<Command<'a>, AllocError>
         ensures made { IfOk result (λ made. app_of made ≡ app_of_table table) }
         ensures good { IsGood table };
@@ -70,7 +70,7 @@ pub trait Commands: Copy {
             (entry_named name.now table.entries) };
 }
 
-/// Returns the program as `clap` takes it.
+/// Returns the program for `clap`.
 pub fn make_application<'a, C: Copy>(
     alloc: Global,
     program: &Program<C>,
@@ -119,7 +119,7 @@ fn make_argument<'a>(alloc: Global, argument: Argument) -> Arg<'a>
     }
 }
 
-/// Returns what the first row of this name asks for.
+/// Returns the command of the first row with this name.
 pub fn command_named<C: Copy>(rows: &[Row<C>], name: &str) -> Option<C>
     ensures { result ≡ option_map (λ entry. entry.command)
         (entry_named name.now (map entry_of rows.now)) }

@@ -1,4 +1,4 @@
-//! A program with its commands, as `clap` takes it.
+//! Builds a program and its commands for `clap`.
 
 ghost use Rattle.std.specs.Prelude.{◌≡◌, IfOk, IsOkAnd, false};
 ghost use Rattle.clap.specs.Words.{AddsSubcommand, App, Rule, app_of, new_app, rule_of, with_rule};
@@ -11,7 +11,7 @@ use std::alloc::{AllocError, Global};
 /// The version of both programs, which `--version` prints.
 const VERSION: &str = "0.1.0";
 
-/// Returns a program without its commands. Its long help ends with its exit statuses.
+/// Returns a program without its commands. Its exit statuses are at the end of its long help.
 pub fn make_program<'a>(
     alloc: Global,
     name: &'a str,

@@ -1,4 +1,4 @@
-//! Values that arguments state as texts.
+//! Values that are parsed from the texts of arguments.
 
 ghost use Rattle.std.specs.Prelude.{◌≡◌, ℕ, List, Option};
 ghost use Rattle.clap.specs.Words.{found_of, rows_of};
@@ -11,11 +11,11 @@ use crate::root::Root;
 use clap::ArgMatches;
 use pass_forms::Form;
 
-/// A value that is parsed from a text.
+/// A value that can be parsed from a text.
 pub trait Value {
     ghost spelled: { List ℕ → Option Self };
 
-    /// Returns the value that the text spells, or `None` if it spells none.
+    /// Returns the value that the text spells, or `None` if it spells no value.
     fn read(text: &str) -> Option<Self>
         ensures { result ≡ spelled text.now };
 }
@@ -36,8 +36,8 @@ impl Value for Form {
     }
 }
 
-/// Returns the value of an option; `None` if its text isn't a valid value, or the option was left
-/// out.
+/// Returns the value of an option, or `None` if the option was left out or its text isn't a valid
+/// value.
 pub fn read_value<V: Value>(options: &ArgMatches<'_>, id: &str) -> Option<V>
     ensures { result ≡ V.spelled (value_in id.now (rows_of (found_of options.now))) }
 {

@@ -1,4 +1,4 @@
--- No row so far has the name.
+-- No row that was compared so far has the name.
 use Rattle.std.proofs.Common.{◌≡◌, map, drop}
 use Rattle.command_line.specs.Table.{entry_named, entry_of}
 use Rattle.command_line.proofs.table.command_named.Given as goal
