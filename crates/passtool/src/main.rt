@@ -1,4 +1,4 @@
-//! Passes on the command line: runs `passtool_commands` on the process's arguments, standard input
+//! The program `passtool`. It runs `passtool_commands` on the process's arguments, standard input
 //! and standard output.
 #![tactic(auto)]
 

@@ -9,32 +9,32 @@ use Rattle.pass_json.specs.AnyForm.{IsAnyReading, IsTextIn}
 use Rattle.passtool_commands.specs.{Minting.Minting, Shown.{with_line_feed, shown_text}, declared.answer.Outcome.{Outcome, TheVariants.{Done, NotSigned}}}
 use Rattle.passtool_commands.specs.declared.command.Command.{Command, TheVariants.{Mint, Show, Narrow, Convert, Verify}}
 
--- the command's outcome, and the text that it wrote
+-- the outcome of a command, with the text that it wrote
 abbrev pub OutcomeText : Type 0
 OutcomeText = Outcome × List ℕ
 
--- the results that a step may have
+-- which results a step may have
 abbrev pub Results : Type 0 → Type 1
 Results A = Result A FormFault → Type 0
 
--- the step that has only this result
+-- the step whose only possible result is this one
 abbrev pub IsOnly : {A : Type 0} → Result A FormFault → Results A
 IsOnly expected result = expected ≡ result
 
--- Bind for results, like `?` in code: the answer is the step's fault, or a result of the rest for the step's value.
+-- The bind operator, like `?` in code. Its result is the first step's fault, or a result of the rest for the first step's value.
 infixl 10 ◌>>=◌
 abbrev pub ◌>>=◌ : {A B : Type 0} → Results A → (A → Results B) → Results B
 step >>= rest = λ answer. (result : Result _ FormFault) × step result × MatchResult result (λ value. rest value answer) (λ fault. answer ≡ Err fault)
 
--- the form and the pass of the input, without one line feed at its end
+-- reading the input's form and pass, after a line feed at the end is removed
 abbrev pub ReadsPass : List ℕ → Results (Form × Plain)
 ReadsPass bytes = IsAnyReading (strip_last 10 bytes)
 
--- a pass is written with a line feed at the end
+-- the answer of a command that succeeded with this text, to which it adds a line feed
 abbrev pub done_with : List ℕ → Result OutcomeText FormFault
 done_with text = Ok (Done, with_line_feed text)
 
--- the text of the pass in this form, which reads back as the pass
+-- the answer is this text, which can be read back as the same form and pass
 abbrev pub AnswersText : Form → Plain → List ℕ → Results OutcomeText
 AnswersText form pass text result = (done_with text ≡ result) × ReadsPass (with_line_feed text) (Ok (form, pass))
 
@@ -43,7 +43,7 @@ WritesPass form pass = do
   text ← IsWriting (IsTextIn form) pass
   AnswersText form pass text
 
--- the pass with more caveats, each signed under the signature before it
+-- the pass after more caveats are added, where each caveat is signed with the signature before it
 abbrev pub with_caveats : List (List ℕ) → Plain → Plain
 with_caveats caveats pass = record {
   location = pass.location;
@@ -52,24 +52,24 @@ with_caveats caveats pass = record {
   signature = extended_signature pass.signature caveats;
 }
 
--- the pass with more caveats, unless these are too many
+-- the pass after more caveats are added, or the fault `TooMany`
 unfoldable pub narrowing : List (List ℕ) → Plain → Result Plain FormFault
 narrowing caveats pass =
     if nat_lt max_caveats (length pass.caveats + length caveats) then Err TooMany
     else Ok (with_caveats caveats pass)
 
--- a new pass under a root, with no caveats yet
+-- a new pass that is signed under a root and has no caveats
 abbrev pub new_pass : Minting → Plain
 new_pass minting = passes.minted_pass minting.root minting.location minting.identifier
 
--- the answer of `verify`: whether the pass is signed under the root
+-- the answer of `verify`, which says whether the pass is signed under the root
 abbrev pub IsVerdict : List ℕ → Plain → Results OutcomeText
 IsVerdict root pass (Ok (Done, text)) = IsSigned root pass × (text ≡ with_line_feed (codes "signed"))
 IsVerdict root pass (Ok (NotSigned, text)) = (¬ IsSigned root pass) × (text ≡ with_line_feed (codes "not signed"))
 IsVerdict root pass (Err fault) = ⊥
 
--- The answer of each command to its input: its outcome and the text that it writes, or the fault of a pass. `AnswersOnce` says that there is at most one
--- answer.
+-- The answer of each command to its input. It is an outcome with the text that the command writes,
+-- or the fault of a pass. The law `AnswersOnce` says that a command has at most one answer.
 
 abbrev pub MintsPass : Minting → Results OutcomeText
 MintsPass minting = do
@@ -104,7 +104,7 @@ IsAnswer (Narrow caveats) bytes = NarrowsPass caveats bytes
 IsAnswer (Convert form) bytes = ConvertsPass form bytes
 IsAnswer (Verify root) bytes = VerifiesPass root bytes
 
--- every command except `mint` reads input
+-- whether the command reads input, as every command but `mint` does
 abbrev pub reads_input : Command → Bool
 reads_input (Mint minting) = false
 reads_input _ = true

@@ -12,7 +12,7 @@ use Rattle.passtool_commands.specs.declared.table.Name.TheVariants as name
 abbrev pub root_in : List Row → Result (List ℕ) (Refusal BadValue)
 root_in rows = ok_or (root_of (value_in (codes "root") rows)) (bad_value Root)
 
--- the values of an argument that may be repeated
+-- the caveats among the arguments
 abbrev pub caveats_in : List Row → List Text
 caveats_in rows = unwrap_or (all_of (codes "caveat") rows) []
 
@@ -20,24 +20,24 @@ abbrev pub unless_unknown : Option ℕ → List Text → Result (List Text) (Ref
 unless_unknown None caveats = Ok caveats
 unless_unknown (Some place) caveats = Err (bad_value (Caveat (place + 1)))
 
--- the text is a caveat of the language
+-- the text spells a caveat of the language
 abbrev pub IsCaveatText : Text → Type 0
 IsCaveatText text = (caveat : ACaveat) × Understood text caveat
 
--- The test is true for exactly these texts. All such tests agree.
+-- The test is true for a text if and only if the text spells a caveat. So all such tests agree.
 abbrev pub IsCaveatTest : (Text → Bool) → Type 0
 IsCaveatTest is_understood = (text : Text) → IsTrue (is_understood text) ↔ IsCaveatText text
 
 module _ (is_understood : Text → Bool) where
-  -- the index of the first text that isn't a caveat
+  -- the index of the first text that doesn't spell a caveat
   abbrev pub first_unknown : List Text → Option ℕ
   first_unknown texts = position (λ text. not (is_understood text)) texts
 
-  -- the caveats, which are checked in order unless `--any` was given
+  -- the caveats if `--any` was given or all are understood, else a fault for the first unknown one
   unfoldable pub checked_caveats : Bool → List Text → Result (List Text) (Refusal BadValue)
   checked_caveats any caveats = if any then Ok caveats else unless_unknown (first_unknown caveats) caveats
 
-  -- the command of a row with its values: the form is checked first, then the root, then the caveats
+  -- The command of a row with its values, or the first fault. The form is checked first, then the root, then the caveats.
   abbrev pub command_of : JobOf Name Command BadValue
   command_of name.Mint rows = do
     form ← form_given rows
@@ -60,16 +60,16 @@ module _ (is_understood : Text → Bool) where
     root ← root_in rows
     Ok (Verify root)
 
--- the results of reading the command of a row
+-- which results reading the values of a row may have
 pub record ReadsCommand (name : Name) (rows : List Row) (result : Result Command (ArgumentsFault BadValue)) : Type 0 where
   pub is_understood : Text → Bool
   pub is_test : IsCaveatTest is_understood
   pub answers : Answers (command_of is_understood name rows) result
 
--- the results of reading the arguments
+-- which results parsing the arguments may have
 abbrev pub ReadsArguments : List Text → Result (Asked Command) (ArgumentsFault BadValue) → Type 0
 ReadsArguments arguments result = ReadsJob passtool ReadsCommand arguments result
 
--- The arguments have no fault, and ask for this command.
+-- The arguments have no fault and ask for this command.
 abbrev pub AskForCommand : List Text → Command → Type 0
 AskForCommand arguments command = ReadsArguments arguments (Ok (Perform command))

@@ -1,4 +1,4 @@
--- The exit status and the line of each answer (ours).
+-- The exit status of each outcome and fault, and the line of each fault (ours).
 use Rattle.std.specs.{Fmt.{decimal, with_newline}, Prelude.{ℕ, List, ◌++◌, Option, Some, None, Result, Ok, Err, codes}}
 use Rattle.command_line.specs.declared.errors.ArgumentsFault.{ArgumentsFault}
 use Rattle.command_line.specs.declared.errors.ArgumentsFault.TheVariants as arguments
@@ -25,7 +25,7 @@ abbrev pub exit_status : Result Outcome Fault → ℕ
 exit_status (Ok outcome) = outcome_status outcome
 exit_status (Err fault) = fault_status fault
 
--- the number of a pass's fault; out of memory has none
+-- the number that the line of a pass's fault has; running out of memory has none
 abbrev pub form_number : FormFault → Option ℕ
 form_number form.TooLong = Some 1
 form_number form.Malformed = Some 2
@@ -33,12 +33,12 @@ form_number form.ThirdParty = Some 3
 form_number form.TooMany = Some 4
 form_number form.Memory = None
 
--- a text with its number before it
+-- the line for a fault of a pass: its number, if it has one, and its text
 abbrev pub with_number : Option ℕ → List ℕ → List ℕ
 with_number None text = text
 with_number (Some number) text = codes "fault " ++ (decimal number ++ (codes ": " ++ text))
 
--- the line on standard error; clap's own text is not stated
+-- the fault's line on standard error, or none for a text of clap, which no definition states
 abbrev pub fault_line : Fault → Option (List ℕ)
 fault_line (Arguments error) = None
 fault_line (Pass fault) = Some (with_number (form_number fault) (fault_text fault))
@@ -46,12 +46,12 @@ fault_line (CaveatNotUnderstood number) = Some (codes "caveat " ++ (decimal numb
 fault_line BadRoot = Some (codes "bad root")
 fault_line InputOutput = Some (codes "input or output failed")
 
--- what is printed on standard error: the line, or clap's own text
+-- the bytes printed on standard error, or none for a text of clap, which no definition states
 abbrev pub fault_output : Fault → Option (List ℕ)
 fault_output (Arguments error) = None
 fault_output fault = with_newline (fault_line fault)
 
--- the fault of refused arguments
+-- the program's fault for a fault of the arguments
 abbrev pub of_arguments : ArgumentsFault BadValue → Fault
 of_arguments (arguments.Refused error) = Arguments error
 of_arguments (arguments.BadValue Root) = BadRoot

@@ -1,4 +1,4 @@
--- The parts of the pass that `mint` makes (ours).
+-- The values from which `mint` makes a pass (ours).
 use Rattle.std.specs.Prelude.{ℕ, List}
 use Rattle.pass_forms.specs.declared.form.Form.{Form}
 

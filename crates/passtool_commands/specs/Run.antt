@@ -1,4 +1,4 @@
--- The effect of a run of the program (ours).
+-- The effect of a run of the program on its reader and its writer (ours).
 use Rattle.std.specs.{Io.{StartsWith, KnownBytes.{Appends, Keeps}}, Prelude.{◌≡◌, ◌⊎◌, ℕ, List, [], Option, Result, Ok, Err, Bool, false, true}}
 use Rattle.clap.specs.Words.{Text}
 use Rattle.pass_forms.specs.declared.fault.FormFault.TheVariants.{Memory}
@@ -8,12 +8,12 @@ use Rattle.passtool_commands.specs.declared.answer.{Fault.TheVariants.{Arguments
 use Rattle.passtool_commands.specs.declared.{answer.Outcome.TheVariants.{Done, NotSigned}, command.Command.Command}
 use Rattle.command_line.specs.{Arguments.HasText, Input.ReadsAtMost, Table.refusals, declared.errors.ArgumentsFault.TheVariants.{Refused, BadValue}}
 
--- a command's input: at most the first 8,194 bytes that the reader had left, or nothing
+-- A command that reads its input reads all that the reader has left, up to 8,194 bytes. Other commands read nothing.
 abbrev pub ReadsInput : Bool → Option (List ℕ) → Option (List ℕ) → List ℕ → Type 0
 ReadsInput true left left' bytes = ReadsAtMost 8194 left left' bytes
 ReadsInput false left left' bytes = bytes ≡ []
 
--- A command read its input, this is its answer, and these bytes were written.
+-- A command read its input, its answer is `ending`, and the bytes `written` were added to the output.
 pub record Writes (command : Command) (left left' held held' : Option (List ℕ)) (ending : OutcomeText) (written : List ℕ) : Type 0 where
   pub bytes : List ℕ
   pub reads : ReadsInput (reads_input command) left left' bytes
@@ -25,8 +25,8 @@ abbrev pub WritesFront : Command → Option (List ℕ) → Option (List ℕ) →
 WritesFront command left left' held held' =
     (ending : OutcomeText) × (front : List ℕ) × StartsWith ending.1 front × Writes command left left' held held' ending front
 
--- A command reads its input and writes exactly its answer. It may run out of memory. If the reader or the writer fails, nothing was written, or a prefix of the
--- answer to the whole input.
+-- A command reads its input and writes exactly its answer. It may run out of memory. If the reader
+-- or the writer fails, either nothing was written, or a prefix of the answer to the whole input.
 abbrev pub Performs : Command → Option (List ℕ) → Option (List ℕ) → Option (List ℕ)
     → Option (List ℕ) → Result Outcome Fault → Type 0
 Performs command left left' held held' (Ok outcome) = (text : List ℕ) × Writes command left left' held held' (outcome, text) text
@@ -36,15 +36,15 @@ Performs command left left' held held' (Err (Pass fault)) =
 Performs command left left' held held' (Err InputOutput) = Keeps held held' ⊎ WritesFront command left left' held held'
 Performs command left left' held held' (Err fault) = ⊥
 
--- the arguments ask for some command
+-- the arguments ask for a command
 abbrev pub AskForAny : List Text → Type 0
 AskForAny arguments = (command : Command) × AskForCommand arguments command
 
--- the arguments ask for no command, or for one that reads no input
+-- the arguments ask for no command that reads input
 abbrev pub AskForNoInput : List Text → Type 0
 AskForNoInput arguments = (command : Command) → AskForCommand arguments command → reads_input command ≡ false
 
--- the results of a run that the arguments allow
+-- the arguments allow a run with this result
 abbrev pub AnswersArguments : List Text → Result Outcome Fault → Type 0
 AnswersArguments arguments (Ok NotSigned) = AskForAny arguments
 AnswersArguments arguments (Ok Done) = AskForAny arguments ⊎ HasText (refusals passtool arguments)

@@ -4,11 +4,11 @@ use Rattle.hex.specs.Hex.{encode_lower}
 use Rattle.pass_forms.specs.{Pass.Plain, declared.form.Form.Form}
 use Rattle.command_line.specs.FormName.{form_name}
 
--- a text with the line feed that ends it
+-- the text, followed by a line feed
 abbrev pub with_line_feed : List ℕ → List ℕ
 with_line_feed text = text ++ 10 ∷ []
 
--- a backslash is doubled, other printable ASCII is unchanged, and any other byte is `\x` with two hexadecimal digits
+-- A byte as `show` prints it. A backslash is doubled, and other printable ASCII is unchanged. Any other byte is `\x` with two hexadecimal digits.
 unfoldable pub escaped_byte : ℕ → List ℕ
 escaped_byte byte =
     if byte == 92 then codes "\\\\"
@@ -17,11 +17,11 @@ escaped_byte byte =
 abbrev pub escaped_text : List ℕ → List ℕ
 escaped_text bytes = flat_map escaped_byte bytes
 
--- a name and a value
+-- the line with a name, a space and an escaped value
 abbrev pub value_line : List ℕ → List ℕ → List ℕ
 value_line name bytes = with_line_feed (name ++ 32 ∷ escaped_text bytes)
 
--- a line for each caveat, numbered from this number
+-- the lines of caveats, numbered from this number
 unfoldable pub caveat_lines : ℕ → List (List ℕ) → List ℕ
 caveat_lines number [] = []
 caveat_lines number (caveat ∷ caveats) =

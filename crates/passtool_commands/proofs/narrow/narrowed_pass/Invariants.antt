@@ -1,4 +1,4 @@
--- Adding the remaining caveats to the pass gives the same as adding all caveats to the first pass.
+-- Adding the remaining caveats to the pass so far gives the same pass as adding all caveats to the original pass.
 use Rattle.std.proofs.Common.{◌≡◌, ◌≤◌, ◌+◌, length, drop}
 use Rattle.pass_forms.specs.Reading.{max_caveats}
 use Rattle.passtool_commands.specs.Answer.{with_caveats}

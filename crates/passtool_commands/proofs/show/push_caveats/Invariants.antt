@@ -1,4 +1,4 @@
--- The bytes so far, with the lines of the remaining caveats, are all bytes.
+-- The text so far and the lines of the remaining caveats make up the whole text.
 use Rattle.std.proofs.Common.{◌≡◌, ◌+◌, ◌++◌, drop}
 use Rattle.std.specs.String.{string_bytes}
 use Rattle.passtool_commands.specs.Shown.{caveat_lines}

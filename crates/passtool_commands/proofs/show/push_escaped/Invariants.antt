@@ -1,4 +1,4 @@
--- The bytes so far, with the remaining ones, are all bytes.
+-- The text so far and the remaining bytes, escaped, make up the whole text.
 use Rattle.std.proofs.Common.{◌≡◌, ◌++◌, drop}
 use Rattle.std.specs.String.{string_bytes}
 use Rattle.passtool_commands.specs.Shown.{escaped_text}
