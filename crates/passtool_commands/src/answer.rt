@@ -1,4 +1,4 @@
-//! The result of a run: an outcome, or a fault with its exit status and its line.
+//! The result of a run, which is an outcome or a fault. A fault has an exit status and a line.
 
 ghost use Rattle.std.specs.{Prelude.{◌≡◌}, String.string_bytes};
 ghost use Rattle.passtool_commands.specs.Fault.{form_number};
@@ -8,12 +8,12 @@ use pass_forms::FormFault;
 use std::marker::Model;
 use std::{error, fmt, io};
 
-/// The outcome of a command.
+/// The outcome of a command that didn't fail.
 #[derive(Clone, Copy, Debug, PartialEq, Eq)]
 pub enum Outcome {
     /// The command succeeded.
     Done,
-    /// `verify` read a pass that isn't signed under the root.
+    /// `verify` read a pass, and the pass isn't signed under the root.
     NotSigned,
 }
 
@@ -31,7 +31,7 @@ impl Outcome {
     }
 }
 
-/// The answer of a command: its outcome, and the text that it writes. Contracts see the pair of
+/// The answer of a command: its outcome and the text that it writes. In contracts it is the pair of
 /// both.
 #[derive(Drop)]
 pub struct Answer {
@@ -71,34 +71,34 @@ impl Answer {
     }
 }
 
-/// An invalid argument, which is a root or a caveat.
+/// An argument that isn't valid.
 #[derive(Debug, Drop)]
 pub enum BadValue {
-    /// A root must be 1 to 64 bytes in hexadecimal.
+    /// The root isn't 1 to 64 bytes in hexadecimal.
     Root,
-    /// The caveat with this number, counted from 1, isn't understood.
+    /// The caveat with this number, counted from 1, isn't one of the language.
     Caveat(usize),
 }
 
 /// Why a command failed. Its `Display` is the line for standard error.
 #[derive(Debug, Drop)]
 pub enum Fault {
-    /// `clap` refused the arguments, or `--form` names none of the three forms.
+    /// `clap` refused the arguments, or `--form` names no form.
     Arguments(clap::Error),
-    /// The text isn't a pass, or the pass can't be narrowed or written, or memory ran out.
+    /// The input isn't a pass, the pass can't be narrowed or written, or memory ran out.
     Pass(FormFault),
-    /// The caveat with this number, counted from 1, isn't understood.
+    /// The caveat with this number, counted from 1, isn't one of the language.
     CaveatNotUnderstood(usize),
     /// The root isn't 1 to 64 bytes in hexadecimal.
     BadRoot,
-    /// The input couldn't be read, or the output couldn't be written.
+    /// Reading the input or writing the output failed.
     InputOutput,
 }
 
 impl Fault {
     ghost use Rattle.passtool_commands.specs.Fault.{fault_status};
 
-    /// Returns the exit status: 2 for the arguments, 3 for the pass, 4 to 7 for the rest.
+    /// Returns the exit status: 2 for arguments, 3 for the pass, 4 to 7 for all other faults.
     pub fn status(&self) -> u8
         ensures { result ≡ fault_status self.now }
     {
@@ -132,7 +132,7 @@ impl fmt::Display for Fault {
     }
 }
 
-// The number of a pass's fault in its line, from 1 to 4.
+// The number that the line of a pass's fault has, from 1 to 4.
 fn fault_number(fault: FormFault) -> Option<u8>
     ensures { result ≡ form_number fault }
 {

@@ -1,4 +1,4 @@
-//! Caveats from the command line.
+//! Caveats that are arguments of a command.
 
 ghost use Rattle.std.specs.Prelude.{◌≡◌, IfOk, map, not, position};
 ghost use Rattle.passtool_commands.specs.Arguments as spec;
@@ -8,7 +8,7 @@ use pass_caveats::read;
 use std::alloc::{AllocError, Global};
 use std::marker::Model;
 
-/// The texts of caveats, in the order given.
+/// The texts of caveats, in the order of the arguments.
 #[derive(Drop)]
 pub struct Caveats<'a> {
     texts: Vec<&'a str>,
@@ -23,7 +23,7 @@ impl<'a> Model for Caveats<'a> {
 }
 
 impl<'a> Caveats<'a> {
-    /// Copies a list of texts.
+    /// Copies the list of references to these texts.
     pub fn new(alloc: Global, texts: &[&'a str]) -> Result<Caveats<'a>, AllocError>
         ensures { IfOk result (λ caveats. caveats ≡ map (λ text. text.now) texts.now) }
     {
@@ -31,14 +31,14 @@ impl<'a> Caveats<'a> {
         Ok(Caveats { texts })
     }
 
-    /// Returns the texts, in order.
+    /// Returns the texts in their order.
     pub fn as_slice(&self) -> &[&'a str]
         ensures { map (λ text. text.now) result.now ≡ self.now }
     {
         self.texts.as_slice()
     }
 
-    /// Returns the index of the first text that isn't a caveat of the language, counted from 0.
+    /// Returns the index, counted from 0, of the first text that isn't a caveat of the language.
     pub fn first_unknown(&self) -> Option<usize>
         ensures { result ≡ spec.first_unknown is_understood self.now }
     {

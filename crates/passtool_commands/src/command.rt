@@ -1,4 +1,4 @@
-//! The commands.
+//! The commands of the program.
 
 ghost use Rattle.std.specs.Prelude.{◌≡◌, ◌≢◌, ◌≤◌, IfErr, IfOk, false, length, take};
 ghost use Rattle.clap.specs.Words.{found_of, rows_of};
@@ -23,7 +23,7 @@ use pass_forms::{Form, FormFault};
 use std::alloc::Global;
 use std::io::{self, Read, Write};
 
-/// A command with its options.
+/// A command with the values of its arguments.
 #[derive(Drop)]
 pub enum Command<'a> {
     /// Makes a new pass.
@@ -32,7 +32,7 @@ pub enum Command<'a> {
     Show,
     /// Adds caveats to a pass.
     Narrow(Caveats<'a>),
-    /// Writes a pass in a form.
+    /// Writes a pass in another form.
     Convert(Form),
     /// Checks whether a pass is signed under the root.
     Verify(Root),
@@ -53,7 +53,7 @@ impl<'a> Job<'a> for Command<'a> {
     ) -> Result<Command<'a>, ArgumentsFault<BadValue>>
         ensures { ReadsCommand name (rows_of (found_of options.now)) result }
     {
-        // By this law, the code tests caveats as the clause does.
+        // By this law, the code's test of caveats agrees with the definition.
         reads_what_is_understood();
         match name {
             Name::Mint => mint_of(alloc, options),
@@ -96,14 +96,14 @@ impl<'a> Command<'a> {
     ghost use Rattle.passtool_commands.specs.Answer as spec;
     ghost use Rattle.passtool_commands.specs.Run.{Performs, ReadsInput};
 
-    /// Returns whether the command reads input.
+    /// Returns whether the command reads its input.
     pub fn reads_input(&self) -> bool
         ensures { result ≡ spec.reads_input self.now }
     {
         !matches!(self, Command::Mint(_))
     }
 
-    /// Reads the input, if the command has one, and writes the command's answer.
+    /// Reads the input if the command needs it, and writes the command's answer.
     pub fn perform<R: Read, W: Write>(
         &self,
         alloc: Global,
@@ -123,7 +123,7 @@ impl<'a> Command<'a> {
         Ok(answer.outcome())
     }
 
-    // Reads the input, if the command has one, and returns the number of bytes read.
+    // Reads the input if the command needs it, and returns the number of bytes read.
     fn read_input<R: Read>(&self, reader: &mut R, buffer: &mut [u8; MAX_READ]) -> io::Result<usize>
         ensures bytes { IfOk result (λ count. (count ≤ length buffer.new)
             × ReadsInput (spec.reads_input self.now) (R.remaining reader.old)
@@ -137,7 +137,7 @@ impl<'a> Command<'a> {
         }
     }
 
-    // Returns the answer to the bytes that were read.
+    // Returns the command's answer to these bytes of input.
     fn answer(&self, alloc: Global, bytes: &[u8]) -> Result<Answer, FormFault>
         ensures { UnlessMemory (spec.IsAnswer self.now bytes.now) result }
     {
@@ -151,7 +151,7 @@ impl<'a> Command<'a> {
     }
 }
 
-// Returns the caveats, if any text is accepted or all of them are understood.
+// Returns the caveats if `--any` was given, or if all of them are caveats of the language.
 #[tactic(auto, unfolding(crate::specs::Arguments::checked_caveats))]
 fn checked_caveats(caveats: Caveats<'_>, any: bool) -> Result<Caveats<'_>, ArgumentsFault<BadValue>>
     ensures { Answers (checked_caveats is_understood any caveats.entry) result }

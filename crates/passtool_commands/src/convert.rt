@@ -1,4 +1,4 @@
-//! `convert`: a pass in another form.
+//! The command `convert`, which writes a pass in another form.
 
 ghost use Rattle.pass_forms.specs.Reading.{UnlessMemory};
 ghost use Rattle.passtool_commands.specs.Answer as spec;

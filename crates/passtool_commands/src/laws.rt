@@ -1,5 +1,5 @@
-//! Laws of the definitions. Each law is the contract of a function that only cites the laws that it
-//! uses.
+//! Laws of the definitions. Each law is the contract of a function, whose body only calls the laws
+//! that the proof needs.
 
 ghost use Rattle.passtool_commands.specs.Laws.{AnswersOnce, AskForOneCommand, MintSigns};
 ghost use Rattle.passtool_commands.specs.Laws.{NarrowingKeepsSigned, VerifyDecidesSigned};

@@ -1,4 +1,4 @@
-//! `mint`: a new pass.
+//! The command `mint`, which makes a new pass.
 
 ghost use Rattle.std.specs.Prelude.{◌≡◌, IfOk};
 ghost use Rattle.pass_forms.specs.Reading.{UnlessMemory};
@@ -13,7 +13,7 @@ use pass_forms::{Form, FormFault, Pass};
 use std::alloc::{AllocError, Global};
 use std::marker::Model;
 
-/// The parts of a new pass.
+/// The values from which `mint` makes a pass.
 #[derive(Drop)]
 pub struct Mint<'a> {
     root: Root,
@@ -38,7 +38,7 @@ impl<'a> Model for Mint<'a> {
 }
 
 impl<'a> Mint<'a> {
-    /// Returns the parts of a new pass and the form in which it is written.
+    /// Makes these values.
     pub fn new(
         root: Root,
         identifier: &'a str,
@@ -63,7 +63,7 @@ impl<'a> Mint<'a> {
         }
     }
 
-    /// Makes the pass and its text.
+    /// Returns the new pass, written in its form.
     pub fn answer(&self, alloc: Global) -> Result<Answer, FormFault>
         ensures { UnlessMemory (spec.MintsPass self.now) result }
     {
@@ -72,7 +72,7 @@ impl<'a> Mint<'a> {
         written(alloc, self.form, &pass)
     }
 
-    // The pass without its caveats.
+    // Returns the new pass before its caveats are added.
     fn new_pass(&self, alloc: Global) -> Result<Pass, AllocError>
         ensures { IfOk result (λ pass. pass ≡ spec.new_pass self.now) }
     {

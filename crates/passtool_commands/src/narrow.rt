@@ -1,4 +1,4 @@
-//! `narrow`: a pass with more caveats.
+//! The command `narrow`, which adds caveats to a pass.
 
 ghost use Rattle.std.specs.Prelude.{◌≡◌, ◌≤◌, length, map};
 ghost use Rattle.pass_forms.specs.Reading.{UnlessMemory, max_caveats};
@@ -11,7 +11,7 @@ use crate::output::written;
 use pass_forms::{FormFault, Pass};
 use std::alloc::Global;
 
-/// Returns the pass of the input with the caveats added in order, in the form that it came in.
+/// Returns the input's pass with the caveats added in order, written in the form of the input.
 pub fn narrow(alloc: Global, caveats: &Caveats<'_>, bytes: &[u8]) -> Result<Answer, FormFault>
     ensures { UnlessMemory (spec.NarrowsPass caveats.now bytes.now) result }
 {

@@ -1,4 +1,4 @@
-//! The options of a command, from what `clap` found.
+//! The values of a command's options, from what `clap` found.
 
 ghost use Rattle.std.specs.Prelude.{◌≡◌, IfOk};
 ghost use Rattle.clap.specs.Words.{found_of, rows_of};

@@ -1,4 +1,4 @@
-//! Writing the answer.
+//! Writes a pass as a command's answer.
 
 ghost use Rattle.pass_forms.specs.Reading.{UnlessMemory};
 ghost use Rattle.passtool_commands.specs.Answer as spec;
@@ -8,7 +8,7 @@ use pass_forms::{Form, FormFault, Pass};
 use pass_json::write_any;
 use std::alloc::Global;
 
-/// Returns a pass in a form, with a line feed at the end.
+/// Returns the answer whose text is a pass in this form and a line feed.
 pub fn written(alloc: Global, form: Form, pass: &Pass) -> Result<Answer, FormFault>
     ensures { UnlessMemory (spec.WritesPass form pass.now) result }
 {

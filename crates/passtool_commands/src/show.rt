@@ -1,4 +1,4 @@
-//! `show`: the fields of a pass, one per line.
+//! The command `show`, which prints the fields of a pass, one per line.
 
 ghost use Rattle.std.specs.Prelude.{◌≡◌, ◌+◌, ◌<◌, ◌^◌, ◌++◌, IfOk, OnOk, length, map};
 ghost use Rattle.std.specs.String.{string_bytes};
@@ -12,7 +12,7 @@ use command_line::form_name;
 use pass_forms::{Form, FormFault, Pass};
 use std::alloc::{AllocError, Global};
 
-/// Returns the fields of the pass in the input, one per line.
+/// Returns the fields of the input's pass, one per line.
 pub fn show(alloc: Global, bytes: &[u8]) -> Result<Answer, FormFault>
     ensures { UnlessMemory (ShowsPass bytes.now) result }
 {
@@ -49,7 +49,7 @@ fn push_caveats(alloc: Global, text: &mut String, caveats: &[Vec<u8>]) -> Result
     Ok(())
 }
 
-// A name, a space and a value.
+// Adds a line with a name, a space and a value.
 fn push_line(alloc: Global, text: &mut String, name: &str, value: &[u8]) -> Result<(), AllocError>
     ensures { OnOk result
         (string_bytes text.new ≡ string_bytes text.old ++ spec.value_line name.now value.now) }

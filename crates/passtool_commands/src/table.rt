@@ -6,7 +6,7 @@ use clap::Command;
 use command_line::{Argument, Commands, Program, Row, command_named, make_application};
 use std::alloc::{AllocError, Global};
 
-/// The commands by their names.
+/// The names of the commands.
 #[derive(Clone, Copy)]
 pub enum Name {
     Mint,

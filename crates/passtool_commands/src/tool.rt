@@ -1,4 +1,4 @@
-//! A run of the program, on arguments, a reader and a writer.
+//! A run of the program on given arguments, a reader and a writer.
 
 ghost use Rattle.std.specs.Prelude.{◌≡◌, ◌≢◌, IfErr, MatchResult, map};
 ghost use Rattle.passtool_commands.specs.Arguments.{AskForCommand};
@@ -13,40 +13,40 @@ use std::alloc::Global;
 use std::convert::AsStr;
 use std::io::{Read, Write};
 
-/// Runs the program on its arguments. The first is its name.
+/// Runs the program on its arguments. The first argument is the program's name.
 ///
 /// The arguments are checked before the input is read: first by `clap`, then the form, the root and
-/// the caveats. The input is read to its end, but at most 8,194 bytes of it. `mint` reads no input.
-/// The answer is complete before it is written. Help and the version are written as `clap` makes
+/// the caveats. The input is read to its end, or up to 8,194 bytes. `mint` reads no input. The
+/// answer is complete before any of it is written. Help and the version are written as `clap` makes
 /// them.
 ///
 /// # Errors
 ///
-/// Fails with `Arguments` if `clap` refuses them or the form is unknown, with `BadRoot`, or with
-/// `CaveatNotUnderstood` and the number of the caveat among those given. Fails with `Pass` and the
-/// fault of the pass, or with `Memory` only if an allocation fails. After all these faults nothing
-/// was written. Fails with `InputOutput` if the reader or the writer failed. Then nothing was
-/// written, or a prefix of the answer to the whole input, of the help or of the version.
+/// Fails with `Arguments` if `clap` refuses the arguments or the form is unknown. Fails with
+/// `BadRoot`, or with `CaveatNotUnderstood` and the caveat's number. Fails with `Pass` and the
+/// fault of the pass, or with `Memory` only if an allocation fails. In all these cases nothing was
+/// written. Fails with `InputOutput` if the reader or the writer failed. Then nothing was written,
+/// or a prefix of the answer to the whole input, of help or of the version.
 pub fn run<S: AsStr, R: Read, W: Write>(
     alloc: Global,
     arguments: &[S],
     reader: &mut R,
     writer: &mut W,
 ) -> Result<Outcome, Fault>
-    // The result is the fault of the arguments, or that of the job that they ask for.
+    // The result is a fault of the arguments, or a result of the command that they ask for.
     ensures arguments { AnswersArguments (map S.text arguments.now) result }
     // If the arguments ask for a command, it read its input and wrote its answer. If the reader or
     // the writer failed, it wrote nothing or a prefix of the answer.
     ensures command { (command : CommandOf) → AskForCommand (map S.text arguments.now) command
         → Performs command (R.remaining reader.old) (R.remaining reader.new)
         (W.contents writer.old) (W.contents writer.new) result }
-    // Reads nothing unless the arguments ask for a command that takes input.
+    // If the arguments ask for no command that reads input, nothing is read.
     ensures unread { AskForNoInput (map S.text arguments.now) → reader.new ≡ reader.old }
-    // After any other fault nothing was written.
+    // After any other fault, nothing was written.
     ensures silent { IfErr result (λ fault. fault ≢ Fault.InputOutput
         → writer.new ≡ writer.old) }
 {
-    // By this law, the arguments ask for only one command.
+    // By this law, the arguments ask for at most one command.
     ask_for_one_command();
     let command: Command<'_> = match read_job(alloc, arguments) {
         Ok(Asked::Perform(command)) => command,
@@ -56,7 +56,7 @@ pub fn run<S: AsStr, R: Read, W: Write>(
     command.perform(alloc, reader, writer)
 }
 
-// Writes help or the version, whose bytes no clause states.
+// Writes the text of help or of the version, which no clause states.
 fn show<W: Write>(text: &clap::Error, writer: &mut W) -> Result<Outcome, Fault>
     ensures { MatchResult result (λ outcome. outcome ≡ Outcome.Done)
         (λ fault. fault ≡ Fault.InputOutput) }
