@@ -18,7 +18,7 @@ fault_status InputOutput = 7
 fault_status NoAnswer = 8
 fault_status (Answered status line) = status
 
--- the fault of refused arguments
+-- the program's fault for a fault of the arguments
 abbrev pub of_arguments : ArgumentsFault Unit → Fault
 of_arguments (arguments.Refused error) = Arguments error
 of_arguments (arguments.BadValue value) = BadValue
@@ -29,7 +29,7 @@ abbrev pub fault_of_opening : StoreFault → Fault
 fault_of_opening store.Memory = Memory
 fault_of_opening store.Storage = Storage
 
--- the line on standard error; clap's own text is not stated
+-- the fault's line on standard error, or none for a text of clap, which no definition states
 abbrev pub fault_line : Fault → Option (List ℕ)
 fault_line (Refused fault) = Some (codes "refused: " ++ office_fault_text fault)
 fault_line (Arguments error) = None
@@ -41,7 +41,7 @@ fault_line InputOutput = Some (codes "input or output failed")
 fault_line NoAnswer = Some (codes "no answer")
 fault_line (Answered status line) = Some (string_bytes line)
 
--- what is printed on standard error: the line, or clap's own text
+-- the bytes printed on standard error, or none for a text of clap, which no definition states
 abbrev pub fault_output : Fault → Option (List ℕ)
 fault_output (Arguments error) = None
 fault_output fault = with_newline (fault_line fault)

@@ -1,10 +1,10 @@
--- The values of arguments, except those whose texts `club_values` parses (ours).
+-- Values of arguments that `club_values` doesn't parse (ours).
 use Rattle.std.specs.Prelude.{ℕ, ◌&&◌, List, length, nat_le, if◌then◌else◌, Option, Some, None, option_and_then}
 use Rattle.command_line.specs.Root.{root_of}
 use Rattle.club_values.specs.Number.{number_of_digits}
 use Rattle.club_rows.specs.Limits.{booking_number_limit, max_root_len, min_root_len}
 
--- 1 to 9 decimal digits
+-- a number of 1 to 9 decimal digits
 unfoldable pub parse_number : List ℕ → Option ℕ
 parse_number text = number_of_digits text
 
@@ -12,7 +12,7 @@ abbrev pub where_between : ℕ → ℕ → Option ℕ → Option ℕ
 where_between least most None = None
 where_between least most (Some number) = if nat_le least number && nat_le number most then Some number else None
 
--- a port of TCP; 0 for any free port
+-- a TCP port; port 0 asks for any free port
 abbrev pub port_of : List ℕ → Option ℕ
 port_of text = where_between 0 65_535 (parse_number text)
 
@@ -20,7 +20,7 @@ port_of text = where_between 0 65_535 (parse_number text)
 abbrev pub count_of : List ℕ → Option ℕ
 count_of text = where_between 1 1_000_000 (parse_number text)
 
--- the number of a booking, 1 to 999,999,999
+-- a booking number, 1 to 999,999,999
 abbrev pub booking_number_of : List ℕ → Option ℕ
 booking_number_of text = where_between 1 booking_number_limit (parse_number text)
 

@@ -1,3 +1,3 @@
--- Functions that compute what the other definitions of `specs/` state. Laws state that both agree.
+-- Computes what other definitions in `specs/` state. Laws say that both agree.
 
 pub mod TextReaders

@@ -1,4 +1,4 @@
-//! The work of each command, from the values of its arguments.
+//! Turns the values of a command's arguments into the command's work.
 
 ghost use Rattle.std.specs.Prelude.{◌≡◌, option_map};
 ghost use Rattle.clap.specs.Words.{found_of, rows_of};
@@ -22,7 +22,7 @@ use std::alloc::Global;
 ///
 /// # Errors
 ///
-/// Fails as `Job::read` does.
+/// Fails in the same cases as `Job::read`.
 pub fn work_of<'a>(
     alloc: Global,
     name: CommandName,
@@ -127,8 +127,7 @@ fn set_facility<'a>(arguments: &ArgMatches<'a>) -> Option<Work<'a>>
     })))
 }
 
-// `add-key FILE KEY MEMBER ROOT [--form FORM]`, or without the root's argument if the root is read
-// from the input.
+// `add-key FILE KEY MEMBER ROOT [--form FORM]`. With `--root-stdin`, `ROOT` is left out.
 fn add_key<'a>(arguments: &ArgMatches<'a>, root: Option<&str>, form: Form) -> Option<Work<'a>>
     ensures { result ≡ spec.add_key_of text_readers (option_map (λ text. text.now) root.entry)
         form (rows_of (found_of arguments.now)) }
@@ -147,8 +146,7 @@ fn revoke_key<'a>(arguments: &ArgMatches<'a>) -> Option<Work<'a>>
     Some(Work::Office(Task::Give(Command::RevokeKey { name })))
 }
 
-// `rotate-key FILE KEY ROOT MOMENT [--form FORM]`, or without the root's argument if the root is
-// read from the input.
+// `rotate-key FILE KEY ROOT MOMENT [--form FORM]`. With `--root-stdin`, `ROOT` is left out.
 fn rotate_key<'a>(arguments: &ArgMatches<'a>, root: Option<&str>, form: Form) -> Option<Work<'a>>
     ensures { result ≡ spec.rotate_key_of text_readers (option_map (λ text. text.now) root.entry)
         form (rows_of (found_of arguments.now)) }
@@ -159,8 +157,8 @@ fn rotate_key<'a>(arguments: &ArgMatches<'a>, root: Option<&str>, form: Form) ->
     key_work(KeyCommand { name, change, form }, root)
 }
 
-// A key's command with the root of its argument, or still without a root if there is no such
-// argument.
+// Returns the command of a key with the root of its argument. If there is no such argument, the
+// command has no root yet.
 fn key_work<'a>(command: KeyCommand, root: Option<&str>) -> Option<Work<'a>>
     ensures { result ≡ spec.key_work command (option_map (λ text. text.now) root.entry) }
 {
@@ -243,7 +241,7 @@ fn show_slot<'a>(arguments: &ArgMatches<'a>) -> Option<Work<'a>>
     Some(Work::Office(Task::ShowSlot(slot)))
 }
 
-// `FACILITY DAY HOUR`
+// The slot that the arguments `FACILITY DAY HOUR` name.
 fn slot_of(arguments: &ArgMatches<'_>) -> Option<Slot>
     ensures { result ≡ spec.slot_in text_readers (rows_of (found_of arguments.now)) }
 {
@@ -257,7 +255,7 @@ fn slot_of(arguments: &ArgMatches<'_>) -> Option<Slot>
     })
 }
 
-// The moment that `--at` fixes, or else the clock in the zone.
+// Returns the moment given by `--at`. Without that option, returns the clock in the zone.
 fn clock_of<'a>(zone: Zone<'a>, at: Option<&str>) -> Option<Clock<'a>>
     ensures { result ≡ spec.clock_of text_readers zone.entry
         (option_map (λ text. text.now) at.entry) }

@@ -1,31 +1,31 @@
-//! Why a command failed, with its exit status and the line that it prints.
+//! Reasons for which a command fails, each with its exit status and its line.
 
 use club_core::{OfficeFault, StoreFault};
 use command_line::ArgumentsFault;
 use std::alloc::AllocError;
 use std::{error, fmt, io};
 
-/// Why a command failed. Its `Display` is the line for standard error.
+/// Why a command failed. Its `Display` is the line printed on standard error.
 #[derive(Debug, Drop)]
 pub enum Fault {
     /// A rule of the club refuses the command.
     Refused(OfficeFault),
-    /// `clap` refused the arguments, or `--form` names none of the three forms.
+    /// `clap` refused the arguments, or `--form` names no form.
     Arguments(clap::Error),
-    /// An argument, or a root from standard input, isn't a valid value.
+    /// The value of an argument isn't valid, or the root from standard input isn't.
     BadValue,
     /// Memory ran out.
     Memory,
-    /// The database couldn't be opened, read or written, or isn't the club's.
+    /// The database couldn't be opened, read or written, or it isn't a club's database.
     Storage,
     /// The clock shows a year before 2000 or after 2099.
     ClockOutOfRange,
-    /// The output couldn't be written, or the server couldn't listen.
+    /// Writing the output failed, or the server couldn't listen.
     InputOutput,
-    /// A server was handed the command and didn't answer. The command may or may not have been
-    /// carried out.
+    /// The command was sent to a server, which didn't answer. It is unknown whether the server
+    /// carried out the command.
     NoAnswer,
-    /// A server was handed the command, and answered with this status and line.
+    /// The command was sent to a server, which answered with this status and line.
     Answered { status: u8, line: String },
 }
 
@@ -33,7 +33,7 @@ impl Fault {
     ghost use Rattle.std.specs.Prelude.{◌≡◌};
     ghost use Rattle.clubdesk_arguments.specs.Fault.{fault_status};
 
-    /// Returns the exit status, 1 to 8, or the status with which a server answered.
+    /// Returns the exit status, 1 to 8. For `Answered` it is the server's status.
     pub fn status(&self) -> u8
         ensures { result ≡ fault_status self.now }
     {
@@ -110,7 +110,7 @@ impl From<ArgumentsFault<()>> for Fault {
     }
 }
 
-/// The fault of a database that can't be opened.
+/// Returns the program's fault for a database that can't be opened.
 impl From<StoreFault> for Fault {
     ghost use Rattle.std.specs.Prelude.{◌≡◌};
     ghost use Rattle.clubdesk_arguments.specs.Fault.{fault_of_opening};

@@ -1,4 +1,4 @@
-//! The job of a command, from what `clap` found of its arguments.
+//! Turns the values that `clap` found for a command's arguments into a job.
 
 ghost use Rattle.clap.specs.Words.{found_of, rows_of};
 ghost use Rattle.clubdesk_arguments.specs.Arguments.{ReadsValues};
@@ -18,14 +18,13 @@ impl<'a> command_line::Job<'a> for Job<'a> {
 
     ghost Reads = { ReadsValues };
 
-    /// Returns the job, with the file that the arguments name. First checks that exactly one root
-    /// is given, then the form, then the other values.
+    /// Returns the job on the database that the arguments name. The root is checked first: exactly
+    /// one must be given. Then come the form and the other values.
     ///
     /// # Errors
     ///
-    /// Fails with `Refused` if a root is given twice or not at all, or the form is unknown. Fails
-    /// with `BadValue` if another argument is invalid, and with `Memory` only if memory was
-    /// refused.
+    /// Fails with `Refused` if no root is given, if two are, or if the form is unknown. Fails with
+    /// `BadValue` if another argument is invalid, and with `Memory` only if an allocation fails.
     fn read(
         alloc: Global,
         name: CommandName,
@@ -33,7 +32,7 @@ impl<'a> command_line::Job<'a> for Job<'a> {
     ) -> Result<Job<'a>, ArgumentsFault<()>>
         ensures { ReadsValues name (rows_of (found_of arguments.now)) result }
     {
-        // By this law, the values of the job are exactly those that the arguments state.
+        // By this law, the values in the job are exactly those that the arguments spell.
         readers_are_exact();
         let file = value_of(arguments, "FILE");
         match work_of(alloc, name, arguments) {

@@ -1,4 +1,4 @@
-//! Laws of the definitions. Each law is the contract of a function that does nothing.
+//! Laws of the definitions. Each law is the contract of a function with an empty body.
 
 ghost use Rattle.clubdesk_arguments.specs.{Laws.AskForOneJob, Readers.ReadExactly};
 ghost use Rattle.clubdesk_arguments.specs.computed.TextReaders.{text_readers};
@@ -15,7 +15,7 @@ pub fn ask_for_one_job()
     arguments_ask_once::<Job<'static>>();
 }
 
-/// The computed readers return a value if and only if it is the value that the text spells.
+/// The computed readers return a value if and only if the text spells it.
 pub(crate) fn readers_are_exact()
     ensures { ReadExactly text_readers }
 {

@@ -1,4 +1,4 @@
-//! The values of a command's arguments, taken from what `clap` found.
+//! The values that `clap` found for a command's arguments.
 
 ghost use Rattle.std.specs.Prelude.{◌≡◌, option_map};
 ghost use Rattle.clap.specs.Words.{first_of, found_of, rows_of};
@@ -14,21 +14,21 @@ use command_line::{ArgumentsFault, arguments_fault, is_set, read_form, value_of}
 use pass_forms::Form;
 use std::alloc::Global;
 
-/// Returns the value of an argument, parsed as a name.
+/// Returns the value of the argument `id`, parsed as a name.
 pub fn name_of(arguments: &ArgMatches<'_>, id: &str) -> Option<Name>
     ensures { result ≡ spec.name_value text_readers id.now (rows_of (found_of arguments.now)) }
 {
     Name::read(value_of(arguments, id).as_bytes())
 }
 
-/// Returns the value of an argument, parsed as a number.
+/// Returns the value of the argument `id`, parsed as a number.
 pub fn number_at(arguments: &ArgMatches<'_>, id: &str) -> Option<u32>
     ensures { result ≡ spec.number_value id.now (rows_of (found_of arguments.now)) }
 {
     parse_number(value_of(arguments, id))
 }
 
-/// Returns the value of an option, if it is given.
+/// Returns the value of an option, or `None` if the option was left out.
 pub fn given<'a>(arguments: &ArgMatches<'a>, id: &str) -> Option<&'a str>
     ensures { option_map (λ text. text.now) result
         ≡ first_of id.now (rows_of (found_of arguments.now)) }
@@ -36,8 +36,8 @@ pub fn given<'a>(arguments: &ArgMatches<'a>, id: &str) -> Option<&'a str>
     arguments.get_str(id)
 }
 
-/// Returns the argument with a key's new root; `None` if the root's argument was left out, so that
-/// the moment is the last one.
+/// Returns the argument with a key's new root, or `None` if the root's argument was left out. In
+/// that case the argument in its place is the moment.
 pub fn rotation_root<'a>(arguments: &ArgMatches<'a>) -> Option<&'a str>
     ensures { option_map (λ text. text.now) result
         ≡ spec.rotation_root_in (rows_of (found_of arguments.now)) }
@@ -48,7 +48,7 @@ pub fn rotation_root<'a>(arguments: &ArgMatches<'a>) -> Option<&'a str>
     }
 }
 
-/// Returns the last argument, which is the moment.
+/// Returns the moment of a rotation, which is the last argument.
 pub fn rotation_moment<'a>(arguments: &ArgMatches<'a>) -> &'a str
     ensures { result.now ≡ spec.rotation_moment_in (rows_of (found_of arguments.now)) }
 {
@@ -58,13 +58,13 @@ pub fn rotation_moment<'a>(arguments: &ArgMatches<'a>) -> &'a str
     }
 }
 
-/// Returns the argument with a root, or `None` if `--root-stdin` asks to read it from the input;
-/// and the form that `--form` names.
+/// Returns the argument with a root, and the form that `--form` names. Returns `None` as the root
+/// if `--root-stdin` asks to read it from the input.
 ///
 /// # Errors
 ///
-/// Fails with `Refused` if there is neither the argument nor the flag, if there are both, or if the
-/// form is none of the three. Fails with `Memory` if memory was refused.
+/// Fails with `Refused` if the argument and the flag are both given or both missing, or if the form
+/// is unknown. Fails with `Memory` if memory was refused.
 pub fn root_and_form<'a>(
     alloc: Global,
     arguments: &ArgMatches<'_>,

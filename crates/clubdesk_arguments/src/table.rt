@@ -6,7 +6,7 @@ use clap::Command;
 use command_line::{Argument, Commands, Program, Row, command_named, make_application};
 use std::alloc::{AllocError, Global};
 
-/// The commands by their names.
+/// The names of the commands.
 #[derive(Clone, Copy)]
 pub enum CommandName {
     AddMember,
@@ -203,7 +203,7 @@ const ADD_KEY_ARGUMENTS: &[Argument] = &[
 const ROTATE_KEY_ARGUMENTS: &[Argument] = &[
     FILE,
     KEY,
-    // This is the place of the root, or of the moment if `--root-stdin` is given.
+    // This argument is the root, or the moment if `--root-stdin` is given.
     Argument::NeededPositionalAs("ROOT-OR-MOMENT", "ROOT"),
     Argument::Positional("MOMENT"),
     ROOT_BY_INPUT,

@@ -1,4 +1,4 @@
-//! The jobs that the program's arguments can ask for.
+//! The jobs that arguments can ask for.
 
 use club_clock::Clock;
 use club_core::Command;
@@ -12,17 +12,17 @@ use std::marker::Model;
 pub enum Task<'a> {
     /// A command that prints no pass.
     Give(Command),
-    /// A command that gives a key this root, and prints its pass.
+    /// A command that gives this root to a key, and prints the key's pass.
     Key(KeyCommand, Root),
-    /// The day sheet of a day.
+    /// A request for the day sheet of a day.
     Sheet(Day),
-    /// The listing of a key's account, at the moment of the clock.
+    /// A request for the account of a key, at the moment that the clock shows.
     ShowAccount { key: Name, clock: Clock<'a> },
-    /// The listing of a slot.
+    /// A request for the listing of a slot.
     ShowSlot(Slot),
 }
 
-/// A command that gives a key a root. The key's pass is printed in the form.
+/// A command that gives a root to a key. It prints the key's pass in this form.
 #[derive(Drop)]
 pub struct KeyCommand {
     pub name: Name,
@@ -30,41 +30,41 @@ pub struct KeyCommand {
     pub form: Form,
 }
 
-/// The change of a key that gets a root.
+/// What the command does with the key.
 #[derive(Drop)]
 pub enum KeyChange {
-    /// The key is added, for a member.
+    /// Adds the key for this member.
     Add { member: Name },
-    /// The key gets a new root, and its former root is good until the moment.
+    /// Gives the key a new root. Its former root stays valid until this moment.
     Rotate { until: Moment },
 }
 
 /// The settings of the server.
 #[derive(Drop)]
 pub struct Service<'a> {
-    /// The port on the loopback address to listen at; 0 for any free port.
+    /// The port on the loopback address at which to listen; 0 asks for any free port.
     pub port: u16,
     /// The number of connections to serve, 1 to 1,000,000.
     pub count: u32,
-    /// The clock that gives each request its moment.
+    /// The clock that shows the moment of each request.
     pub clock: Clock<'a>,
-    /// The timeout for a client to send its request, and again to read its reply, 1 to 3,600
-    /// seconds.
+    /// The seconds that a client may take to send its request, and again to read its reply, 1 to
+    /// 3,600.
     pub patience: u32,
-    /// Whether each connection is logged.
+    /// Whether the server logs each connection.
     pub log: bool,
 }
 
-/// Work over a database.
+/// Work on a database.
 #[derive(Drop)]
 pub enum Work<'a> {
     Office(Task<'a>),
-    /// A key's command whose root comes from the input.
+    /// The command of a key whose root comes from standard input.
     Rootless(KeyCommand),
     Serve(Service<'a>),
 }
 
-/// Work, and the file of its database.
+/// The work to do, and the file of the database.
 #[derive(Drop)]
 pub struct Job<'a> {
     pub file: &'a str,

@@ -1,4 +1,4 @@
-//! The values of arguments, except those whose texts `club_values` parses.
+//! Parses the values of arguments that `club_values` doesn't parse.
 
 ghost use Rattle.std.specs.Prelude.{◌≡◌};
 ghost use Rattle.clubdesk_arguments.specs.Values as spec;
@@ -6,13 +6,13 @@ ghost use Rattle.clubdesk_arguments.specs.Values as spec;
 use club_rows::{BookingNumber, Root};
 use club_values::digits::read_digits;
 
-/// The most connections that a server takes.
+/// The greatest number of connections that a server accepts.
 pub const MAX_CONNECTIONS: u32 = 1_000_000;
 
-/// The most seconds of a timeout.
+/// The longest timeout, in seconds.
 pub const MAX_PATIENCE: u32 = 3_600;
 
-/// Reads a number of 1 to 9 decimal digits.
+/// Parses a number of 1 to 9 decimal digits.
 #[tactic(auto, unfolding(crate::specs::Values::parse_number))]
 pub fn parse_number(text: &str) -> Option<u32>
     ensures { result ≡ spec.parse_number text.now }
@@ -20,7 +20,7 @@ pub fn parse_number(text: &str) -> Option<u32>
     read_digits(text.as_bytes())
 }
 
-/// Reads a port of TCP, at most 65,535.
+/// Parses a TCP port, at most 65,535.
 pub fn port_of(text: &str) -> Option<u16>
     ensures { result ≡ spec.port_of text.now }
 {
@@ -28,7 +28,7 @@ pub fn port_of(text: &str) -> Option<u16>
     u16::try_from(number).ok()
 }
 
-/// Reads a number of connections, 1 to 1,000,000.
+/// Parses a number of connections, 1 to 1,000,000.
 pub fn count_of(text: &str) -> Option<u32>
     ensures { result ≡ spec.count_of text.now }
 {
@@ -39,7 +39,7 @@ pub fn count_of(text: &str) -> Option<u32>
     Some(number)
 }
 
-/// Reads the number of a booking, 1 to 999,999,999.
+/// Parses a booking number, 1 to 999,999,999.
 #[tactic(auto, using(crate::proofs::ValueLemmas::number_made))]
 pub fn booking_number_of(text: &str) -> Option<BookingNumber>
     ensures { result ≡ spec.booking_number_of text.now }
@@ -48,7 +48,7 @@ pub fn booking_number_of(text: &str) -> Option<BookingNumber>
     BookingNumber::new(number)
 }
 
-/// Reads the seconds of a timeout, 1 to 3,600.
+/// Parses a timeout of 1 to 3,600 seconds.
 pub fn patience_of(text: &str) -> Option<u32>
     ensures { result ≡ spec.patience_of text.now }
 {
@@ -59,7 +59,7 @@ pub fn patience_of(text: &str) -> Option<u32>
     Some(number)
 }
 
-/// Reads a root of 16 to 64 bytes in hexadecimal, with letters in either case.
+/// Parses a root of 16 to 64 bytes in hexadecimal, with letters in either case.
 pub fn root_of(text: &str) -> Option<Root>
     ensures { result ≡ spec.key_root_of text.now }
 {
