@@ -1,4 +1,4 @@
--- A server has the same effect on two desks if each answer and each command does.
+-- If each answer and each command has the same effect on two desks, so does a server.
 use Rattle.std.proofs.Common.{◌≡◌, ℕ, List, ◌∷◌, Option, Some, None, Result, Ok, Err, refl}
 use Rattle.jiff_core.specs.declared.timestamp.Timestamp.{Timestamp}
 use Rattle.club_core.specs.declared.{reply.Reply.Reply, request.Request.Request}
@@ -12,8 +12,8 @@ use Rattle.desk_server.specs.{Served.{AreCommanded, AreServed, CommandRelation, 
 use Rattle.desk_server.specs.declared.{log.Fate.TheVariants.{Absent, Overrun, Unanswered, Exchanged, Commanded}, office.{Answer.Answer, Carried.Carried}}
 use Rattle.desk_server.specs.Served as served
 
--- `Alike old new Gives`: a change of one desk from `old` to `new` is a change of the other by `Gives`. It holds when nothing changes, and for two steps if it
--- holds for each.
+-- `Alike old new Gives` states that a change of one desk from `old` to `new` matches a change of the other desk by `Gives`. An unchanged desk matches an
+-- unchanged desk. If two steps each have a match, so do both steps together.
 module _ {D E : Type 0} (Alike : D → D → (E → E → Type 0) → Type 0)
     (same : (old new : D) (Gives : E → E → Type 0) → new ≡ old → ((e : E) → Gives e e) → Alike old new Gives)
     (after : (old mid new : D) (First Second Wanted : E → E → Type 0) → Alike old mid First → Alike mid new Second

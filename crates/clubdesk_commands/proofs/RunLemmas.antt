@@ -1,4 +1,4 @@
--- The job that arguments ask for, the bytes that are handed over, and the end of work.
+-- Lemmas on the job that arguments ask for, on the bytes handed to a server, and on how work ends.
 use Rattle.std.proofs.Common.{◌≡◌, ℕ, List, Option, Result, Ok, Err, subst, ◌∙◌, inl, inr, refl}
 use Rattle.clap.specs.Words.{Text}
 use Rattle.jiff_core.specs.declared.timestamp.Timestamp.{Timestamp}
@@ -11,14 +11,14 @@ use Rattle.command_line.specs.declared.job.Asked.{Asked, TheVariants.Perform}
 use Rattle.clubdesk_commands.specs.{HandedCommand.command_bytes, Output.{EndsWork, Stream}, Run.{Announces, IsHandedOver, IsReply, Serves}}
 use Rattle.clubdesk_commands.specs.Run as spec
 
--- arguments that were read as a job ask for its work
+-- if parsing the arguments gave this job, the arguments ask for the job's work
 pub asks_for : (given arguments : List Text) (read : Asked JobModel) (job whole : JobModel) (work : Work) → given ≡ arguments → ReadsArguments given (Ok read)
     → read ≡ Perform whole → job ≡ whole → job.work ≡ work → AskFor arguments job.file work
 asks_for given arguments read job whole work same reads is as_whole asked =
     let as_asked : read ≡ Perform (record { file = job.file; work = work }) = is ∙ rw (← as_whole, ← asked) refl in
     subst (λ (it : Asked JobModel). ReadsArguments arguments (Ok it)) as_asked (subst (λ (texts : List Text). ReadsArguments texts (Ok read)) same reads)
 
--- the bytes that a server was given encode the command
+-- if a server was given the bytes of this command, it was given this command
 pub handed_reply : {V : Type 0} (Gives : Giving V) (visit : V) (root : Text) (arguments : List Text) (given bytes : List ℕ) (reply : Option (ℕ × List ℕ))
     (answer : Result (List ℕ) Fault) → given ≡ bytes → bytes ≡ command_bytes root arguments → Gives visit given reply → IsReply reply answer
     → IsHandedOver Gives visit root arguments answer

@@ -1,4 +1,4 @@
--- The effect of a task of the office at a desk (ours).
+-- The effect of the office's tasks on a desk (ours).
 use Rattle.std.specs.{Prelude.{◌≡◌, ℕ, List, [], ◌∷◌, ◌++◌, codes, Option, MatchOption, Result, Ok, Err, IfOk, String}, String.string_bytes}
 use Rattle.std.specs.declared.alloc.Global.{Global}
 use Rattle.club_core.specs.{Club.Club, Run.ToOffice, Sheet.IsSheet, Store.KeepsClub, declared.command.Command.Command}
@@ -16,12 +16,12 @@ use Rattle.clubdesk_arguments.specs.declared.task.Task.TheVariants.{Give, Key, S
 use Rattle.club_clock.specs.Moments.{IsMomentOf}
 use Rattle.jiff_core.specs.declared.timestamp.Timestamp.{Timestamp}
 
--- the office's command that adds a key with this root, or gives a key this root
+-- the command for the desk that gives this root to a key, which is added if it is a new key
 abbrev pub key_command : List ℕ → KeyChange → List ℕ → Command
 key_command name (Add member) root = office.AddKey name member root
 key_command name (Rotate until) root = office.RotateKey name root until
 
--- the line is the text of a key's pass under a root, in a form, with a line feed; it exists if the text is within the limits
+-- The line is the text of a key's pass in this form, followed by a line feed. It exists only if the text is within the limits.
 pub record IsPassLine (name root : List ℕ) (form : Form) (line : List ℕ) : Type 0 where
   pub text : List ℕ
   pub is : IsWritableText (IsTextIn form) (key_pass name (minted_signature name root)) text
@@ -32,30 +32,30 @@ abbrev pub fault_of_desk : DeskFault → Fault
 fault_of_desk (desk.Refused refusal) = Refused refusal
 fault_of_desk (desk.Store failure) = fault_of_opening failure
 
--- the answer to a command: its fault if it was refused, otherwise the text
+-- The answer for the desk's reply to a command. It is a fault if the desk refused the command, else this text.
 abbrev pub GivesReply : List ℕ → Result (List ℕ) Fault → OfficeReply → Type 0
 GivesReply text answer (replies.Refused fault) = answer ≡ Err (fault_of_desk fault)
 GivesReply text answer reply = answer ≡ Ok text
 
--- the answer for a result of the desk
+-- the answer for the result of a listing or of a sheet
 abbrev pub answer_of_desk : {Z : Type 0} → Result (String Z) DeskFault → Result (List ℕ) Fault
 answer_of_desk (Ok text) = Ok (string_bytes text)
 answer_of_desk (Err fault) = Err (fault_of_desk fault)
 
 module _ {S : Type 0} (Clean : S → Type 0) (Represents : S → Club → List Club → Type 0) where
-  -- The desk got a command, and its reply became the answer, which is this text if the command wasn't refused.
+  -- The desk got a command, and its reply became the answer. The answer is this text, or the fault if the command was refused.
   pub record IsGiven (command : Command) (text : List ℕ) (answer : Result (List ℕ) Fault) (old new : S) : Type 0 where
     pub reply : OfficeReply
     pub was_clean : Clean new → Clean old
     pub steps : Clean new → Steps Represents old new (machine.Commanded command) (ToOffice reply)
     pub answers : GivesReply text answer reply
 
-  -- The text was made before the desk got the command. If memory for the text was refused, nothing was done.
+  -- The text was made first, and then the desk got the command. If there was no memory for the text, the desk got no command.
   pub data IsAnswered (command : Command) (IsText : List ℕ → Type 0) (answer : Result (List ℕ) Fault) (old new : S) : Type 0 where
     out_of_memory : answer ≡ Err Memory → new ≡ old → IsAnswered command IsText answer old new
     command_given : (text : List ℕ) → IsText text → IsGiven command text answer old new → IsAnswered command IsText answer old new
 
-  -- The desk was asked for a listing or a sheet, and its result became the answer. The club is unchanged.
+  -- The desk returned a listing or a sheet, which is the answer. The club is unchanged.
   pub record DeskShows (Shows : Club → Result (String Global) DeskFault → Type 0) (answer : Result (List ℕ) Fault) (old new : S) : Type 0 where
     pub was_clean : Clean new → Clean old
     pub kept : Clean new → KeepsClub Represents old new
@@ -63,7 +63,7 @@ module _ {S : Type 0} (Clean : S → Type 0) (Represents : S → Club → List C
     pub shows : OfItsClub Clean Represents old new (λ club. Shows club returned)
     pub is : answer ≡ answer_of_desk returned
 
-  -- The answer to a task of the office, and its effect on a store, stated by the store's trait. `Given` holds the instants that the machine's clock may show.
+  -- The answer to a task of the office, and the task's effect on a store by its trait. `Given` states which instants the machine's clock may show.
   abbrev pub Does : (Option Timestamp → Type 0) → Task → Result (List ℕ) Fault → S → S → Type 0
   Does Given (Give given) answer old new = IsAnswered given (λ line. line ≡ codes "done\n") answer old new
   Does Given (Key given root) answer old new =

@@ -1,4 +1,4 @@
--- The pieces so far.
+-- The bytes so far are the pieces of the arguments so far.
 use Rattle.std.proofs.Common.{◌≡◌, ◌++◌, take, map}
 use Rattle.clubdesk_commands.specs.HandedCommand.{pieces}
 use Rattle.clubdesk_commands.proofs.handed_command.push_pieces.Given as goal

@@ -1,4 +1,4 @@
--- The arguments so far, and the rest of the text.
+-- The pieces of the arguments so far and the rest of the text make up the whole text.
 use Rattle.std.proofs.Common.{◌≡◌, ◌++◌, map, length}
 use denote.Text.{Utf8}
 use denote.Shadow.{shadow}
