@@ -1,4 +1,4 @@
-//! The bytes of a command that is handed to a server.
+//! The bytes with which a command is handed to a server.
 
 ghost use Rattle.std.specs.List.{AllByRecursion};
 ghost use Rattle.std.specs.Prelude.{◌≡◌, ◌++◌, ◌∷◌, [], IfOk, MatchOption, OnOk, map};
@@ -9,8 +9,8 @@ use std::alloc::{AllocError, Global};
 use std::convert::AsStr;
 use std::str;
 
-/// A command that is handed over: the root that it read from standard input, empty if it read none,
-/// and its arguments. The first argument is the program's name.
+/// A command that is handed to a server: the root from standard input, and the arguments. The root
+/// is empty if none was read. The first argument is the program's name.
 #[derive(Drop)]
 pub struct HandedCommand {
     pub root: String,
@@ -21,7 +21,7 @@ pub struct HandedCommand {
 ///
 /// # Errors
 ///
-/// Fails if there is no memory for the bytes.
+/// Fails if memory for the bytes is refused.
 pub fn command_bytes<S: AsStr>(
     alloc: Global,
     root: &str,
@@ -57,12 +57,12 @@ fn push_piece(bytes: &mut Vec<u8>, text: &str) -> Result<(), AllocError>
     Ok(())
 }
 
-/// Decodes the bytes of a command, and returns `None` if they don't encode one. The root and the
-/// arguments must be UTF-8 without zero bytes, and the number of arguments must be the encoded one.
+/// Decodes a command, or returns `None` if no command has these bytes. The root and the arguments
+/// must be UTF-8 without zero bytes. Their number must be the encoded one.
 ///
 /// # Errors
 ///
-/// Fails if there is no memory for the command.
+/// Fails if memory for the command is refused.
 pub fn read_command(alloc: Global, bytes: &[u8]) -> Result<Option<HandedCommand>, AllocError>
     ensures { IfOk result (λ command. spec.IsCommandOf bytes.now command) }
 {
@@ -86,7 +86,7 @@ pub fn read_command(alloc: Global, bytes: &[u8]) -> Result<Option<HandedCommand>
     }
 }
 
-// The arguments that a text's pieces encode; `None` if the text has something after the last piece.
+// Returns the arguments that a text's pieces spell, or `None` if bytes follow the last piece.
 fn split_arguments(alloc: Global, text: &str) -> Result<Option<Vec<String>>, AllocError>
     ensures { IfOk result (λ arguments. MatchOption arguments (spec.EndsWithoutZero text.now)
         (λ arguments. (text.now ≡ spec.pieces (map string_bytes arguments.items))

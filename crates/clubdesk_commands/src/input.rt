@@ -1,4 +1,4 @@
-//! Reads a key's root from the input.
+//! Reads a key's root from standard input.
 
 ghost use Rattle.std.specs.Prelude.{◌≡◌};
 ghost use Rattle.clubdesk_commands.specs.Input as spec;
@@ -8,14 +8,14 @@ use clubdesk_arguments::{Fault, root_of};
 use command_line::{fill, without_line_feed};
 use std::io::Read;
 
-/// One byte more than the longest root in hexadecimal with its line feed.
+/// One byte more than the longest root in hexadecimal and a line feed.
 const MAX_READ: usize = 130;
 
-/// Reads a root in hexadecimal. One line feed at the end isn't part of the root.
+/// Reads a root in hexadecimal, which one line feed may follow.
 ///
 /// # Errors
 ///
-/// Fails with `BadValue` if the bytes aren't a root, and with `InputOutput` if the reader failed.
+/// Fails with `BadValue` if the input isn't a root, and with `InputOutput` if the reader failed.
 pub(crate) fn read_root<R: Read>(reader: &mut R) -> Result<Root, Fault>
     ensures { spec.TakesRoot (R.remaining reader.old) (R.remaining reader.new) result }
 {
@@ -26,7 +26,7 @@ pub(crate) fn read_root<R: Read>(reader: &mut R) -> Result<Root, Fault>
     }
 }
 
-/// Decodes a root from hexadecimal, without one line feed at the end.
+/// Decodes a root from hexadecimal, after removing a line feed from the end.
 pub(crate) fn root_in(bytes: &[u8]) -> Option<Root>
     ensures { result ≡ spec.root_in_input bytes.now }
 {

@@ -1,5 +1,5 @@
-//! The commands of `clubdesk`. A command that the arguments ask for is carried out on a database,
-//! or by the server that has it open.
+//! The commands of `clubdesk`. A run carries out its command on a database, or hands it to the
+//! server that has the database open.
 #![tactic(auto)]
 
 mod handed_command;

@@ -1,4 +1,4 @@
-//! The tasks of the office, carried out at a desk.
+//! Carries out the office's tasks at a desk.
 
 ghost use Rattle.std.specs.{Prelude.{◌≡◌, IfErr, IfSome}, String.string_bytes};
 ghost use Rattle.clubdesk_commands.specs.Does as spec;
@@ -14,14 +14,14 @@ use pass_forms::Form;
 use pass_json::write_any;
 use std::alloc::Global;
 
-/// Carries out a task at a desk, and returns the answer.
+/// Carries out a task at a desk, and returns the text of its answer.
 ///
 /// # Errors
 ///
-/// Fails with `Refused`, `Memory` or `Storage` if the desk returns them. Fails with `Memory` also
-/// if there was none for the text of a command's answer; then the desk got no command. Fails with
-/// `ClockOutOfRange` if a listing needs the moment and the clock shows none. In each case the club
-/// is unchanged.
+/// Fails with `Refused`, `Memory` or `Storage` if the desk does. Fails with `Memory` before the
+/// desk gets a command if there is no memory for the answer. Fails with `ClockOutOfRange` if a
+/// listing needs the moment and the clock shows none. After any of these faults the club is
+/// unchanged.
 pub(crate) fn carry_out<C: Instants, S: ClubStore>(
     alloc: Global,
     machine: &C,
@@ -53,7 +53,7 @@ pub(crate) fn carry_out<C: Instants, S: ClubStore>(
     }
 }
 
-// Gives a command to the desk, and returns a text if it is carried out.
+// Hands a command to the desk, and returns this text if the desk carries it out.
 fn give<S: ClubStore>(desk: &mut Desk<S>, command: &Command, text: String) -> Result<String, Fault>
     ensures given { spec.IsGiven S.disk_is_clean S.represents command.now (string_bytes text)
         (text_of result) desk.old desk.new }
@@ -65,8 +65,8 @@ fn give<S: ClubStore>(desk: &mut Desk<S>, command: &Command, text: String) -> Re
     }
 }
 
-// The line of a key's pass under a root; `None` if memory ran out. A pass this short has a text in
-// every form.
+// Returns the line of a key's pass, or `None` if memory ran out. A pass without caveats is short
+// enough for each form.
 fn pass_line(alloc: Global, name: &Name, root: &Root, form: Form) -> Option<String>
     ensures { IfSome result (λ line. spec.IsPassLine name.now root.now form
         (string_bytes line)) }
@@ -81,7 +81,7 @@ fn pass_line(alloc: Global, name: &Name, root: &Root, form: Form) -> Option<Stri
     Some(line)
 }
 
-// The office's command that gives a key this root.
+// Returns the desk's command that gives this root to a key.
 fn key_command(name: Name, change: KeyChange, root: Root) -> Command
     ensures { result ≡ spec.key_command name change root }
 {
@@ -91,7 +91,7 @@ fn key_command(name: Name, change: KeyChange, root: Root) -> Command
     }
 }
 
-// The answer for a result of the desk.
+// Returns the answer for a result of the desk.
 fn answer_of_desk(returned: Result<String, club_gate::Fault>) -> Result<String, Fault>
     ensures is { text_of result ≡ spec.answer_of_desk returned }
     ensures worked { IfErr result IsWorkFault }
@@ -102,7 +102,7 @@ fn answer_of_desk(returned: Result<String, club_gate::Fault>) -> Result<String, 
     }
 }
 
-// The program's fault for a fault of the desk.
+// Returns the program's fault for a fault of the desk.
 fn fault_of_desk(returned: club_gate::Fault) -> Fault
     ensures is { result ≡ spec.fault_of_desk returned }
     ensures worked { IsWorkFault result }

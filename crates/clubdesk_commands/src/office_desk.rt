@@ -1,4 +1,4 @@
-//! A server's desk, which also carries out the office's commands.
+//! The desk of a server. It answers requests, and carries out the office's commands.
 
 ghost use Rattle.std.specs.Prelude.{◌≡◌, map, MatchOption, Err, option_copied, option_map};
 ghost use Rattle.std.specs.String.{string_bytes};
@@ -20,20 +20,20 @@ use http_response::Line;
 use std::alloc::Global;
 use std::marker::Model;
 
-/// The status of a command that was done.
+/// The status of a command that was carried out.
 const DONE: u8 = 0;
 
-/// The status of bytes that encode no command of the office.
+/// The status of bytes that aren't a command of the office.
 const NO_COMMAND: u8 = 2;
 
-/// The status of a command that got no memory for its answer.
+/// The status of a command for whose answer memory was refused.
 const OUT_OF_MEMORY: u8 = 4;
 
-/// The most letters of a command's name that are logged. No command's name is longer.
+/// The number of letters of the longest name of a command in the log.
 const MAX_NAME_LEN: usize = 24;
 
-/// A desk over an open store, with the memory and the machine's clock that the office's commands
-/// need. Contracts see the store and the clock.
+/// A desk over an open store. It also has the memory and the machine's clock that the office's
+/// commands need. In contracts it is the pair of store and clock.
 #[derive(Drop)]
 pub struct OfficeDesk<'a, S: ClubStore, C> {
     desk: Desk<S>,
@@ -101,8 +101,8 @@ impl<S: ClubStore, C: Instants> Office for OfficeDesk<'_, S, C> {
     }
 }
 
-// Carries out a command. Returns `None` if its arguments ask for something other than a command of
-// the office.
+// Carries out a command. Returns `None` if its arguments ask for help, the version or a server
+// instead.
 fn answer_command<S: ClubStore, C: Instants>(
     alloc: Global,
     machine: &C,
@@ -131,7 +131,7 @@ fn answer_command<S: ClubStore, C: Instants>(
     }
 }
 
-// The answer with this status and text. Only the name of a command is kept for a log.
+// Returns the answer with this status and text. The log gets only the command's name.
 fn answer_of(status: u8, name: Option<&String>, text: String) -> Answer
     ensures status { result.carried.status ≡ status }
     ensures line { result.carried.line ≡ spec.named_line
@@ -152,7 +152,7 @@ fn answer_of(status: u8, name: Option<&String>, text: String) -> Answer
     }
 }
 
-// The answer for a fault: its status and its line.
+// Returns the answer with a fault's status and line.
 fn refusal_of(alloc: Global, fault: &Fault, name: Option<&String>) -> Answer
     ensures answers { AnswersWith (Err fault.now) result }
     ensures line { result.carried.line ≡ spec.logged_line (Err fault.now)

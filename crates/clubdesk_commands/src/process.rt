@@ -1,4 +1,4 @@
-//! A process of the program, from its arguments to its exit status.
+//! A run of the whole program, from the process's arguments to its exit status.
 
 ghost use Rattle.std.specs.Prelude.{◌≡◌, IfErr};
 ghost use Rattle.clubdesk_arguments.specs.Fault.{fault_output};
@@ -12,7 +12,7 @@ use command_line::{FaultLines, GivenArguments, given_arguments, report};
 use desk_server::{Databases, Log, MonotonicClock};
 use std::io::{Read, Write};
 
-/// Runs the program on the arguments of a process, prints the line of a fault, and returns the exit
+/// Runs the program on the arguments of a process, and prints the text of a fault. Returns the exit
 /// status.
 pub fn run_process<
     P: GivenArguments + FaultLines,
@@ -45,7 +45,7 @@ pub fn run_process<
     }
 }
 
-/// Returns the exit status for a run's result, and prints the line of its fault.
+/// Returns the exit status for a run's result, and prints the text of a fault.
 pub fn finish<P: FaultLines>(process: &P, ended: Result<(), Fault>) -> u8
     ensures status { result ≡ spec.exit_status ended }
     ensures line { IfErr ended (λ fault. P.asked process.now (fault_output fault)) }

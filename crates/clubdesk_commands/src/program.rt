@@ -1,4 +1,4 @@
-//! A run of the program, over arguments, a reader and writers.
+//! A run of the program on given arguments, a reader, a writer and a log.
 
 ghost use Rattle.std.specs.Prelude.{◌≡◌, IfErr, IfOk, map};
 ghost use Rattle.clubdesk_commands.specs.{HandedCommand.command_bytes, Output.EndsWork};
@@ -18,23 +18,23 @@ use std::alloc::{AllocError, Global};
 use std::convert::AsStr;
 use std::io::{Read, Write};
 
-/// Runs the program on its arguments, which begin with its name. `machine` is the clock for
-/// timeouts and, without `--at`, for the moments of a server's requests.
+/// Runs the program on its arguments. The first argument is the program's name. `machine` is the
+/// clock for timeouts and, without `--at`, for the moments of requests to a server.
 ///
-/// The arguments are checked before a database is reached. A server opens the database once, and
-/// closes it at the end; meanwhile other runs hand their commands to the server. Without a server,
-/// a run opens the database once, and closes it before it writes its output. The only input is a
-/// root in hexadecimal, if `--root-stdin` asks for it. It is read after the arguments and before
-/// the database is reached, without one line feed at its end. Help and the version are written as
-/// `clap` makes them. Only `serve` with `--log` notes each client and each command in the log.
+/// The arguments are checked before a database is reached. A server opens its database once, and
+/// closes it at the end. While it runs, other runs hand their commands to it. A run without a
+/// server opens the database once, and closes it before writing the output. The only input is a
+/// root in hexadecimal, which `--root-stdin` asks for. It is read before the database is reached,
+/// and a line feed at its end is ignored. Help and the version are written as `clap` makes them.
+/// Only `serve --log` writes a log.
 ///
 /// # Errors
 ///
-/// Fails with `Arguments` or `BadValue` if the arguments are wrong, and with `BadValue` also if the
-/// input isn't a root. Fails with `Refused` if a rule forbids the command, with `Storage` if the
-/// database fails or can't be opened, and with `Memory` if memory is refused. After all these
-/// faults nothing was written. `ClockOutOfRange` and `InputOutput` may come after a part of the
-/// output was written; if the input can't be read, nothing was written.
+/// Fails with `Arguments` or `BadValue` if the arguments are wrong, and with `BadValue` if the
+/// input isn't a root. Fails with `Refused` if a rule forbids the command, and with `Memory` if
+/// memory is refused. Fails with `Storage` if the database fails or can't be opened. After all
+/// these faults nothing was written. Before `ClockOutOfRange` or `InputOutput`, a part of the
+/// output may have been written, but nothing if the input couldn't be read.
 pub fn run<C: Instants + MonotonicClock, D: Databases, S: AsStr, R: Read, W: Write, G: Log>(
     rt: &HostRuntime,
     machine: &C,
@@ -84,9 +84,9 @@ pub fn run<C: Instants + MonotonicClock, D: Databases, S: AsStr, R: Read, W: Wri
     }
 }
 
-// Carries out a task of the office, by the server that has the database open, or on the database
-// itself. It closes the database before it writes the answer, so that a blocked writer doesn't keep
-// the database open.
+// Carries out a task of the office: by the server that has the database open, or on the database
+// itself. It closes the database before it writes the answer. So a blocked writer doesn't keep the
+// database open.
 fn perform<C: Instants, D: Databases, S: AsStr, W: Write>(
     alloc: Global,
     machine: &C,
@@ -113,7 +113,7 @@ fn perform<C: Instants, D: Databases, S: AsStr, W: Write>(
     }
 }
 
-// Hands a command to a server, and returns its answer.
+// Hands a command to a server, and returns the server's answer.
 fn hand_over<V: Visit + Drop, S: AsStr>(
     alloc: Global,
     visit: V,
@@ -135,8 +135,8 @@ fn hand_over<V: Visit + Drop, S: AsStr>(
     }
 }
 
-// The bytes of a command: its arguments, and the root of its task, which the arguments may lack.
-// The root is empty if the task has none.
+// Returns the bytes of a command with these arguments and the root of its task. The root is empty
+// if the task has none.
 fn handed_bytes<S: AsStr>(
     alloc: Global,
     arguments: &[S],
@@ -154,7 +154,7 @@ fn handed_bytes<S: AsStr>(
     }
 }
 
-// Writes the answer to a task.
+// Writes the text of an answer, or returns its fault.
 fn print<W: Write>(answer: Result<String, Fault>, writer: &mut W) -> Result<(), Fault>
     ensures prints { Prints (text_of answer) (stream W.contents writer.old writer.new) result }
     ensures ends { IfErr answer IsWorkFault → EndsWork (writer.new ≡ writer.old) result }
@@ -168,7 +168,7 @@ fn print<W: Write>(answer: Result<String, Fault>, writer: &mut W) -> Result<(), 
     }
 }
 
-// Writes help or the version, whose bytes no clause states.
+// Writes the text of help or of the version, which no clause states.
 fn show<W: Write>(text: &clap::Error, writer: &mut W) -> Result<(), Fault>
     ensures { IfErr result (λ fault. fault ≡ Fault.InputOutput) }
 {

@@ -1,4 +1,4 @@
-//! The server over a desk.
+//! Runs a server at a desk.
 
 ghost use Rattle.std.specs.Prelude.{◌≡◌, IfOk, List, MatchResult, false};
 ghost use Rattle.desk_server.specs.Served.{AreNoted, Turn};
@@ -23,13 +23,13 @@ use std::time::Duration;
 /// The address at which the server listens.
 const LOOPBACK: &str = "127.0.0.1";
 
-/// Serves the database of a name. It opens the database before it writes its address, and closes it
-/// at the end. Meanwhile commands of the office come through the database's door.
+/// Serves the database with this name. Opens the database before writing the address, and closes it
+/// at the end. Meanwhile the office's commands come through the database's door.
 ///
 /// # Errors
 ///
-/// Fails as `serve` does. Fails also with `Storage` or `Memory` if the database can't be opened or
-/// its door can't be made; then nothing was written.
+/// Fails in the same cases as `serve`. Fails also with `Storage` or `Memory` if the database can't
+/// be opened or its door can't be made. Then nothing was written.
 pub fn serve_file<C: Instants + MonotonicClock, D: Databases, W: Write, G: Log>(
     rt: &HostRuntime,
     machine: &C,
@@ -71,17 +71,16 @@ pub fn serve_file<C: Instants + MonotonicClock, D: Databases, W: Write, G: Log>(
     outcome
 }
 
-/// Listens on the loopback address, writes the address and port, and serves clients and the
-/// commands that come through the door. Each client is served at the moment that the service fixes,
-/// or else at the moment that the machine's clock shows in the service's zone. The machine's clock
-/// also measures the service's patience with a client. If a log is asked for, it notes each client
-/// and command.
+/// Listens on the loopback address, and writes the address and the port. Then serves clients, and
+/// the commands that come through the door. A client is served at the service's fixed moment, or at
+/// the moment of the machine's clock in the service's zone. The machine's clock also measures the
+/// timeout for a client. If a log is asked for, it notes each client and each command.
 ///
 /// # Errors
 ///
 /// Fails with `InputOutput` if the server can't listen or the writer failed, and with `Memory` if
-/// memory is refused; then nothing was served. Fails with `ClockOutOfRange` if the clock shows no
-/// moment within the club's years when a client comes, which ends the server.
+/// memory is refused. Then nobody was served. Fails with `ClockOutOfRange` if the clock shows no
+/// moment within the club's years when a client comes. This ends the server.
 pub fn serve<D: Office, C: Instants + MonotonicClock, W: Write, G: Log>(
     rt: &HostRuntime,
     machine: &C,
@@ -119,8 +118,8 @@ pub fn serve<D: Office, C: Instants + MonotonicClock, W: Write, G: Log>(
     }
 }
 
-// Listens, allocates all memory that the server needs before the first request, and writes the
-// address and port.
+// Before the first request, listens, allocates all memory that the server needs, and writes the
+// address and the port.
 fn listen<W: Write>(
     rt: &HostRuntime,
     port: u16,
@@ -146,8 +145,8 @@ fn listen<W: Write>(
     }
 }
 
-// Listens at a port of the loopback address, and returns the port. For port 0, the system chooses
-// one.
+// Listens at a port of the loopback address, and returns the port. If the port is 0, the system
+// chooses a free one.
 fn bind(rt: &HostRuntime, port: u16) -> io::Result<(TcpListener, u16)>
     ensures { IfOk result (λ bound. spec.IsPortFor port bound.1) }
 {
@@ -160,7 +159,7 @@ fn bind(rt: &HostRuntime, port: u16) -> io::Result<(TcpListener, u16)>
     Ok((listener, chosen))
 }
 
-// The program's result for a server's result.
+// Returns the program's result for the result of a server.
 fn outcome_of(outcome: Result<(), ClockOutOfRange>) -> Result<(), Fault>
     ensures { result ≡ spec.outcome_of_server outcome }
 {
