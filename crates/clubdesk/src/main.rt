@@ -1,5 +1,5 @@
-//! The facilities desk of a club on the command line: runs `clubdesk_commands` on the process's
-//! arguments and standard streams, over databases in files.
+//! The program `clubdesk`, a club's facilities desk. It runs `clubdesk_commands` on the process's
+//! arguments and standard streams, with databases in files.
 #![tactic(auto)]
 
 use club_http::WriteOutlet;
@@ -16,8 +16,8 @@ fn main(rt: HostRuntime) -> ExitCode {
     ExitCode::from(run_over_files(&rt, Program { rt: &rt }))
 }
 
-// Runs the program on the process's arguments and standard streams. It also serves as the process,
-// since a call that takes the runtime twice can't be proved.
+// Runs the program on the arguments and streams of the process. This type is also the process
+// itself, since a call that takes the runtime twice can't be proved.
 #[derive(Drop)]
 struct Program<'a> {
     rt: &'a HostRuntime,

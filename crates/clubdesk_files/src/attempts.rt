@@ -1,4 +1,4 @@
-//! Repeats attempts, with short sleeps between them.
+//! Repeats an attempt, with short sleeps between the tries.
 
 ghost use Rattle.clubdesk_files.specs.Attempts.{GainsWithin};
 
@@ -11,22 +11,22 @@ pub(crate) const SLEEP_MILLIS: u64 = 10;
 /// The number of attempts in a second.
 pub const ATTEMPTS_A_SECOND: u32 = 100;
 
-/// A resource that other programs may hold, and that is tried for repeatedly.
+/// A resource that another program may be using, and that a caller tries to get repeatedly.
 pub trait Attempts {
     type Gain;
 
     ghost use Rattle.clubdesk_files.specs.Attempts.{Gains};
 
-    // the results of an attempt, with the state before and after
+    // which results an attempt may have, given the state before and after it
     ghost gains: { Gains Self Self.Gain };
 
-    /// Tries once, and returns `None` if that failed.
+    /// Tries once, and returns `None` if the try failed.
     fn attempt(&mut self) -> Option<Self::Gain>
         ensures { gains self.old result self.new };
 }
 
-/// Makes at most `most` attempts, with a sleep after each that fails. Returns the first gain, or
-/// `None` if all failed.
+/// Tries at most `most` times, and sleeps after each failed try. Returns the first gain, or `None`
+/// if all tries failed.
 pub fn gain<A: Attempts, C: Clock>(attempts: &mut A, clock: &C, most: u32) -> Option<A::Gain>
     ensures { GainsWithin A.gains most attempts.old result attempts.new }
 {

@@ -1,4 +1,4 @@
-//! The files next to a database.
+//! The files in the folder of a database.
 
 ghost use Rattle.std.specs.Prelude.{◌≡◌, ◌↔◌, ◌⊎◌, IsTrue};
 
@@ -18,18 +18,18 @@ pub(crate) const OWNERS_MODE: u32 = 0o600;
 /// The name of a database in memory, which has no files.
 pub(crate) const IN_MEMORY: &str = ":memory:";
 
-/// The folder in which a program runs.
+/// The current folder.
 const HERE: &str = ".";
 
-/// The suffix of the door's name, after the database's name.
+/// The suffix that makes a door's name from a database's name.
 const OFFICE: &str = "-office";
 
-/// The user id of root.
+/// The user id of the user root.
 const ROOT: u32 = 0;
 
-/// The opened folder of a database, and the database's name in it. Links on the way are resolved. A
-/// path through the folder's descriptor is short enough for a socket's address, even if the
-/// folder's own path is too long.
+/// The opened folder of a database, and the database's name in the folder, after links were
+/// resolved. A path through the folder's descriptor is short enough for a socket's address. The
+/// folder's own path may be too long.
 #[derive(Drop)]
 pub(crate) struct Place {
     folder: File,
@@ -37,8 +37,8 @@ pub(crate) struct Place {
 }
 
 impl Place {
-    /// Returns the place of the database at this path. If the file is gone but its folder is there,
-    /// the place is that of the name in the folder, since a server that has the file open goes on.
+    /// Returns the place of the database at this path. A missing file has a place if its folder
+    /// exists, since a server that has the file open goes on serving.
     pub fn find(rt: &HostRuntime, file: &str) -> io::Result<Place> {
         match fs::canonicalize(rt, file) {
             Ok(whole) => Place::of(rt, whole.as_path()),
@@ -60,19 +60,19 @@ impl Place {
         Ok(Place { folder, name })
     }
 
-    /// Returns the path of the door.
+    /// Returns the path of the door's socket.
     pub fn door(&self, rt: &HostRuntime) -> Result<String, AllocError> {
         self.path(rt, OFFICE)
     }
 
-    // The path of the database's name with this suffix.
+    // Returns the path of the database's name followed by this suffix.
     fn path(&self, rt: &HostRuntime, ending: &str) -> Result<String, AllocError> {
         let descriptor = self.folder.as_raw_fd();
         let name = self.name.as_str();
         format!(in rt.alloc(); "/proc/self/fd/{descriptor}/{name}{ending}")
     }
 
-    // The user id of the database's owner; the caller's if the database is gone.
+    // Returns the user id of the database's owner, or the caller's if the file is missing.
     fn owner(&self, rt: &HostRuntime) -> io::Result<u32> {
         let path = self.path(rt, "")?;
         match fs::symlink_metadata(rt, path.as_str()) {
@@ -82,12 +82,12 @@ impl Place {
         }
     }
 
-    /// Returns whether the door's name is that of a socket that may be the door of this database.
+    /// Returns whether a socket has the door's name, made by a user who may make the door.
     ///
     /// # Errors
     ///
-    /// Fails with `InvalidData` if something else has the name, or the socket belongs to a user who
-    /// may not make the door.
+    /// Fails with `InvalidData` if something else has the name, or if the socket belongs to a user
+    /// who may not make the door.
     pub fn has_door(&self, rt: &HostRuntime) -> io::Result<bool> {
         let path = self.door(rt)?;
         match fs::symlink_metadata(rt, path.as_str()) {
@@ -105,16 +105,16 @@ impl Place {
     }
 }
 
-/// Returns whether a user may make the door of a database: its owner, the caller and root may. The
-/// check is needed because anyone who can write to the folder could put a socket there and would
-/// get the commands sent to it.
+/// Returns whether a user may make the door of a database. Its owner, the caller and root may.
+/// Without this check, anyone who can write to the folder could put a socket there, and would get
+/// the commands.
 pub fn may_make_door(user: u32, owner: u32, caller: u32) -> bool
     ensures { IsTrue result ↔ ((user ≡ owner) ⊎ (user ≡ caller) ⊎ (user ≡ ROOT)) }
 {
     user == owner || user == caller || user == ROOT
 }
 
-/// Returns the fault of a door that can't be made or used.
+/// Returns the fault for a door that can't be made or used.
 pub(crate) fn fault_of(error: &io::Error) -> StoreFault {
     match error.kind() {
         ErrorKind::OutOfMemory => StoreFault::Memory,
@@ -122,8 +122,8 @@ pub(crate) fn fault_of(error: &io::Error) -> StoreFault {
     }
 }
 
-/// The file of a socket, identified by its inode number. No other file gets that number while a
-/// listener has the socket.
+/// The file of a socket, identified by its inode number. No other file gets this number while a
+/// listener has the socket open.
 #[derive(Clone, Copy, Drop)]
 pub(crate) struct SocketFile {
     inode: u64,
@@ -136,7 +136,7 @@ impl SocketFile {
         Ok(SocketFile { inode })
     }
 
-    /// Removes the file from a path, if this file is still there.
+    /// Removes the file from a path, if the path still leads to this file.
     pub fn remove(self, rt: &HostRuntime, path: &str) {
         match SocketFile::at(rt, path) {
             Ok(found) if found.inode == self.inode => {
@@ -147,7 +147,7 @@ impl SocketFile {
     }
 }
 
-/// Creates an empty file that only its owner may read and write, if nothing has its name.
+/// Creates an empty file that only its owner may read and write, unless the file exists.
 pub(crate) fn make_private(rt: &HostRuntime, file: &str) {
     if file != IN_MEMORY {
         let mut options = OpenOptions::new();

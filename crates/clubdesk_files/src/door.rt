@@ -1,5 +1,4 @@
-//! The door of a server in the file system: a socket next to the database, which only its owner may
-//! use.
+//! The door of a server: a socket next to the database, which only the database's owner may use.
 
 use crate::beside::{IN_MEMORY, OWNERS_MODE, Place, SocketFile};
 use desk_server::Door;
@@ -11,24 +10,24 @@ use std::os::unix::net::{SocketAddr, UnixListener};
 use std::rt::Files;
 use std::{fs, io};
 
-/// The most commands that may wait for the server.
+/// The number of commands that may wait for the server.
 const BACKLOG: i32 = 128;
 
-/// The socket of a server's door. The socket's file is removed when this value is dropped, unless
-/// another server's door has taken its name. A database in memory has no door.
+/// The socket of a server's door. Dropping this value removes the socket's file, unless another
+/// server's door now has the name. A database in memory has no door.
 pub struct FileDoor<'a> {
     rt: &'a HostRuntime,
     at: Option<(Place, SocketFile, UnixListener)>,
 }
 
 impl<'a> FileDoor<'a> {
-    /// Makes the door of a database, and replaces a socket that a killed server left. Only the
-    /// program that has the database open calls this, so nobody listens at an existing socket.
+    /// Makes the door of a database. Replaces a socket that a killed server left behind. Only the
+    /// program that has the database open calls this, so nobody listens at such a socket.
     ///
     /// # Errors
     ///
-    /// Fails if the door's name is that of something other than a socket, or of a socket whose user
-    /// may not make the door. Fails also if the folder can't be written, or memory is refused.
+    /// Fails if the door's name belongs to another kind of file, or to a socket whose owner may not
+    /// make the door. Fails also if the folder isn't writable, or memory is refused.
     pub fn make(rt: &'a HostRuntime, file: &str) -> io::Result<FileDoor<'a>> {
         if file == IN_MEMORY {
             return Ok(FileDoor { rt, at: None });
@@ -47,8 +46,8 @@ impl<'a> FileDoor<'a> {
     }
 }
 
-// Binds a socket at a path. The mode of its file is the mode of its descriptor less the umask, so
-// nobody else can connect at any time.
+// Binds a socket at a path. The mode of the socket's file is the mode of its descriptor less the
+// umask. So at no time can another user connect.
 fn bind_private(rt: &HostRuntime, path: &str) -> io::Result<UnixListener> {
     let address = SocketAddr::from_pathname(path)?;
     let socket = rt.unix_socket()?;

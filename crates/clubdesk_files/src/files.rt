@@ -1,4 +1,4 @@
-//! Databases in files, each opened by its path.
+//! Databases in files, which are opened by their paths.
 
 ghost use Rattle.std.specs.Prelude.{◌≡◌};
 ghost use Rattle.desk_server.specs.Served.{CountsOn};
@@ -12,21 +12,21 @@ use crate::visit::FileVisit;
 use club_core::StoreFault;
 use desk_server::{Databases, Reached};
 
-/// The most attempts to open a file that another program has open. They take ten seconds.
+/// The number of attempts to open a file that another program has open. They take ten seconds.
 const MAX_OPENINGS: u32 = 10 * ATTEMPTS_A_SECOND;
 
-/// Databases in files, by their paths.
+/// Databases in files, which have their paths as names.
 #[derive(Drop)]
 pub struct Files<'a> {
     pub rt: &'a HostRuntime,
-    /// The number of calls of `open` and `reach`.
+    /// The number of calls of `open` and `reach` so far.
     pub tried: u64,
-    /// The number of calls of `close`.
+    /// The number of calls of `close` so far.
     pub closed: u64,
 }
 
 impl<'a> Files<'a> {
-    /// Returns the system's files, with none opened yet.
+    /// Returns the databases in the system's files, before any of them is opened.
     pub fn new(rt: &'a HostRuntime) -> Files<'a>
         ensures tried { result.tried ≡ 0 }
         ensures closed { result.closed ≡ 0 }
@@ -58,7 +58,7 @@ impl<'a> Databases for Files<'a> {
     fn open(&mut self, name: &str) -> Result<FileClub, StoreFault> {
         self.tried = self.tried.saturating_add(1);
         let mut openings = ServerOpenings { rt: self.rt, name };
-        // `unwrap_or`, at the type of a store, would take forty seconds to prove.
+        // `unwrap_or` for a result of a store's type would take forty seconds to prove.
         match gain(&mut openings, self.rt, MAX_OPENINGS) {
             Some(opened) => opened,
             None => Err(StoreFault::Storage),
@@ -74,8 +74,8 @@ impl<'a> Databases for Files<'a> {
         }
     }
 
-    // Committed changes are in the log next to the file until this copies them into the file. If
-    // copying fails, the log keeps them for the next opening.
+    // Committed changes are in the log next to the file, until this call copies them into the file.
+    // If copying fails, the log keeps them for the next opening.
     fn close(&mut self, named: FileClub) {
         self.closed = self.closed.saturating_add(1);
         let NamedStore { store, file: _ } = named;

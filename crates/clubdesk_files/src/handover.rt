@@ -1,4 +1,4 @@
-//! Hands a command to a server over a reader and a writer.
+//! Hands a command to a server, through a reader and a writer.
 
 ghost use Rattle.std.specs.{Io.KnownBytes.Consumes, Prelude.{IfOk, OnOk, codes}};
 ghost use Rattle.std.specs.String.{string_bytes};
@@ -10,12 +10,12 @@ use std::io::{self, ErrorKind, Read, Write};
 use std::net::Shutdown;
 use std::os::unix::net::UnixStream;
 
-/// A writer that can tell its reader that no more bytes will come.
+/// A writer that can announce the end of its bytes.
 pub trait CommandWriter: Write {
-    // the effect of telling the end, with the writer before and after
+    // the effect of announcing the end, with the writer before and after
     ghost ends: { Self → Self → Type 0 };
 
-    /// Tells the reader that no more bytes will come.
+    /// Announces to the reader at the other end that no more bytes will come.
     fn end(&mut self) -> io::Result<()>
         ensures { OnOk result (ends self.old self.new) };
 }
@@ -29,7 +29,7 @@ impl CommandWriter for &UnixStream {
     }
 }
 
-/// Reads the greeting of a server.
+/// Reads the greeting that a server sends first.
 ///
 /// # Errors
 ///
@@ -47,14 +47,13 @@ pub fn greeted<R: Read>(reader: &mut R) -> io::Result<()>
     }
 }
 
-/// Sends a command, announces its end, and reads the answer: the status, the text, and the byte
-/// that ends it.
+/// Sends a command, announces its end, and reads the answer, which is a status, a text and an end
+/// byte.
 ///
 /// # Errors
 ///
-/// Returns the writer's error if the command wasn't completely sent. Returns the reader's error, or
-/// `UnexpectedEof` if the answer is incomplete; then it is unknown whether the command was carried
-/// out.
+/// Returns the writer's error if not all of the command was sent. Returns the reader's error, or
+/// `UnexpectedEof` if the answer is incomplete. Then the command may have been carried out, or not.
 pub fn answered<R: Read, W: CommandWriter>(
     alloc: Global,
     reader: &mut R,

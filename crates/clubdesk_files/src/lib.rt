@@ -1,6 +1,6 @@
-//! Databases in files. Only one program at a time has a file open. A server has a door next to its
-//! file, through which it gets the office's commands. Without a server, commands open the file
-//! themselves.
+//! Databases in files. Only one program at a time has a file open. A server has a door next to the
+//! file, through which it gets the office's commands. Without a server, a command opens the file
+//! itself.
 #![tactic(auto)]
 
 mod attempts;

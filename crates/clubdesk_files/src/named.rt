@@ -1,4 +1,4 @@
-//! A store of a club in a file that another program may remove.
+//! A club's store in a file that another program may remove.
 
 ghost use Rattle.std.specs.{Bool.OnFalse, Prelude.{◌≡◌, IfErr, IfOk, IsTrue, option_map}};
 ghost use Rattle.club_core.specs.{Basis.account_named, Club.{facility_named, key_named}};
@@ -10,23 +10,23 @@ use club_core::{Change, ClubStore, MemberAccount, SlotUse, StoreFault};
 use club_rows::{Booking, BookingNumber, Facility, KeyRow, OlderRoot};
 use club_values::{Day, Moment, Name, Slot};
 
-/// An open file that another program may remove.
+/// An open file whose name another program may remove.
 pub trait Removable {
-    // the file was found to have no name, or couldn't be checked
+    // a check found that the file has no name, or the check failed
     ghost is_lost: { Self → Type 0 };
 
-    // the file was found to have a name
+    // a check found that the file has a name
     ghost is_found: { Self → Type 0 };
 
-    /// Returns whether the file still has a name in its file system. Data written to a file without
-    /// a name is lost when the file is closed.
+    /// Returns whether the file still has a name in its file system. If it has none, its data is
+    /// lost when the file is closed.
     fn has_name(&self) -> bool
         ensures lost { OnFalse result (is_lost self.now) }
         ensures found { IsTrue result → is_found self.now };
 }
 
-/// A store over a file. Once the file has lost its name, the first read of each request or command
-/// fails, so that no change is acknowledged that other programs couldn't find.
+/// A store over a file. If the file has lost its name, the first read of each request or command
+/// fails. So the store confirms no change that other programs couldn't find.
 #[derive(Drop)]
 pub struct NamedStore<S, F> {
     pub store: S,
@@ -34,7 +34,7 @@ pub struct NamedStore<S, F> {
 }
 
 impl<S, F: Removable> NamedStore<S, F> {
-    // Fails if the file has no name.
+    // Fails with `Storage` if the file has no name.
     fn look(&self) -> Result<(), StoreFault>
         ensures lost { IfErr result (λ fault. (fault ≡ Storage) × F.is_lost self.now.file) }
         ensures found { IfOk result (λ _. F.is_found self.now.file) }
@@ -47,8 +47,8 @@ impl<S, F: Removable> NamedStore<S, F> {
     }
 }
 
-/// Each event begins by reading the row of a key, a facility, a member's account or a day's
-/// bookings. These are returned only if the file was found to have a name.
+/// Each event first reads a key, a facility, a member's account or a day's bookings. The row that
+/// was read is returned only if a check found that the file has a name.
 impl<S: ClubStore, F: Removable> ClubStore for NamedStore<S, F> {
     ghost use Rattle.clubdesk_files.specs.Named.{FailsOrIsLost};
 

@@ -7,24 +7,24 @@ use std::io::ErrorKind;
 use std::os::unix::fs::MetadataExt;
 use std::{fs, io};
 
-/// The number of descriptors that are searched for the one of a store.
+/// The number of descriptors among which a store's descriptor is searched.
 const MAX_DESCRIPTORS: u32 = 1_024;
 
-/// The file that a store has open, with its own descriptor. A check through a descriptor takes less
-/// than a fifth of the time of a check by path.
+/// The file that a store has open, with a descriptor of its own. A check through a descriptor takes
+/// less than a fifth of the time of a check by path.
 #[derive(Drop)]
 pub struct OpenFile {
-    // `None` if the file isn't checked
+    // the open file, or `None` if it isn't checked
     file: Option<File>,
 }
 
 impl OpenFile {
-    /// Returns the file of a database that a store of this program has open. A database in memory
-    /// has no file, so nothing is checked.
+    /// Returns the database's file that a store of this program has open. A database in memory has
+    /// no file, so nothing is checked.
     ///
     /// # Errors
     ///
-    /// Fails if the path leads to no open file, or memory is refused.
+    /// Fails if no open file has this path, or if memory is refused.
     pub(crate) fn at(rt: &HostRuntime, name: &str) -> io::Result<OpenFile> {
         if name == IN_MEMORY {
             return Ok(OpenFile::unwatched());
@@ -43,13 +43,13 @@ impl OpenFile {
         Err(io::Error::from(ErrorKind::NotFound))
     }
 
-    /// Returns a file that isn't checked, for a command that has it open only for a moment.
+    /// Returns a file that is never checked, for a command that has it open only briefly.
     pub(crate) fn unwatched() -> OpenFile {
         OpenFile { file: None }
     }
 }
 
-/// No contract states what the system answers.
+/// The contract promises nothing about the system's answers.
 impl Removable for OpenFile {
     ghost is_lost = { λ _. Unit {0} };
 

@@ -1,4 +1,4 @@
-//! Attempts to open a database that other programs also open.
+//! Attempts to open a database that other programs may have open.
 
 use crate::attempts::Attempts;
 use crate::beside::{fault_of, make_private};
@@ -10,15 +10,15 @@ use club_store::{Remains, Store};
 use desk_server::Reached;
 use sqlite::{FileFrom, FileStore, Unknown};
 
-/// The store of a club in a file. The file is opened as [`Unknown`]: a torn write leaves each byte
-/// old or new.
+/// The store of a club in a file. The type [`Unknown`] says that after a torn write, each byte is
+/// the old one or the new one.
 type FileStoreOfClub = Store<FileStore<FileFrom<Unknown>>>;
 
-/// The store of a club in a file that may lose its name.
+/// The store of a club in a file that another program may remove.
 pub type FileClub = NamedStore<FileStoreOfClub, OpenFile>;
 
-// Opens the database in a file. If the file is missing, creates it so that only its owner may use
-// it. Returns `None` while another program has it open.
+// Opens the database in a file. Creates a missing file, which only its owner may use. Returns
+// `None` while another program has the file open.
 fn try_open(rt: &HostRuntime, name: &str) -> Option<Result<FileStoreOfClub, StoreFault>> {
     make_private(rt, name);
     match Store::open_file(rt, name, Unknown) {
@@ -28,7 +28,7 @@ fn try_open(rt: &HostRuntime, name: &str) -> Option<Result<FileStoreOfClub, Stor
     }
 }
 
-/// A server's attempts to open a database.
+/// The attempts of a server to open a database.
 #[derive(Drop)]
 pub struct ServerOpenings<'a, 'n> {
     pub rt: &'a HostRuntime,
@@ -51,8 +51,8 @@ impl<'a> Attempts for ServerOpenings<'a, '_> {
     }
 }
 
-/// The office's attempts to reach a database, through the door of its server or by opening it. An
-/// attempt fails if another program has the file open, or a server ends before it greets.
+/// The office's attempts to reach a database, through its server's door or by opening it. An
+/// attempt fails if another program has the file open, or if a server ends before it greets.
 #[derive(Drop)]
 pub struct OfficeOpenings<'a, 'n> {
     pub rt: &'a HostRuntime,

@@ -1,4 +1,4 @@
-//! Hands a command over until a server gets all of it.
+//! Hands a command to servers until one of them gets all of it.
 
 ghost use Rattle.std.specs.Prelude.{◌≡◌, ◌↔◌, ℕ, List, IsTrue, Some};
 ghost use Rattle.desk_server.specs.Databases.{in_bytes};
@@ -13,16 +13,16 @@ use std::os::unix::net::UnixStream;
 use std::thread;
 use std::time::{Clock, Duration, Instant};
 
-/// The timeout for a server to take a command and answer it, in seconds.
+/// The seconds that a server has to read a command and answer it.
 const ANSWER_SECONDS: u64 = 600;
 
-/// The period of retries of a command, in seconds.
+/// The seconds during which a command is retried.
 const RETRY_SECONDS: u64 = 10;
 
-/// The most retries of a command.
+/// The greatest number of retries of a command.
 const MAX_RETRIES: u32 = 10 * ATTEMPTS_A_SECOND;
 
-/// The servers that a command finds, one after another.
+/// The servers that a command meets, one after another.
 pub trait Servers {
     ghost use Rattle.desk_server.specs.Databases.{in_bytes};
     ghost use Rattle.clubdesk_files.specs.Retried.{Handing};
@@ -30,16 +30,16 @@ pub trait Servers {
     // the effect of handing a command to the next server
     ghost hands: { Handing Self };
 
-    /// Hands a command to the next server, if there is one now. Returns the answer's status and
-    /// text. The status is `NOTHING_DONE` if no server got the complete command. Returns `None` if
+    /// Hands a command to the next server, if there is one. Returns the status and the text of its
+    /// answer. The status is `NOTHING_DONE` if no server got the whole command. Returns `None` if
     /// it is unknown whether the command was carried out.
     fn hand_over(&mut self, command: &[u8]) -> Option<(u8, String)>
         ensures { hands self.old command.now (in_bytes result) self.new };
 }
 
-/// Hands a command to a server, and returns the last answer's status and text, or `None` if there
-/// is no answer. If nothing was done, it retries for ten seconds. It never resends a command that
-/// may have been carried out.
+/// Hands a command to a server, and returns the status and text of the last answer, or `None` if
+/// there is no answer. If nothing was done, it retries for ten seconds. It never resends a command
+/// that may have been carried out.
 pub fn hand_over_until_done<S: Servers, C: Clock>(
     clock: &C,
     servers: &mut S,
@@ -61,7 +61,7 @@ pub fn hand_over_until_done<S: Servers, C: Clock>(
     servers.hand_over(command)
 }
 
-// Whether an answer says that nothing was done.
+// Returns whether an answer says that nothing was done.
 fn is_nothing_done(answer: &Option<(u8, String)>) -> bool
     ensures { IsTrue result ↔ IsNothingDone (in_bytes answer.now) }
 {
@@ -71,7 +71,7 @@ fn is_nothing_done(answer: &Option<(u8, String)>) -> bool
     }
 }
 
-// Whether the time is before an instant, if there is one. Returns false if the clock can't be read.
+// Returns whether the clock's time is before `until`; false if `until` or the time is missing.
 fn is_before<C: Clock>(clock: &C, until: Option<Instant>) -> bool {
     match (until, clock.instant_now()) {
         (Some(until), Some(now)) => now < until,
@@ -79,7 +79,7 @@ fn is_before<C: Clock>(clock: &C, until: Option<Instant>) -> bool {
     }
 }
 
-/// Hands a command over once, to a server that has greeted, if there is one.
+/// Hands a command over once, to a server that has sent its greeting, if there is one.
 pub fn hand_over_to(
     alloc: Global,
     server: Option<UnixStream>,
@@ -91,8 +91,8 @@ pub fn hand_over_to(
     limit_answer(&stream).ok()?;
     match answered(alloc, &mut &stream, &mut &stream, command) {
         Ok(answer) => Some(answer),
-        // The server closed the connection before it had read the whole command, so it can't carry
-        // it out.
+        // The server closed the connection before it had read all of the command. So it can't carry
+        // the command out.
         Err(error) => match error.kind() {
             ErrorKind::BrokenPipe | ErrorKind::ConnectionReset => nothing_done(alloc),
             _ => None,
@@ -100,13 +100,13 @@ pub fn hand_over_to(
     }
 }
 
-// The answer of a server that didn't get the whole command.
+// Returns the answer that stands for a server that didn't get all of the command.
 fn nothing_done(alloc: Global) -> Option<(u8, String)> {
     let text = format!(in alloc; "{NOTHING_DONE_TEXT}").ok()?;
     Some((NOTHING_DONE, text))
 }
 
-// Limits the time in which the server may take a command, and answer it.
+// Sets the time that the server has to read the command, and to answer it.
 fn limit_answer(stream: &UnixStream) -> io::Result<()> {
     let most = Some(Duration::from_secs(ANSWER_SECONDS));
     stream.set_read_timeout(most)?;

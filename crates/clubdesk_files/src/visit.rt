@@ -1,4 +1,4 @@
-//! Gives a command to a server.
+//! Connects to a server, and hands it a command.
 
 use crate::beside::{Place, fault_of};
 use crate::handover::greeted;
@@ -10,21 +10,21 @@ use std::io::ErrorKind;
 use std::os::unix::net::UnixStream;
 use std::time::Duration;
 
-/// The timeout for a server's greeting, in seconds. It is longer than one client can keep the
-/// server busy under the default patience.
+/// The seconds that a server has to send its greeting. One client can't keep the server busy for
+/// that long under the default patience.
 const GREETING_SECONDS: u64 = 60;
 
-/// A server of a database, which has sent its greeting.
+/// A server of a database that has sent its greeting.
 #[derive(Drop)]
 pub struct FileVisit<'a> {
     rt: &'a HostRuntime,
     file: String,
-    // `None` after the command was handed over; the next attempt looks for a server again
+    // `None` after a command was handed over; the next attempt connects again
     greeted: Option<UnixStream>,
 }
 
 impl<'a> FileVisit<'a> {
-    /// Waits for the greeting of a database's server, over a connection to its door.
+    /// Waits for the greeting of a database's server, after connecting to the server's door.
     ///
     /// # Errors
     ///
@@ -39,15 +39,15 @@ impl<'a> FileVisit<'a> {
     }
 }
 
-/// The result of looking for a server at a database's door.
+/// The result of connecting to a database's door.
 #[derive(Drop)]
 pub(crate) enum Found<'a> {
-    /// A server has sent its greeting.
+    /// A server, which has sent its greeting.
     Server(FileVisit<'a>),
-    /// A server ended before it greeted. Nothing was sent.
+    /// A server ended before it sent its greeting. It got nothing.
     Ended,
-    /// Nobody listens, the database's name is too long for a door, or root's door doesn't let this
-    /// user in. Then the lock of the file tells whether a server has it open.
+    /// Nobody listens, the database's name is too long for a door, or only root may use the door.
+    /// Then the lock of the file shows whether a server has it open.
     Nobody,
 }
 
@@ -55,8 +55,8 @@ pub(crate) enum Found<'a> {
 ///
 /// # Errors
 ///
-/// Fails if the server doesn't greet in time or sends something else, if the door can't be used or
-/// its maker may not make it, or if memory is refused. Then nothing was sent.
+/// Fails if the server doesn't greet in time or sends something else. Fails if the door can't be
+/// used, its maker may not make it, or memory is refused. Then nothing was sent.
 pub(crate) fn find_server<'a>(rt: &'a HostRuntime, file: &str) -> Result<Found<'a>, StoreFault> {
     match connect(rt, file) {
         Ok(stream) => match FileVisit::over(rt, file, stream) {
@@ -76,14 +76,14 @@ pub(crate) fn find_server<'a>(rt: &'a HostRuntime, file: &str) -> Result<Found<'
     }
 }
 
-/// Connects to the door of a database. The path may lead to the database through links.
+/// Connects to the door of a database. The path may lead through links to the database.
 ///
 /// # Errors
 ///
-/// Fails with `NotFound` or `ConnectionRefused` if nobody listens, with `InvalidInput` if the name
-/// is too long for a door, and with `PermissionDenied` if root's door doesn't let this user in.
-/// Fails with `InvalidData` if a user who may not make the door made it, and with other errors if
-/// the door can't be used.
+/// Fails with `NotFound` or `ConnectionRefused` if nobody listens, and with `InvalidInput` if the
+/// name is too long for a door. Fails with `PermissionDenied` if only root may use the door. Fails
+/// with `InvalidData` if a user made the door who may not make it. Fails with other errors if the
+/// door can't be used.
 pub fn connect(rt: &HostRuntime, file: &str) -> io::Result<UnixStream> {
     let place = Place::find(rt, file)?;
     if !place.has_door(rt)? {
@@ -94,7 +94,7 @@ pub fn connect(rt: &HostRuntime, file: &str) -> io::Result<UnixStream> {
 }
 
 impl FileVisit<'_> {
-    // The next server of the file, which has sent its greeting; `None` if there is no server now.
+    // Returns the connection to the next server that has greeted; `None` if there is none.
     fn next(&mut self) -> Option<UnixStream> {
         match self.greeted.take() {
             Some(stream) => Some(stream),
@@ -109,7 +109,7 @@ impl FileVisit<'_> {
     }
 }
 
-/// No contract states what a server answers.
+/// The contract promises nothing about a server's answers.
 impl Servers for FileVisit<'_> {
     ghost hands = { λ _ _ _ _. Unit {0} };
 
@@ -119,7 +119,7 @@ impl Servers for FileVisit<'_> {
     }
 }
 
-/// No contract states what a server answers.
+/// The contract promises nothing about a server's answers.
 impl Visit for FileVisit<'_> {
     ghost gives = { λ _ _ _. Unit {0} };
 
