@@ -3,15 +3,15 @@ use Rattle.std.specs.Prelude.{◌≡◌, ℕ, Option, Some}
 use Rattle.jiff_core.specs.declared.timestamp.Timestamp.{Timestamp}
 use Rattle.club_clock.specs.{Zone.ShowsIn, declared.clock.Clock.{Clock, TheVariants.{Fixed, InZone}}}
 
--- the moment that a clock gives, with the clock before and after
+-- which moment a clock may give, with the clock before and after
 abbrev pub GivesMoment : Type 0 → Type 1
 GivesMoment Clock = Clock → Option ℕ → Clock → Type 0
 
--- a moment of a clock: the fixed one, or else what the zone shows at the instant that the machine's clock gave; none if that gave none
+-- The fixed moment, or the moment that the zone shows at an instant of the machine's clock. There is none if the machine's clock gave no instant.
 abbrev pub IsMomentOf : (Option Timestamp → Type 0) → Clock → Option ℕ → Type 0
 IsMomentOf Given (Fixed moment) shown = shown ≡ Some moment
 IsMomentOf Given (InZone rule) shown = ShowsIn rule Given shown
 
--- such a clock as a source of moments, with the machine's clock; both stay the same
+-- such a clock and the machine's clock as a source of moments, which leaves both clocks unchanged
 abbrev pub showing : {C : Type 0} → (C → Option Timestamp → Type 0) → GivesMoment (Clock × C)
 showing Shows clock shown next = IsMomentOf (Shows clock.1) clock.0 shown × (next ≡ clock)

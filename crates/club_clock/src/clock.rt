@@ -1,13 +1,13 @@
-//! The sources of moments.
+//! The clocks that a server or a listing can use.
 
 use crate::zone::Zone;
 use club_values::Moment;
 
-/// The source of a connection's moment, or of a listing's.
+/// The clock from which a connection or a listing gets its moment.
 #[derive(Drop)]
 pub enum Clock<'a> {
-    /// One moment, for all connections.
+    /// A fixed moment, the same for all connections.
     Fixed(Moment),
-    /// The machine's clock, in a zone.
+    /// The machine's clock, shown in this zone.
     InZone(Zone<'a>),
 }

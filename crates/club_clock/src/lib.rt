@@ -1,4 +1,4 @@
-//! The club's clock: sources of moments, and the zone of the machine's clock.
+//! The club's clock: sources of moments, and the zone in which the machine's clock is shown.
 #![tactic(auto)]
 
 mod clock;

@@ -9,19 +9,19 @@ use jiff_core::Timestamp;
 use std::marker::Model;
 use std::time::{self, SystemTime};
 
-/// A source of moments.
+/// A source from which connections get their moments.
 pub trait Moments {
     ghost use Rattle.club_clock.specs.Moments.{GivesMoment};
 
-    // the results that `now` may have, with the source before and after
+    // the moments that `now` may return, with the source before and after
     ghost gives: { GivesMoment Self };
 
-    /// Returns the moment now; `None` if it is outside the club's years or can't be read.
+    /// Returns the current moment, or `None` if it is outside the club's years or can't be read.
     fn now(&mut self) -> Option<Moment>
         ensures { gives self.old result self.new };
 }
 
-/// A clock that shows instants.
+/// A clock that shows the current instant.
 pub trait Instants {
     ghost use Rattle.std.specs.Prelude.{Option};
     ghost use Rattle.jiff_core.specs.declared.timestamp.Timestamp.{Timestamp};
@@ -29,12 +29,12 @@ pub trait Instants {
     // the instants that the clock may show
     ghost shows: { Self → Option Timestamp → Type 0 };
 
-    /// Returns the instant now; `None` if the clock can't be read or its time isn't a `Timestamp`.
+    /// Returns the instant now, or `None` if the clock can't be read or its time is no `Timestamp`.
     fn instant(&self) -> Option<Timestamp>
         ensures { shows self.now result };
 }
 
-/// The instants of a clock of the machine; the contract promises nothing about them.
+/// The instants of a clock of the machine. The contract promises nothing about them.
 impl<C: time::Clock> Instants for C {
     ghost shows = { λ _ _. Unit {0} };
 
@@ -43,7 +43,7 @@ impl<C: time::Clock> Instants for C {
     }
 }
 
-// The instant of a time; `None` if it is too late for a `Timestamp`.
+// Returns the instant of a time, or `None` if the time is too late for a `Timestamp`.
 fn instant_of(time: SystemTime) -> Option<Timestamp>
     ensures { MatchOption result
         (¬ (IsTimestampNanos (pos (system_time_nanos time))))
@@ -53,8 +53,8 @@ fn instant_of(time: SystemTime) -> Option<Timestamp>
     Timestamp::from_nanosecond(i128::try_from(since.as_nanos()).ok()?).ok()
 }
 
-/// The moments of a clock, which are read from the machine's clock unless they are fixed. Contracts
-/// see both clocks.
+/// The moments of a clock. They are fixed, or are read from the machine's clock. In contracts this
+/// is the pair of both clocks.
 #[derive(Drop)]
 pub struct MomentsOf<'z, 'c, C> {
     pub clock: Clock<'z>,
@@ -72,8 +72,8 @@ impl<'z, 'c, C> Model for MomentsOf<'z, 'c, C> {
 impl<'z, 'c, C: Instants> Moments for MomentsOf<'z, 'c, C> {
     ghost use Rattle.club_clock.specs.Moments.{showing};
 
-    // the fixed moment, or else the moment of the instant that the machine's clock gave; none if it
-    // gave none
+    // the fixed moment, or the moment at the instant that the machine's clock gave; none if it gave
+    // no instant
     ghost gives = { showing C.shows };
 
     fn now(&mut self) -> Option<Moment> {
