@@ -12,6 +12,6 @@ abbrev pub IsMomentOf : (Option Timestamp → Type 0) → Clock → Option ℕ �
 IsMomentOf Given (Fixed moment) shown = shown ≡ Some moment
 IsMomentOf Given (InZone rule) shown = ShowsIn rule Given shown
 
--- such a clock and the machine's clock as a source of moments, which leaves both clocks unchanged
+-- a clock and the machine's clock as one source of moments, which leaves both clocks unchanged
 abbrev pub showing : {C : Type 0} → (C → Option Timestamp → Type 0) → GivesMoment (Clock × C)
 showing Shows clock shown next = IsMomentOf (Shows clock.1) clock.0 shown × (next ≡ clock)

@@ -1,4 +1,4 @@
-//! Commands of the office, and the commands that make a club.
+//! Parses commands of the office, and the parts of a line that makes a club.
 
 use crate::fault::{Fault, needed};
 use crate::known::{Known, name};
@@ -11,7 +11,7 @@ use std::alloc::Global;
 
 const NO_COMMAND: &str = "no command";
 
-/// The words of a line, one after another.
+/// The words of a line, which are read one after another.
 #[derive(Drop)]
 pub(crate) struct Values<'a> {
     left: &'a str,
@@ -22,7 +22,7 @@ impl<'a> Values<'a> {
         Values { left: text }
     }
 
-    /// Returns the next word, or an empty one after the last.
+    /// Returns the next word, or an empty text after the last word.
     fn word(&mut self) -> &'a str {
         let (word, left) = self.left.split_once(' ').unwrap_or((self.left, ""));
         self.left = left;
@@ -61,7 +61,7 @@ impl<'a> Values<'a> {
         })
     }
 
-    /// Fails unless each word was read.
+    /// Fails unless every word was read.
     pub(crate) fn end(&self) -> Result<(), Fault> {
         if self.left.is_empty() {
             Ok(())
@@ -70,7 +70,7 @@ impl<'a> Values<'a> {
         }
     }
 
-    /// Returns the requested form, or V2 if none is requested.
+    /// Reads the name of a form, if one is left. Otherwise returns V2.
     fn form(&mut self) -> Result<Form, Fault> {
         match self.word() {
             "" => Ok(Form::V2),
@@ -79,7 +79,7 @@ impl<'a> Values<'a> {
         }
     }
 
-    /// Returns the command that this word names; its values come next.
+    /// Returns the command with this name, whose values are the next words.
     fn command(&mut self, known: &Known, word: &str) -> Result<Command, Fault> {
         Ok(match word {
             "add-member" => Command::AddMember {
@@ -143,7 +143,7 @@ impl<'a> Values<'a> {
     }
 }
 
-/// Returns a command of the office, and the form of the pass that it prints, if it prints one.
+/// Returns a command of the office, and the form of the pass that a command for a key prints.
 pub(crate) fn command_of(known: &Known, text: &str) -> Result<(Command, Form), Fault> {
     let mut values = Values::of(text);
     let word = values.word();
@@ -156,7 +156,7 @@ pub(crate) fn command_of(known: &Known, text: &str) -> Result<(Command, Form), F
     Ok((command, form))
 }
 
-/// Adds the commands that make a member: `NAME QUOTA POINTS`.
+/// Adds the commands that make a member. The text is `NAME QUOTA POINTS`.
 fn push_member(commands: &mut Vec<Command>, text: &str) -> Result<(), Fault> {
     let mut values = Values::of(text);
     let name = values.name()?;
@@ -198,7 +198,7 @@ fn facility_of(text: &str) -> Result<Command, Fault> {
     })
 }
 
-/// Returns the part of a key's name before the last `-`.
+/// Returns the part of a key's name before its last `-`, which is the member's name.
 fn member_in(key: &str) -> &str {
     match key.rsplit_once('-') {
         Some((member, _)) => member,
@@ -206,8 +206,8 @@ fn member_in(key: &str) -> &str {
     }
 }
 
-/// Returns the command that makes a key: `KEY` or `KEY of MEMBER`, each optionally with
-/// `under ROOT`.
+/// Returns the command that makes a key. The text is `KEY` or `KEY of MEMBER`, and `under ROOT` may
+/// follow.
 fn key_of(known: &Known, text: &str) -> Result<Command, Fault> {
     let (text, root) = text.split_once(" under ").unwrap_or((text, "first"));
     let (key, member) = text.split_once(" of ").unwrap_or((text, member_in(text)));
@@ -218,7 +218,7 @@ fn key_of(known: &Known, text: &str) -> Result<Command, Fault> {
     })
 }
 
-/// Adds the commands that make a part of a club.
+/// Adds the commands that make one part of a club, such as its members.
 fn push_part(commands: &mut Vec<Command>, known: &Known, part: &str) -> Result<(), Fault> {
     if let Some(members) = part.strip_prefix("members ") {
         for member in members.split(", ") {
@@ -236,7 +236,7 @@ fn push_part(commands: &mut Vec<Command>, known: &Known, part: &str) -> Result<(
     Ok(())
 }
 
-/// Returns the commands that make the most recent club.
+/// Returns the commands that make the club of the latest `club` line.
 pub(crate) fn commands_of(alloc: Global, known: &Known) -> Result<Vec<Command>, Fault> {
     let mut commands = Vec::new(alloc);
     let club = known.club.as_str();

@@ -1,4 +1,4 @@
-//! Why playing a file stops before its end.
+//! Reasons for which playing a file stops before its end.
 
 use pass_forms::FormFault;
 use std::alloc::{AllocError, AllocFailed};
@@ -9,9 +9,9 @@ use std::fmt;
 pub(crate) enum Fault {
     /// The line breaks this rule of the language.
     Rule(&'static str),
-    /// The player's answer differs from the one that the line states.
+    /// The line states the answer `wanted`, but the player's answer is `found`.
     Differs { wanted: String, found: String },
-    /// The player failed.
+    /// The player failed, for this reason.
     Player(&'static str),
     Memory,
 }
@@ -48,7 +48,7 @@ impl From<FormFault> for Fault {
     }
 }
 
-/// Returns the value that a line must have by this rule.
+/// Returns the value. If there is none, fails because the line breaks this rule.
 pub(crate) fn needed<T: Drop>(value: Option<T>, rule: &'static str) -> Result<T, Fault> {
     match value {
         Some(value) => Ok(value),

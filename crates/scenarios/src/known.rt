@@ -1,47 +1,47 @@
-//! The names that the lines of a file have given so far.
+//! The names that the lines of a file have defined so far.
 
 use crate::fault::{Fault, needed};
 use club_http::{Moment, Name, Root};
 use std::alloc::Global;
 
-/// The name and the bytes of the root that a key has unless its line names another one.
+/// The name and the bytes of the root that a key gets unless its line names another root.
 const FIRST: &[u8] = b"first";
 
 const FIRST_ROOT: &[u8] = b"\x00\x11\x22\x33\x44\x55\x66\x77\x88\x99\xaa\xbb\xcc\xdd\xee\xff";
 
-/// A root with a name, which is the root's own or that of a key.
+/// A root with a name, which is the name of the root or of a key.
 #[derive(Clone, Copy)]
 struct Named {
     name: Name,
     root: Root,
 }
 
-/// A named text, which can replace a pass.
+/// A text with a name, which can replace a pass.
 #[derive(Drop)]
 struct NamedText {
     name: Name,
     text: Vec<u8>,
 }
 
-/// The names that the lines of a file have given so far, and the state of their reader.
+/// The names that the lines of a file have defined so far, and the state of playing the file.
 #[derive(Drop)]
 pub(crate) struct Known {
     roots: Vec<Named>,
     keys: Vec<Named>,
     texts: Vec<NamedText>,
-    /// The line of the most recent club.
+    /// The text of the latest line that makes a club.
     pub(crate) club: String,
     pub(crate) moment: Option<Moment>,
-    /// Whether the next line crashes and is then repeated.
+    /// Whether the next line is stopped by a crash and then repeated.
     pub(crate) crashes: bool,
 }
 
-/// Returns a name, which the line must have.
+/// Parses a name, or returns a fault of the line.
 pub(crate) fn name(text: &str) -> Result<Name, Fault> {
     needed(Name::read(text.as_bytes()), "no name")
 }
 
-/// Returns the bytes of a root in hexadecimal.
+/// Parses a root in hexadecimal.
 fn root_in_hex(text: &str) -> Option<Root> {
     let mut bytes = [0; 64];
     let len = text.len() / 2;
@@ -51,7 +51,7 @@ fn root_in_hex(text: &str) -> Option<Root> {
     Root::new(&bytes[..len])
 }
 
-/// Returns the last root of this name.
+/// Returns the root that was defined last under this name.
 fn last_named(named: &[Named], name: &Name) -> Option<Root> {
     let mut found = None;
     for it in named {
@@ -63,7 +63,7 @@ fn last_named(named: &[Named], name: &Name) -> Option<Root> {
 }
 
 impl Known {
-    /// Returns the state before the first line.
+    /// Returns what is known before the first line.
     pub(crate) fn new(alloc: Global) -> Result<Known, Fault> {
         let mut known = Known {
             roots: Vec::new(alloc),
@@ -81,7 +81,7 @@ impl Known {
         Ok(known)
     }
 
-    /// Returns a root by its name or in hexadecimal.
+    /// Returns the root of this name, or the root that the text spells in hexadecimal.
     pub(crate) fn root(&self, text: &str) -> Result<Root, Fault> {
         let named = match Name::read(text.as_bytes()) {
             Some(name) => last_named(&self.roots, &name),
@@ -93,17 +93,17 @@ impl Known {
         }
     }
 
-    /// Names a root.
+    /// Defines a name for a root.
     pub(crate) fn add_root(&mut self, name: Name, root: Root) -> Result<(), Fault> {
         Ok(self.roots.push(Named { name, root })?)
     }
 
-    /// Returns the root that a key of the club began with; `None` if there is no such key.
+    /// Returns the first root of a key of the club, or `None` if there is no such key.
     pub(crate) fn root_of_key(&self, key: &Name) -> Option<Root> {
         last_named(&self.keys, key)
     }
 
-    /// Adds a key, unless there is one of this name.
+    /// Adds a key with its first root, unless there is a key with this name.
     pub(crate) fn add_key(&mut self, name: Name, root: Root) -> Result<(), Fault> {
         if last_named(&self.keys, &name).is_none() {
             self.keys.push(Named { name, root })?;
@@ -111,12 +111,12 @@ impl Known {
         Ok(())
     }
 
-    /// Forgets the keys, since another club begins.
+    /// Forgets the keys, because a line makes another club.
     pub(crate) fn forget_keys(&mut self) {
         self.keys.clear();
     }
 
-    /// Returns the text of a name.
+    /// Returns the text with this name.
     pub(crate) fn text(&self, name: &Name) -> Result<&[u8], Fault> {
         for it in &self.texts {
             if it.name == *name {
@@ -126,12 +126,12 @@ impl Known {
         Err(Fault::Rule("no text of this name"))
     }
 
-    /// Names a text.
+    /// Defines a name for a text.
     pub(crate) fn add_text(&mut self, name: Name, text: Vec<u8>) -> Result<(), Fault> {
         Ok(self.texts.push(NamedText { name, text })?)
     }
 
-    /// Returns the moment of a line.
+    /// Returns the moment at which the next request arrives.
     pub(crate) fn moment(&self) -> Result<Moment, Fault> {
         needed(self.moment, "no moment before it")
     }

@@ -1,5 +1,5 @@
-//! The pure machine as a player. The machine takes words, so the player decodes the bytes of a
-//! request for it, and finds the roots that signed the pass among those of the club's keys.
+//! The reference machine as a player. The machine doesn't read bytes. So the player decodes each
+//! request, and finds the roots of the club's keys under which its pass is signed.
 
 use crate::fault::Fault;
 use crate::player::{Maker, Player};
@@ -15,14 +15,14 @@ use pass_json::read_any;
 use std::alloc::{AllocError, Global};
 use std::cmp::Ordering;
 
-/// The name of no member, so that all bookings of a slot count as those of others.
+/// A name that no member has, so that all bookings of a slot count as bookings of others.
 const NOBODY: &[u8] = b"nobody";
 
-/// Makes machines.
+/// Makes players that are machines.
 #[derive(Clone, Copy)]
 pub(crate) struct Machines;
 
-/// The machine, with the routes that decode requests for it.
+/// The machine, and the routes with which requests are decoded for it.
 #[derive(Drop)]
 pub(crate) struct Machine {
     alloc: Global,
@@ -49,7 +49,7 @@ pub(crate) fn text_of(alloc: Global, reply: &Reply) -> Result<String, Fault> {
     text_in(alloc, &room[..len])
 }
 
-/// Returns the text that these bytes are.
+/// Returns the text with these bytes, which are UTF-8.
 pub(crate) fn text_in(alloc: Global, bytes: &[u8]) -> Result<String, Fault> {
     match std::str::from_utf8(bytes) {
         Ok(text) => Ok(String::from_str(alloc, text)?),
@@ -57,7 +57,7 @@ pub(crate) fn text_in(alloc: Global, bytes: &[u8]) -> Result<String, Fault> {
     }
 }
 
-/// Returns why a text isn't a pass; `None` if memory was refused.
+/// Returns why a text isn't a pass, or `None` if memory was refused.
 fn pass_fault(fault: FormFault) -> Option<PassFault> {
     match fault {
         FormFault::TooLong => Some(PassFault::TooLong),
@@ -68,12 +68,12 @@ fn pass_fault(fault: FormFault) -> Option<PassFault> {
     }
 }
 
-/// Returns the key that an identifier names.
+/// Returns the key's name from the identifier of a pass.
 fn key_in(identifier: &[u8]) -> Option<Name> {
     Name::read(identifier.strip_prefix(b"key:")?)
 }
 
-/// Adds the roots of a key under which a pass is signed.
+/// Adds those roots of a key under which the pass is signed.
 fn push_roots(roots: &mut Vec<Root>, key: &Key, pass: &SentPass) -> Result<(), AllocError> {
     if pass.is_signed(key.root.as_bytes()) {
         roots.push(key.root)?;
@@ -94,7 +94,7 @@ fn copies(alloc: Global, texts: &[Vec<u8>]) -> Result<Vec<Vec<u8>>, AllocError> 
     Ok(copies)
 }
 
-/// Returns whether a row of a sheet comes before another one.
+/// Returns the order of two rows in a sheet: by facility, hour, key and number.
 fn order(one: &Booking, other: &Booking) -> Ordering {
     one.slot
         .facility
@@ -108,7 +108,7 @@ fn yes_or_no(holds: bool) -> &'static str {
     if holds { "yes" } else { "no" }
 }
 
-/// Returns the moment until which a key's older root is good.
+/// Returns the text of the moment until which a key's older root is valid.
 fn older_text(alloc: Global, key: &Key) -> Result<String, AllocError> {
     match &key.older {
         None => String::from_str(alloc, "none"),
@@ -117,7 +117,7 @@ fn older_text(alloc: Global, key: &Key) -> Result<String, AllocError> {
 }
 
 impl Machine {
-    /// Returns a pass as the machine sees it.
+    /// Returns what the machine sees of a pass.
     fn seen(&self, pass: &SentPass) -> Result<Pass, AllocError> {
         let mut roots = Vec::new(self.alloc);
         for key in self.club.keys() {
@@ -130,7 +130,7 @@ impl Machine {
         })
     }
 
-    /// Returns the pass of a text, or why the text isn't one.
+    /// Returns the pass that a text spells, or why the text isn't a pass.
     fn read(&self, text: &[u8]) -> Result<Result<Pass, PassFault>, Fault> {
         match read_any(self.alloc, text) {
             Ok((_, pass)) => Ok(Ok(self.seen(&pass)?)),
@@ -141,7 +141,7 @@ impl Machine {
         }
     }
 
-    /// Returns the reply to a request under the pass of a text.
+    /// Returns the reply to a request with this text as its pass.
     fn ask(
         &mut self,
         moment: Moment,
@@ -155,7 +155,7 @@ impl Machine {
         Ok(self.club.ask(&words, moment)?)
     }
 
-    /// Returns the number of a member's bookings that are open at a moment.
+    /// Returns how many of a member's bookings are open at a moment.
     fn open_count(&self, member: &Name, moment: Moment) -> usize {
         self.club
             .bookings()
@@ -168,7 +168,7 @@ impl Machine {
             .count()
     }
 
-    /// Returns whether a key is this member's.
+    /// Returns whether a key belongs to this member.
     fn is_of(&self, key: &Name, member: &Name) -> bool {
         self.club
             .keys()
@@ -176,7 +176,7 @@ impl Machine {
             .any(|it| it.name == *key && it.member == *member)
     }
 
-    /// Returns the points that a key spent.
+    /// Returns the points that a key has spent.
     fn spent(&self, key: &Name) -> u64 {
         let mut spent = 0u64;
         for booking in self.club.bookings() {
@@ -188,7 +188,7 @@ impl Machine {
         spent
     }
 
-    /// Returns the lines of a key's account.
+    /// Returns the account of a key, as the desk lists it.
     fn account_of(&self, key: &Key, moment: Moment) -> Result<Option<String>, Fault> {
         let mut members = self.club.members().iter();
         let Some(member) = members.find(|member| member.name == key.member) else {

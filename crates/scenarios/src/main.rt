@@ -1,8 +1,8 @@
-//! Plays the scenarios in its data folder, which state a desk's answers line by line. Each file is
-//! played by the pure machine, by the desk over tables in memory, and by exchanges from bytes to
-//! bytes, with each pass in three forms.
+//! Plays the scenarios in the data folder, whose lines state a desk's answers. Each file is played
+//! by the reference machine, by the desk over tables in memory, and by exchanges from bytes to
+//! bytes. The exchanges play it three times, once for each form of pass.
 //!
-//! It prints each file with the number of its lines, or the first line with a different answer.
+//! Prints each file with the number of its lines, or the first line whose answer is different.
 #![tactic(auto)]
 
 mod command;
@@ -27,19 +27,19 @@ use std::alloc::{AllocError, Global};
 use std::fs;
 use tables::{AskedBy, InMemory};
 
-/// The ending of the names of files.
+/// The suffix of the files' names.
 const ENDING: &str = ".txt";
 
 static FORMS: [Form; 3] = [Form::V1, Form::V2, Form::Json];
 
-/// A fault at a line, and the player that found it.
+/// A fault of a line, and the name of the player that found it.
 #[derive(Drop)]
 struct Found {
     player: &'static str,
     at: FaultAt,
 }
 
-/// Returns the names of the files, in order.
+/// Returns the names of the files in sorted order.
 fn names(rt: &HostRuntime) -> Result<Vec<String>> {
     let mut names = Vec::new(rt.alloc());
     for entry in fs::read_dir(rt, ".")? {
@@ -52,7 +52,7 @@ fn names(rt: &HostRuntime) -> Result<Vec<String>> {
     Ok(names)
 }
 
-/// Plays lines with each player. The first try of a line that crashes is either kept or lost.
+/// Plays lines with each player. `keeps` says whether a line's first try before a crash is kept.
 fn play_each(alloc: Global, lines: &[&str], keeps: bool) -> Result<Count, Found> {
     let form = Form::V2;
     let way = Way { form, keeps };
@@ -74,7 +74,7 @@ fn lines_of<'a>(alloc: Global, text: &'a str) -> Result<Vec<&'a str>, AllocError
     text.lines().collect(alloc)
 }
 
-/// Plays a text, and plays it twice if it has a line that crashes.
+/// Plays a text. If it has a line that crashes, plays it again and keeps the first tries.
 fn play_text(alloc: Global, lines: &[&str]) -> Result<Count, Found> {
     let count = play_each(alloc, lines, false)?;
     if lines.iter().any(|line| line.starts_with("crash")) {
@@ -83,7 +83,7 @@ fn play_text(alloc: Global, lines: &[&str]) -> Result<Count, Found> {
     Ok(count)
 }
 
-/// Plays a file, and prints its count or its fault. Returns whether it has no fault.
+/// Plays a file, and prints its count or its fault. Returns whether the file has no fault.
 fn play_file(rt: &HostRuntime, name: &str) -> Result<bool> {
     let text = fs::read_to_string(rt, name)?;
     let lines = lines_of(rt.alloc(), text.as_str())?;
@@ -99,7 +99,7 @@ fn play_file(rt: &HostRuntime, name: &str) -> Result<bool> {
     }
 }
 
-/// Prints whether all odd texts are refused, and returns that.
+/// Prints whether each odd text is refused, and returns this.
 fn refuse_odd_texts(rt: &HostRuntime) -> Result<bool> {
     match odd::first_played_of_all(rt.alloc())? {
         None => {

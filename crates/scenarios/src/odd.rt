@@ -1,15 +1,15 @@
-//! Texts that break a rule of the language. Each is refused at the line that breaks it.
+//! Texts that break a rule of the language. The player must refuse each at the line that breaks it.
 
 use crate::machine::Machines;
 use crate::play::{Way, play};
 use pass_forms::Form;
 use std::alloc::{AllocError, Global};
 
-/// Lines with a club and a moment.
+/// The two lines before each text, which state a club and a moment.
 const CLUB: &str = "club  members amy 5 100; court-1 court 4 200 8-22; keys amy-1\n\
     at  2026-04-20T12:00\n";
 
-/// Texts after these two lines, each with the number of the line with the fault.
+/// Texts that follow these two lines, each with the number of the line that must be refused.
 static AFTER_A_CLUB: [(&str, usize); 29] = [
     ("", 2),
     ("amy-1", 3),
@@ -42,7 +42,7 @@ static AFTER_A_CLUB: [(&str, usize); 29] = [
     ("root  third", 3),
 ];
 
-/// Further such texts, with a crash or with lines that belong to no other line.
+/// More such texts, with a crash or with indented lines that follow no line they can belong to.
 static MORE_LINES: [(&str, usize); 5] = [
     ("crash  at noon", 3),
     (
@@ -58,7 +58,7 @@ static MORE_LINES: [(&str, usize); 5] = [
     ("office  credit amy 1  done\n# a comment\n  more", 5),
 ];
 
-/// Whole files.
+/// Texts of complete files, each with the number of the line that must be refused.
 static WHOLE: [(&str, usize); 10] = [
     ("amy-1  GET account  200 {}", 1),
     ("club  again", 1),
@@ -72,7 +72,7 @@ static WHOLE: [(&str, usize); 10] = [
     ("club  empty\nnobody  GET account  200 {}", 2),
 ];
 
-/// Returns whether a text is refused at this line.
+/// Returns whether playing a text stops at the line with this number.
 fn is_refused(alloc: Global, text: &str, line: usize) -> Result<bool, AllocError> {
     let lines: Vec<&str> = text.lines().collect(alloc)?;
     let way = Way {
@@ -85,7 +85,7 @@ fn is_refused(alloc: Global, text: &str, line: usize) -> Result<bool, AllocError
     }
 }
 
-/// Returns the first of these texts that isn't refused at its line, when played after `front`.
+/// Plays texts after `front`. Returns the first text that isn't refused at its line.
 fn first_played<'a>(
     alloc: Global,
     front: &str,
@@ -100,7 +100,7 @@ fn first_played<'a>(
     Ok(None)
 }
 
-/// Returns the first odd text that isn't refused at its line; `None` if all are refused.
+/// Returns the first odd text that isn't refused at its line, or `None` if all are refused.
 pub(crate) fn first_played_of_all(alloc: Global) -> Result<Option<&'static str>, AllocError> {
     if let Some(text) = first_played(alloc, CLUB, &AFTER_A_CLUB)? {
         return Ok(Some(text));

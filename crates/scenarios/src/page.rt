@@ -1,22 +1,22 @@
-//! The lines of a file, and their columns.
+//! Splits a file into lines, and a line into columns.
 
 use std::alloc::{AllocError, Global};
 
-/// The fewest spaces between two columns.
+/// At least this many spaces separate two columns.
 const GAP: &str = "  ";
 
-/// Words that begin a line, which may be separated from the next column by only one space.
+/// The words that can begin a line. A single space may separate such a word from the next column.
 static WORDS: [&str; 11] = [
     "club", "root", "text", "at", "bytes", "office", "sheet", "account", "slot", "crash", "reopen",
 ];
 
-/// Returns the lines that belong to the one above them, which are those that begin with spaces.
+/// Returns the lines that belong to the line above them. Such lines begin with spaces.
 pub(crate) fn below<'a>(lines: &'a [&'a str]) -> &'a [&'a str] {
     let next = lines.iter().position(|line| !line.starts_with(' '));
     &lines[..next.unwrap_or(lines.len())]
 }
 
-/// Returns the first word of a line, if it is a word of the language, and the rest.
+/// Returns the word of the language with which a line begins, if any, and the rest of the line.
 fn first_word(line: &str) -> Option<(&str, &str)> {
     let (word, rest) = line.split_once(' ').unwrap_or((line, ""));
     if WORDS.contains(&word) {

@@ -1,4 +1,4 @@
-//! The passes that lines name.
+//! Makes the passes that lines describe.
 
 use crate::fault::Fault;
 use crate::known::{Known, name};
@@ -9,10 +9,10 @@ use pass_forms::{Form, Pass, PassParts, narrow};
 use pass_json::write_any;
 use std::alloc::Global;
 
-/// The part of a pass whose key the club doesn't have.
+/// The part of a pass that says that the club doesn't have the pass's key.
 const UNKNOWN: &str = "unknown";
 
-/// A pass to be made.
+/// A description of a pass that is to be made.
 #[derive(Drop)]
 struct Draft {
     root: Root,
@@ -23,7 +23,7 @@ struct Draft {
     caveats: Vec<Vec<u8>>,
 }
 
-/// Returns a form by its name.
+/// Returns the form with this name.
 pub(crate) fn form_named(text: &str) -> Option<Form> {
     match text {
         "v1" => Some(Form::V1),
@@ -33,13 +33,13 @@ pub(crate) fn form_named(text: &str) -> Option<Form> {
     }
 }
 
-/// Replaces a text with that of a part, without its quotes and escapes.
+/// Replaces a text by the text of a part, whose quotes are removed and whose escapes are decoded.
 fn replace(text: &mut Vec<u8>, part: &str) -> Result<(), Fault> {
     text.clear();
     push_unescaped(text, unquoted(part))
 }
 
-/// Changes one bit of the last byte of a signature.
+/// Returns the pass with one changed bit in the last byte of its signature.
 fn forged(pass: Pass) -> Pass {
     let PassParts {
         location,
@@ -52,7 +52,7 @@ fn forged(pass: Pass) -> Pass {
 }
 
 impl Draft {
-    /// Returns a key's pass as the office makes it.
+    /// Returns the description of a key's pass as the office makes it.
     fn of_key(alloc: Global, key: &Name, root: &Root, form: Form) -> Result<Draft, Fault> {
         let mut identifier = Vec::from_slice(alloc, b"key:")?;
         identifier.extend_from_slice(key.as_bytes())?;
@@ -66,7 +66,7 @@ impl Draft {
         })
     }
 
-    /// Adds a caveat as many times as its text says.
+    /// Adds a caveat as many times as the part says.
     fn add_caveats(&mut self, alloc: Global, part: &str) -> Result<(), Fault> {
         let (count, text) = repeated(part);
         for _ in 0..count {
@@ -77,7 +77,7 @@ impl Draft {
         Ok(())
     }
 
-    /// Changes the pass by a part of its bracket.
+    /// Changes the description by one part between the pass's brackets.
     fn change(&mut self, alloc: Global, known: &Known, part: &str) -> Result<(), Fault> {
         let (word, rest) = part.split_once(' ').unwrap_or((part, ""));
         if let Some(form) = form_named(part) {
@@ -95,7 +95,7 @@ impl Draft {
         Ok(())
     }
 
-    /// Returns the pass.
+    /// Makes the pass that this describes.
     fn pass(&self, alloc: Global) -> Result<Pass, Fault> {
         let root = self.root.as_bytes();
         let mut pass = Pass::mint(alloc, root, &self.location, &self.identifier)?;
@@ -106,7 +106,7 @@ impl Draft {
     }
 }
 
-/// Returns the text of the key that a holder names, and the parts of its bracket.
+/// Splits a holder into the name of a key and the parts between brackets.
 fn key_and_parts(holder: &str) -> Result<(&str, &str), Fault> {
     match holder.split_once(" [") {
         None => Ok((holder, "")),
@@ -117,8 +117,8 @@ fn key_and_parts(holder: &str) -> Result<(&str, &str), Fault> {
     }
 }
 
-/// Returns the root of a key. A key that the club doesn't have gets the first root, and must be
-/// marked `unknown`.
+/// Returns the root of a key. If the club doesn't have the key, it must be marked `unknown`, and
+/// gets the first root.
 fn root_of(known: &Known, key: &Name, parts: &str) -> Result<Root, Fault> {
     let is_unknown = parts.split("; ").any(|part| part == UNKNOWN);
     match known.root_of_key(key) {
@@ -129,8 +129,8 @@ fn root_of(known: &Known, key: &Name, parts: &str) -> Result<Root, Fault> {
     }
 }
 
-/// Adds the text of a holder's pass to bytes: `KEY [PART; PART]`, in this form if no part names
-/// one, or `text NAME`.
+/// Adds a holder's pass to the bytes. The holder is `KEY [PART; PART]` or `text NAME`. The pass has
+/// this form unless a part names another form.
 pub(crate) fn push_pass(
     bytes: &mut Vec<u8>,
     known: &Known,
@@ -154,7 +154,7 @@ pub(crate) fn push_pass(
     Ok(bytes.extend_from_slice(text.as_bytes())?)
 }
 
-/// Returns the text of a key's pass as the office makes it.
+/// Returns the text of a key's pass, as the office makes it.
 pub(crate) fn office_pass(
     alloc: Global,
     key: &Name,

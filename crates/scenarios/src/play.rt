@@ -1,4 +1,4 @@
-//! A file of scenarios, played line by line.
+//! Plays a file of scenarios line by line.
 
 use crate::command::{Values, command_of, commands_of};
 use crate::fault::{Fault, needed};
@@ -15,37 +15,37 @@ use pass_forms::Form;
 use pass_json::write_any;
 use std::alloc::Global;
 
-/// The rest of the line after `crash`.
+/// The text that must follow `crash` in a line.
 const AGAIN: &str = "anywhere in the next line; then the same line again";
 
 const ANSWER: &str = "no expectation";
 
 const NO_CLUB: &str = "no club before it";
 
-/// A way to play a file.
+/// The options with which a file is played.
 #[derive(Clone, Copy)]
 pub(crate) struct Way {
-    /// The form of each pass whose line names no form.
+    /// The form of each pass for which a line names no form.
     pub(crate) form: Form,
-    /// Whether the first try of a line that crashes is kept.
+    /// Whether a line that is stopped by a crash takes effect before the crash.
     pub(crate) keeps: bool,
 }
 
-/// The clubs and lines that were played.
+/// How many clubs and lines were played.
 #[derive(Clone, Copy)]
 pub(crate) struct Count {
     pub(crate) clubs: u32,
     pub(crate) lines: u32,
 }
 
-/// A fault, and the number of the line that has it.
+/// A fault, and the number of the line with the fault.
 #[derive(Drop)]
 pub(crate) struct FaultAt {
     pub(crate) line: usize,
     pub(crate) fault: Fault,
 }
 
-/// A file that is being played.
+/// The state of playing a file.
 #[derive(Drop)]
 struct Scene<'a, M: Maker>
 where
@@ -59,14 +59,14 @@ where
     count: Count,
 }
 
-/// A line: its columns, and the lines that belong to it.
+/// The columns of a line, and the indented lines below that belong to it.
 #[derive(Clone, Copy)]
 struct Line<'a> {
     columns: &'a [&'a str],
     below: &'a [&'a str],
 }
 
-/// Fails unless the answer is the one that a line states.
+/// Fails unless the player's answer equals the answer that the line states.
 fn expect(alloc: Global, wanted: &str, found: &str) -> Result<(), Fault> {
     if wanted == found {
         return Ok(());
@@ -77,7 +77,7 @@ fn expect(alloc: Global, wanted: &str, found: &str) -> Result<(), Fault> {
     })
 }
 
-/// Returns the lines of a text, separated by commas.
+/// Returns the lines of a text as one line, in which commas separate them.
 fn on_one_line(alloc: Global, text: &str) -> Result<String, Fault> {
     let mut line = String::new(alloc);
     for value in text.lines() {
@@ -90,12 +90,12 @@ fn on_one_line(alloc: Global, text: &str) -> Result<String, Fault> {
 }
 
 impl<'a> Line<'a> {
-    /// Returns a column. A missing column is a fault.
+    /// Returns the column with this number, or a fault if the line has fewer columns.
     fn column(&self, number: usize, rule: &'static str) -> Result<&'a str, Fault> {
         needed(self.columns.get(number).copied(), rule)
     }
 
-    /// Returns the columns from this one on.
+    /// Returns the columns from this number on.
     fn rest(&self, number: usize) -> &'a [&'a str] {
         &self.columns[number.min(self.columns.len())..]
     }
@@ -108,7 +108,7 @@ impl<'a> Line<'a> {
         }
     }
 
-    /// Fails unless the line has `count` columns.
+    /// Fails unless the line has exactly `count` columns.
     fn has(&self, count: usize) -> Result<(), Fault> {
         if self.columns.len() == count {
             Ok(())
@@ -117,7 +117,7 @@ impl<'a> Line<'a> {
         }
     }
 
-    /// Returns the text of the first column and of the lines below.
+    /// Returns the text of the first column, followed by the texts of the lines below.
     fn whole(&self, alloc: Global) -> Result<String, Fault> {
         let mut text = String::new(alloc);
         for part in self.rest(1).iter().chain(self.below.iter()) {
@@ -130,7 +130,7 @@ impl<'a> Line<'a> {
     }
 }
 
-/// Returns the outcome of a command in the words of a line: its output, or why it is refused.
+/// Returns a command's outcome in the language of lines: its output, or why it was refused.
 fn outcome(
     alloc: Global,
     command: &Command,
@@ -149,8 +149,8 @@ fn outcome(
     }
 }
 
-/// Returns the output that a line's outcome of a command stands for. `done` may stand for a key's
-/// pass.
+/// Returns the output that the outcome in a line stands for. For a key's command, `done` stands for
+/// the key's pass.
 fn wanted_outcome(
     alloc: Global,
     command: &Command,
@@ -222,8 +222,8 @@ where
         }
     }
 
-    /// Returns whether the line crashes and its first try is kept. If so, the line is played once
-    /// before the tables are reopened.
+    /// Returns whether the line's first try is kept before a crash. If so, the caller plays the
+    /// line, then reopens the tables and plays the line again.
     fn was_kept(&mut self) -> Result<bool, Fault> {
         let crashes = self.known.crashes;
         self.known.crashes = false;
@@ -262,7 +262,7 @@ where
         self.ask(&request, line.rest(1))
     }
 
-    /// Defines a text, or sends one.
+    /// Defines a text with a name, or sends a text as the pass of a request.
     fn text(&mut self, line: &Line) -> Result<(), Fault> {
         let named = line.column(1, "a text has a name")?;
         if line.columns.len() > 2 {
@@ -386,7 +386,7 @@ where
         }
     }
 
-    /// Fails if a crash comes before a line that can't crash.
+    /// Fails if a crash is stated for a line that can't be stopped.
     fn isnt_stopped(&self) -> Result<(), Fault> {
         if self.known.crashes {
             Err(Fault::Rule("a crash is followed by a request or a command"))
@@ -420,7 +420,7 @@ where
         }
     }
 
-    /// Plays a line of a file, with the lines that belong to it.
+    /// Plays a line, together with the lines that belong to it.
     fn plays<'x>(&mut self, text: &'x str, below: &'x [&'x str]) -> Result<(), Fault> {
         if text.starts_with(' ') {
             return Err(Fault::Rule("a line with spaces before it belongs to none"));
@@ -432,9 +432,9 @@ where
         })
     }
 
-    /// Plays all lines.
+    /// Plays all lines of a file.
     fn plays_all(&mut self, lines: &[&str]) -> Result<(), FaultAt> {
-        // The lines up to this one belong to a line that was already played.
+        // the number of lines played so far, which includes the indented lines of the last one
         let mut played = 0;
         for number in 0..lines.len() {
             let text = lines[number];
@@ -452,7 +452,7 @@ where
     }
 }
 
-/// Plays a file in one way.
+/// Plays a file once, with a player of this maker.
 pub(crate) fn play<M: Maker>(
     alloc: Global,
     maker: &M,

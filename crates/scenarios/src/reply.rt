@@ -1,4 +1,4 @@
-//! Replies, as lines state them.
+//! Makes the bytes of the replies that lines state.
 
 use crate::fault::{Fault, needed};
 use crate::text::{halves, number};
@@ -6,7 +6,7 @@ use std::alloc::{AllocError, Global};
 
 const METHODS: &str = "with status 405, and with no other, the methods of the path are told";
 
-/// Returns the phrase of a status.
+/// Returns the reason phrase of a status.
 fn phrase(status: &str) -> Option<&'static str> {
     match status {
         "200" => Some("OK"),
@@ -22,7 +22,7 @@ fn phrase(status: &str) -> Option<&'static str> {
     }
 }
 
-/// Returns the methods of the path, which a line states next to a reply with status 405.
+/// Returns the methods in the column after a reply with status 405, and `None` for other statuses.
 fn methods<'a>(status: &str, columns: &[&'a str]) -> Result<Option<&'a str>, Fault> {
     let mut found = None;
     for column in columns {
@@ -35,7 +35,7 @@ fn methods<'a>(status: &str, columns: &[&'a str]) -> Result<Option<&'a str>, Fau
     }
 }
 
-/// Returns the head's field that only this status has, with its line end.
+/// Returns the header field that only replies with this status have, with its line end.
 fn own_field(alloc: Global, status: &str, methods: Option<&str>) -> Result<String, AllocError> {
     match methods {
         Some("GET") => String::from_str(alloc, "Allow: GET\r\n"),
@@ -45,7 +45,7 @@ fn own_field(alloc: Global, status: &str, methods: Option<&str>) -> Result<Strin
     }
 }
 
-/// Fails unless a count next to a reply is right, such as `43 bytes` for the body or `133 in all`.
+/// Checks a count, such as `43 bytes` for the body or `133 in all`. Fails if the count is wrong.
 fn expect_count(count: &str, body: usize, all: usize) -> Result<(), Fault> {
     let (digits, what) = halves(count, ' ', "a count has a number")?;
     let found = match what {
@@ -72,7 +72,7 @@ fn expect_counts(columns: &[&str], body: usize, all: usize) -> Result<(), Fault>
     Ok(())
 }
 
-/// Returns the reply that the last columns of a line state: `STATUS BODY`, the methods, and counts.
+/// Returns the reply that the columns describe: `STATUS BODY`, then the methods, then counts.
 pub(crate) fn reply_of(alloc: Global, columns: &[&str]) -> Result<String, Fault> {
     let Some((reply, others)) = columns.split_first() else {
         return Err(Fault::Rule("no expectation"));

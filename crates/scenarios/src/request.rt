@@ -1,4 +1,4 @@
-//! Requests as bytes.
+//! Makes the bytes of requests.
 
 use crate::fault::Fault;
 use crate::known::Known;
@@ -7,14 +7,14 @@ use crate::text::{halves, push_repeated};
 use pass_forms::Form;
 use std::alloc::Global;
 
-/// The holder's name in a line for a request without a pass.
+/// The holder in a line that sends a request without a pass.
 const NOBODY: &str = "nobody";
 
 fn push(bytes: &mut Vec<u8>, text: &str) -> Result<(), Fault> {
     Ok(bytes.extend_from_slice(text.as_bytes())?)
 }
 
-/// Returns the text to put before a path, unless the line has the whole path.
+/// Returns the prefix of a path, which is empty if the line states the full path.
 fn front_of(path: &str) -> &'static str {
     if path.starts_with('/') {
         ""
@@ -25,7 +25,7 @@ fn front_of(path: &str) -> &'static str {
     }
 }
 
-/// Returns the bytes of a request under a holder's pass: `METHOD PATH BODY`.
+/// Returns the bytes of the request `METHOD PATH BODY` with the pass of a holder.
 pub(crate) fn request_of(
     alloc: Global,
     known: &Known,
@@ -55,7 +55,7 @@ pub(crate) fn request_of(
     Ok(bytes)
 }
 
-/// Adds a line of a request. Each holder of a pass is between `<` and `>`.
+/// Adds a line of a request. A text between `<` and `>` is a holder, whose pass replaces it.
 fn push_pieces(bytes: &mut Vec<u8>, known: &Known, form: Form, line: &str) -> Result<(), Fault> {
     let mut is_first = true;
     for piece in line.split('<') {
@@ -71,7 +71,7 @@ fn push_pieces(bytes: &mut Vec<u8>, known: &Known, form: Form, line: &str) -> Re
     Ok(())
 }
 
-/// Returns the bytes of a request with these lines.
+/// Returns the bytes of the request that these lines spell.
 pub(crate) fn request_in(
     alloc: Global,
     known: &Known,

@@ -1,5 +1,4 @@
-//! The desk over tables as a player, which is asked through words or through the bytes of an
-//! exchange.
+//! The desk over tables as a player. It gets each request in words or as the bytes of an exchange.
 
 use crate::fault::Fault;
 use crate::machine::{text_in, text_of};
@@ -14,27 +13,26 @@ use club_store::Store;
 use sqlite::{Alter, Connection, MemStore};
 use std::alloc::Global;
 
-/// Turns the tables into those of an older program, without older roots and with only the first
-/// index.
+/// Turns tables into those of an older program, which had no older roots and only the first index.
 const AS_VERSION_1: &str = "DROP TABLE old_roots; DROP INDEX IF EXISTS bookings_by_key; \
     UPDATE desk SET version = 1";
 
-/// The way in which requests reach a desk.
+/// The way in which a desk gets a request.
 #[derive(Clone, Copy)]
 pub(crate) enum AskedBy {
-    /// The words that are decoded from a request.
+    /// It gets the words that were decoded from a request.
     Words,
-    /// An exchange from bytes to bytes.
+    /// It gets the bytes of an exchange, and returns bytes.
     Bytes,
 }
 
-/// Makes desks over tables in memory.
+/// Makes players that are desks over tables in memory.
 #[derive(Clone, Copy)]
 pub(crate) struct InMemory {
     pub(crate) asked_by: AskedBy,
 }
 
-/// A desk, with the routes that decode requests for it.
+/// A desk, and the routes with which requests are decoded for it.
 #[derive(Drop)]
 pub(crate) struct Counter<S: Alter> {
     alloc: Global,
@@ -51,7 +49,7 @@ fn fault_of(fault: StoreFault) -> Fault {
     }
 }
 
-/// Returns the lines that a desk shows; `None` if nothing has the name.
+/// Returns the lines of a listing, or `None` if the desk knows no such name.
 fn shown(shown: Result<String, DeskFault>) -> Result<Option<String>, Fault> {
     match shown {
         Ok(text) => Ok(Some(text)),
@@ -61,7 +59,7 @@ fn shown(shown: Result<String, DeskFault>) -> Result<Option<String>, Fault> {
     }
 }
 
-/// Returns the desk over the tables of a connection.
+/// Returns a desk over the tables that a connection has open.
 fn desk_over<S: Alter + Drop>(
     alloc: Global,
     connection: Connection<S>,

@@ -1,13 +1,13 @@
-//! Texts with escapes, and numbers.
+//! Decodes texts with escapes, and parses numbers.
 
 use crate::fault::Fault;
 
 const NO_ESCAPE: &str = "no escape";
 
-/// The part of an escape that was read so far.
+/// The state of decoding an escape.
 #[derive(Clone, Copy)]
 enum Escape {
-    /// No escape has begun.
+    /// No escape was begun.
     None,
     /// A backslash was read.
     Begun,
@@ -25,7 +25,7 @@ fn digit(byte: u8) -> Result<u8, Fault> {
     }
 }
 
-/// Returns the byte that a letter after a backslash means.
+/// Returns the byte for a letter that follows a backslash.
 fn simple(letter: u8) -> Result<u8, Fault> {
     match letter {
         b'r' => Ok(b'\r'),
@@ -36,8 +36,7 @@ fn simple(letter: u8) -> Result<u8, Fault> {
     }
 }
 
-/// Reads a byte. Returns the part of an escape that was read so far, and the byte that is now
-/// complete, if any.
+/// Reads one byte. Returns the new state, and the next decoded byte if it is complete.
 fn step(state: Escape, byte: u8) -> Result<(Escape, Option<u8>), Fault> {
     match state {
         Escape::None if byte == b'\\' => Ok((Escape::Begun, None)),
@@ -52,7 +51,7 @@ fn step(state: Escape, byte: u8) -> Result<(Escape, Option<u8>), Fault> {
     }
 }
 
-/// Adds a text to bytes, with its escapes replaced.
+/// Adds a text to the bytes, with its escapes decoded.
 pub(crate) fn push_unescaped(bytes: &mut Vec<u8>, text: &str) -> Result<(), Fault> {
     let mut state = Escape::None;
     for byte in text.as_bytes() {
@@ -68,7 +67,7 @@ pub(crate) fn push_unescaped(bytes: &mut Vec<u8>, text: &str) -> Result<(), Faul
     }
 }
 
-/// Returns a number of at most nine digits.
+/// Parses a number of at most nine digits.
 pub(crate) fn number(text: &str) -> Result<u32, Fault> {
     let is_number = text.len() < 10 && text.as_bytes().iter().all(|byte| byte.is_ascii_digit());
     match text.parse::<u32>() {
@@ -77,7 +76,7 @@ pub(crate) fn number(text: &str) -> Result<u32, Fault> {
     }
 }
 
-/// Returns a count and a text: `64 times TEXT`, or `TEXT` once.
+/// Splits `64 times TEXT` into a count and a text. A text without a count is taken once.
 pub(crate) fn repeated(text: &str) -> (u32, &str) {
     let Some((count, what)) = text.split_once(" times ") else {
         return (1, text);
@@ -88,7 +87,7 @@ pub(crate) fn repeated(text: &str) -> (u32, &str) {
     }
 }
 
-/// Adds a text to bytes as many times as it says, with its escapes replaced.
+/// Adds a text to the bytes as many times as its count says, with its escapes decoded.
 pub(crate) fn push_repeated(bytes: &mut Vec<u8>, text: &str) -> Result<(), Fault> {
     let (count, what) = repeated(text);
     for _ in 0..count {
@@ -97,7 +96,7 @@ pub(crate) fn push_repeated(bytes: &mut Vec<u8>, text: &str) -> Result<(), Fault
     Ok(())
 }
 
-/// Returns a text without its surrounding double quotes, if it has them.
+/// Returns a text without the double quotes around it, if it has them.
 pub(crate) fn unquoted(text: &str) -> &str {
     match text.strip_prefix('"') {
         Some(rest) => rest.strip_suffix('"').unwrap_or(text),
@@ -105,7 +104,7 @@ pub(crate) fn unquoted(text: &str) -> &str {
     }
 }
 
-/// Returns the part of a text before a delimiter, and the part after it.
+/// Splits a text at a delimiter, and returns the parts before and after it.
 pub(crate) fn halves<'a>(
     text: &'a str,
     delimiter: char,
