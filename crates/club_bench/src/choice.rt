@@ -1,6 +1,6 @@
-//! The benchmark that the command line chooses.
+//! Parses the arguments, which choose a benchmark.
 
-/// A benchmark, and how many times it runs a task or sends a request.
+/// A benchmark, with the number of times that it runs each task or sends each request.
 #[derive(Clone, Copy)]
 pub(crate) enum Choice {
     Passes { count: u32 },
@@ -9,8 +9,8 @@ pub(crate) enum Choice {
 }
 
 impl Choice {
-    /// Parses the program's arguments. Returns `None` if one is missing, unknown, or not a valid
-    /// number.
+    /// Parses the program's arguments. Returns `None` if an argument is missing or unknown, or
+    /// isn't a valid number.
     pub(crate) fn read(words: &[String]) -> Option<Choice> {
         let [_, name, count] = words else {
             return None;

@@ -1,4 +1,4 @@
-//! A club of fifty members, each with a key, and a court.
+//! The club of the benchmarks: fifty members, each with a key, and a court.
 
 use crate::known::known;
 use anyhow::{Result, anyhow};
@@ -11,7 +11,7 @@ use pass_forms::{Form, FormFault, Pass, narrow};
 use pass_json::write_any;
 use std::alloc::Global;
 
-/// The number of members, each with one key. Their derived keys fit in the desk's cache.
+/// The number of members. Each has one key, and all derived keys fit in the desk's cache.
 pub(crate) const KEYS: u16 = 50;
 
 pub(crate) const COURT: &[u8] = b"court-1";
@@ -23,7 +23,7 @@ pub(crate) const CAVEATS: [&[u8]; 3] = [
     b"spend <= 999999999",
 ];
 
-/// A benchmark of two desks, each with a new club.
+/// A benchmark that uses two desks, each with a new club.
 pub(crate) trait Benchmark {
     fn run<S: ClubStore + Drop>(
         &self,
@@ -34,14 +34,14 @@ pub(crate) trait Benchmark {
 }
 
 /// Runs a benchmark at two desks over tables in memory. Only this function names the type of the
-/// tables, since the proof of each function that does takes long.
+/// tables, since each function that names it takes long to prove.
 pub(crate) fn run_in_memory(rt: &HostRuntime, benchmark: &impl Benchmark) -> Result<()> {
     let first = Store::open_in_memory(rt.alloc())?;
     let second = Store::open_in_memory(rt.alloc())?;
     run_over(rt, first, second, benchmark)
 }
 
-// Runs the benchmark at two desks over empty tables.
+// Runs the benchmark at two desks over these empty tables.
 fn run_over<S: ClubStore + Drop>(
     rt: &HostRuntime,
     first: S,
@@ -53,7 +53,7 @@ fn run_over<S: ClubStore + Drop>(
     benchmark.run(rt, first, second)
 }
 
-// Makes a desk over empty tables, and adds the court, the members and their keys.
+// Returns a desk over empty tables, to which the court, the members and their keys are added.
 fn filled_desk<S: ClubStore + Drop>(alloc: Global, store: S) -> Result<Desk<S>> {
     let mut desk = Desk::new(alloc, store);
     give(&mut desk, &known(court(), "a court")?)?;
@@ -63,7 +63,7 @@ fn filled_desk<S: ClubStore + Drop>(alloc: Global, store: S) -> Result<Desk<S>> 
     Ok(desk)
 }
 
-// Makes a member with points and a key.
+// Adds a member, the member's points and the member's key.
 fn join<S: ClubStore>(desk: &mut Desk<S>, index: u16) -> Result<()> {
     let commands = known(joining(index), "a member")?;
     for command in &commands {
@@ -111,7 +111,7 @@ fn root() -> Option<Root> {
     Root::new(b"0123456789abcdef")
 }
 
-/// Returns the name of a member and of its key: two digits.
+/// Returns the name of a member, which is also the name of the member's key: two digits.
 fn name_of(index: u16) -> Option<Name> {
     Name::read(&[digit(index / 10), digit(index)])
 }
@@ -120,7 +120,7 @@ fn digit(value: u16) -> u8 {
     b'0' + (value % 10) as u8
 }
 
-/// Returns the text of each key's pass in a form, with this many caveats.
+/// Returns the text of each key's pass, in this form and with this number of caveats.
 pub(crate) fn passes(alloc: Global, form: Form, caveats: usize) -> Result<Vec<String>> {
     let mut texts = Vec::new(alloc);
     for index in 0..KEYS {
@@ -131,7 +131,7 @@ pub(crate) fn passes(alloc: Global, form: Form, caveats: usize) -> Result<Vec<St
     Ok(texts)
 }
 
-// The pass of the key with this index.
+// Returns the pass of the key with this index.
 fn pass(alloc: Global, index: u16) -> Result<Pass> {
     let name = known(name_of(index), "a name")?;
     let root = known(root(), "a root")?;

@@ -1,8 +1,8 @@
-//! Measures exchanges per second in memory, and the time of an exchange's parts. Each row has COUNT
-//! exchanges with a desk over tables in memory: bookings, the same bookings again, and accounts.
-//! The parts are measured separately with another desk: decoding the requests, the desk's answers,
-//! and the texts of the replies. Next to decoding is the time that `httparse` takes for the heads
-//! alone.
+//! Measures exchanges per second in memory, and how long the parts of an exchange take. Each row
+//! has COUNT exchanges with a desk over tables in memory: bookings, the same bookings again, and
+//! accounts. Another desk measures the parts: decoding the requests, answering them, and writing
+//! the texts of the replies. Next to the time of decoding is the time that `httparse` takes for the
+//! heads alone.
 
 mod parts;
 
@@ -17,8 +17,7 @@ use std::alloc::Global;
 use std::rt::Clock;
 use std::time::Duration;
 
-/// The number of times that the parts that change nothing are measured. The shortest time is
-/// printed.
+/// The number of times that parts without an effect are measured. The shortest time is printed.
 const ROUNDS: u8 = 5;
 
 const HEAD: &str = "asked for  a second | ns whole    words httparse     desk    reply";
@@ -44,7 +43,7 @@ impl Benchmark for Requests {
     }
 }
 
-/// The benchmark: whole exchanges with one desk, and the parts with another one.
+/// The benchmark. One desk serves whole exchanges, and another one serves the separate parts.
 #[derive(Drop)]
 struct Bench<S: ClubStore> {
     face: Face,
@@ -63,7 +62,7 @@ impl<S: ClubStore + Drop> Bench<S> {
         })
     }
 
-    // Prints the time of all requests, one after another.
+    // Prints the times for all requests of a kind, which are sent one after another.
     fn print_row(
         &mut self,
         rt: &(impl Clock + Print + AllocGlobal),
@@ -84,7 +83,7 @@ impl<S: ClubStore + Drop> Bench<S> {
         )
     }
 
-    // The times of the desk and of the texts. The last text must be this reply.
+    // Returns the desk's time and the time of the texts. The last text must equal this reply.
     fn decided_and_written(
         &mut self,
         rt: &(impl Clock + AllocGlobal),
@@ -104,7 +103,7 @@ impl<S: ClubStore + Drop> Bench<S> {
     }
 }
 
-// Prints the times of this many requests. The first time is that of whole exchanges.
+// Prints the times for this many requests. The first time is that of whole exchanges.
 fn print_times(rt: &impl Print, name: &str, count: usize, times: &[Duration; 5]) -> Result<()> {
     print!(rt; "{name:>9} {:>9} |", rate(count, times[0]))?;
     for time in times {

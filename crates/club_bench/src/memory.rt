@@ -1,4 +1,4 @@
-//! Exchanges in memory.
+//! Exchanges whose bytes stay in memory.
 
 ghost use Rattle.std.specs.Prelude.{◌≤◌};
 
@@ -9,7 +9,7 @@ use club_http::{Desk, Face, MAX_REPLY_LEN, Outlet, ReadInlet, answer};
 use std::rt::Clock;
 use std::time::{Duration, Instant};
 
-/// A writer that keeps the bytes that were written last.
+/// A writer that keeps the bytes of the latest reply.
 #[derive(Drop)]
 pub(crate) struct Kept {
     bytes: [u8; MAX_REPLY_LEN],
@@ -19,7 +19,7 @@ pub(crate) struct Kept {
 }
 
 impl Kept {
-    /// Makes a writer that holds no bytes.
+    /// Makes a writer without bytes.
     pub(crate) fn new() -> Kept {
         Kept {
             bytes: [0; MAX_REPLY_LEN],
@@ -28,7 +28,7 @@ impl Kept {
         }
     }
 
-    /// Returns the bytes that were written last.
+    /// Returns the bytes of the latest reply.
     pub(crate) fn bytes(&self) -> &[u8] {
         &self.bytes[..self.len]
     }
@@ -55,11 +55,11 @@ impl Outlet for Kept {
     }
 }
 
-/// Returns the time of whole exchanges, one after another. Keeps the last reply.
+/// Returns the time of all exchanges, one after another. The last reply can then be read.
 ///
 /// # Errors
 ///
-/// Fails if a request wasn't served.
+/// Fails if a request was not served.
 pub(crate) fn exchanges<S: ClubStore>(
     rt: &impl Clock,
     face: &mut Face,
@@ -74,7 +74,7 @@ pub(crate) fn exchanges<S: ClubStore>(
     Ok(start.elapsed(rt)?)
 }
 
-// Carries out one exchange, and keeps its reply in place of the previous one.
+// Runs one exchange. Its reply replaces the previous one.
 fn exchange<S: ClubStore>(
     face: &mut Face,
     desk: &mut Desk<S>,

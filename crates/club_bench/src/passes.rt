@@ -1,6 +1,6 @@
-//! Measures how many passes with three caveats are signed, read and verified per second, over COUNT
-//! runs each. Reading and verifying are measured twice: with a `Pass` in memory, and field by field
-//! without one.
+//! Measures how many passes with three caveats are signed, read and verified per second, each in
+//! COUNT runs. Reading and verifying are measured twice: with a `Pass` in memory, and without one,
+//! field by field.
 
 mod task;
 
@@ -23,7 +23,7 @@ static TASKS: [(&str, Task); 5] = [
 
 static FORMS: [(&str, Form); 2] = [("V1", Form::V1), ("V2", Form::V2)];
 
-/// Prints the rates for each form.
+/// Prints the rates for each form of pass.
 pub(crate) fn compare(rt: &HostRuntime, count: u32) -> Result<()> {
     let pass = new_pass(rt.alloc())?;
     for &(name, form) in &FORMS {
@@ -56,7 +56,7 @@ fn compare_tasks(rt: &HostRuntime, name: &str, text: &[u8], count: u32) -> Resul
     Ok(())
 }
 
-// Prints how many times a task runs per second.
+// Prints how many times per second a task runs.
 fn measure(
     rt: &(impl Alloc<A = Global> + Clock + Print),
     what: &str,
@@ -73,7 +73,7 @@ fn print_row(rt: &impl Print, what: &str, rate: u128, folded: u8) -> Result<()> 
     Ok(println!(rt; "{what:>28} {rate:>9} (folded to {folded:02x})")?)
 }
 
-// Runs a task `count` times.
+// Runs a task `count` times, and combines the bytes that it returns.
 fn fold(alloc: Global, task: Task, written: &Written<'_>, count: u32) -> Result<u8, FormFault> {
     let mut folded = 0;
     for _ in 0..count {

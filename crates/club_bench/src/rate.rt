@@ -1,13 +1,13 @@
-//! Rates per second, and times per run.
+//! Computes rates per second and times per run.
 
 use std::time::Duration;
 
-/// Returns the rate per second of this many runs in this time.
+/// Returns the number of runs per second, if `count` runs take this time.
 pub(crate) fn rate(count: usize, time: Duration) -> u128 {
     count as u128 * 1_000_000_000 / time.as_nanos().max(1)
 }
 
-/// Returns the nanoseconds per run, if this many runs take this time.
+/// Returns the nanoseconds per run, if `count` runs take this time.
 pub(crate) fn nanos_each(count: usize, time: Duration) -> u128 {
     time.as_nanos() / (count as u128).max(1)
 }

@@ -1,4 +1,4 @@
-//! The members' requests, as curl sends them.
+//! The requests of members, in the bytes that curl sends.
 
 use crate::club::{CAVEATS, KEYS, passes};
 use crate::known::known;
@@ -8,14 +8,14 @@ use club_values::{Moment, Slot};
 use pass_forms::Form;
 use std::alloc::{AllocError, Global};
 
-/// The fields that curl sends with each request.
+/// The header fields that curl sends with each request.
 const FIELDS: &str = "Host: 127.0.0.1:8080\r\nUser-Agent: curl/7.88.1\r\nAccept: */*\r\n";
 
-/// The fields that curl adds for a body.
+/// The header fields that curl adds to a request with a body.
 const BODY_FIELDS: &str =
     "Content-Length: 12\r\nContent-Type: application/x-www-form-urlencoded\r\n";
 
-/// The bytes of a request with its pass, and the moment at which they arrive.
+/// The bytes of a request with a pass, and the moment at which the request arrives.
 #[derive(Drop)]
 pub(crate) struct Sent {
     pub(crate) text: String,
@@ -23,14 +23,14 @@ pub(crate) struct Sent {
     pub(crate) moment: Moment,
 }
 
-/// The rows of exchanges, in order: bookings, the same bookings again, and accounts.
+/// The measured kinds of requests, in order: bookings, the same bookings again, and accounts.
 pub(crate) static ROWS: [(&str, Wish); 3] = [
     ("bookings", Wish::Booking),
     ("repeats", Wish::Booking),
     ("accounts", Wish::Account),
 ];
 
-/// The requests of all rows.
+/// The requests of all kinds.
 #[derive(Drop)]
 pub(crate) struct Requests {
     bookings: Vec<Sent>,
@@ -38,7 +38,7 @@ pub(crate) struct Requests {
 }
 
 impl Requests {
-    /// Makes this many requests of each kind.
+    /// Makes `count` requests of each kind.
     pub(crate) fn new(alloc: Global, count: u16) -> Result<Requests> {
         Ok(Requests {
             bookings: requests_for(alloc, Wish::Booking, count)?,
@@ -55,7 +55,7 @@ impl Requests {
     }
 }
 
-// This many requests, using the keys in rotation, with passes in V2.
+// Returns `count` requests of this kind, with passes in V2. The keys take turns.
 fn requests_for(alloc: Global, wish: Wish, count: u16) -> Result<Vec<Sent>> {
     let passes = passes(alloc, Form::V2, CAVEATS.len())?;
     let mut requests = Vec::new(alloc);
@@ -66,7 +66,7 @@ fn requests_for(alloc: Global, wish: Wish, count: u16) -> Result<Vec<Sent>> {
     Ok(requests)
 }
 
-// The request with this index.
+// Returns the request with this index.
 fn request(alloc: Global, wish: Wish, index: u16, pass: &str) -> Result<Sent> {
     let (slot, moment) = known(slot_and_moment(index), "a slot")?;
     Ok(Sent {

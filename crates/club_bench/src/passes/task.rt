@@ -1,4 +1,4 @@
-//! The measured tasks, each on one pass.
+//! The tasks that are measured. Each works on one pass.
 
 use pass_forms::{
     Field, FieldSource, Form, FormFault, MAX_BYTES, V1Fields, V2Fields, read_v1, read_v2,
@@ -16,22 +16,22 @@ pub(crate) static CAVEATS: [&[u8]; 3] = [
     b"spend <= 600",
 ];
 
-/// A task on a pass in V1 or V2.
+/// A task that works on a pass in V1 or V2.
 #[derive(Clone, Copy)]
 pub(crate) enum Task {
-    /// Computes the signature.
+    /// Computes the pass's signature.
     Sign,
-    /// Reads the bytes into a `Pass`.
+    /// Parses the bytes into a `Pass`.
     ReadWhole,
-    /// Reads the fields of the bytes one after another.
+    /// Parses the fields of the bytes one after another.
     ReadFields,
-    /// Reads the text into a `Pass`, and compares its signature.
+    /// Parses the text into a `Pass`, and checks its signature.
     VerifyWhole,
-    /// Compares the signature while reading the fields of the text.
+    /// Checks the signature while parsing the fields of the text.
     VerifyFields,
 }
 
-/// A pass in one of the two forms: its text, and the bytes that the text wraps.
+/// A pass in V1 or V2: its text, and the bytes that the text encodes.
 #[derive(Clone, Copy)]
 pub(crate) struct Written<'a> {
     pub(crate) form: Form,
@@ -40,8 +40,8 @@ pub(crate) struct Written<'a> {
 }
 
 impl Task {
-    /// Runs the task once. Returns a byte of the result, so that the compiler can't remove the
-    /// work.
+    /// Runs the task once. Returns a byte that depends on the result, so that the compiler can't
+    /// remove the work.
     pub(crate) fn once(self, alloc: Global, written: &Written<'_>) -> Result<u8, FormFault> {
         match self {
             Task::Sign => Ok(sign()),
@@ -80,7 +80,7 @@ fn verify_fields(text: &[u8]) -> Result<u8, FormFault> {
     with_fields(unwrapped.form, unwrapped.bytes(text, &buffer), Step::Verify)
 }
 
-// The work on each field.
+// The work that is done on each field.
 #[derive(Clone, Copy)]
 enum Step {
     Read,
@@ -101,7 +101,7 @@ fn walk<'a, S: FieldSource<'a>>(fields: &mut S, step: Step) -> u8 {
     }
 }
 
-// The exclusive or of the first bytes of all fields.
+// Returns the exclusive or of the first bytes of all fields.
 fn fold<'a, S: FieldSource<'a>>(fields: &mut S) -> u8 {
     let mut folded = 0;
     while let Some(field) = fields.next() {
@@ -115,7 +115,7 @@ fn fold<'a, S: FieldSource<'a>>(fields: &mut S) -> u8 {
     folded
 }
 
-// Whether the signature is that of the identifier and the caveats before it.
+// Returns whether the signature is right for the identifier and the caveats before it.
 fn is_signed<'a, S: FieldSource<'a>>(fields: &mut S) -> bool {
     let mut chain: Option<Chain> = None;
     while let Some(field) = fields.next() {
