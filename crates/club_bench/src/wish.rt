@@ -1,31 +1,31 @@
-//! The members' requests and their moments: one slot after another, using the keys in rotation.
+//! The members' requests and their moments. The slots follow one another, and the keys take turns.
 
 use crate::club::{COURT, KEYS};
 use club_rows::slot_from_columns;
 use club_values::{Moment, Slot};
 
-/// 2000-01-01, counted from 1970-01-01.
+/// The day 2000-01-01, as days since 1970-01-01.
 const FIRST_DAY: u16 = 10_957;
 
 const FIRST_HOUR: u16 = 8;
 
 const HOURS_A_DAY: u16 = 14;
 
-/// The kind of the requests that are repeated.
+/// A kind of request, which is sent many times.
 #[derive(Clone, Copy)]
 pub(crate) enum Wish {
-    /// A booking of a slot that nobody else asks for, under its own number.
+    /// A booking of a slot that nobody else books, with a number of its own.
     Booking,
-    /// The account of the key's member.
+    /// A request for the account of the key's member.
     Account,
 }
 
-/// Returns the booking number for an index. Each key numbers its own bookings.
+/// Returns the booking number for an index. Each key counts its bookings from 1.
 pub(crate) fn number_at(index: u16) -> u16 {
     index / KEYS + 1
 }
 
-/// Returns the slot for an index, counted from 0, and the moment of its request.
+/// Returns the slot for an index, which is counted from 0, and the moment of the request for it.
 pub(crate) fn slot_and_moment(index: u16) -> Option<(Slot, Moment)> {
     let slot = slot_at(index)?;
     let moment = minute_before(&slot)?;
@@ -38,7 +38,7 @@ fn slot_at(index: u16) -> Option<Slot> {
     slot_from_columns(COURT, day, i64::from(hour))
 }
 
-/// Returns the minute before a slot begins. Members who book then have few open bookings.
+/// Returns the minute before a slot begins. Booking so late, members have few open bookings.
 fn minute_before(slot: &Slot) -> Option<Moment> {
     Moment::from_number(slot.start().saturating_sub(1))
 }

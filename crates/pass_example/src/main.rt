@@ -1,6 +1,6 @@
-//! Passes in code, from minting to checking. The program mints a pass for a key, narrows it as its
-//! holder would, reads and verifies it as a desk does, and tests its caveats against a request.
-//! Then it walks through the commands of `passtool`. Copy it as a start for your own program.
+//! An example that uses passes in code. It mints a pass for a key, and narrows it as the key's
+//! holder would. As a desk does, it verifies the pass and tests its caveats against a request. Then
+//! it walks through the commands of `passtool`. Copy it as a start for your own program.
 #![tactic(auto)]
 
 mod walk;
@@ -14,7 +14,7 @@ use pass_json::{read_any, write_any};
 use std::alloc::Global;
 use std::fmt;
 
-// The key's secret. Yours must be random, and known only to the office and the desk.
+// The key's secret root. Choose yours at random, and let only the office and the desk know it.
 const ROOT: &[u8] = b"\x00\x11\x22\x33\x44\x55\x66\x77\x88\x99\xaa\xbb\xcc\xdd\xee\xff";
 
 // A desk's answer to a pass.
@@ -40,7 +40,7 @@ fn main(rt: HostRuntime) -> Result<()> {
     walk::print_walk(&rt)
 }
 
-// Mints and narrows a pass, and tests requests against it.
+// Mints a pass, narrows it, and tests requests against its caveats.
 fn print_verdicts(rt: &(impl Print + Alloc<A = Global>)) -> Result<()> {
     let minted = mint(rt.alloc())?;
     println!(rt; "minted {minted}")?;
@@ -73,14 +73,14 @@ fn print_verdicts(rt: &(impl Print + Alloc<A = Global>)) -> Result<()> {
     Ok(())
 }
 
-// The office's part: makes a new pass of the key, as the text that its holder gets.
+// The office's part. It mints a pass for the key, and returns the text for the pass's holder.
 fn mint(alloc: Global) -> Result<String, FormFault> {
     let pass = Pass::mint(alloc, ROOT, b"club-desk", b"key:amy-1")?;
     write_any(alloc, Form::V2, &pass)
 }
 
-// The holder's part: narrows a pass without the root. The pass stays signed, and its text may be in
-// any form.
+// The holder's part. It narrows a pass without knowing the root. The pass stays signed, and its
+// text may have any form.
 fn narrowed_by(alloc: Global, text: &str, caveats: &[&str]) -> Result<String, FormFault> {
     let (form, mut pass) = read_any(alloc, text.as_bytes())?;
     for caveat in caveats {
@@ -89,7 +89,7 @@ fn narrowed_by(alloc: Global, text: &str, caveats: &[&str]) -> Result<String, Fo
     write_any(alloc, form, &pass)
 }
 
-// The desk's part: checks the signature first, then the caveats in order.
+// The desk's part. It checks the signature first, then the caveats in order.
 fn verdict_on(alloc: Global, text: &str, ask: &Ask) -> Result<Verdict, FormFault> {
     let (_, pass) = read_any(alloc, text.as_bytes())?;
     if !pass.is_signed(ROOT) {
@@ -101,7 +101,7 @@ fn verdict_on(alloc: Global, text: &str, ask: &Ask) -> Result<Verdict, FormFault
     })
 }
 
-// Tries to remove the caveats, which fails since the signature still covers them.
+// Tries to remove the caveats. The new pass isn't valid, since the signature covers the caveats.
 fn without_caveats(alloc: Global, text: &str) -> Result<String, FormFault> {
     let (form, pass) = read_any(alloc, text.as_bytes())?;
     let location = Vec::from_slice(alloc, pass.location())?;
@@ -110,7 +110,7 @@ fn without_caveats(alloc: Global, text: &str) -> Result<String, FormFault> {
     write_any(alloc, form, &bare)
 }
 
-// Parses one caveat, and then tests it.
+// Parses a caveat, and tests the request against it.
 fn answer_of(line: &str, ask: &Ask) -> &'static str {
     match read(line.as_bytes()) {
         None => "not understood",
@@ -119,8 +119,8 @@ fn answer_of(line: &str, ask: &Ask) -> &'static str {
     }
 }
 
-// A request as caveats see it: at noon of 2026-04-20, it asks to book a facility for two guests on
-// 2026-05-01 at 18, for 600 points. Each parser returns `None` for an invalid text.
+// A request as caveats see it. At noon on 2026-04-20 it books a facility for 2026-05-01 at 18:00,
+// for two guests and 600 points. Each parser returns `None` if its text isn't valid.
 fn booking(facility: &[u8], kind: Kind) -> Option<Ask> {
     let slot = Slot {
         facility: Name::read(facility)?,
@@ -138,7 +138,7 @@ fn booking(facility: &[u8], kind: Kind) -> Option<Ask> {
     })
 }
 
-// Returns a value of the example, which is within its limits.
+// Returns a value of the example, all of which are within their limits.
 fn known<T: Drop>(value: Option<T>) -> Result<T> {
     value.ok_or_else(|| anyhow!("a value is out of its limits"))
 }

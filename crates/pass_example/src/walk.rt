@@ -1,5 +1,5 @@
-//! A walk through the commands of `passtool`, which prints each command line and its output. A
-//! printed pass is saved to a file, and the next commands read it from there.
+//! Walks through the commands of `passtool`. Prints each command line and its output. A pass that a
+//! command prints is saved to a file, which later commands read.
 
 use passtool_commands::run;
 use std::alloc::Global;
@@ -8,8 +8,8 @@ const ROOT: &str = "00112233445566778899aabbccddeeff";
 
 const OTHER_ROOT: &str = "ffeeddccbbaa99887766554433221100";
 
-/// Prints the walk: a new pass is narrowed, shown, converted and verified, and a caveat isn't
-/// understood.
+/// Prints the walk. A new pass is narrowed, shown, converted and verified. At the end a caveat
+/// isn't understood.
 pub(crate) fn print_walk(rt: &(impl Print + Alloc<A = Global>)) -> anyhow::Result<()> {
     let pass = mint_pass(rt)?;
     let words = [
@@ -56,7 +56,7 @@ fn mint_pass(rt: &(impl Print + Alloc<A = Global>)) -> anyhow::Result<String> {
     step(rt, words.as_slice(), " | tee pass", "")
 }
 
-// Prints a command line and the output of its run, and returns the output.
+// Prints a command line and the output of its run, and returns this output.
 fn step(
     rt: &(impl Print + Alloc<A = Global>),
     words: &[&str],
@@ -70,7 +70,7 @@ fn step(
     Ok(output)
 }
 
-// The text that a run writes, or its line on standard error.
+// Returns the text that a run writes, or the line that it prints on standard error.
 fn output_of(alloc: Global, words: &[&str], input: &str) -> anyhow::Result<String> {
     let mut written = Vec::new(alloc);
     match run(alloc, words, &mut input.as_bytes(), &mut written) {
@@ -79,7 +79,7 @@ fn output_of(alloc: Global, words: &[&str], input: &str) -> anyhow::Result<Strin
     }
 }
 
-// The words as typed in a shell, with quotes around a word with a space.
+// Returns the words as typed in a shell. A word with a space gets quotes around it.
 fn command_line(alloc: Global, words: &[&str]) -> anyhow::Result<String> {
     let mut line = String::new(alloc);
     for (index, word) in words.iter().enumerate() {
