@@ -53,7 +53,7 @@ fn run_over<S: ClubStore + Drop>(
     benchmark.run(rt, first, second)
 }
 
-// Returns a desk over empty tables, to which the court, the members and their keys are added.
+// Makes a desk over empty tables, then adds the court, the members and their keys.
 fn filled_desk<S: ClubStore + Drop>(alloc: Global, store: S) -> Result<Desk<S>> {
     let mut desk = Desk::new(alloc, store);
     give(&mut desk, &known(court(), "a court")?)?;

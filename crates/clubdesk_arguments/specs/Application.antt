@@ -1,4 +1,4 @@
--- How `clap` sees the program's commands and options (ours).
+-- The program's commands and options, in the terms of `clap` (ours).
 use Rattle.std.specs.Prelude.{List, [], ◌∷◌, ◌++◌, map, codes}
 use Rattle.clap.specs.Words.{Rule, Text}
 use Rattle.command_line.specs.{Application.{as_required, flag_named, form_or_v2, option_named, positional_named, with_default}, Table.Table}
@@ -6,7 +6,7 @@ use Rattle.clubdesk_arguments.specs.declared.table.CommandName.{CommandName, The
 use Rattle.clubdesk_arguments.specs.declared.table.CommandName.TheVariants.{RevokeKey, RotateKey, CloseSlot, OpenSlot, CancelBooking, Sheet, Serve, ShowAccount}
 use Rattle.clubdesk_arguments.specs.declared.table.CommandName.TheVariants.{ShowSlot}
 
--- the required positional arguments of a command, of which FILE is the first
+-- the required positional arguments of a command; the first is FILE
 abbrev pub positionals_over_file : List Text → List Rule
 positionals_over_file names = map (λ name. as_required (positional_named name)) (codes "FILE" ∷ names)
 

@@ -1,4 +1,4 @@
-//! Reasons for which a command fails, each with its exit status and its line.
+//! The faults of commands. Each has an exit status and a line.
 
 use club_core::{OfficeFault, StoreFault};
 use command_line::ArgumentsFault;

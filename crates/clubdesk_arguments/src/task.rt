@@ -30,7 +30,7 @@ pub struct KeyCommand {
     pub form: Form,
 }
 
-/// What the command does with the key.
+/// The change that the command makes to the key.
 #[derive(Drop)]
 pub enum KeyChange {
     /// Adds the key for this member.

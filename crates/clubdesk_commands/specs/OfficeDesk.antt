@@ -32,7 +32,7 @@ logged_line answer name = named_line name
 abbrev pub IsUnnamed : ℕ → Answer → Type 0
 IsUnnamed status answer = (answer.carried.status ≡ status) × (answer.carried.line ≡ [])
 
--- the arguments ask for help, the version or a server, none of which is a command of the office
+-- the arguments ask for help, the version or a server, which aren't commands of the office
 pub data AskOther (arguments : List Text) : Type 0 where
   text_asked : (text : Error) → ReadsArguments arguments (Ok (ShowText text)) → AskOther arguments
   server_asked : (file : Text) (service : Service) → AskFor arguments file (Serve service) → AskOther arguments

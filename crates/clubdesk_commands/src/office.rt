@@ -53,7 +53,7 @@ pub(crate) fn carry_out<C: Instants, S: ClubStore>(
     }
 }
 
-// Hands a command to the desk, and returns this text if the desk carries it out.
+// Gives a command to the desk, and returns a text if it is carried out.
 fn give<S: ClubStore>(desk: &mut Desk<S>, command: &Command, text: String) -> Result<String, Fault>
     ensures given { spec.IsGiven S.disk_is_clean S.represents command.now (string_bytes text)
         (text_of result) desk.old desk.new }

@@ -26,7 +26,7 @@ const DONE: u8 = 0;
 /// The status of bytes that aren't a command of the office.
 const NO_COMMAND: u8 = 2;
 
-/// The status of a command for whose answer memory was refused.
+/// The status of a command if memory for its answer was refused.
 const OUT_OF_MEMORY: u8 = 4;
 
 /// The number of letters of the longest name of a command in the log.

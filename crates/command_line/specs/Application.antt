@@ -1,4 +1,4 @@
--- How `clap` sees a program with its commands and options (ours).
+-- A program with its commands and options, in the terms of `clap` (ours).
 use Rattle.std.specs.Prelude.{◌≡◌, [], ◌∷◌, Some, true, false, codes}
 use Rattle.clap.specs.{Simple.on_top, Words.{App, Rule, Shape, Text, app_of, new_app, new_rule}}
 use Rattle.clap.specs.declared.builder.{action.ArgAction.TheVariants.{Append, SetTrue}, command.Command.{Command, TheViews.out-Command}}

@@ -16,7 +16,7 @@ use pass_forms::Form;
 use std::alloc::Global;
 use std::convert::AsStr;
 
-/// What the arguments ask for: a text or a job.
+/// The request that the arguments make: for a text or for a job.
 #[derive(Drop)]
 pub enum Asked<J> {
     /// The text of help or of the version, which `clap` made.

@@ -38,7 +38,7 @@ impl<R: Env + AllocGlobal> GivenArguments for R {
     }
 }
 
-/// A place to which a program prints the text of a fault.
+/// A place where a program prints the text of a fault.
 pub trait FaultLines {
     ghost use Rattle.std.specs.Prelude.{ℕ, List, Option};
 

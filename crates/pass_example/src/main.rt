@@ -138,7 +138,7 @@ fn booking(facility: &[u8], kind: Kind) -> Option<Ask> {
     })
 }
 
-// Returns a value of the example, all of which are within their limits.
+// Returns a value of the example. All of its values are within their limits.
 fn known<T: Drop>(value: Option<T>) -> Result<T> {
     value.ok_or_else(|| anyhow!("a value is out of its limits"))
 }

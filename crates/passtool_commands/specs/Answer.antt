@@ -30,7 +30,7 @@ step >>= rest = λ answer. (result : Result _ FormFault) × step result × Match
 abbrev pub ReadsPass : List ℕ → Results (Form × Plain)
 ReadsPass bytes = IsAnyReading (strip_last 10 bytes)
 
--- the answer of a command that succeeded with this text, to which it adds a line feed
+-- the answer of a command that succeeded: it writes this text and a line feed
 abbrev pub done_with : List ℕ → Result OutcomeText FormFault
 done_with text = Ok (Done, with_line_feed text)
 

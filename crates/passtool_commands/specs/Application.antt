@@ -1,4 +1,4 @@
--- How `clap` sees the program's commands and options (ours).
+-- The program's commands and options, in the terms of `clap` (ours).
 use Rattle.std.specs.Prelude.{[], ◌∷◌, codes}
 use Rattle.clap.specs.Words.{Rule}
 use Rattle.command_line.specs.{Application.{as_required, flag_named, form_option, form_or_v2, option_named, positionals_named}, Table.Table}

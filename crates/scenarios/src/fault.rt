@@ -1,4 +1,4 @@
-//! Reasons for which playing a file stops before its end.
+//! The faults that end playing a file early.
 
 use pass_forms::FormFault;
 use std::alloc::{AllocError, AllocFailed};

@@ -12,7 +12,7 @@ use std::alloc::Global;
 /// The part of a pass that says that the club doesn't have the pass's key.
 const UNKNOWN: &str = "unknown";
 
-/// A description of a pass that is to be made.
+/// A description of a pass that the player then makes.
 #[derive(Drop)]
 struct Draft {
     root: Root,

@@ -25,13 +25,13 @@ const NO_CLUB: &str = "no club before it";
 /// The options with which a file is played.
 #[derive(Clone, Copy)]
 pub(crate) struct Way {
-    /// The form of each pass for which a line names no form.
+    /// The form of a pass, unless its line names a form.
     pub(crate) form: Form,
     /// Whether a line that is stopped by a crash takes effect before the crash.
     pub(crate) keeps: bool,
 }
 
-/// How many clubs and lines were played.
+/// The numbers of clubs and lines that were played.
 #[derive(Clone, Copy)]
 pub(crate) struct Count {
     pub(crate) clubs: u32,
