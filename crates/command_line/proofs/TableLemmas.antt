@@ -17,7 +17,7 @@ entry_more {C = C} app rows i row within is =
     ap (λ (some : List (Row C)). with_entries app (map entry_of some)) (take_more rows i row within ∙ ap (λ (r : Row C). take i rows ++ r ∷ []) (sym is))
     ∙ one_last app (take i rows) row
 
--- the search for a name, from one position in the rows and from the next
+-- lemmas on the search for a name in the rows from a position on
 module _ {C : Type 0} (name : Text) (rows : List (Row C)) (i : ℕ) (row : Row C) (within : i < length rows) (is : row ≡ get_or rows i row) where
   left_from : entry_named name (map entry_of (drop i rows)) ≡ entry_named name (map entry_of (row ∷ drop (i + 1) rows))
   left_from =

@@ -33,7 +33,7 @@ Answers expected (Err (Refused error)) = expected ≡ Err (refused_as (kind_of e
 Answers expected (Err (BadValue value)) = expected ≡ Err (bad_value value)
 Answers expected (Err Memory) = Unit {0}
 
--- which results a call may return for a command and the rows that clap found
+-- the results that a call may return for a command and the rows that clap found
 abbrev pub ReadsRow : Type 0 → Type 0 → Type 0 → Type 1
 ReadsRow C J V = C → List Row → Result J (ArgumentsFault V) → Type 0
 

@@ -12,7 +12,7 @@ use std::alloc::{AllocError, Global};
 /// Why arguments ask for no job.
 #[derive(Debug, Drop)]
 pub enum ArgumentsFault<V> {
-    /// An error of `clap`, or one made like it, with its text.
+    /// An error with its text, from `clap` or made by this crate.
     Refused(Error),
     /// An argument isn't a valid value.
     BadValue(V),
