@@ -14,7 +14,7 @@ first_added caveat caveats pass = ap (λ (all : List (List ℕ)). record (with_c
 abbrev pub texts : List (Bor (List ℕ)) → List (List ℕ)
 texts = map (λ text. text.now)
 
--- adding the remaining caveats gives the same pass before and after the first of them is added
+-- adding one of the remaining caveats first, and then the others, gives the same pass
 pub one_added : (xs : List (Bor (List ℕ))) (i : ℕ) (d : Bor (List ℕ)) (caveat : List ℕ) (pass now : Plain) → i < length xs
     → caveat ≡ (slice_index_or xs i d).now → now ≡ with_caveat caveat pass
     → with_caveats (texts (drop (i + 1) xs)) now ≡ with_caveats (texts (drop i xs)) pass

@@ -7,7 +7,7 @@ use Rattle.pass_json.specs.{AnyForm.{IsAnyReading, IsRefusedIn, IsTextIn}, JsonW
 use Rattle.passtool_commands.specs.{Answer.{AnswersText, OutcomeText, WritesPass}, Shown.with_line_feed, declared.answer.Outcome.TheVariants.Done}
 use Rattle.passtool_commands.proofs.StepLemmas.{fails}
 
--- if the writer returns a fault, writing the pass may end with this fault, or memory ran out
+-- a writer's fault is a possible result of writing the pass, unless memory ran out
 fault_of_writing : (IsText : Plain → List ℕ → Type 0) (pass : Plain) (fault : FormFault) → IsWriteFault IsText pass fault
     → UnlessMemory (IsWriting IsText pass) (Err fault)
 fault_of_writing IsText pass TooLong is = is

@@ -14,7 +14,7 @@ module _ {A B : Type 0} (step : Results A) (rest : A → Results B) where
   goes_on value (Err Memory) is next = tt
   goes_on value answer is next = (Ok value, is, next)
 
--- the step has no two different results
+-- the step has at most one result
 abbrev pub HasOne : {A : Type 0} → Results A → Type 0
 HasOne {A} step = (one other : Result A FormFault) → step one → step other → one ≡ other
 

@@ -13,7 +13,7 @@ use Rattle.passtool_commands.specs.declared.command.Command.{Command, TheVariant
 abbrev pub OutcomeText : Type 0
 OutcomeText = Outcome × List ℕ
 
--- which results a step may have
+-- the results that a step may have
 abbrev pub Results : Type 0 → Type 1
 Results A = Result A FormFault → Type 0
 

@@ -60,13 +60,13 @@ module _ (is_understood : Text → Bool) where
     root ← root_in rows
     Ok (Verify root)
 
--- which results reading the values of a row may have
+-- the results that reading the values of a row may have
 pub record ReadsCommand (name : Name) (rows : List Row) (result : Result Command (ArgumentsFault BadValue)) : Type 0 where
   pub is_understood : Text → Bool
   pub is_test : IsCaveatTest is_understood
   pub answers : Answers (command_of is_understood name rows) result
 
--- which results parsing the arguments may have
+-- the results that parsing the arguments may have
 abbrev pub ReadsArguments : List Text → Result (Asked Command) (ArgumentsFault BadValue) → Type 0
 ReadsArguments arguments result = ReadsJob passtool ReadsCommand arguments result
 
