@@ -3,7 +3,7 @@ use Rattle.std.specs.Prelude.{◌≡◌, ℕ, Option, Some}
 use Rattle.jiff_core.specs.declared.timestamp.Timestamp.{Timestamp}
 use Rattle.club_clock.specs.{Zone.ShowsIn, declared.clock.Clock.{Clock, TheVariants.{Fixed, InZone}}}
 
--- which moment a clock may give, with the clock before and after
+-- the moments that a clock may give, with the clock before and after
 abbrev pub GivesMoment : Type 0 → Type 1
 GivesMoment Clock = Clock → Option ℕ → Clock → Type 0
 
