@@ -1,7 +1,7 @@
 -- Attempts that are made one after another (ours).
 use Rattle.std.specs.Prelude.{ℕ, ◌+◌, ◌<◌, Option, Some, None, MatchOption}
 
--- which results an attempt may have, given the state before and after it
+-- the results that an attempt may have, given the state before and after it
 abbrev pub Gains : Type 0 → Type 0 → Type 1
 Gains Trier Gain = Trier → Option Gain → Trier → Type 0
 

@@ -17,7 +17,7 @@ pub trait Attempts {
 
     ghost use Rattle.clubdesk_files.specs.Attempts.{Gains};
 
-    // which results an attempt may have, given the state before and after it
+    // the results that an attempt may have, given the state before and after it
     ghost gains: { Gains Self Self.Gain };
 
     /// Tries once, and returns `None` if the try failed.

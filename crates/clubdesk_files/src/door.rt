@@ -1,4 +1,4 @@
-//! The door of a server: a socket next to the database, which only the database's owner may use.
+//! The door of a server: a socket next to the database, which only the socket's owner may use.
 
 use crate::beside::{IN_MEMORY, OWNERS_MODE, Place, SocketFile};
 use desk_server::Door;

@@ -22,7 +22,7 @@ const RETRY_SECONDS: u64 = 10;
 /// The greatest number of retries of a command.
 const MAX_RETRIES: u32 = 10 * ATTEMPTS_A_SECOND;
 
-/// The servers that a command meets, one after another.
+/// The servers that a command may be handed to, one after another.
 pub trait Servers {
     ghost use Rattle.desk_server.specs.Databases.{in_bytes};
     ghost use Rattle.clubdesk_files.specs.Retried.{Handing};

@@ -7,7 +7,7 @@ use desk_server::Databases;
 pub trait DatabasesUser {
     type Outcome;
 
-    // which outcomes a run may have
+    // the outcomes that a run may have
     ghost outcomes: { Self → Self.Outcome → Type 0 };
 
     /// Runs over these databases, and returns the outcome.
