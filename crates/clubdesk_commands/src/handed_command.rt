@@ -58,7 +58,7 @@ fn push_piece(bytes: &mut Vec<u8>, text: &str) -> Result<(), AllocError>
 }
 
 /// Decodes a command, or returns `None` if no command has these bytes. The root and the arguments
-/// must be UTF-8 without zero bytes. Their number must be the encoded one.
+/// must be UTF-8 without zero bytes. The number of arguments must be the encoded one.
 ///
 /// # Errors
 ///

@@ -29,7 +29,7 @@ const NO_COMMAND: u8 = 2;
 /// The status of a command if memory for its answer was refused.
 const OUT_OF_MEMORY: u8 = 4;
 
-/// The number of letters of the longest name of a command in the log.
+/// The number of letters that are logged of a command's name. No command's name is longer.
 const MAX_NAME_LEN: usize = 24;
 
 /// A desk over an open store. It also has the memory and the machine's clock that the office's

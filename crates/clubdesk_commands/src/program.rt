@@ -26,7 +26,7 @@ use std::io::{Read, Write};
 /// server opens the database once, and closes it before writing the output. The only input is a
 /// root in hexadecimal, which `--root-stdin` asks for. It is read before the database is reached,
 /// and a line feed at its end is ignored. Help and the version are written as `clap` makes them.
-/// Only `serve --log` writes a log.
+/// Only `serve --log` logs each client and each command.
 ///
 /// # Errors
 ///
