@@ -8,6 +8,6 @@ pub mod Events
 pub mod Desk
 pub mod Served
 pub mod Runs
-pub mod Shown
+pub mod Listing
 pub mod Laws
 pub mod computed

@@ -2,7 +2,7 @@
 
 ghost use Rattle.club_gate.specs.{Identifier.FindsNames, Laws.{Decodes, NamesItsRows}};
 ghost use Rattle.club_gate.specs.Laws.{ReadsNoLackOfMemory, SeenAlike, SeesEvents};
-ghost use Rattle.club_gate.specs.Shown.{ShowsSlotsToKeys};
+ghost use Rattle.club_gate.specs.Listing.{ShowsSlotsToKeys};
 
 use club_values::laws::reads_names;
 use pass_caveats::laws::reads_what_is_understood;

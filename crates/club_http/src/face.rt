@@ -2,7 +2,7 @@
 
 ghost use Rattle.std.specs.Io.KnownBytes.{Appends};
 ghost use Rattle.std.specs.Prelude.{◌≡◌, ◌↔◌, [], IfNone, IfOk, IfSome, IsTrue};
-ghost use Rattle.http_request.specs.{Frame.IsOneRequest, Front.Covers};
+ghost use Rattle.http_request.specs.{Frame.IsOneRequest, HeadResult.Covers};
 ghost use Rattle.club_http.specs.{Calls.{ArePut, ReadsNoFurther}, Ends.read_failures};
 ghost use Rattle.club_http.specs.Exchange.{Exchanges, writer_failures};
 ghost use Rattle.club_http.specs.{Received.{IsCutOff, Receives}, Replied.IsReplied};

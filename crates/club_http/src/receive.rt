@@ -1,7 +1,7 @@
 //! Reads a request from an inlet.
 
 ghost use Rattle.std.specs.Prelude.{◌≡◌, ◌≤◌, [], length, take, IfErr, IfOk, MatchResult};
-ghost use Rattle.http_request.specs.{Front.Covers, Limits.max_request_len};
+ghost use Rattle.http_request.specs.{HeadResult.Covers, Limits.max_request_len};
 ghost use Rattle.club_http.specs.{Calls.ReadsNoFurther, Ends.one_more};
 ghost use Rattle.club_http.specs.Received.{Receives, IsCutOff};
 

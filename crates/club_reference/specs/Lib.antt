@@ -1,7 +1,7 @@
 pub mod Widths
 pub mod Rows
 pub mod Words
-pub mod Held
+pub mod Ownership
 pub mod Growth
 pub mod Solo
 pub mod Laws

@@ -2,7 +2,7 @@
 
 ghost use Rattle.std.specs.Prelude.{◌≡◌};
 ghost use Rattle.club_core.specs.Sums as sums;
-ghost use Rattle.club_reference.specs.Held.{held_under};
+ghost use Rattle.club_reference.specs.Ownership.{own_bookings};
 
 use crate::club::Club;
 use crate::sums::balance;
@@ -48,7 +48,7 @@ impl Club {
     /// Returns the member's balance: the points credited minus what its bookings cost.
     pub fn balance(&self, member: &Member) -> u32
         ensures { result ≡ sums.balance_of member.now
-            (held_under self.now.keys member.now.name self.now.bookings) }
+            (own_bookings self.now.keys member.now.name self.now.bookings) }
     {
         balance(&self.keys, &self.bookings, member)
     }

@@ -7,13 +7,13 @@ ghost use Rattle.club_rows.specs.declared.key.Key.{Key as KeyRow};
 ghost use Rattle.club_rows.specs.declared.member.Member.{Member as MemberRow};
 ghost use Rattle.club_core.specs.Pass as rules;
 ghost use Rattle.club_core.specs.Sums as sums;
-ghost use Rattle.club_reference.specs.{Growth.Grows, Held.{held_under, others_under}};
+ghost use Rattle.club_reference.specs.{Growth.Grows, Ownership.{own_bookings, others_bookings}};
 ghost use Rattle.club_reference.specs.{Solo.with_outside, Words.IsModelOf};
 ghost use Rattle.club_reference.specs.computed.Words.{words_model};
 
 use crate::club::{Club, copy_rows};
 use crate::laws::models_words;
-use crate::sums::{is_held, persons};
+use crate::sums::{is_key_of, persons};
 use crate::words::Words;
 use club_core::{KeyView, Reply, SlotUse, Verdict};
 use club_rows::{Booking, Key, Member};
@@ -47,23 +47,23 @@ fn bookings_of(
     bookings: &[Booking],
     member: &Name,
 ) -> Result<Vec<Booking>, AllocError>
-    ensures { IfOk result (λ rows. rows.items ≡ held_under keys.now member.now bookings.now) }
+    ensures { IfOk result (λ rows. rows.items ≡ own_bookings keys.now member.now bookings.now) }
 {
     bookings
         .iter()
-        .filter(|booking| is_held(keys, member, &booking.key))
+        .filter(|booking| is_key_of(keys, member, &booking.key))
         .copied()
         .collect(alloc)
 }
 
 /// Returns the number of persons whom other members booked into the slot.
 fn taken_by_others(keys: &[Key], bookings: &[Booking], member: &Name, slot: &Slot) -> u32
-    requires { sums.taken_in slot.now (others_under keys.now member.now bookings.now) < 2 ^ 32 }
-    ensures { result ≡ sums.taken_in slot.now (others_under keys.now member.now bookings.now) }
+    requires { sums.taken_in slot.now (others_bookings keys.now member.now bookings.now) < 2 ^ 32 }
+    ensures { result ≡ sums.taken_in slot.now (others_bookings keys.now member.now bookings.now) }
 {
     bookings
         .iter()
-        .filter(|booking| !is_held(keys, member, &booking.key))
+        .filter(|booking| !is_key_of(keys, member, &booking.key))
         .filter(|booking| !booking.cancelled && booking.slot == *slot)
         .map(|booking| persons(booking))
         .sum()

@@ -4,7 +4,7 @@ ghost use Rattle.std.specs.Prelude.{◌≡◌, ◌-◌, ◌<◌, ◌^◌, fold};
 ghost use Rattle.club_values.specs.declared.slot.Slot.{Slot as SlotRow};
 ghost use Rattle.club_rows.specs.Booking.{persons_of};
 ghost use Rattle.club_core.specs.Sums as sums;
-ghost use Rattle.club_reference.specs.Held.{is_held, held_under};
+ghost use Rattle.club_reference.specs.Ownership.{is_key_of, own_bookings};
 
 use club_rows::{Booking, BookingNumber, Key, Member};
 use club_values::{Moment, Name, Slot};
@@ -24,8 +24,8 @@ pub(crate) fn persons(booking: &Booking) -> u32
 }
 
 /// Returns whether the key with this name belongs to the member.
-pub(crate) fn is_held(keys: &[Key], member: &Name, name: &Name) -> bool
-    ensures { result ≡ is_held keys.now member.now name.now }
+pub(crate) fn is_key_of(keys: &[Key], member: &Name, name: &Name) -> bool
+    ensures { result ≡ is_key_of keys.now member.now name.now }
 {
     keys.iter()
         .filter(|key| key.member == *member)
@@ -60,12 +60,12 @@ pub(crate) fn most_persons_at(bookings: &[Booking], facility: &Name) -> u32
 
 /// Returns the points that the key has spent, summed over the member's bookings.
 pub(crate) fn spent(keys: &[Key], bookings: &[Booking], member: &Name, name: &Name) -> u64
-    requires { sums.spent_under name.now (held_under keys.now member.now bookings.now) < 2 ^ 64 }
-    ensures { result ≡ sums.spent_under name.now (held_under keys.now member.now bookings.now) }
+    requires { sums.spent_under name.now (own_bookings keys.now member.now bookings.now) < 2 ^ 64 }
+    ensures { result ≡ sums.spent_under name.now (own_bookings keys.now member.now bookings.now) }
 {
     bookings
         .iter()
-        .filter(|booking| is_held(keys, member, &booking.key))
+        .filter(|booking| is_key_of(keys, member, &booking.key))
         .filter(|booking| booking.key == *name)
         .map(|booking| u64::from(cost(booking)))
         .sum()
@@ -74,11 +74,11 @@ pub(crate) fn spent(keys: &[Key], bookings: &[Booking], member: &Name, name: &Na
 fn left_of(keys: &[Key], bookings: &[Booking], member: &Member) -> u32
     ensures { result
         ≡ fold (λ left booking. left - sums.cost_of booking) member.now.credited
-        (held_under keys.now member.now.name bookings.now) }
+        (own_bookings keys.now member.now.name bookings.now) }
 {
     bookings
         .iter()
-        .filter(|booking| is_held(keys, &member.name, &booking.key))
+        .filter(|booking| is_key_of(keys, &member.name, &booking.key))
         .fold(
             member.credited,
             |left, booking| left.saturating_sub(cost(booking)),
@@ -88,18 +88,18 @@ fn left_of(keys: &[Key], bookings: &[Booking], member: &Member) -> u32
 /// Returns the member's balance: the points credited minus what its bookings cost.
 pub(crate) fn balance(keys: &[Key], bookings: &[Booking], member: &Member) -> u32
     ensures { result ≡ sums.balance_of member.now
-        (held_under keys.now member.now.name bookings.now) }
+        (own_bookings keys.now member.now.name bookings.now) }
 {
     left_of(keys, bookings, member)
 }
 
 /// Returns the number of the member's open bookings, whose slots begin after the moment.
 pub(crate) fn open_count(keys: &[Key], bookings: &[Booking], member: &Name, moment: Moment) -> u64
-    ensures { result ≡ sums.count_to_come moment (held_under keys.now member.now bookings.now) }
+    ensures { result ≡ sums.count_to_come moment (own_bookings keys.now member.now bookings.now) }
 {
     bookings
         .iter()
-        .filter(|booking| is_held(keys, member, &booking.key))
+        .filter(|booking| is_key_of(keys, member, &booking.key))
         .filter(|booking| !booking.cancelled && moment.number() < booking.slot.start())
         .count() as u64
 }
@@ -127,11 +127,11 @@ pub(crate) fn recorded_booking(
     number: BookingNumber,
 ) -> Option<Booking>
     ensures { result ≡ sums.booking_under name.now number
-        (held_under keys.now member.now bookings.now) }
+        (own_bookings keys.now member.now bookings.now) }
 {
     bookings
         .iter()
-        .filter(|booking| is_held(keys, member, &booking.key))
+        .filter(|booking| is_key_of(keys, member, &booking.key))
         .find(|booking| booking.key == *name && booking.number == number)
         .copied()
 }

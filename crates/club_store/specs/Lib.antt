@@ -1,5 +1,5 @@
 pub mod Crash
-pub mod Held
+pub mod FailedOpening
 pub mod Opening
 pub mod Limits
 pub mod Failing

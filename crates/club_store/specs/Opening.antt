@@ -9,8 +9,8 @@ use Rattle.sqlite.specs.declared.file.Leftover.{Leftover}
 use Rattle.club_core.specs.{Club.{Club, empty_club}, Store.KeepsClub, declared.store.StoreFault.{StoreFault, TheVariants.Memory}}
 use Rattle.club_tables.specs.{Opening.{AcceptsTables, IsOpeningBatch, IsOpeningFault}, ReadsAndChanges.found_in, Tables.{Represents, IsFound}}
 use Rattle.club_tables.specs.Transaction.{MayCommit, IsKept, fault_by}
-use Rattle.club_store.specs.{Crash.{HoldsOneOf, IsOpenedOn, RepresentsOne, OneIsFound}, Held.busy, declared.remains.Remains.Remains}
-use Rattle.club_store.specs.declared.remains.Remains.TheVariants as remains
+use Rattle.club_store.specs.{Crash.{HoldsOneOf, IsOpenedOn, RepresentsOne, OneIsFound}, FailedOpening.busy, declared.failed_opening.FailedOpening.FailedOpening}
+use Rattle.club_store.specs.declared.failed_opening.FailedOpening.TheVariants as failed
 
 -- the possible crash states are those from before the opening, and the state that the opening's batch left
 abbrev pub SurvivesOpening : {S : Type 0} → Ghosts S → Held S → Held S → Type 0
@@ -58,10 +58,10 @@ pub record IsTablesFault {D : Type 0} {g : disk.Ghosts D} (start : Image) (now :
   pub failure : HasCleanDisk (file_state now) → IsOpeningFault over_files was now fault
 
 -- the fault of a file that isn't opened: another program has it open, the engine refuses it, or its tables aren't accepted
-abbrev pub FailsFrom : {D : Type 0} {g : disk.Ghosts D} → Image → Remains D g → StoreFault → Type 0
-FailsFrom start remains.Held fault = fault ≡ fault_by busy
-FailsFrom start (remains.Files rest) fault = IsFileFault start rest fault
-FailsFrom start (remains.Connection now) fault = IsTablesFault start now fault
+abbrev pub FailsFrom : {D : Type 0} {g : disk.Ghosts D} → Image → FailedOpening D g → StoreFault → Type 0
+FailsFrom start failed.InUse fault = fault ≡ fault_by busy
+FailsFrom start (failed.Files rest) fault = IsFileFault start rest fault
+FailsFrom start (failed.Connection now) fault = IsTablesFault start now fault
 
 -- the remains of files that held this image and weren't opened; the engine's contract says what a crash may leave of these files
 pub record IsLeftOfFiles {D : Type 0} {g : disk.Ghosts D} (start : Image) (left : Leftover D g) : Type 0 where
@@ -78,7 +78,7 @@ pub record IsLeftOpen {D : Type 0} {g : disk.Ghosts D} (start : Image) (now : He
   pub again : HasCleanDisk (file_state now) → (clubs : List Club) → HoldsOneOf start clubs → OneIsFound (file_state now) clubs
 
 -- the remains of files that held this image and weren't opened
-abbrev pub LeavesFrom : {D : Type 0} {g : disk.Ghosts D} → Image → Remains D g → Type 0
-LeavesFrom start remains.Held = Unit {0}
-LeavesFrom start (remains.Files rest) = IfSome rest (IsLeftOfFiles start)
-LeavesFrom start (remains.Connection now) = IsLeftOpen start now
+abbrev pub LeavesFrom : {D : Type 0} {g : disk.Ghosts D} → Image → FailedOpening D g → Type 0
+LeavesFrom start failed.InUse = Unit {0}
+LeavesFrom start (failed.Files rest) = IfSome rest (IsLeftOfFiles start)
+LeavesFrom start (failed.Connection now) = IsLeftOpen start now

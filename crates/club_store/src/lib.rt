@@ -2,9 +2,9 @@
 #![tactic(auto)]
 
 mod club;
+mod failed_opening;
 pub mod laws;
-mod remains;
 mod store;
 
-pub use remains::Remains;
+pub use failed_opening::FailedOpening;
 pub use store::Store;

@@ -24,8 +24,8 @@ ghost use Rattle.club_tables.specs.Opening.{AcceptsTables, IsOpeningFault};
 ghost use Rattle.club_tables.specs.ReadsAndChanges.{ReadsClub, ChangesClub};
 ghost use Rattle.club_tables.specs.Tables.{Represents, IsFound};
 
-use crate::Remains;
-use crate::remains::remains_of;
+use crate::FailedOpening;
+use crate::failed_opening::failed_opening;
 use club_core::laws::own_bookings_suffice;
 use club_core::{Change, KeyView, MemberAccount, Request, SlotUse, StoreFault, View};
 use club_rows::{Booking, BookingNumber, Facility, Key, Member, OlderRoot, Root};
@@ -45,7 +45,7 @@ pub struct Store<S: Alter> {
 }
 
 impl<S: Alter> Model for Store<S> {
-    ghost use Rattle.sqlite.specs.Held.{Held, held_code};
+    ghost use Rattle.sqlite.specs.FailedOpening.{Held, held_code};
 
     ghost Value = { Held S };
 
@@ -81,7 +81,7 @@ impl<Q: Start> Store<FileStore<FileFrom<Q>>> {
         rt: &HostRuntime,
         path: &str,
         start: Q,
-    ) -> Result<Store<FileStore<FileFrom<Q>>>, (StoreFault, Remains<FileFrom<Q>>)>
+    ) -> Result<Store<FileStore<FileFrom<Q>>>, (StoreFault, FailedOpening<FileFrom<Q>>)>
         ensures no_file { path.now ≡ codes ":memory:" → IsErrAnd result
             (λ e. e.0 ≡ StoreFault.Storage) }
         ensures opened { IfOk result
@@ -92,13 +92,13 @@ impl<Q: Start> Store<FileStore<FileFrom<Q>>> {
         let connection = match Connection::open_from(rt, path, false, start) {
             Ok(connection) => connection,
             Err((error, left)) => {
-                let remains = remains_of(&error, left);
-                return Err((fault_of(error), remains));
+                let failed = failed_opening(&error, left);
+                return Err((fault_of(error), failed));
             }
         };
         match Store::adopt(rt.alloc(), connection) {
             Ok(store) => Ok(store),
-            Err((fault, connection)) => Err((fault, Remains::Connection(connection))),
+            Err((fault, connection)) => Err((fault, FailedOpening::Connection(connection))),
         }
     }
 }

@@ -8,8 +8,9 @@ use Rattle.club_http.specs.Replied as replied
 use Rattle.clubdesk_arguments.specs.declared.{fault.Fault.Fault, task.Service.Service}
 use Rattle.clubdesk_commands.specs.Run.{RunsServer, over_socket}
 use Rattle.clubdesk_commands.specs.Run as run
-use Rattle.desk_server.specs.{Served.{AreCommanded, AreServed, CommandRelation, IsAttended, IsCarriedOut, IsExchanged, ServesOne, Turn}, declared.log.Fate.Fate}
-use Rattle.desk_server.specs.declared.{log.Fate.TheVariants.{Absent, Overrun, Unanswered, Exchanged, Commanded}, office.{Answer.Answer, Carried.Carried}}
+use Rattle.desk_server.specs.Served.{AreCommanded, AreServed, CommandRelation, IsAttended, IsCarriedOut, IsExchanged, ServesOne, Turn}
+use Rattle.desk_server.specs.declared.log.LogEvent.{LogEvent, TheVariants.{Absent, Overrun, Unanswered, Exchanged, Commanded}}
+use Rattle.desk_server.specs.declared.office.{Answer.Answer, Carried.Carried}
 use Rattle.desk_server.specs.Served as served
 
 -- `Alike old new Gives` states that a change of one desk from `old` to `new` matches a change of the other desk by `Gives`. An unchanged desk matches an
@@ -49,15 +50,16 @@ module _ {D E : Type 0} (Alike : D → D → (E → E → Type 0) → Type 0)
     -- ---- a server
 
     module _ {Clock : Type 0} (Given : GivesMoment Clock) where
-      are_commanded : (clock : Clock) (old : D) (fates : List Fate) (clock' : Clock) (new : D)
-          → AreCommanded Given Carries clock old fates clock' new
-          → Alike old new (λ e next. AreCommanded Given Carries' clock e fates clock' next)
+      are_commanded : (clock : Clock) (old : D) (events : List LogEvent) (clock' : Clock) (new : D)
+          → AreCommanded Given Carries clock old events clock' new
+          → Alike old new (λ e next. AreCommanded Given Carries' clock e events clock' next)
       are_commanded clock old _ _ _ served.no_command = same _ _ _ refl (λ e. served.no_command)
-      are_commanded clock old _ _ _ (served.one_command fates moment carried c d c' new before gives is) =
-          after _ _ _ _ _ _ (are_commanded clock old fates c d before) (carried_out carried is)
-          (λ e now next before is. served.one_command fates moment carried c now c' next before gives is)
+      are_commanded clock old _ _ _ (served.one_command events moment carried c d c' new before gives is) =
+          after _ _ _ _ _ _ (are_commanded clock old events c d before) (carried_out carried is)
+          (λ e now next before is. served.one_command events moment carried c now c' next before gives is)
 
-      attended : (meanwhile : List Fate) (moment : ℕ) (line : List ℕ) (outcome : Result Reply AnswerFault) (clock : Clock) (old : D) (clock' : Clock) (new : D)
+      attended : (meanwhile : List LogEvent) (moment : ℕ) (line : List ℕ) (outcome : Result Reply AnswerFault) (clock : Clock) (old : D) (clock' : Clock)
+          (new : D)
           → IsAttended Given Answers Carries over_socket meanwhile moment line outcome clock old clock' new
           → Alike old new
           (λ e next. IsAttended Given Answers' Carries' over_socket meanwhile moment line outcome clock e clock' next)
@@ -76,9 +78,9 @@ module _ {D E : Type 0} (Alike : D → D → (E → E → Type 0) → Type 0)
             ended = client.ended;
           })
 
-      one : (clock : Clock) (old : D) (f : ℕ) (meanwhile : List Fate) (fate : Fate) (clock' : Clock) (new : D) (f' : ℕ)
-          → ServesOne Given Answers Carries over_socket clock old f meanwhile fate clock' new f'
-          → Alike old new (λ e next. ServesOne Given Answers' Carries' over_socket clock e f meanwhile fate clock' next f')
+      one : (clock : Clock) (old : D) (f : ℕ) (meanwhile : List LogEvent) (event : LogEvent) (clock' : Clock) (new : D) (f' : ℕ)
+          → ServesOne Given Answers Carries over_socket clock old f meanwhile event clock' new f'
+          → Alike old new (λ e next. ServesOne Given Answers' Carries' over_socket clock e f meanwhile event clock' next f')
       one clock old f meanwhile Absent clock' new f' (none, counted, still, kept) = same _ _ _ kept (λ e. (none, counted, still, refl))
       one clock old f meanwhile Overrun clock' new f' (none, counted, still, kept) = same _ _ _ kept (λ e. (none, counted, still, refl))
       one clock old f meanwhile (Commanded moment carried) clock' new f' (none, counted, gives, is) =
@@ -92,7 +94,7 @@ module _ {D E : Type 0} (Alike : D → D → (E → E → Type 0) → Type 0)
           → Alike old new (λ e next. AreServed Given Answers' Carries' over_socket clock e f turns clock' next f')
       all clock old f _ _ _ _ served.none = same _ _ _ refl (λ e. served.none)
       all clock old f _ _ _ _ (served.more turns turn c d f1 c' new f' before due it) =
-          after _ _ _ _ _ _ (all clock old f turns c d f1 before) (one c d f1 turn.meanwhile turn.fate c' new f' it)
+          after _ _ _ _ _ _ (all clock old f turns c d f1 before) (one c d f1 turn.meanwhile turn.event c' new f' it)
           (λ e now next before it. served.more turns turn c now f1 c' next f' before due it)
 
     module _ {Machine : Type 0} (Shows : Machine → Option Timestamp → Type 0) (machine : Machine) (service : Service) (turns : List Turn)

@@ -18,8 +18,8 @@ use Rattle.clubdesk_commands.proofs.AlikeLemmas.{run_alike}
 use Rattle.jiff_core.specs.declared.timestamp.Timestamp.{Timestamp}
 use Rattle.clubdesk_commands.specs.OfficeDesk as spec
 use Rattle.clubdesk_commands.specs.Run as run
-use Rattle.desk_server.specs.{Served.{AreCommanded, AreServed, IsAttended, IsCarriedOut, IsExchanged, ServesOne, Turn}, declared.log.Fate.Fate}
-use Rattle.desk_server.specs.declared.{log.Fate.TheVariants.{Absent, Overrun, Unanswered, Exchanged, Commanded}, office.{Answer.Answer, Carried.Carried}}
+use Rattle.desk_server.specs.{Served.{AreCommanded, AreServed, IsAttended, IsCarriedOut, IsExchanged, ServesOne, Turn}, declared.log.LogEvent.LogEvent}
+use Rattle.desk_server.specs.declared.{log.LogEvent.TheVariants.{Absent, Overrun, Unanswered, Exchanged, Commanded}, office.{Answer.Answer, Carried.Carried}}
 use Rattle.desk_server.specs.Served as served
 use Rattle.club_clock.specs.Moments.{GivesMoment}
 

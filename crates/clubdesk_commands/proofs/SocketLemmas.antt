@@ -3,14 +3,14 @@ use Rattle.std.proofs.Common.{ℕ, List}
 use Rattle.club_clock.specs.Moments.{GivesMoment}
 use Rattle.club_http.specs.Replied.{AnswerRelation}
 use Rattle.clubdesk_commands.specs.Run.{over_socket}
-use Rattle.desk_server.specs.{Served.{AreServed, CommandRelation, Ends, ServesOne, Turn}, declared.log.Fate.Fate}
-use Rattle.desk_server.specs.declared.log.Fate.TheVariants.{Absent, Overrun, Unanswered, Exchanged, Commanded}
+use Rattle.desk_server.specs.{Served.{AreServed, CommandRelation, Ends, ServesOne, Turn}, declared.log.LogEvent.LogEvent}
+use Rattle.desk_server.specs.declared.log.LogEvent.TheVariants.{Absent, Overrun, Unanswered, Exchanged, Commanded}
 use Rattle.desk_server.specs.Served as served
 
 module _ {Clock Desk : Type 0} (Given : GivesMoment Clock) (Answers : ℕ → AnswerRelation Desk) (Carries : CommandRelation Desk) (Ended : Ends) where
-  one_over : (clock : Clock) (desk : Desk) (f : ℕ) (meanwhile : List Fate) (fate : Fate) (clock' : Clock) (desk' : Desk) (f' : ℕ)
-      → ServesOne Given Answers Carries Ended clock desk f meanwhile fate clock' desk' f'
-      → ServesOne Given Answers Carries over_socket clock desk f meanwhile fate clock' desk' f'
+  one_over : (clock : Clock) (desk : Desk) (f : ℕ) (meanwhile : List LogEvent) (event : LogEvent) (clock' : Clock) (desk' : Desk) (f' : ℕ)
+      → ServesOne Given Answers Carries Ended clock desk f meanwhile event clock' desk' f'
+      → ServesOne Given Answers Carries over_socket clock desk f meanwhile event clock' desk' f'
   one_over clock desk f meanwhile Absent clock' desk' f' it = it
   one_over clock desk f meanwhile Overrun clock' desk' f' it = it
   one_over clock desk f meanwhile (Commanded moment carried) clock' desk' f' it = it
@@ -36,4 +36,4 @@ module _ {Clock Desk : Type 0} (Given : GivesMoment Clock) (Answers : ℕ → An
   over_sockets clock desk f _ _ _ _ served.none = served.none
   over_sockets clock desk f _ clock' desk' f' (served.more turns turn c d f1 _ _ _ before due it) =
       served.more turns turn c d f1 clock' desk' f' (over_sockets clock desk f turns c d f1 before) due
-      (one_over c d f1 turn.meanwhile turn.fate clock' desk' f' it)
+      (one_over c d f1 turn.meanwhile turn.event clock' desk' f' it)

@@ -4,7 +4,7 @@ use Rattle.std.specs.declared.alloc.Global.{Global}
 use Rattle.club_core.specs.{Club.Club, Run.ToOffice, Sheet.IsSheet, Store.KeepsClub, declared.command.Command.Command}
 use Rattle.club_core.specs.declared.command.Command.TheVariants as office
 use Rattle.club_core.specs.Run as machine
-use Rattle.club_gate.specs.{Desk.{OfItsClub, Steps}, Minted.{key_pass, minted_signature}, Shown.{ReturnsShown, shown_account, shown_slot}}
+use Rattle.club_gate.specs.{Desk.{OfItsClub, Steps}, Minted.{key_pass, minted_signature}, Listing.{ReturnsListing, account_listing, slot_listing}}
 use Rattle.club_gate.specs.declared.{event.OfficeReply.OfficeReply, fault.Fault.Fault as DeskFault}
 use Rattle.club_gate.specs.declared.event.OfficeReply.TheVariants as replies
 use Rattle.club_gate.specs.declared.fault.Fault.TheVariants as desk
@@ -71,5 +71,5 @@ module _ {S : Type 0} (Clean : S → Type 0) (Represents : S → Club → List C
   Does Given (Sheet day) answer old new = DeskShows (λ club sheet. IfOk sheet (λ text. IsSheet club day (string_bytes text))) answer old new
   Does Given (ShowAccount key clock) answer old new = (shown : Option ℕ) × IsMomentOf Given clock shown
       × MatchOption shown ((answer ≡ Err ClockOutOfRange) × (new ≡ old))
-      (λ moment. DeskShows (λ club shown. ReturnsShown (shown_account club key moment) shown) answer old new)
-  Does Given (ShowSlot slot) answer old new = DeskShows (λ club shown. ReturnsShown (shown_slot club slot) shown) answer old new
+      (λ moment. DeskShows (λ club shown. ReturnsListing (account_listing club key moment) shown) answer old new)
+  Does Given (ShowSlot slot) answer old new = DeskShows (λ club shown. ReturnsListing (slot_listing club slot) shown) answer old new

@@ -6,7 +6,7 @@ use crate::named::NamedStore;
 use crate::open_file::OpenFile;
 use crate::visit::{FileVisit, Found, find_server};
 use club_core::StoreFault;
-use club_store::{Remains, Store};
+use club_store::{FailedOpening, Store};
 use desk_server::Reached;
 use sqlite::{FileFrom, FileStore, Unknown};
 
@@ -23,7 +23,7 @@ fn try_open(rt: &HostRuntime, name: &str) -> Option<Result<FileStoreOfClub, Stor
     make_private(rt, name);
     match Store::open_file(rt, name, Unknown) {
         Ok(store) => Some(Ok(store)),
-        Err((_, Remains::Held)) => None,
+        Err((_, FailedOpening::InUse)) => None,
         Err((fault, _left)) => Some(Err(fault)),
     }
 }

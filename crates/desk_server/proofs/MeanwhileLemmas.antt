@@ -5,37 +5,37 @@ use Rattle.club_clock.specs.Moments.{GivesMoment}
 use Rattle.club_http.specs.Calls.{Call, Gives, ReadsNoFurther}
 use Rattle.club_http.specs.Calls as calls
 use Rattle.desk_server.specs.{Between.CommandsAlone, Served.{AreCommanded, AreNotedMeanwhile, CommandRelation, Meanwhile, Notes}, Server.IsCommanded}
-use Rattle.desk_server.specs.declared.{between.Between.Between, log.Fate.{Fate, TheVariants.Commanded}}
+use Rattle.desk_server.specs.declared.{between.Between.Between, log.LogEvent.{LogEvent, TheVariants.Commanded}}
 use Rattle.desk_server.specs.Served as spec
 
-commanded_append : {Clock Desk : Type 0} {Given : GivesMoment Clock} {Carries : CommandRelation Desk} {c c1 : Clock} {d d1 : Desk} {first : List Fate}
-    → AreCommanded Given Carries c d first c1 d1 → (second : List Fate) (c' : Clock) (d' : Desk) → AreCommanded Given Carries c1 d1 second c' d'
+commanded_append : {Clock Desk : Type 0} {Given : GivesMoment Clock} {Carries : CommandRelation Desk} {c c1 : Clock} {d d1 : Desk} {first : List LogEvent}
+    → AreCommanded Given Carries c d first c1 d1 → (second : List LogEvent) (c' : Clock) (d' : Desk) → AreCommanded Given Carries c1 d1 second c' d'
     → AreCommanded Given Carries c d (first ++ second) c' d'
 commanded_append {first = first} before _ _ _ spec.no_command = rw (append-nil first) before
 commanded_append {first = first} before _ _ _ (spec.one_command second moment carried c2 d2 c' d' so_far gives is) =
     rw (← append_assoc first second (Commanded moment carried ∷ []))
     (spec.one_command (first ++ second) moment carried c2 d2 c' d' (commanded_append before second c2 d2 so_far) gives is)
 
-noted_append : {Log : Type 0} {Begins : Log → Log → Type 0} {Noted : Notes Log} {l l1 : Log} {first : List Fate}
-    → AreNotedMeanwhile Begins Noted l first l1 → (second : List Fate) (l' : Log) → AreNotedMeanwhile Begins Noted l1 second l'
+noted_append : {Log : Type 0} {Begins : Log → Log → Type 0} {Noted : Notes Log} {l l1 : Log} {first : List LogEvent}
+    → AreNotedMeanwhile Begins Noted l first l1 → (second : List LogEvent) (l' : Log) → AreNotedMeanwhile Begins Noted l1 second l'
     → AreNotedMeanwhile Begins Noted l (first ++ second) l'
 noted_append {first = first} before _ _ spec.no_note = rw (append-nil first) before
-noted_append {first = first} before _ _ (spec.one_note second fate l2 begun l' so_far begins noted) =
-    rw (← append_assoc first second (fate ∷ []))
-    (spec.one_note (first ++ second) fate l2 begun l' (noted_append before second l2 so_far) begins noted)
+noted_append {first = first} before _ _ (spec.one_note second event l2 begun l' so_far begins noted) =
+    rw (← append_assoc first second (event ∷ []))
+    (spec.one_note (first ++ second) event l2 begun l' (noted_append before second l2 so_far) begins noted)
 
 module _ {Clock Desk Log : Type 0} (Given : GivesMoment Clock) (Carries : CommandRelation Desk) (Begins : Log → Log → Type 0) (Noted : Notes Log) where
   -- if no command came, nothing changed
   pub no_commands : (c : Clock) (d : Desk) (l : Log) → Meanwhile Given Carries Begins Noted c d l c d l
-  no_commands c d l = record { fates = []; commanded = spec.no_command; noted = spec.no_note }
+  no_commands c d l = record { events = []; commanded = spec.no_command; noted = spec.no_note }
 
   -- the commands so far and one more command
   pub one_command_more : (c c1 c' : Clock) (d d1 d' : Desk) (l l1 l' : Log) → Meanwhile Given Carries Begins Noted c d l c1 d1 l1
       → IsCommanded Given Begins Noted Carries c1 d1 l1 c' d' l' → Meanwhile Given Carries Begins Noted c d l c' d' l'
   one_command_more c c1 c' d d1 d' l l1 l' first (moment, carried, begun, begins, noted, gives, is) = record {
-    fates = first.fates ++ Commanded moment carried ∷ [];
-    commanded = spec.one_command first.fates moment carried c1 d1 c' d' first.commanded gives is;
-    noted = spec.one_note first.fates (Commanded moment carried) l1 begun l' first.noted begins noted;
+    events = first.events ++ Commanded moment carried ∷ [];
+    commanded = spec.one_command first.events moment carried c1 d1 c' d' first.commanded gives is;
+    noted = spec.one_note first.events (Commanded moment carried) l1 begun l' first.noted begins noted;
   }
 
   module _ (R : Type 0) where
@@ -61,9 +61,9 @@ module _ {Clock Desk Log : Type 0} (Given : GivesMoment Clock) (Carries : Comman
       same_desk = second.same_desk ∙ first.same_desk;
       same_log = second.same_log ∙ first.same_log;
       commands = record {
-        fates = first.commands.fates ++ second.commands.fates;
-        commanded = commanded_append first.commands.commanded second.commands.fates new.moments.now new.desk.now second.commands.commanded;
-        noted = noted_append first.commands.noted second.commands.fates new.log.now second.commands.noted;
+        events = first.commands.events ++ second.commands.events;
+        commanded = commanded_append first.commands.commanded second.commands.events new.moments.now new.desk.now second.commands.commanded;
+        noted = noted_append first.commands.noted second.commands.events new.log.now second.commands.noted;
       };
     }
 

@@ -3,10 +3,10 @@ use Rattle.std.proofs.Common.{◌≡◌, ℕ, ◌+◌, List, [], ◌∷◌, ◌+
 use Rattle.club_clock.specs.Moments.{GivesMoment}
 use Rattle.club_http.specs.Replied.{AnswerRelation}
 use Rattle.desk_server.specs.Served.{AreNoted, AreServed, CommandRelation, CountsOn, Ends, IsBegun, IsDue, IsNoted, Notes, ServesOne, Turn, alone, client_in}
-use Rattle.desk_server.specs.{Served.clients_in, declared.log.Fate.Fate}
+use Rattle.desk_server.specs.{Served.clients_in, declared.log.LogEvent.LogEvent}
 use Rattle.desk_server.specs.Served as spec
 
-clients_more : (turns : List Turn) (turn : Turn) → clients_in (turns ++ turn ∷ []) ≡ clients_in turns + client_in turn.fate
+clients_more : (turns : List Turn) (turn : Turn) → clients_in (turns ++ turn ∷ []) ≡ clients_in turns + client_in turn.event
 clients_more [] turn = omega arith
 clients_more (first ∷ turns) turn = omega (arith, clients_more turns turn)
 
@@ -26,9 +26,9 @@ module _ {Clock Desk Source Log : Type 0} {Gives : GivesMoment Clock} {Answers :
     {c c1 : Clock} {d d1 : Desk} {l l1 : Log}
     (first : SoFar Gives Answers Carries Ended waited failures Begins Noted clients commands s s1 c d l c1 d1 l1) where
   -- the turns so far and one more turn
-  pub one_more : (turn : Turn) (clients' commands' : ℕ) (s' : Source) (c' : Clock) (d' : Desk) (l' : Log) → clients' ≡ clients + client_in turn.fate
-      → commands' ≤ commands + 1 → IsDue first.turns turn.fate
-      → ServesOne Gives Answers Carries Ended c1 d1 (failures s1) turn.meanwhile turn.fate c' d' (failures s') → IsNoted Begins Noted l1 turn l'
+  pub one_more : (turn : Turn) (clients' commands' : ℕ) (s' : Source) (c' : Clock) (d' : Desk) (l' : Log) → clients' ≡ clients + client_in turn.event
+      → commands' ≤ commands + 1 → IsDue first.turns turn.event
+      → ServesOne Gives Answers Carries Ended c1 d1 (failures s1) turn.meanwhile turn.event c' d' (failures s') → IsNoted Begins Noted l1 turn l'
       → CountsOn (waited s) (length first.turns + 1) (waited s')
       → SoFar Gives Answers Carries Ended waited failures Begins Noted clients' commands' s s' c d l c' d' l'
   one_more turn clients' commands' s' c' d' l' so_many no_fewer due one noted called = record {
@@ -45,8 +45,8 @@ module _ {Clock Desk Source Log : Type 0} {Gives : GivesMoment Clock} {Answers :
   one_call s' waits fits = let before = first.called (omega arith) in let last = waits (omega arith) in omega arith
 
 module _ {Log : Type 0} {Begins : Log → Log → Type 0} {Noted : Notes Log} where
-  -- for a turn during which no commands came, the log notes only the turn's own fate
-  pub noted_alone : {log log' : Log} (begun : Log) (fate : Fate) → IsBegun Begins Noted log fate begun → Noted begun fate log'
-      → IsNoted Begins Noted log (alone fate) log'
-  noted_alone begun fate begins notes =
+  -- for a turn during which no commands came, the log notes only the turn's own event
+  pub noted_alone : {log log' : Log} (begun : Log) (event : LogEvent) → IsBegun Begins Noted log event begun → Noted begun event log'
+      → IsNoted Begins Noted log (alone event) log'
+  noted_alone begun event begins notes =
       record { begun = begun; awaited = begun; begins = begins; meanwhile = spec.no_note; notes = notes }

@@ -5,7 +5,8 @@ use Rattle.club_core.specs.declared.reply.Reply.{Reply}
 use Rattle.club_http.specs.{Ends.one_more, declared.fault.AnswerFault.AnswerFault}
 use Rattle.club_values.specs.Moment.{moment_text}
 use Rattle.http_response.specs.Status.{status_of}
-use Rattle.desk_server.specs.{RequestLine.{method_of, path_of}, declared.log.Fate.{Fate, TheVariants.{Absent, Overrun, Unanswered, Exchanged, Commanded}}}
+use Rattle.desk_server.specs.RequestLine.{method_of, path_of}
+use Rattle.desk_server.specs.declared.log.LogEvent.{LogEvent, TheVariants.{Absent, Overrun, Unanswered, Exchanged, Commanded}}
 
 -- a word, or a dash if there is none
 abbrev pub or_dash : Option (List ℕ) → List ℕ
@@ -24,7 +25,7 @@ words_text moment method path status microseconds =
 
 -- The line of a client has the moment, the method, the path, the status, and the time taken in microseconds. The line of a command has the moment, `office`,
 -- its name, its exit status and the time taken in microseconds. Without a complete command, name and status are missing.
-unfoldable pub line_text : Fate → ℕ → List ℕ
+unfoldable pub line_text : LogEvent → ℕ → List ℕ
 line_text Absent microseconds = words_text None None None None microseconds
 line_text Overrun microseconds = words_text None None None None microseconds
 line_text Unanswered microseconds = words_text None None None None microseconds
@@ -41,7 +42,7 @@ IsTextWritten taken taken' failures failures' text =
     ⊎ ((n : ℕ) × (n < length text) × Appends taken taken' (take n text) × (failures' ≡ one_more failures))
 
 -- the writer took a line for each arrival, in their order, each with some number of microseconds
-pub data AreWritten (taken : Option (List ℕ)) (failures : ℕ) : List Fate → Option (List ℕ) → ℕ → Type 0 where
+pub data AreWritten (taken : Option (List ℕ)) (failures : ℕ) : List LogEvent → Option (List ℕ) → ℕ → Type 0 where
   no_line : AreWritten taken failures [] taken failures
-  one_line : (fates : List Fate) (fate : Fate) (microseconds : ℕ) (t : Option (List ℕ)) (f : ℕ) (t' : Option (List ℕ)) (f' : ℕ)
-      → AreWritten taken failures fates t f → IsTextWritten t t' f f' (line_text fate microseconds) → AreWritten taken failures (fates ++ fate ∷ []) t' f'
+  one_line : (events : List LogEvent) (event : LogEvent) (microseconds : ℕ) (t : Option (List ℕ)) (f : ℕ) (t' : Option (List ℕ)) (f' : ℕ)
+      → AreWritten taken failures events t f → IsTextWritten t t' f f' (line_text event microseconds) → AreWritten taken failures (events ++ event ∷ []) t' f'

@@ -5,7 +5,7 @@ use Rattle.std.specs.String.{string_bytes}
 use Rattle.club_clock.specs.Moments.{GivesMoment}
 use Rattle.club_core.specs.declared.reply.Reply.{Reply}
 use Rattle.club_http.specs.{Ends.one_more, Exchange.Exchanges, Replied.{AnswerRelation, IsReplied}, declared.fault.AnswerFault.AnswerFault}
-use Rattle.desk_server.specs.declared.{log.Fate.{Fate, TheVariants.{Absent, Overrun, Unanswered, Exchanged, Commanded}}, office.Answer.Answer}
+use Rattle.desk_server.specs.declared.{log.LogEvent.{LogEvent, TheVariants.{Absent, Overrun, Unanswered, Exchanged, Commanded}}, office.Answer.Answer}
 use Rattle.desk_server.specs.declared.{office.Carried.Carried, serve.ClockOutOfRange.ClockOutOfRange}
 
 -- a u64 counter grows by this number, unless it overflows
@@ -56,49 +56,49 @@ pub record AnswersCommand {Desk : Type 0} (Carries : CommandRelation Desk) (byte
   pub same : carried ≡ answer.carried
   pub writes : (n : ℕ) × Appends taken taken' (take n (answer_bytes answer.carried.status (string_bytes answer.text)))
 
--- A turn of the server: the fate of an arrival, and the fates of the commands that came while the arrival's request was awaited.
+-- A turn of the server: the event of an arrival, and the events of the commands that came while the arrival's request was awaited.
 pub record Turn : Type 0 where
-  pub meanwhile : List Fate
-  pub fate : Fate
+  pub meanwhile : List LogEvent
+  pub event : LogEvent
 
 -- a turn during which no commands came
-abbrev pub alone : Fate → Turn
-alone fate = record { meanwhile = []; fate = fate }
+abbrev pub alone : LogEvent → Turn
+alone event = record { meanwhile = []; event = event }
 
--- the fates in the order in which they ended; a client's fate comes after the fates of the commands during its turn
-abbrev pub fates_in : List Turn → List Fate
-fates_in [] = []
-fates_in (turn ∷ turns) = (turn.meanwhile ++ turn.fate ∷ []) ++ fates_in turns
+-- the events in the order in which they ended; a client's event comes after the events of the commands during its turn
+abbrev pub events_in : List Turn → List LogEvent
+events_in [] = []
+events_in (turn ∷ turns) = (turn.meanwhile ++ turn.event ∷ []) ++ events_in turns
 
--- the number of clients that a fate counts as: 0 for a command, otherwise 1
-abbrev pub client_in : Fate → ℕ
+-- the number of clients that a event counts as: 0 for a command, otherwise 1
+abbrev pub client_in : LogEvent → ℕ
 client_in (Commanded moment carried) = 0
-client_in fate = 1
+client_in event = 1
 
 -- the number of these turns that were clients' turns
 abbrev pub clients_in : List Turn → ℕ
 clients_in [] = 0
-clients_in (turn ∷ turns) = client_in turn.fate + clients_in turns
+clients_in (turn ∷ turns) = client_in turn.event + clients_in turns
 
 -- An overrun occurs only after 2 ^ 64 - 1 turns.
-abbrev pub IsDue : List Turn → Fate → Type 0
+abbrev pub IsDue : List Turn → LogEvent → Type 0
 IsDue turns Overrun = 2 ^ 64 ≤ suc (length turns)
-IsDue turns fate = Unit {0}
+IsDue turns event = Unit {0}
 
 -- ---- the clock, the desk and what arrives
 
 module _ {Clock Desk : Type 0} (Gives : GivesMoment Clock) (Carries : CommandRelation Desk) where
   -- consecutive commands, each carried out even if the clock gives no moment
-  pub data AreCommanded (clock : Clock) (desk : Desk) : List Fate → Clock → Desk → Type 0 where
+  pub data AreCommanded (clock : Clock) (desk : Desk) : List LogEvent → Clock → Desk → Type 0 where
     no_command : AreCommanded clock desk [] clock desk
-    one_command : (fates : List Fate) (moment : Option ℕ) (carried : Option Carried) (c : Clock) (d : Desk) (c' : Clock) (d' : Desk)
-        → AreCommanded clock desk fates c d → Gives c moment c' → IsCarriedOut Carries d carried d'
-        → AreCommanded clock desk (fates ++ Commanded moment carried ∷ []) c' d'
+    one_command : (events : List LogEvent) (moment : Option ℕ) (carried : Option Carried) (c : Clock) (d : Desk) (c' : Clock) (d' : Desk)
+        → AreCommanded clock desk events c d → Gives c moment c' → IsCarriedOut Carries d carried d'
+        → AreCommanded clock desk (events ++ Commanded moment carried ∷ []) c' d'
 
 module _ {Clock Desk : Type 0} (Gives : GivesMoment Clock) (Answers : ℕ → AnswerRelation Desk) (Carries : CommandRelation Desk) (Ended : Ends) where
   -- The effect of a client on the clock and the desk. The clock gave the client's moment. Then commands were carried out, each at its own moment. Last came the
   -- exchange with the desk that the commands left; its outcome is one that such a connection may have.
-  pub record IsAttended (meanwhile : List Fate) (moment : ℕ) (line : List ℕ) (outcome : Result Reply AnswerFault) (clock : Clock) (desk : Desk)
+  pub record IsAttended (meanwhile : List LogEvent) (moment : ℕ) (line : List ℕ) (outcome : Result Reply AnswerFault) (clock : Clock) (desk : Desk)
       (clock' : Clock) (desk' : Desk) : Type 0 where
     pub given : Clock
     pub left : Desk
@@ -112,7 +112,7 @@ module _ {Clock Desk : Type 0} (Gives : GivesMoment Clock) (Answers : ℕ → An
 
   -- The effect of one arrival on the clock, the desk and the count of failed calls. If waiting failed, only the count grew. A command is carried out even if
   -- the clock gives no moment. Other commands can come only during a client's turn. An overrun counts as one client that never came.
-  abbrev pub ServesOne : Clock → Desk → ℕ → List Fate → Fate → Clock → Desk → ℕ → Type 0
+  abbrev pub ServesOne : Clock → Desk → ℕ → List LogEvent → LogEvent → Clock → Desk → ℕ → Type 0
   ServesOne clock desk failures meanwhile Absent clock' desk' failures' =
       (meanwhile ≡ []) × (failures' ≡ one_more failures) × (clock' ≡ clock) × (desk' ≡ desk)
   ServesOne clock desk failures meanwhile Overrun clock' desk' failures' =
@@ -127,7 +127,7 @@ module _ {Clock Desk : Type 0} (Gives : GivesMoment Clock) (Answers : ℕ → An
   pub data AreServed (clock : Clock) (desk : Desk) (failures : ℕ) : List Turn → Clock → Desk → ℕ → Type 0 where
     none : AreServed clock desk failures [] clock desk failures
     more : (turns : List Turn) (turn : Turn) (c : Clock) (d : Desk) (f : ℕ) (c' : Clock) (d' : Desk) (f' : ℕ)
-        → AreServed clock desk failures turns c d f → IsDue turns turn.fate → ServesOne c d f turn.meanwhile turn.fate c' d' f'
+        → AreServed clock desk failures turns c d f → IsDue turns turn.event → ServesOne c d f turn.meanwhile turn.event c' d' f'
         → AreServed clock desk failures (turns ++ turn ∷ []) c' d' f'
 
   -- The end of a server for this many clients: it served them all, or it stopped because the clock failed. The turns are those of all arrivals that the server
@@ -150,31 +150,31 @@ module _ {Clock Desk : Type 0} (Gives : GivesMoment Clock) (Answers : ℕ → An
 
 -- ---- the log
 
--- the effect on a log of noting the fate of an arrival
+-- the effect on a log of noting the event of an arrival
 abbrev pub Notes : Type 0 → Type 1
-Notes Log = Log → Fate → Log → Type 0
+Notes Log = Log → LogEvent → Log → Type 0
 
 module _ {Log : Type 0} (Begins : Log → Log → Type 0) (Noted : Notes Log) where
-  -- for each command during a turn, in order, the log notes that it begins, and then its fate
-  pub data AreNotedMeanwhile (log : Log) : List Fate → Log → Type 0 where
+  -- for each command during a turn, in order, the log notes that it begins, and then its event
+  pub data AreNotedMeanwhile (log : Log) : List LogEvent → Log → Type 0 where
     no_note : AreNotedMeanwhile log [] log
-    one_note : (fates : List Fate) (fate : Fate) (l begun l' : Log) → AreNotedMeanwhile log fates l → Begins l begun → Noted begun fate l'
-        → AreNotedMeanwhile log (fates ++ fate ∷ []) l'
+    one_note : (events : List LogEvent) (event : LogEvent) (l begun l' : Log) → AreNotedMeanwhile log events l → Begins l begun → Noted begun event l'
+        → AreNotedMeanwhile log (events ++ event ∷ []) l'
 
   -- if the arrival was accepted, the log notes that it begins, else the log is unchanged
-  abbrev pub IsBegun : Log → Fate → Log → Type 0
+  abbrev pub IsBegun : Log → LogEvent → Log → Type 0
   IsBegun log Absent begun = begun ≡ log
   IsBegun log Overrun begun = begun ≡ log
-  IsBegun log fate begun = Begins log begun
+  IsBegun log event begun = Begins log begun
 
-  -- The log of a turn. If the arrival was accepted, the log notes that it begins. Then it notes the beginning and the fate of each command during the turn, and
-  -- last the arrival's own fate. For any other arrival the log notes only the fate.
+  -- The log of a turn. If the arrival was accepted, the log notes that it begins. Then it notes the beginning and the event of each command during the
+  -- turn, and last the arrival's own event. For any other arrival the log notes only the event.
   pub record IsNoted (log : Log) (turn : Turn) (log' : Log) : Type 0 where
     pub begun : Log
     pub awaited : Log
-    pub begins : IsBegun log turn.fate begun
+    pub begins : IsBegun log turn.event begun
     pub meanwhile : AreNotedMeanwhile begun turn.meanwhile awaited
-    pub notes : Noted awaited turn.fate log'
+    pub notes : Noted awaited turn.event log'
 
   -- all turns are logged, in order
   pub data AreNoted (log : Log) : List Turn → Log → Type 0 where
@@ -186,9 +186,9 @@ module _ {Log : Type 0} (Begins : Log → Log → Type 0) (Noted : Notes Log) wh
 module _ {Clock Desk Log : Type 0} (Gives : GivesMoment Clock) (Carries : CommandRelation Desk) (Begins : Log → Log → Type 0) (Noted : Notes Log) where
   -- the commands that came during a turn were carried out and noted, in order
   pub record Meanwhile (clock : Clock) (desk : Desk) (log : Log) (clock' : Clock) (desk' : Desk) (log' : Log) : Type 0 where
-    pub fates : List Fate
-    pub commanded : AreCommanded Gives Carries clock desk fates clock' desk'
-    pub noted : AreNotedMeanwhile Begins Noted log fates log'
+    pub events : List LogEvent
+    pub commanded : AreCommanded Gives Carries clock desk events clock' desk'
+    pub noted : AreNotedMeanwhile Begins Noted log events log'
 
   -- An exchange. While the request was awaited, commands were carried out and noted. Then the exchange took place with the desk that these commands left.
   pub record ExchangesBetween {Client : Type 0} (Answers : AnswerRelation Desk) (ToCome : Client → Option (List ℕ)) (Talks : Talk Client)

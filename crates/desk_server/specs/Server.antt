@@ -2,11 +2,11 @@
 use Rattle.std.specs.Prelude.{ℕ, length, Option, Result}
 use Rattle.club_clock.specs.Moments.{GivesMoment}
 use Rattle.club_http.specs.Replied.{AnswerRelation}
-use Rattle.desk_server.specs.{Served.{AreNoted, CommandRelation, CountsOn, Ends, IsCarriedOut, Notes, Serves}, declared.log.Fate.TheVariants.Commanded}
+use Rattle.desk_server.specs.{Served.{AreNoted, CommandRelation, CountsOn, Ends, IsCarriedOut, Notes, Serves}, declared.log.LogEvent.TheVariants.Commanded}
 use Rattle.desk_server.specs.declared.{office.Carried.Carried, serve.ClockOutOfRange.ClockOutOfRange}
 
 module _ {Clock Desk Log : Type 0} (Gives : GivesMoment Clock) (Begins : Log → Log → Type 0) (Noted : Notes Log) where
-  -- A connection of the office: a complete command is carried out. The log notes the beginning and the fate, at the clock's moment.
+  -- A connection of the office: a complete command is carried out. The log notes the beginning and the event, at the clock's moment.
   abbrev pub IsCommanded : CommandRelation Desk → Clock → Desk → Log → Clock → Desk → Log → Type 0
   IsCommanded Carries clock desk log clock' desk' log' =
       (moment : Option ℕ) × (carried : Option Carried) × (begun : Log) × Begins log begun × Noted begun (Commanded moment carried) log'

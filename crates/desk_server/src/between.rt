@@ -1,13 +1,13 @@
 //! Commands of the office, including those that come between the pieces of a client's request.
 
 ghost use Rattle.std.specs.Prelude.{◌≡◌, IfNone, IfSome};
-ghost use Rattle.http_request.specs.Front.{Covers};
+ghost use Rattle.http_request.specs.HeadResult.{Covers};
 ghost use Rattle.club_http.specs.{Calls.ReadsNoFurther, Ends.read_failures};
 ghost use Rattle.club_http.specs.Received.{IsCutOff, Receives};
 ghost use Rattle.desk_server.specs.{Between.{Awaits, CommandsAlone}, Served.Meanwhile};
 ghost use Rattle.desk_server.specs.Server.{IsCommanded};
 
-use crate::log::{Fate, Log};
+use crate::log::{Log, LogEvent};
 use crate::office::{Carried, Office};
 use club_clock::Moments;
 use club_http::{Face, HeadScan, Inlet};
@@ -36,7 +36,7 @@ pub(crate) fn carry_out<O: Handover + Drop, M: Moments, D: Office, G: Log>(
     let moment = moments.now();
     let carried = command.carry_out(desk);
     drop(command);
-    log.note(&Fate::Commanded { moment, carried });
+    log.note(&LogEvent::Commanded { moment, carried });
 }
 
 /// A client's reader that also waits for the office.

@@ -28,7 +28,7 @@ pub use door::{
 };
 pub use limit::{Limit, MonotonicClock};
 pub use listening::Listening;
-pub use log::{Fate, Log, LogLines, Unlogged};
+pub use log::{Log, LogEvent, LogLines, Unlogged};
 pub use office::{Answer, Carried, Office};
 pub use request_line::{MAX_KEPT, RequestLine};
 pub use serve::{ClockOutOfRange, serve_logged, serve_on};

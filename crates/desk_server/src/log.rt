@@ -14,7 +14,7 @@ const OFFICE: &[u8] = b"office";
 
 /// The outcome of an arrival.
 #[derive(Drop)]
-pub enum Fate {
+pub enum LogEvent {
     /// Waiting failed.
     Absent,
     /// The u64 counter of commands is full, so this turn counts as a client that never came.
@@ -54,8 +54,8 @@ pub trait Log {
         ensures { begins self.old self.new };
 
     /// Notes how the client or command ended.
-    fn note(&mut self, fate: &Fate)
-        ensures { notes self.old fate.now self.new };
+    fn note(&mut self, event: &LogEvent)
+        ensures { notes self.old event.now self.new };
 }
 
 /// Keeps no log.
@@ -69,7 +69,7 @@ impl Log for Unlogged {
 
     fn begin(&mut self) {}
 
-    fn note(&mut self, _fate: &Fate) {}
+    fn note(&mut self, _event: &LogEvent) {}
 }
 
 /// Writes a line for each client: the moment, the method, the path, the status of the reply and the
@@ -117,18 +117,18 @@ impl<'a, W: Outlet, C: Clock> Log for LogLines<'a, W, C> {
 
     ghost begins = { λ old new. new.writer ≡ old.writer };
 
-    ghost notes = { λ old fate new. (microseconds : ℕ) × IsTextWritten
+    ghost notes = { λ old event new. (microseconds : ℕ) × IsTextWritten
         (W.taken old.writer) (W.taken new.writer)
         (W.failures old.writer) (W.failures new.writer)
-        (line_text fate microseconds) };
+        (line_text event microseconds) };
 
     fn begin(&mut self) {
         self.around = self.began;
         self.began = Instant::now(self.clock).ok();
     }
 
-    fn note(&mut self, fate: &Fate) {
-        let line = line_of(fate, self.microseconds());
+    fn note(&mut self, event: &LogEvent) {
+        let line = line_of(event, self.microseconds());
         self.began = self.around.take();
         let _ = put_all(&mut self.writer, line.as_bytes());
     }
@@ -136,14 +136,14 @@ impl<'a, W: Outlet, C: Clock> Log for LogLines<'a, W, C> {
 
 // Returns the line of an arrival.
 #[tactic(auto, unfolding(crate::specs::Log::line_text))]
-fn line_of(fate: &Fate, microseconds: u64) -> Line
-    ensures { result ≡ spec.line_text fate.now microseconds }
+fn line_of(event: &LogEvent, microseconds: u64) -> Line
+    ensures { result ≡ spec.line_text event.now microseconds }
 {
-    match fate {
-        Fate::Absent | Fate::Overrun | Fate::Unanswered => {
+    match event {
+        LogEvent::Absent | LogEvent::Overrun | LogEvent::Unanswered => {
             words(&None, None, None, None, microseconds)
         }
-        Fate::Commanded { moment, carried } => match carried {
+        LogEvent::Commanded { moment, carried } => match carried {
             Some(carried) => {
                 let status = Some(u16::from(carried.status));
                 words(
@@ -156,7 +156,7 @@ fn line_of(fate: &Fate, microseconds: u64) -> Line
             }
             None => words(moment, Some(OFFICE), None, None, microseconds),
         },
-        Fate::Exchanged {
+        LogEvent::Exchanged {
             moment,
             line,
             outcome,

@@ -4,7 +4,7 @@ ghost use Rattle.desk_server.specs.{Served.HasTalked, Server.{ServesLogged, Serv
 
 use crate::between::carry_out;
 use crate::connections::{Arrival, Arrivals, Connection};
-use crate::log::{Fate, Log, Unlogged};
+use crate::log::{Log, LogEvent, Unlogged};
 use crate::office::Office;
 use crate::request_line::RequestLine;
 use club_clock::Moments;
@@ -73,7 +73,7 @@ pub fn serve_logged<L: Arrivals, M: Moments, D: Office, G: Log>(
     let mut commanded = 0;
     while served < count {
         if commanded == u64::MAX {
-            log.note(&Fate::Overrun);
+            log.note(&LogEvent::Overrun);
             served += 1;
             continue;
         }
@@ -85,14 +85,14 @@ pub fn serve_logged<L: Arrivals, M: Moments, D: Office, G: Log>(
             Arrival::Client(mut client) => {
                 log.begin();
                 let Some(moment) = moments.now() else {
-                    log.note(&Fate::Unanswered);
+                    log.note(&LogEvent::Unanswered);
                     return Err(ClockOutOfRange);
                 };
                 // The server goes on after any outcome.
                 let outcome = client.exchange(face, moments, desk, log, moment);
                 drop(client);
                 let line = RequestLine::of(face.request());
-                log.note(&Fate::Exchanged {
+                log.note(&LogEvent::Exchanged {
                     moment,
                     line,
                     outcome,
@@ -100,7 +100,7 @@ pub fn serve_logged<L: Arrivals, M: Moments, D: Office, G: Log>(
                 served += 1;
             }
             Arrival::Nobody => {
-                log.note(&Fate::Absent);
+                log.note(&LogEvent::Absent);
                 served += 1;
             }
         }

@@ -8,7 +8,7 @@ pub use Rattle.std.specs.{List.{ends_with, list_all}, Option.{ok_or, option_and_
 pub use Rattle.httparse.specs.{Grammar.RequestHead, declared.spans.HeaderSpan.HeaderSpan}
 pub use Rattle.http_request.specs.{Body.{only_named, guests_of_value}, Fields.{values_in_head, same_word, values_of}}
 pub use Rattle.http_request.specs.Frame.{IsFramed, IsRefusedHead, HasNoPiece, AsksForBody, IsOneRequest, endless, header_fields, IsWhole, bad_head, has_frame}
-pub use Rattle.http_request.specs.{Front.{IsHeadAt, IsFrontOf}, Head.{empty_line, IsPiece, IsHeadOf}}
+pub use Rattle.http_request.specs.{HeadResult.{IsHeadAt, IsHeadResultOf}, Head.{empty_line, IsPiece, IsHeadOf}}
 pub use Rattle.http_request.specs.{Laws.{ReadsPlaces, OneReading, WholeKeepsItsReading, BodyStays}, Parts.{segments, with_front, following_parts}}
-pub use Rattle.http_request.specs.{computed.Path.{account_at, place_of, under_root, under_slots, at_slot}, declared.front.Head.Head}
+pub use Rattle.http_request.specs.{computed.Path.{account_at, place_of, under_root, under_slots, at_slot}, declared.head_result.Head.Head}
 unfoldable pub use Rattle.http_request.specs.Body.{guests_in, json_value_of}

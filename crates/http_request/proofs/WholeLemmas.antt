@@ -1,10 +1,10 @@
 -- Lemmas on the conditions under which a request is complete, and on the bytes after it.
 use Rattle.http_request.proofs.Common.{◌≡◌, ◌⊎◌, ℕ, ◌-◌, ◌<◌, ◌≤◌, ◌↔◌, inl, inr, List, ◌++◌, length, take, drop, sym, ap, ◌∙◌, arith, append_assoc}
 use Rattle.http_request.proofs.Common.{length-append, take-append-le, take-append-drop, length-drop, HeaderSpan, RequestHead, Head, IsFramed, IsOneRequest}
-use Rattle.http_request.proofs.Common.{IsRefusedHead, HasNoPiece, IsWhole, has_frame, endless, bad_head, IsHeadAt, IsFrontOf, OneReading, ReadsPlaces}
+use Rattle.http_request.proofs.Common.{IsRefusedHead, HasNoPiece, IsWhole, has_frame, endless, bad_head, IsHeadAt, IsHeadResultOf, OneReading, ReadsPlaces}
 use Rattle.http_request.proofs.Common.{WholeKeepsItsReading, BodyStays}
 use Rattle.http_request.proofs.FrameLemmas.{Asks, asks_at, cut_frame, framed, no_piece, not_refused, only, same_asked, same_parts}
-use Rattle.http_request.specs.declared.front.Front.{Front, TheVariants.{Refused, Asking}}
+use Rattle.http_request.specs.declared.head_result.HeadResult.{HeadResult, TheVariants.{Refused, Asking}}
 use Rattle.http_request.specs.Words as words
 
 -- if no head has ended, and more bytes may still be in it, the bytes have no complete request
@@ -83,10 +83,10 @@ head_more bytes more fields found at =
       spans = rw same at.spans;
     }
 
-pub front_more : (bytes more : List ℕ) (fields : List HeaderSpan) (front : Front) → (front ≡ Refused) ⊎ ((found : Head) × (front ≡ Asking found))
-    → IsFrontOf bytes fields front → IsFrontOf (bytes ++ more) fields front
-front_more bytes more fields front (inl is) before = rw is (refused_more bytes more (rw is at before))
-front_more bytes more fields front (inr (found, is)) before = rw is (head_more bytes more fields found (rw is at before))
+pub head_result_more : (bytes more : List ℕ) (fields : List HeaderSpan) (front : HeadResult) → (front ≡ Refused) ⊎ ((found : Head) × (front ≡ Asking found))
+    → IsHeadResultOf bytes fields front → IsHeadResultOf (bytes ++ more) fields front
+head_result_more bytes more fields front (inl is) before = rw is (refused_more bytes more (rw is at before))
+head_result_more bytes more fields front (inr (found, is)) before = rw is (head_more bytes more fields found (rw is at before))
 
 pub keeps : WholeKeepsItsReading
 keeps bytes more answer whole (words.has_frame head body place is at decoded) =

@@ -3,7 +3,7 @@ pub mod Head
 pub mod Fields
 pub mod Length
 pub mod Frame
-pub mod Front
+pub mod HeadResult
 pub mod Body
 pub mod Pass
 pub mod Refused

@@ -3,8 +3,8 @@
 
 mod body;
 mod fields;
-mod front;
 mod head;
+mod head_result;
 pub mod laws;
 mod length;
 mod pass;

@@ -4,13 +4,13 @@ ghost use Rattle.std.specs.Prelude.{◌≡◌, length, map, All, codes, IfOk, Ma
 ghost use Rattle.std.specs.Str.{IsUtf8};
 ghost use Rattle.matchit.specs.{Route.parse_route, Router.InsertsRead};
 ghost use Rattle.http_request.specs.computed.Path as path;
-ghost use Rattle.http_request.specs.{Front.Covers, Refused.Refuses, Routes.KnowsPlaces};
+ghost use Rattle.http_request.specs.{HeadResult.Covers, Refused.Refuses, Routes.KnowsPlaces};
 ghost use Rattle.http_request.specs.Words.{guests_by_method, decoded_request, IsRequestReading};
 ghost use Rattle.http_request.specs.Words.{NeedsMemory, HoldsBody, OrUnavailable};
 ghost use Rattle.httparse.specs.Spans.{IsHeaderWithin, header_bytes};
 
 use crate::body::guests_in;
-use crate::front::Front;
+use crate::head_result::HeadResult;
 use crate::laws::reads_places;
 use crate::pass::pass_text_of;
 use crate::path::{Place, place_of};
@@ -127,7 +127,7 @@ pub fn words_by_scan<'a>(
     ensures { OrUnavailable (HoldsBody bytes.now) (IsRequestReading bytes.now) result }
 {
     reads_places();
-    let Front::Asking(head) = scan.front else {
+    let HeadResult::Asking(head) = scan.front else {
         return Err(Refusal::BadRequest);
     };
     let (piece, rest) = bytes.split_at(head.len);

@@ -1,11 +1,11 @@
 //! The scan for the head of a request while its bytes arrive.
 
 ghost use Rattle.std.specs.{Bool.OnFalse, Prelude.{◌<◌, ◌≤◌, ◌↔◌, [], length, take, IsTrue}};
-ghost use Rattle.http_request.specs.{Frame.{IsOneRequest, IsWhole}, Front.Covers};
+ghost use Rattle.http_request.specs.{Frame.{IsOneRequest, IsWhole}, HeadResult.Covers};
 ghost use Rattle.http_request.specs.Limits.{max_request_len};
 
-use crate::front::{Front, front_of};
 use crate::head::{MAX_FIELDS, MAX_HEAD_LEN};
+use crate::head_result::{HeadResult, head_result_of};
 use crate::length::MAX_BODY_LEN;
 use httparse::spans::{EMPTY_HEADER_SPAN, HeaderSpan};
 
@@ -16,7 +16,7 @@ pub const MAX_REQUEST_LEN: usize = MAX_HEAD_LEN + MAX_BODY_LEN;
 /// once, when its end has arrived.
 #[derive(Drop)]
 pub struct HeadScan {
-    pub(crate) front: Front,
+    pub(crate) front: HeadResult,
     /// The positions of the head's fields.
     pub(crate) fields: [HeaderSpan; MAX_FIELDS],
 }
@@ -27,7 +27,7 @@ impl HeadScan {
         ensures { Covers result [] }
     {
         HeadScan {
-            front: Front::NoPiece,
+            front: HeadResult::NoPiece,
             fields: [EMPTY_HEADER_SPAN; MAX_FIELDS],
         }
     }
@@ -41,8 +41,8 @@ impl HeadScan {
         ensures { Covers self.new bytes.now }
     {
         match self.front {
-            Front::NoPiece => self.front = front_of(bytes, searched, &mut self.fields),
-            Front::Refused | Front::Asking(_) => {}
+            HeadResult::NoPiece => self.front = head_result_of(bytes, searched, &mut self.fields),
+            HeadResult::Refused | HeadResult::Asking(_) => {}
         }
     }
 
@@ -54,9 +54,9 @@ impl HeadScan {
         ensures room { OnFalse result (length bytes.now < max_request_len) }
     {
         match self.front {
-            Front::NoPiece => bytes.len() >= MAX_HEAD_LEN,
-            Front::Refused => true,
-            Front::Asking(head) => bytes.len() - head.len >= head.body_len,
+            HeadResult::NoPiece => bytes.len() >= MAX_HEAD_LEN,
+            HeadResult::Refused => true,
+            HeadResult::Asking(head) => bytes.len() - head.len >= head.body_len,
         }
     }
     /// Returns whether the bytes that the scan covers are exactly a head and its body.
@@ -65,9 +65,9 @@ impl HeadScan {
         ensures { IsTrue result ↔ IsOneRequest bytes.now }
     {
         match self.front {
-            Front::NoPiece => false,
-            Front::Refused => false,
-            Front::Asking(head) => bytes.len() - head.len == head.body_len,
+            HeadResult::NoPiece => false,
+            HeadResult::Refused => false,
+            HeadResult::Asking(head) => bytes.len() - head.len == head.body_len,
         }
     }
 }

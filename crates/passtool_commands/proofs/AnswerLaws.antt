@@ -6,7 +6,7 @@ use Rattle.pass_mac.specs.{Chain.{derived_key, extended_signature}, Hmac.hmac}
 use Rattle.pass_forms.specs.{Pass.{IsSigned, Plain}, Reading.max_caveats, declared.{fault.FormFault.FormFault, form.Form.Form}}
 use Rattle.pass_json.specs.Laws.{OneReadingEachText, OneWritingEachForm}
 use Rattle.passtool_commands.specs.Answer.{IsVerdict, OutcomeText, ReadsPass, WritesPass, narrowing, new_pass, with_caveats}
-use Rattle.passtool_commands.specs.{Laws.{AnswersOnce, MintSigns, NarrowingKeepsSigned, VerifyDecidesSigned}, Shown.{shown_text, with_line_feed}}
+use Rattle.passtool_commands.specs.{Laws.{AnswersOnce, MintSigns, NarrowingKeepsSigned, VerifyDecidesSigned}, Listing.{listing_text, with_line_feed}}
 use Rattle.passtool_commands.specs.declared.{answer.Outcome.TheVariants.{Done, NotSigned}, command.Command.TheVariants.{Mint, Show, Narrow, Convert, Verify}}
 use Rattle.passtool_commands.proofs.StepLemmas.{HasOne, one_only, one_then}
 
@@ -46,7 +46,7 @@ module _ (readings : OneReadingEachText) where
     pub answers_once : AnswersOnce
     answers_once (Mint minting) bytes =
         one_then _ _ (one_only (narrowing minting.caveats (new_pass minting))) (λ pass. one_pass_written minting.form pass)
-    answers_once Show bytes = one_then _ _ (one_pass_read bytes) (λ read. one_only (Ok (Done, shown_text read.0 read.1)))
+    answers_once Show bytes = one_then _ _ (one_pass_read bytes) (λ read. one_only (Ok (Done, listing_text read.0 read.1)))
     answers_once (Narrow caveats) bytes =
         one_then _ _ (one_pass_read bytes) (λ read. one_then _ _ (one_only (narrowing caveats read.1)) (λ pass. one_pass_written read.0 pass))
     answers_once (Convert form) bytes = one_then _ _ (one_pass_read bytes) (λ read. one_pass_written form read.1)

@@ -1,6 +1,6 @@
 pub mod OptionLemmas
 pub mod NarrowLemmas
-pub mod ShownLemmas
+pub mod ListingLemmas
 pub mod ArgumentsLemmas
 pub mod CaveatTest
 pub mod StepLemmas

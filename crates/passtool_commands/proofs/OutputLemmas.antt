@@ -4,7 +4,7 @@ use Rattle.std.specs.Io.BufRead.{strip_last}
 use Rattle.pass_forms.specs.{Pass.Plain, Reading.UnlessMemory, Writing.{IsV1Text, IsV2Text, IsWritableText, IsWriteFault, IsWriting}}
 use Rattle.pass_forms.specs.declared.{fault.FormFault.{FormFault, TheVariants.{TooLong, TooMany, Memory}}, form.Form.{Form, TheVariants.{V1, V2, Json}}}
 use Rattle.pass_json.specs.{AnyForm.{IsAnyReading, IsRefusedIn, IsTextIn}, JsonWriting.IsJsonText}
-use Rattle.passtool_commands.specs.{Answer.{AnswersText, OutcomeText, WritesPass}, Shown.with_line_feed, declared.answer.Outcome.TheVariants.Done}
+use Rattle.passtool_commands.specs.{Answer.{AnswersText, OutcomeText, WritesPass}, Listing.with_line_feed, declared.answer.Outcome.TheVariants.Done}
 use Rattle.passtool_commands.proofs.StepLemmas.{fails}
 
 -- a writer's fault is a possible result of writing the pass, unless memory ran out

@@ -6,7 +6,7 @@ use Rattle.pass_forms.specs.{Pass.{IsSigned, Plain}, Reading.max_caveats, Writin
 use Rattle.pass_forms.specs.declared.form.Form.{Form}
 use Rattle.pass_forms.specs.Pass as passes
 use Rattle.pass_json.specs.AnyForm.{IsAnyReading, IsTextIn}
-use Rattle.passtool_commands.specs.{Minting.Minting, Shown.{with_line_feed, shown_text}, declared.answer.Outcome.{Outcome, TheVariants.{Done, NotSigned}}}
+use Rattle.passtool_commands.specs.{Minting.Minting, Listing.{with_line_feed, listing_text}, declared.answer.Outcome.{Outcome, TheVariants.{Done, NotSigned}}}
 use Rattle.passtool_commands.specs.declared.command.Command.{Command, TheVariants.{Mint, Show, Narrow, Convert, Verify}}
 
 -- the outcome of a command, with the text that it wrote
@@ -79,7 +79,7 @@ MintsPass minting = do
 abbrev pub ShowsPass : List ℕ → Results OutcomeText
 ShowsPass bytes = do
   read ← ReadsPass bytes
-  IsOnly (Ok (Done, shown_text read.0 read.1))
+  IsOnly (Ok (Done, listing_text read.0 read.1))
 
 abbrev pub NarrowsPass : List (List ℕ) → List ℕ → Results OutcomeText
 NarrowsPass caveats bytes = do

@@ -2,7 +2,7 @@
 use Rattle.std.specs.Prelude.{◌≡◌, ◌↔◌, ℕ, List, Result, Ok, codes}
 use Rattle.pass_forms.specs.{Pass.{IsSigned, Plain}, declared.{fault.FormFault.FormFault, form.Form.Form}}
 use Rattle.passtool_commands.specs.{Answer.{IsAnswer, OutcomeText, ReadsPass, narrowing, new_pass}, Application.passtool, Arguments.ReadsCommand}
-use Rattle.passtool_commands.specs.{Minting.Minting, Shown.with_line_feed, declared.{answer.Outcome.TheVariants.Done, command.Command.Command}}
+use Rattle.passtool_commands.specs.{Minting.Minting, Listing.with_line_feed, declared.{answer.Outcome.TheVariants.Done, command.Command.Command}}
 use Rattle.passtool_commands.specs.declared.command.Command.TheVariants.{Verify}
 use Rattle.command_line.specs.JobLaws.{AskOnce}
 

@@ -1,7 +1,7 @@
 pub mod Application
 pub mod Minting
 pub mod Fault
-pub mod Shown
+pub mod Listing
 pub mod Answer
 pub mod Arguments
 pub mod computed

@@ -4,7 +4,7 @@ ghost use Rattle.std.specs.Prelude.{◌≡◌, ◌+◌, ◌<◌, ◌^◌, ◌++�
 ghost use Rattle.std.specs.String.{string_bytes};
 ghost use Rattle.pass_forms.specs.Reading.{UnlessMemory};
 ghost use Rattle.passtool_commands.specs.Answer.{ShowsPass};
-ghost use Rattle.passtool_commands.specs.Shown as spec;
+ghost use Rattle.passtool_commands.specs.Listing as spec;
 
 use crate::answer::{Answer, Outcome};
 use crate::input::read_pass;
@@ -17,13 +17,13 @@ pub fn show(alloc: Global, bytes: &[u8]) -> Result<Answer, FormFault>
     ensures { UnlessMemory (ShowsPass bytes.now) result }
 {
     let (form, pass) = read_pass(alloc, bytes)?;
-    let text = shown_text(alloc, form, &pass)?;
+    let text = listing_text(alloc, form, &pass)?;
     Ok(Answer::new(Outcome::Done, text))
 }
 
-#[tactic(auto, unfolding(crate::specs::Shown::shown_text))]
-fn shown_text(alloc: Global, form: Form, pass: &Pass) -> Result<String, AllocError>
-    ensures { IfOk result (λ text. string_bytes text ≡ spec.shown_text form pass.now) }
+#[tactic(auto, unfolding(crate::specs::Listing::listing_text))]
+fn listing_text(alloc: Global, form: Form, pass: &Pass) -> Result<String, AllocError>
+    ensures { IfOk result (λ text. string_bytes text ≡ spec.listing_text form pass.now) }
 {
     let name = form_name(form);
     let mut text = format!(in alloc; "form {name}\n")?;
@@ -70,7 +70,7 @@ fn push_escaped(alloc: Global, text: &mut String, bytes: &[u8]) -> Result<(), Al
     Ok(())
 }
 
-#[tactic(auto, unfolding(crate::specs::Shown::escaped_byte))]
+#[tactic(auto, unfolding(crate::specs::Listing::escaped_byte))]
 fn push_byte(alloc: Global, text: &mut String, byte: u8) -> Result<(), AllocError>
     ensures { OnOk result
         (string_bytes text.new ≡ string_bytes text.old ++ spec.escaped_byte byte) }

@@ -74,7 +74,7 @@ fn lines_of<'a>(alloc: Global, text: &'a str) -> Result<Vec<&'a str>, AllocError
     text.lines().collect(alloc)
 }
 
-/// Plays a text. If it has a line that crashes, plays it again and keeps the first tries.
+/// Plays a text. If it has a line that crashes, run_lines it again and keeps the first tries.
 fn play_text(alloc: Global, lines: &[&str]) -> Result<Count, Found> {
     let count = play_each(alloc, lines, false)?;
     if lines.iter().any(|line| line.starts_with("crash")) {

@@ -47,7 +47,7 @@ pub(crate) struct FaultAt {
 
 /// The state of playing a file.
 #[derive(Drop)]
-struct Scene<'a, M: Maker>
+struct Fixture<'a, M: Maker>
 where
     M::Made: Player + Drop,
 {
@@ -167,7 +167,7 @@ fn wanted_outcome(
     }
 }
 
-impl<M: Maker> Scene<'_, M>
+impl<M: Maker> Fixture<'_, M>
 where
     M::Made: Player + Drop,
 {
@@ -222,8 +222,8 @@ where
         }
     }
 
-    /// Returns whether the line's first try is kept before a crash. If so, the caller plays the
-    /// line, then reopens the tables and plays the line again.
+    /// Returns whether the line's first try is kept before a crash. If so, the caller run_lines the
+    /// line, then reopens the tables and run_lines the line again.
     fn was_kept(&mut self) -> Result<bool, Fault> {
         let crashes = self.known.crashes;
         self.known.crashes = false;
@@ -421,7 +421,7 @@ where
     }
 
     /// Plays a line, together with the lines that belong to it.
-    fn plays<'x>(&mut self, text: &'x str, below: &'x [&'x str]) -> Result<(), Fault> {
+    fn run_lines<'x>(&mut self, text: &'x str, below: &'x [&'x str]) -> Result<(), Fault> {
         if text.starts_with(' ') {
             return Err(Fault::Rule("a line with spaces before it belongs to none"));
         }
@@ -443,7 +443,7 @@ where
             }
             let below = below(&lines[number + 1..]);
             played = number.saturating_add(1).saturating_add(below.len());
-            if let Err(fault) = self.plays(text, below) {
+            if let Err(fault) = self.run_lines(text, below) {
                 let line = number + 1;
                 return Err(FaultAt { line, fault });
             }
@@ -466,7 +466,7 @@ where
         Ok(known) => known,
         Err(fault) => return Err(FaultAt { line: 0, fault }),
     };
-    let mut scene = Scene {
+    let mut scene = Fixture {
         alloc,
         maker,
         way,

@@ -4,7 +4,7 @@ use Rattle.club_values.specs.declared.slot.Slot.{Slot}
 use Rattle.club_rows.specs.declared.facility.Facility.{Facility}
 use Rattle.club_core.specs.{Verdict.shown_at, declared.reply.Reply.TheVariants.SlotShown}
 use Rattle.club_core.specs.declared.request.Request.TheVariants as asked
-use Rattle.club_gate.specs.Shown.{reply_lines, unless_refused}
+use Rattle.club_gate.specs.Listing.{reply_lines, unless_refused}
 use Rattle.club_gate.proofs.laws.shows_slots_to_keys.Goals as goal
 
 -- if a mapped option contains a value, the original option contains one that maps to it

@@ -1,6 +1,6 @@
 use Rattle.std.proofs.Common.{◌≡◌, ◌≤◌, take, ◌-◌}
 use Rattle.std.specs.Io.KnownBytes.{Consumes}
-use Rattle.http_request.specs.Front.{Covers}
+use Rattle.http_request.specs.HeadResult.{Covers}
 use Rattle.club_http.specs.Calls.{Gives}
 use Rattle.club_http.proofs.receive.receive.Given as goal
 

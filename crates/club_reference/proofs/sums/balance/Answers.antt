@@ -1,10 +1,10 @@
 use Rattle.std.proofs.Common.{◌∙◌}
 use Rattle.club_core.specs.Sums.{cost_of}
-use Rattle.club_reference.specs.Held.{held_under}
+use Rattle.club_reference.specs.Ownership.{own_bookings}
 use Rattle.club_reference.proofs.WidthLemmas.{fold_less}
 use Rattle.club_reference.proofs.sums.balance.Goals as goal
 
 pub returns : goal.returns
 returns c =
     let member = c.args.member.now in
-    c.left_of.ensures ∙ fold_less cost_of member.credited (held_under c.args.keys.now member.name c.args.bookings.now)
+    c.left_of.ensures ∙ fold_less cost_of member.credited (own_bookings c.args.keys.now member.name c.args.bookings.now)

@@ -2,7 +2,7 @@ use Rattle.std.proofs.{Common.{◌∙◌, ◌==◌, ◌&&◌, rules, tests}, lem
 use Rattle.std.proofs.lemmas.Iterator.Search.{find_from_yields_List}
 use Rattle.std.specs.Str.{bytes_eq}
 use Rattle.club_rows.specs.declared.booking.Booking.{Booking}
-use Rattle.club_reference.specs.Held.{is_held}
+use Rattle.club_reference.specs.Ownership.{is_key_of}
 use Rattle.club_reference.proofs.sums.recorded_booking.Goals as goal
 
 pub returns : goal.returns
@@ -10,6 +10,6 @@ returns c =
     c.copied.ensures
     ∙ find_from_yields_List (λ (booking : Booking). bytes_eq booking.key c.args.name.now
     && booking.number == c.args.number) _ _ c.find.result c.find.ensures.ran
-    (YieldsList-from_filter _ (λ (booking : Booking). is_held c.args.keys.now c.args.member.now booking.key) (YieldsList-from_slice c.args.bookings.now cc)
+    (YieldsList-from_filter _ (λ (booking : Booking). is_key_of c.args.keys.now c.args.member.now booking.key) (YieldsList-from_slice c.args.bookings.now cc)
     c.filter.ensures.closure (λ x b q k. search (rules, tests)))
     (λ x b q k. search (rules, tests))

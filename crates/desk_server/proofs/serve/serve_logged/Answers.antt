@@ -1,6 +1,6 @@
 use Rattle.std.proofs.Common.{◌≤◌, ◌^◌, ◌∷◌, ◌++◌, suc, [], length, length-append, arith, refl}
 use Rattle.desk_server.specs.Served as spec
-use Rattle.desk_server.specs.{Served.alone, declared.log.Fate.TheVariants.{Absent, Overrun, Unanswered, Exchanged, Commanded}}
+use Rattle.desk_server.specs.{Served.alone, declared.log.LogEvent.TheVariants.{Absent, Overrun, Unanswered, Exchanged, Commanded}}
 use Rattle.desk_server.proofs.ServedLemmas.{noted_alone, one_call, one_more}
 use Rattle.desk_server.proofs.serve.serve_logged.Goals as goal
 
@@ -36,10 +36,10 @@ loop-served-preserved-in-Client g c =
     let so_far = c.loop-served.invariant.so_far in
     let next = c.in-Client.ensures in
     let exchange = c.exchange-outcome.ensures.exchanged in
-    let fate = Exchanged c.in-Some.moment c.of-line.result c.exchange-outcome.result in
+    let event = Exchanged c.in-Some.moment c.of-line.result c.exchange-outcome.result in
     record {
       fewer = omega arith;
-      so_far = one_more so_far (record { meanwhile = exchange.meanwhile.fates; fate = fate }) _ _ _ _ _ _ refl (omega arith) tt (
+      so_far = one_more so_far (record { meanwhile = exchange.meanwhile.events; event = event }) _ _ _ _ _ _ refl (omega arith) tt (
         next.failure_count,
         record {
           given = c.now.new.self;

@@ -1,12 +1,12 @@
-use Rattle.http_request.proofs.Common.{◌≡◌, List, ℕ, Result, Ok, Err, refl, inl, inr, HeaderSpan, RequestHead, Head, IsFramed, IsFrontOf, place_of}
+use Rattle.http_request.proofs.Common.{◌≡◌, List, ℕ, Result, Ok, Err, refl, inl, inr, HeaderSpan, RequestHead, Head, IsFramed, IsHeadResultOf, place_of}
 use Rattle.http_request.proofs.FrameLemmas.{asks_at, cut_frame, framed, no_piece, not_refused, whole_frame}
 use Rattle.club_core.specs.declared.{refusal.Refusal.Refusal, sent_words.SentWords.SentWords as Words}
-use Rattle.http_request.specs.{Words.{DecodedRequest, has_frame, HoldsBody, IsRequestReading, lacks_frame, OrUnavailable}, declared.front.Front.Front}
-use Rattle.http_request.specs.declared.front.Front.TheVariants.{NoPiece, Refused, Asking}
+use Rattle.http_request.specs.Words.{DecodedRequest, has_frame, HoldsBody, IsRequestReading, lacks_frame, OrUnavailable}
+use Rattle.http_request.specs.declared.head_result.HeadResult.{HeadResult, TheVariants.{NoPiece, Refused, Asking}}
 use Rattle.http_request.proofs.routes.words_by_scan.Goals as goal
 
 -- if the front of bytes is no allowed head, the bytes have no frame
-unasked : (bytes : List ℕ) (fields : List HeaderSpan) (front : Front) → IsFrontOf bytes fields front → ((found : Head) → ¬ (front ≡ Asking found))
+unasked : (bytes : List ℕ) (fields : List HeaderSpan) (front : HeadResult) → IsHeadResultOf bytes fields front → ((found : Head) → ¬ (front ≡ Asking found))
     → (head : RequestHead) (body : List ℕ) → ¬ (IsFramed bytes head body)
 unasked bytes fields NoPiece is not head body frame = no_piece (framed frame).cut is
 unasked bytes fields Refused is not head body frame = not_refused (framed frame) is

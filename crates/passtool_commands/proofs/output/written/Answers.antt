@@ -1,6 +1,6 @@
 use Rattle.std.proofs.{Common.{◌≡◌, arith}, lemmas.{Grind.common_steps, Result.err_from_is_err_and}}
 use Rattle.std.specs.String.{string_bytes}
-use Rattle.passtool_commands.specs.{Shown.with_line_feed, declared.answer.Outcome.TheVariants.Done}
+use Rattle.passtool_commands.specs.{Listing.with_line_feed, declared.answer.Outcome.TheVariants.Done}
 use Rattle.passtool_commands.proofs.OutputLemmas.{refused, written_text}
 use Rattle.passtool_commands.proofs.output.written.Goals as goal
 

@@ -1,6 +1,6 @@
 use Rattle.std.proofs.Common.{◌≡◌, ◌+◌, ◌++◌, codes, rules, refl, arith}
 use Rattle.std.specs.Fmt.{decimal}
-use Rattle.passtool_commands.proofs.ShownLemmas.{caveat_written, no_caveat_left}
+use Rattle.passtool_commands.proofs.ListingLemmas.{caveat_written, no_caveat_left}
 use Rattle.passtool_commands.proofs.show.push_caveats.Goals as goal
 
 pub loop-index-init : goal.loop-index-init

@@ -1,5 +1,5 @@
 use Rattle.std.proofs.Common.{refl, arith}
-use Rattle.passtool_commands.proofs.ShownLemmas.{byte_written, none_left}
+use Rattle.passtool_commands.proofs.ListingLemmas.{byte_written, none_left}
 use Rattle.passtool_commands.proofs.show.push_escaped.Goals as goal
 
 pub loop-byte-init : goal.loop-byte-init

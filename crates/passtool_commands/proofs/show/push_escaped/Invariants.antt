@@ -1,7 +1,7 @@
 -- The text so far and the remaining bytes, escaped, make up the whole text.
 use Rattle.std.proofs.Common.{◌≡◌, ◌++◌, drop}
 use Rattle.std.specs.String.{string_bytes}
-use Rattle.passtool_commands.specs.Shown.{escaped_text}
+use Rattle.passtool_commands.specs.Listing.{escaped_text}
 use Rattle.passtool_commands.proofs.show.push_escaped.Given as goal
 
 abbrev pub invariant-loop-byte : goal.invariant-loop-byte

@@ -2,17 +2,17 @@ use Rattle.std.proofs.Common.{◌∙◌, ap, List}
 use Rattle.std.specs.{Prelude.filter, Str.bytes_eq}
 use Rattle.club_rows.specs.declared.{booking.Booking.Booking, key.Key.Key, member.Member.Member}
 use Rattle.club_core.specs.Solo.{part_of}
-use Rattle.club_reference.specs.{Held.held_under, Rows.rows_of}
+use Rattle.club_reference.specs.{Ownership.own_bookings, Rows.rows_of}
 use Rattle.club_reference.proofs.WidthLemmas.{fits_part, fits_same}
 use Rattle.club_reference.proofs.club.Club.part.Goals as goal
 
 pub invariant_of-result : goal.invariant_of-result
 invariant_of-result c =
     let name = c.args.member.now in
-    let keys = λ (ks : List Key). held_under ks name c.deref-4.result.now in
+    let keys = λ (ks : List Key). own_bookings ks name c.deref-4.result.now in
     fits_same _ (part_of name (rows_of c.self.inside))
     (c.in_ok-members.ensures ∙ ap (λ (rows : List Member). filter (λ (m : Member). bytes_eq m.name name) rows) c.deref.ensures.value)
     c.in_ok-facilities.ensures
     (c.in_ok-bookings.ensures ∙ (ap keys c.deref-3.ensures.value ∙ ap (λ (rows : List Booking).
-    held_under c.self.inside.keys.items name rows) c.deref-4.ensures.value))
+    own_bookings c.self.inside.keys.items name rows) c.deref-4.ensures.value))
     (fits_part name (rows_of c.self.inside) c.self.invariant)

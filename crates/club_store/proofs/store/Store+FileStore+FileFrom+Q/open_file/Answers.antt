@@ -1,6 +1,6 @@
 use Rattle.std.proofs.Common.{ℕ, List, [], ◌∷◌, inl, refl, subst, sym, ap, ap₂, ◌∙◌, arith, ◌≡◌, Bool, cond, inr, subst₂, ◌≢◌, Option, None}
 use Rattle.std.proofs.lemmas.Option.{IfSome_then}
-use Rattle.club_store.specs.{Held.{IsRemainsOf, busy}, Opening.{FailsFrom, LeavesFrom}, declared.remains.Remains.Remains}
+use Rattle.club_store.specs.{FailedOpening.{IsFailedOpening, busy}, Opening.{FailsFrom, LeavesFrom}, declared.failed_opening.FailedOpening.FailedOpening}
 use Rattle.sqlite.specs.{Files.file_state, Recovery.Image, State.HasCleanDisk, declared.{error.Error.Error, file.Leftover.Leftover}}
 use Rattle.sqlite_disk.specs.{Events.{Event, replay, settled}, History.MayLeave}
 use Rattle.club_core.specs.Club.{Club, empty_club}
@@ -8,7 +8,7 @@ use Rattle.club_tables.specs.{Tables.IsLeftOf, Transaction.fault_by}
 use Rattle.club_store.proofs.CrashLemmas.{new_is_blank, the_one}
 use Rattle.sqlite_disk.specs.declared.Disk as disk
 use Rattle.club_store.specs.Held as spec
-use Rattle.club_store.specs.declared.remains.Remains.TheVariants as remains
+use Rattle.club_store.specs.declared.failed_opening.FailedOpening.TheVariants as failed
 use Rattle.club_store.proofs.store.Store+FileStore+FileFrom+Q.open_file.Goals as goal
 
 pub returns-in-Ok-adopt-clause-opened : goal.returns-in-Ok-adopt-clause-opened
@@ -47,8 +47,8 @@ leaves_same mixes log db is_log which history key is fresh =
     elim may [ inl same ↦ same | inr reached ↦ reached ])
 
 -- a property of the remains of a file that wasn't opened holds if it holds in both cases
-by_left : {D : Type 0} {g : disk.Ghosts D} (P : Remains D g → Type 0) (error : Error) (rest : Option (Leftover D g)) (left : Remains D g)
-    → IsRemainsOf error rest left → (error ≡ busy → P remains.Held) → ((rest ≡ None → error ≢ busy) → P (remains.Files rest)) → P left
+by_left : {D : Type 0} {g : disk.Ghosts D} (P : FailedOpening D g → Type 0) (error : Error) (rest : Option (Leftover D g)) (left : FailedOpening D g)
+    → IsFailedOpening error rest left → (error ≡ busy → P failed.InUse) → ((rest ≡ None → error ≢ busy) → P (failed.Files rest)) → P left
 by_left P error rest left (spec.held is none held) when_held other = subst P (sym held) (when_held is)
 by_left P error rest left (spec.files is_other files) when_held other = subst P (sym files) (other is_other)
 
@@ -56,7 +56,7 @@ abbrev image : List ℕ → List ℕ → Image
 image log db = record { log = log; db = db }
 
 pub returns-in-Err-clause-fault : goal.returns-in-Err-clause-fault
-returns-in-Err-clause-fault g c = by_left (λ left. FailsFrom (image g.Q.Start.log g.Q.Start.db) left c.fault_of.result) _ _ _ c.remains_of-remains.ensures
+returns-in-Err-clause-fault g c = by_left (λ left. FailsFrom (image g.Q.Start.log g.Q.Start.db) left c.fault_of.result) _ _ _ c.failed_opening-failed.ensures
     (λ is. c.fault_of.ensures ∙ ap fault_by is)
     (λ other. record {
       error = c.in-Err.error;
@@ -70,7 +70,7 @@ returns-in-Err-clause-fault g c = by_left (λ left. FailsFrom (image g.Q.Start.l
     })
 
 pub returns-in-Err-clause-refused : goal.returns-in-Err-clause-refused
-returns-in-Err-clause-refused g c = by_left (LeavesFrom (image g.Q.Start.log g.Q.Start.db)) _ _ _ c.remains_of-remains.ensures
+returns-in-Err-clause-refused g c = by_left (LeavesFrom (image g.Q.Start.log g.Q.Start.db)) _ _ _ c.failed_opening-failed.ensures
     (λ is. tt)
     (λ other. IfSome_then c.in-Err.left c.in-Err.ensures.cause (λ left it. record {
       files = it.0;

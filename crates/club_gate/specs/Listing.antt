@@ -65,8 +65,8 @@ account_with_key club name moment =
     option_and_then (λ (key : Key). option_map (λ (view : View). (key, view)) (view_in club name asked.Account moment)) (key_named name club)
 
 -- the account listing of the key of this name at a moment; none if the club has no such key
-abbrev pub shown_account : Club → List ℕ → ℕ → Option (List ℕ)
-shown_account club name moment = option_map (λ (seen : Key × View). shown_account_text seen.0 seen.1) (account_with_key club name moment)
+abbrev pub account_listing : Club → List ℕ → ℕ → Option (List ℕ)
+account_listing club name moment = option_map (λ (seen : Key × View). shown_account_text seen.0 seen.1) (account_with_key club name moment)
 
 -- the reply that shows a slot, its facility and how much of it is taken; none if the facility is unknown
 abbrev pub slot_reply : Club → Slot → Option Reply
@@ -79,8 +79,8 @@ abbrev pub reply_lines : Option Reply → Option (List ℕ)
 reply_lines reply = option_map (λ r. lines (named_values r)) reply
 
 -- the listing of a slot
-abbrev pub shown_slot : Club → Slot → Option (List ℕ)
-shown_slot club slot = reply_lines (slot_reply club slot)
+abbrev pub slot_listing : Club → Slot → Option (List ℕ)
+slot_listing club slot = reply_lines (slot_reply club slot)
 
 abbrev pub unless_refused : Reply → Option Reply
 unless_refused (replies.Refused refusal) = None
@@ -91,7 +91,7 @@ abbrev pub ShowsSlotsToKeys : Type 0
 ShowsSlotsToKeys =
     (club : Club) (slot : Slot) (name : List ℕ) (moment : ℕ) (view : View)
     → view_in club name (asked.View slot) moment ≡ Some view
-    → shown_slot club slot ≡ reply_lines (unless_refused (verdict_of view (asked.View slot) moment).reply)
+    → slot_listing club slot ≡ reply_lines (unless_refused (verdict_of view (asked.View slot) moment).reply)
 
 -- the fault says why nothing is shown: nothing has the name, memory ran out, or storage failed
 abbrev pub IsUnshown : Option (List ℕ) → Fault → Type 0
@@ -100,9 +100,9 @@ IsUnshown shown (Store failure) = Unit {0}
 IsUnshown shown fault = ⊥
 
 -- the result of a listing: the text, or why there is none
-abbrev pub ReturnsShown : {Z : Type 0} → Option (List ℕ) → Result (String Z) Fault → Type 0
-ReturnsShown shown (Ok text) = shown ≡ Some (string_bytes text)
-ReturnsShown shown (Err fault) = IsUnshown shown fault
+abbrev pub ReturnsListing : {Z : Type 0} → Option (List ℕ) → Result (String Z) Fault → Type 0
+ReturnsListing shown (Ok text) = shown ≡ Some (string_bytes text)
+ReturnsListing shown (Err fault) = IsUnshown shown fault
 
 -- the faults with which a listing can fail
 abbrev pub IsShowingFault : Fault → Type 0

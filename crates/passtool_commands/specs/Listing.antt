@@ -27,8 +27,8 @@ caveat_lines number [] = []
 caveat_lines number (caveat ∷ caveats) =
     value_line (codes "caveat " ++ decimal number) caveat ++ caveat_lines (number + 1) caveats
 
-unfoldable pub shown_text : Form → Plain → List ℕ
-shown_text form pass =
+unfoldable pub listing_text : Form → Plain → List ℕ
+listing_text form pass =
     with_line_feed (codes "form " ++ form_name form)
     ++ (value_line (codes "location") pass.location
     ++ (value_line (codes "identifier") pass.identifier

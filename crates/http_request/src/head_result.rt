@@ -1,7 +1,7 @@
 //! The head at the front of bytes, if there is one.
 
 ghost use Rattle.std.specs.Prelude.{◌≡◌, ◌≤◌, length, map, take, All};
-ghost use Rattle.http_request.specs.{Frame.HasNoPiece, Front.IsFrontOf};
+ghost use Rattle.http_request.specs.{Frame.HasNoPiece, HeadResult.IsHeadResultOf};
 
 use crate::head::{MAX_FIELDS, piece_len, read_head};
 use crate::length::asked_length;
@@ -20,7 +20,7 @@ pub(crate) struct Head {
 
 /// The result of looking for a head at the front of bytes.
 #[derive(Clone, Copy)]
-pub(crate) enum Front {
+pub(crate) enum HeadResult {
     /// No head ends within the first `MAX_HEAD_LEN` bytes.
     NoPiece,
     /// The head is refused, whatever bytes follow it.
@@ -31,27 +31,27 @@ pub(crate) enum Front {
 
 /// Looks for a head at the front of the bytes, given that no head ends within the first `searched`
 /// bytes. Writes the positions of the head's fields to `fields`.
-pub(crate) fn front_of(
+pub(crate) fn head_result_of(
     bytes: &[u8],
     searched: usize,
     fields: &mut [HeaderSpan; MAX_FIELDS],
-) -> Front
+) -> HeadResult
     requires inside { searched ≤ length bytes.now }
     requires open { HasNoPiece (take searched bytes.now) }
-    ensures { IsFrontOf bytes.now fields.new result }
+    ensures { IsHeadResultOf bytes.now fields.new result }
 {
     let Some(len) = piece_len(bytes, searched) else {
-        return Front::NoPiece;
+        return HeadResult::NoPiece;
     };
     let piece = &bytes[..len];
     let Some(spans) = read_head(piece, fields) else {
-        return Front::Refused;
+        return HeadResult::Refused;
     };
     let method = spans.method.of(piece);
     let Some(body_len) = asked_length(piece, &fields[..spans.headers], method) else {
-        return Front::Refused;
+        return HeadResult::Refused;
     };
-    Front::Asking(Head {
+    HeadResult::Asking(Head {
         len,
         spans,
         body_len,

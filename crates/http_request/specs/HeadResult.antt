@@ -1,8 +1,8 @@
 -- The head at the front of bytes, if there is one.
 use Rattle.std.specs.Prelude.{◌≤◌, ℕ, List, length, take}
 use Rattle.httparse.specs.{Grammar.RequestHead, Spans.{IsRequestWithin, IsRequestAt}, declared.spans.HeaderSpan.HeaderSpan}
-use Rattle.http_request.specs.{Frame.{AsksForBody, HasNoPiece, IsRefusedHead}, Head.IsPiece, declared.front.Front.Front}
-use Rattle.http_request.specs.declared.{front.{Front.TheVariants.{NoPiece, Refused, Asking}, Head.Head}, scan.HeadScan.HeadScan}
+use Rattle.http_request.specs.{Frame.{AsksForBody, HasNoPiece, IsRefusedHead}, Head.IsPiece, declared.head_result.HeadResult.HeadResult}
+use Rattle.http_request.specs.declared.{head_result.{HeadResult.TheVariants.{NoPiece, Refused, Asking}, Head.Head}, scan.HeadScan.HeadScan}
 
 -- the bytes begin with a head; the fields and the spans are the positions of its parts
 pub record IsHeadAt (bytes : List ℕ) (fields : List HeaderSpan) (found : Head) : Type 0 where
@@ -14,11 +14,11 @@ pub record IsHeadAt (bytes : List ℕ) (fields : List HeaderSpan) (found : Head)
   pub spans : IsRequestAt (take found.len bytes) fields found.spans head
 
 -- the bytes have no complete head yet, begin with a refused head, or begin with a head whose body has a known length
-abbrev pub IsFrontOf : List ℕ → List HeaderSpan → Front → Type 0
-IsFrontOf bytes fields NoPiece = HasNoPiece bytes
-IsFrontOf bytes fields Refused = IsRefusedHead bytes
-IsFrontOf bytes fields (Asking found) = IsHeadAt bytes fields found
+abbrev pub IsHeadResultOf : List ℕ → List HeaderSpan → HeadResult → Type 0
+IsHeadResultOf bytes fields NoPiece = HasNoPiece bytes
+IsHeadResultOf bytes fields Refused = IsRefusedHead bytes
+IsHeadResultOf bytes fields (Asking found) = IsHeadAt bytes fields found
 
 -- the scan has the result of looking for a head at the front of these bytes
 abbrev pub Covers : HeadScan → List ℕ → Type 0
-Covers scan bytes = IsFrontOf bytes scan.fields scan.front
+Covers scan bytes = IsHeadResultOf bytes scan.fields scan.front

@@ -2,7 +2,7 @@
 use Rattle.std.proofs.Common.{◌≡◌, ◌∙◌, ℕ, ◌+◌, ◌<◌, ◌≤◌, List, ◌∷◌, ◌++◌, length, map, drop, ap, ap₂, sym, append_assoc, Global}
 use Rattle.std.proofs.{Math.ListN.drop_of_length-le, lemmas.List.{append-nil, drop_more}}
 use Rattle.std.specs.{Fmt.decimal, List.slice_index_or, Prelude.{Vec, codes}}
-use Rattle.passtool_commands.specs.Shown.{caveat_lines, escaped_text, escaped_byte, value_line}
+use Rattle.passtool_commands.specs.Listing.{caveat_lines, escaped_text, escaped_byte, value_line}
 
 -- after one more byte is written, the bytes written and those remaining still make up the whole text
 pub byte_written : (bytes : List ℕ) (i d : ℕ) (old new whole : List ℕ) → i < length bytes → new ≡ old ++ escaped_byte (slice_index_or bytes i d)

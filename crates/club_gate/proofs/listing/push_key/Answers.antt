@@ -1,4 +1,4 @@
-use Rattle.club_gate.proofs.shown.push_key.Goals as goal
+use Rattle.club_gate.proofs.listing.push_key.Goals as goal
 
 pub returns-in-None : goal.returns-in-None
 returns-in-None c = rw (c.in-None.is, ← c.yes_or_no-revoked.ensures) c.writeln.ensures.bytes

@@ -2,7 +2,7 @@
 
 ghost use Rattle.std.specs.{Prelude.{◌≡◌, ◌++◌, IfOk, OnOk}, String.string_bytes};
 ghost use Rattle.club_core.specs.Store.{ReadsStore};
-ghost use Rattle.club_gate.specs.Shown as spec;
+ghost use Rattle.club_gate.specs.Listing as spec;
 
 use crate::desk::Desk;
 use crate::fault::Fault;
@@ -22,7 +22,7 @@ impl<S: ClubStore> Desk<S> {
     /// storage failed.
     pub fn show_account(&mut self, key: &Name, moment: Moment) -> Result<String, Fault>
         ensures { spec.ShowsClub S.disk_is_clean S.represents S.fails self.old self.new result
-            (λ club. spec.ReturnsShown (spec.shown_account club key.now moment) result) }
+            (λ club. spec.ReturnsListing (spec.account_listing club key.now moment) result) }
     {
         let Some((key, view)) = self.account_view(key, moment)? else {
             return Err(Fault::Refused(OfficeFault::Unknown));
@@ -38,7 +38,7 @@ impl<S: ClubStore> Desk<S> {
     /// out or storage failed.
     pub fn show_slot(&mut self, slot: &Slot) -> Result<String, Fault>
         ensures { spec.ShowsClub S.disk_is_clean S.represents S.fails self.old self.new result
-            (λ club. spec.ReturnsShown (spec.shown_slot club slot.now) result) }
+            (λ club. spec.ReturnsListing (spec.slot_listing club slot.now) result) }
     {
         let Some(reply) = self.slot_reply(slot)? else {
             return Err(Fault::Refused(OfficeFault::Unknown));

@@ -1,6 +1,6 @@
 use Rattle.http_request.proofs.Common.{ℕ, List, take, drop, sym, ◌∙◌, take-append-drop, RequestHead, IsPiece, AsksForBody, IsRefusedHead}
 use Rattle.http_request.proofs.FrameLemmas.{one_head}
-use Rattle.http_request.proofs.front.front_of.Goals as goal
+use Rattle.http_request.proofs.head_result.head_result_of.Goals as goal
 
 -- if the piece at the front isn't an allowed head, the bytes are refused
 refused_at : (bytes : List ℕ) (n : ℕ) → IsPiece (take n bytes) → ((head : RequestHead) (body_len : ℕ) → ¬ (AsksForBody (take n bytes) head body_len)) →
