@@ -45,7 +45,7 @@ pub struct Store<S: Alter> {
 }
 
 impl<S: Alter> Model for Store<S> {
-    ghost use Rattle.sqlite.specs.FailedOpening.{Held, held_code};
+    ghost use Rattle.sqlite.specs.Held.{Held, held_code};
 
     ghost Value = { Held S };
 

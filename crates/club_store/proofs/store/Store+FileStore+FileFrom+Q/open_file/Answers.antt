@@ -7,7 +7,7 @@ use Rattle.club_core.specs.Club.{Club, empty_club}
 use Rattle.club_tables.specs.{Tables.IsLeftOf, Transaction.fault_by}
 use Rattle.club_store.proofs.CrashLemmas.{new_is_blank, the_one}
 use Rattle.sqlite_disk.specs.declared.Disk as disk
-use Rattle.club_store.specs.Held as spec
+use Rattle.club_store.specs.FailedOpening as spec
 use Rattle.club_store.specs.declared.failed_opening.FailedOpening.TheVariants as failed
 use Rattle.club_store.proofs.store.Store+FileStore+FileFrom+Q.open_file.Goals as goal
 
