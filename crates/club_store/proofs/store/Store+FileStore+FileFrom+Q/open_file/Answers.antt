@@ -49,7 +49,7 @@ leaves_same mixes log db is_log which history key is fresh =
 -- a property of the remains of a file that wasn't opened holds if it holds in both cases
 by_left : {D : Type 0} {g : disk.Ghosts D} (P : FailedOpening D g → Type 0) (error : Error) (rest : Option (Leftover D g)) (left : FailedOpening D g)
     → IsFailedOpening error rest left → (error ≡ busy → P failed.InUse) → ((rest ≡ None → error ≢ busy) → P (failed.Files rest)) → P left
-by_left P error rest left (spec.held is none held) when_held other = subst P (sym held) (when_held is)
+by_left P error rest left (spec.in_use is none held) when_held other = subst P (sym held) (when_held is)
 by_left P error rest left (spec.files is_other files) when_held other = subst P (sym files) (other is_other)
 
 abbrev image : List ℕ → List ℕ → Image
