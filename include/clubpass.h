@@ -1,10 +1,10 @@
 /*
  * clubpass: passes for C.
  *
- * A pass is a macaroon whose caveats are its own: an identifier, caveats that each narrow what the
- * pass allows, and a signature. The holder of a root makes a pass; whoever holds a pass can add a
- * caveat, and nobody can take one away. This library reads passes in three forms, writes them,
- * narrows them, and tells whether a root signed them. It reads and writes what libmacaroons does.
+ * A pass is a macaroon without third-party caveats. It has an identifier, caveats that each narrow
+ * what the pass allows, and a signature. Making a pass needs the root. Anybody who has a pass can
+ * add a caveat, and nobody can remove one. This library reads passes in three forms, writes them,
+ * narrows them, and tells whether a root signed them. The forms are those of libmacaroons.
  *
  *     #include <clubpass.h>
  *
@@ -14,18 +14,17 @@
  *
  * Rules of every call:
  *
- * - A `clubpass` is an object of plain data, about 8 KiB. It lies where its owner puts it: on the
- *   stack, in another struct, on the heap, aligned as its type. There is no call that frees it, and
- *   an assignment copies it. Set it to CLUBPASS_INIT, or to zeros, before its first use, and don't
- *   look into it.
- * - Bytes cross as a pointer and a length. The pointer must not be NULL, even for a length of 0.
- *   A length must be below 2^63, and the memory of the whole length must be the caller's.
+ * - A `clubpass` is a plain object of about 8 KiB. The caller allocates it on the stack, in another
+ *   struct or on the heap, with its type's alignment. No call frees it, and an assignment copies
+ *   it. Set it to CLUBPASS_INIT, or to zeros, before its first use. Don't read its members.
+ * - Bytes are passed as a pointer and a length. The pointer must not be NULL, even for a length of
+ *   0. A length must be below 2^63, and the memory of the whole length must be the caller's.
  * - Memory that a call writes must not overlap memory that the same call reads or writes by
  *   another argument.
  * - No call keeps a pointer, has a state of its own, prints or aborts. Calls in different threads
- *   share nothing: two may use one object at a time if both only read it.
- * - Bytes are any bytes. A text has no NUL at its end, and none is written.
- * - Only clubpass_read and clubpass_write use the heap, and they free all of it before they return.
+ *   share no data: two threads may use one object at the same time if both only read it.
+ * - Any byte is allowed, also 0. A text needs no NUL at its end, and the library writes none.
+ * - Only clubpass_read and clubpass_write use the heap. They free that memory before they return.
  */
 #ifndef CLUBPASS_H
 #define CLUBPASS_H
@@ -46,16 +45,16 @@ extern "C" {
 #define CLUBPASS_CHECK
 #endif
 
-/* Limits, in bytes where nothing else is said. */
+/* Limits, in bytes unless a comment says otherwise. */
 enum {
     CLUBPASS_MAX_TEXT = 8192,      /* the longest text of a pass */
-    CLUBPASS_MAX_CAVEATS = 64,     /* the most caveats, in number */
+    CLUBPASS_MAX_CAVEATS = 64,     /* the largest number of caveats */
     CLUBPASS_ROOM = 8192,          /* location, identifier and caveats together */
     CLUBPASS_SIGNATURE = 32,       /* a signature */
     CLUBPASS_MAX_NAME = 24         /* the name of a facility */
 };
 
-/* What a call answers. */
+/* The result of a call: done, or its first fault. */
 typedef enum clubpass_fault {
     CLUBPASS_OK = 0,               /* done */
     CLUBPASS_TOO_LONG = 1,         /* a text would have more than CLUBPASS_MAX_TEXT bytes */
@@ -79,7 +78,7 @@ typedef enum clubpass_form_number {
     CLUBPASS_JSON = 3              /* libmacaroons' V2 JSON */
 } clubpass_form_number;
 
-/* A pass. Its members are the library's own. */
+/* A pass. Programs must not use its members. */
 typedef struct clubpass {
     uint32_t form_;
     uint32_t location_len_;
@@ -100,15 +99,15 @@ typedef struct clubpass {
  * Reads a pass from a text in any form: JSON, or base64 of V1, V2 or JSON. The text has no line
  * feed at its end.
  *
- * CLUBPASS_OK if the text is a pass; else the first that applies of CLUBPASS_TOO_LONG,
- * CLUBPASS_MALFORMED, CLUBPASS_THIRD_PARTY and CLUBPASS_TOO_MANY. CLUBPASS_MEMORY if the heap runs
- * out: the object has room for each pass that a text spells. After a fault the object is empty: it
- * has no fields, and a signature of zeros.
+ * Returns CLUBPASS_OK if the text is a pass. Otherwise it returns the first of these that applies:
+ * CLUBPASS_TOO_LONG, CLUBPASS_MALFORMED, CLUBPASS_THIRD_PARTY, CLUBPASS_TOO_MANY. It returns
+ * CLUBPASS_MEMORY only if the heap runs out, since the object has room for every valid text. After
+ * a fault the object is empty: it has no fields, and a signature of zeros.
  */
 CLUBPASS_CHECK
 clubpass_fault clubpass_read(const uint8_t *text, size_t text_len, clubpass *pass);
 
-/* The number of the form that the pass was read from: CLUBPASS_V2 for a minted one. */
+/* Returns the number of the form that the pass was read from; CLUBPASS_V2 for a minted pass. */
 CLUBPASS_NONNULL
 clubpass_form_number clubpass_form(const clubpass *pass);
 
@@ -116,9 +115,10 @@ clubpass_form_number clubpass_form(const clubpass *pass);
  * Copies the location, the identifier, or the caveat of this index (from 0) to the front of a
  * buffer of `room` bytes, and sets *len to its length.
  *
- * CLUBPASS_OK, or CLUBPASS_SHORT_BUFFER if it is longer than the buffer: then the buffer is
- * unchanged, and *len is what it needs. CLUBPASS_NO_CAVEAT, with a *len of 0, if the pass has no
- * such caveat. The location is not signed: it is a hint. The rest of the buffer is unchanged.
+ * Returns CLUBPASS_OK, or CLUBPASS_SHORT_BUFFER if the part is longer than the buffer. Then the
+ * buffer is unchanged, and *len is the length that it needs. Returns CLUBPASS_NO_CAVEAT, with *len
+ * 0, if the pass has no such caveat. The rest of the buffer is unchanged. The location is an
+ * unsigned hint.
  */
 CLUBPASS_CHECK
 clubpass_fault clubpass_location(const clubpass *pass, uint8_t *out, size_t room, size_t *len);
@@ -128,7 +128,7 @@ CLUBPASS_CHECK
 clubpass_fault clubpass_caveat(const clubpass *pass, size_t index, uint8_t *out, size_t room,
                                size_t *len);
 
-/* The number of caveats, at most CLUBPASS_MAX_CAVEATS. */
+/* Returns the number of caveats, at most CLUBPASS_MAX_CAVEATS. */
 CLUBPASS_NONNULL
 size_t clubpass_caveat_count(const clubpass *pass);
 
@@ -140,11 +140,11 @@ void clubpass_signature(const clubpass *pass, uint8_t *out);
  * Writes the text of a pass in a form, a clubpass_form_number, to the front of a buffer of `room`
  * bytes, and sets *len to its length. A text has at most CLUBPASS_MAX_TEXT bytes.
  *
- * CLUBPASS_OK, or CLUBPASS_SHORT_BUFFER, as above. CLUBPASS_TOO_LONG if the pass has no text of
- * CLUBPASS_MAX_TEXT bytes in this form, CLUBPASS_NO_FORM if it is no form: then *len is 0, as it is
- * with CLUBPASS_MEMORY. That is returned if and only if the heap refuses one of the call's
- * allocations. It may be for any pass, since the pass is copied before it is written. After a fault
- * the buffer is unchanged.
+ * Returns CLUBPASS_OK, or CLUBPASS_SHORT_BUFFER if the text is longer than the buffer; then *len is
+ * the length that it needs. The other faults set *len to 0. CLUBPASS_TOO_LONG: the text in this
+ * form would be longer than CLUBPASS_MAX_TEXT. CLUBPASS_NO_FORM: no form has this number.
+ * CLUBPASS_MEMORY: the heap refused one of the call's allocations. Any pass can have this fault,
+ * since the call first copies the pass. After a fault the buffer is unchanged.
  */
 CLUBPASS_CHECK
 clubpass_fault clubpass_write(const clubpass *pass, uint32_t form, uint8_t *out, size_t room,
@@ -153,8 +153,8 @@ clubpass_fault clubpass_write(const clubpass *pass, uint32_t form, uint8_t *out,
 /*
  * Makes a new pass without caveats, signed under a root of any length.
  *
- * CLUBPASS_OK, or CLUBPASS_MEMORY if the location and the identifier have more than CLUBPASS_ROOM
- * bytes together: then the object is empty.
+ * Returns CLUBPASS_OK, or CLUBPASS_MEMORY if the location and the identifier together have more
+ * than CLUBPASS_ROOM bytes. Then the object is empty.
  */
 CLUBPASS_CHECK
 clubpass_fault clubpass_mint(const uint8_t *root, size_t root_len, const uint8_t *location,
@@ -164,25 +164,25 @@ clubpass_fault clubpass_mint(const uint8_t *root, size_t root_len, const uint8_t
 /*
  * Adds a caveat of any bytes to a pass, and signs it without the root.
  *
- * CLUBPASS_OK, CLUBPASS_TOO_MANY if the pass has CLUBPASS_MAX_CAVEATS already, else CLUBPASS_MEMORY
- * if the location, the identifier and all caveats would have more than CLUBPASS_ROOM bytes together.
- * After a fault the pass is unchanged.
+ * Returns CLUBPASS_OK, CLUBPASS_TOO_MANY if the pass already has CLUBPASS_MAX_CAVEATS caveats, else
+ * CLUBPASS_MEMORY if the location, the identifier and all caveats together would have more than
+ * CLUBPASS_ROOM bytes. After a fault the pass is unchanged.
  */
 CLUBPASS_CHECK
 clubpass_fault clubpass_narrow(clubpass *pass, const uint8_t *caveat, size_t caveat_len);
 
 /*
- * Whether a root signed the pass, with the caveats that it has. The time that it takes may depend
- * on the bytes. A signed pass allows only what each of its caveats allows: see clubpass_first_fault.
+ * Returns whether a root signed the pass with all its caveats. The time of the call may depend on
+ * the bytes. A signed pass allows only what each of its caveats allows: see clubpass_first_fault.
  */
 CLUBPASS_CHECK
 bool clubpass_is_signed(const clubpass *pass, const uint8_t *root, size_t root_len);
 
-/* Whether a text is a caveat of the club's language, such as "kind = court". */
+/* Returns whether a text is a caveat that the desk understands, such as "kind = court". */
 CLUBPASS_NONNULL
 bool clubpass_is_caveat(const uint8_t *text, size_t text_len);
 
-/* What an ask asks for, and the kinds of facilities. */
+/* The actions that a request may ask for, and the kinds of facilities. */
 enum {
     CLUBPASS_VIEW = 1,
     CLUBPASS_BOOK = 2,
@@ -196,7 +196,7 @@ enum {
     CLUBPASS_ROOM_KIND = 3
 };
 
-/* A request, as the caveats see it. */
+/* The values of a request that caveats restrict. */
 typedef struct clubpass_ask {
     uint64_t owed;                 /* the points that the request would charge */
     uint64_t spent;                /* the points that the key has spent before */
@@ -211,12 +211,12 @@ typedef struct clubpass_ask {
 } clubpass_ask;
 
 /*
- * Tries the caveats of a pass one after the other against an ask.
+ * Tests the caveats of a pass against a request, one after the other.
  *
- * CLUBPASS_OK if each is understood and allows the ask, with a *number of 0. Else
- * CLUBPASS_NOT_UNDERSTOOD or CLUBPASS_DENIED for the first that isn't or doesn't, and *number is
- * its number, from 1. CLUBPASS_BAD_ASK, with a *number of 0, if a value is out of its range; `day`
- * and `hour` aren't looked at if there is no slot. It says nothing of the signature.
+ * Returns CLUBPASS_OK, with *number 0, if each caveat is understood and allows the request.
+ * Otherwise it returns CLUBPASS_NOT_UNDERSTOOD or CLUBPASS_DENIED for the first other caveat, and
+ * *number is that caveat's number, from 1. It returns CLUBPASS_BAD_ASK, with *number 0, if a value
+ * is out of range. It ignores `day` and `hour` if there is no slot. It doesn't test the signature.
  */
 CLUBPASS_CHECK
 clubpass_fault clubpass_first_fault(const clubpass *pass, const clubpass_ask *ask,
