@@ -8,10 +8,10 @@
     client.py show FACILITY DAY HOUR          shows a slot
     client.py account                         shows the account
 
-The desk is at the address in DESK (or http://127.0.0.1:8080), the pass in the file PASS (or pass).
-The file RECORD (or record) keeps each booking and cancellation before it is sent, and its reply. A
-request is sent again for PATIENCE seconds (or 60). Prints replies. Ends with status 1 after a refusal, and with 3 without a reply: `repeat`
-finishes then.
+DESK is the desk's address (by default http://127.0.0.1:8080), and PASS is the file with the pass (by default pass).
+The client writes each booking and cancellation to the file RECORD (by default record) before it sends them, and then the reply. It sends
+a request again for PATIENCE seconds (by default 60). It prints replies. It ends with status 1 after a refusal, and with 3 if no reply came.
+After status 3, `repeat` finishes the request.
 """
 import fcntl
 import json
@@ -28,7 +28,7 @@ TIMEOUT, FIRST_PAUSE, LONGEST_PAUSE = 10, 0.05, 5  # seconds
 
 
 class NoReply(Exception):
-    """No reply came, or one that isn't the desk's, or the desk was unavailable."""
+    """No reply came, or the reply wasn't from the desk, or the desk was unavailable."""
 
 
 class Record:
@@ -40,7 +40,7 @@ class Record:
         fcntl.flock(self.file, fcntl.LOCK_EX)  # one program at a time
         self.file.seek(0)
         text = self.file.read()
-        # A request with a truncated line was never sent, and a reply with one comes again.
+        # If a request's line is truncated, the request was never sent. If a reply's line is truncated, the reply comes again.
         self.file.truncate(text.rfind(b"\n") + 1)
         for line in text.splitlines(keepends=True):
             if line.endswith(b"\n"):
@@ -65,7 +65,7 @@ class Record:
 
 
 class Client:
-    """Asks the desk. Each method returns its reply, a dict, which has a `fault` in a refusal."""
+    """Sends requests to the desk. Each method returns the reply as a dict; a refusal has a `fault`."""
 
     def __init__(self, address, text, record, patience=60):
         self.address, self.text, self.record, self.patience = address, text, record, patience
@@ -112,7 +112,7 @@ class Client:
         return reply
 
     def book(self, facility, day, hour, guests):
-        """Books under a new number. If another holder of the key used the number, it draws a new one."""
+        """Books under a new number. If another program with a pass of this key used the number, draws another number."""
         while True:
             number = random.randint(1, LARGEST_NUMBER)
             if number in self.record.bookings:
@@ -124,7 +124,7 @@ class Client:
                 return reply
 
     def cancel(self, number):
-        """Cancels a booking on record. If the booking request has no reply yet, it is sent first."""
+        """Cancels a booking on record. If the booking request has no reply yet, first sends it again."""
         if self.record.bookings[number]["book"] is None:
             self._finish(number, "book")
         self.record.keep(number=number, action="cancel")

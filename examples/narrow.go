@@ -1,6 +1,6 @@
 // Narrows passes in V1, V2 or JSON with the package macaroon.v2: narrow CAVEAT.. < passes
 //
-// Reads passes, one per line, and prints each with the caveats after its own, in the same form. Needs Debian's golang-go and
+// Reads passes, one per line, and prints each with the new caveats after its old ones, in the same form. Needs Debian's golang-go and
 // golang-gopkg-macaroon.v2-dev. Build it with
 //
 //	GO111MODULE=off GOPATH=/usr/share/gocode go build narrow.go

@@ -1,26 +1,26 @@
 #!/usr/bin/env python3
 """Narrows passes in V2 with Python's standard library: narrow.py CAVEAT.. < passes
 
-Reads passes, one per line, and prints each with the caveats after its own. It needs no secret: the
+Reads passes, one per line, and prints each with the new caveats after its old ones. Needs no secret: the
 signature of a pass is the key that signs its next caveat.
 """
 import hmac
 import sys
 from base64 import urlsafe_b64decode, urlsafe_b64encode
 
-# A V2 pass ends with the end of its caveats and a signature field: type, length, 32 bytes.
+# A V2 pass ends with a byte that ends its caveats, and a signature field: type, length, 32 bytes.
 END = b"\x00\x06\x20"
 
 
 def varint(number):
-    """Seven bits per byte, the lowest seven first; the top bit is set on all bytes but the last."""
+    """Encodes a number with seven bits per byte, the lowest seven first. All bytes but the last have the top bit set."""
     if number < 128:
         return bytes([number])
     return bytes([number % 128 + 128]) + varint(number // 128)
 
 
 def narrow(text, caveats):
-    """Returns the pass with the caveats added, each signed with the signature before it."""
+    """Returns the pass with the caveats added. The key that signs each caveat is the previous signature."""
     raw = urlsafe_b64decode(text + "=" * (-len(text) % 4))
     if raw[:1] != b"\x02" or raw[-35:-32] != END:
         raise ValueError("not a pass in V2")

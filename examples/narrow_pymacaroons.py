@@ -1,8 +1,8 @@
 #!/usr/bin/env python3
 """Narrows passes in V1, V2 or JSON with pymacaroons: narrow_pymacaroons.py CAVEAT.. < passes
 
-Reads passes, one per line, and prints each with the caveats after its own, in the same form.
-Wants Debian's python3-pymacaroons.
+Reads passes, one per line, and prints each with the new caveats after its old ones, in the same form.
+Needs Debian's python3-pymacaroons.
 """
 import sys
 

@@ -1,4 +1,4 @@
-/* The library of passes for Node.js, by its N-API. Each function takes and gives Buffers; an object is a Buffer of the size of `clubpass`. */
+/* The library of passes for Node.js, by its N-API. Functions take and return Buffers; an object is a Buffer of the size of `clubpass`. */
 #define NAPI_VERSION 8
 #include <clubpass.h>
 #include <node_api.h>
@@ -12,7 +12,7 @@ typedef struct {
 
 static uint8_t none[1];
 
-/* The arguments: `count` Buffers. False, with an exception, if one is none. */
+/* Reads `count` arguments, which must be Buffers. Returns false, with an exception, if one isn't. */
 static bool buffers(napi_env env, napi_callback_info info, size_t count, napi_value *values, bytes *into) {
     size_t given = count;
     napi_get_cb_info(env, info, &given, values, NULL, NULL);
@@ -28,7 +28,7 @@ static bool buffers(napi_env env, napi_callback_info info, size_t count, napi_va
     return true;
 }
 
-/* The object of an argument, which has to be aligned as the compiler aligns it. */
+/* Returns the object of an argument, which must have the compiler's alignment. */
 static clubpass *object_of(napi_env env, bytes of) {
     if (of.len == sizeof(clubpass) && (uintptr_t)of.at % _Alignof(clubpass) == 0)
         return (clubpass *)(void *)of.at;
@@ -48,7 +48,7 @@ static napi_value truth(napi_env env, bool of) {
     return made;
 }
 
-/* The fault's number, or a Buffer of what was written. */
+/* Returns the fault's number, or a Buffer with the written bytes. */
 static napi_value told(napi_env env, clubpass_fault fault, const uint8_t *out, size_t len) {
     napi_value made = NULL;
     if (fault != CLUBPASS_OK)
@@ -105,7 +105,7 @@ static napi_value is_caveat(napi_env env, napi_callback_info info) {
     return buffers(env, info, 1, values, given) ? truth(env, clubpass_is_caveat(given[0].at, given[0].len)) : NULL;
 }
 
-/* An object, and a number: what the part is, 0 for the location, 1 for the identifier, 2 for the signature, from 3 on a caveat. */
+/* Takes an object and the number of a part: 0 is the location, 1 the identifier, 2 the signature, and from 3 on the caveats. */
 static napi_value part(napi_env env, napi_callback_info info) {
     napi_value values[2] = {NULL, NULL};
     bytes given[1];
@@ -158,7 +158,7 @@ static napi_value caveat_count(napi_env env, napi_callback_info info) {
     return number(env, (uint32_t)clubpass_caveat_count(pass));
 }
 
-/* A number of an argument, if it is whole and at most this. */
+/* Reads an argument that must be a whole number, at most `most`. */
 static bool whole_at(napi_env env, napi_value value, uint64_t most, uint64_t *into) {
     double found = -1;
     if (napi_get_value_double(env, value, &found) != napi_ok || !(found >= 0 && found < 9007199254740992.0))
@@ -167,7 +167,7 @@ static bool whole_at(napi_env env, napi_value value, uint64_t most, uint64_t *in
     return (double)*into == found && *into <= most;
 }
 
-/* An object, the name of a facility, and the numbers of an ask in the order below. The fault's number and that of the caveat. */
+/* Takes an object, a facility's name, and a request's numbers in the order below. Returns the numbers of the fault and the caveat. */
 static napi_value first_fault(napi_env env, napi_callback_info info) {
     enum { ACTION = 2, KIND, MOMENT, DAY, HOUR, GUESTS, OWED, SPENT, COUNT };
     static const uint64_t most[COUNT] = {0, 0, UINT32_MAX, UINT32_MAX, UINT32_MAX, UINT16_MAX, UINT8_MAX, UINT8_MAX, UINT64_MAX, UINT64_MAX};

@@ -1,5 +1,5 @@
 "use strict";
-// Passes that can be narrowed, by the library libclubpass. `clubpass.node` beside this file is built of clubpass.c:
+// Reads, writes, narrows and verifies passes with the library libclubpass. This builds `clubpass.node`, next to this file, from clubpass.c:
 //   gcc -shared -fPIC -o clubpass.node clubpass.c $(pkg-config --cflags --libs clubpass) -I/usr/include/node
 
 const library = require(process.env.CLUBPASS_NODE || "./clubpass.node");
@@ -13,7 +13,7 @@ const ACTIONS = { view: 1, book: 2, cancel: 3, account: 4 };
 const KINDS = { court: 1, boat: 2, room: 3 };
 const DENIED = 11;
 const MOMENT = { unit: 60_000, length: 16, rest: "Z" }, DAY = { unit: 86_400_000, length: 10, rest: "T00:00Z" };
-// Minutes since 1970 of a civil moment such as "2026-05-01T18:00", and days of a date such as "2026-05-01"; NaN for another text.
+// Returns minutes since 1970 for a moment such as "2026-05-01T18:00", days for a date such as "2026-05-01", and NaN for any other text.
 const since1970 = (text, { unit, length, rest }) => {
   const at = new Date(`${text}${rest}`);
   return !Number.isNaN(at.getTime()) && at.toISOString().slice(0, length) === text ? at / unit : NaN;
@@ -34,10 +34,10 @@ const told = (answer) => {
   if (typeof answer === "number") throw new PassError(answer);
   return answer;
 };
-// An object of its own memory, from its beginning, and so aligned.
+// Returns an object at the beginning of its own memory, and so aligned.
 const object = () => Buffer.from(new ArrayBuffer(library.size));
 
-// A pass is a value: no method changes it. Text is a string or a Buffer, a root a Buffer.
+// No method changes a pass. A text is a string or a Buffer, and a root is a Buffer.
 class Pass {
   #object = object();
 
@@ -68,9 +68,9 @@ class Pass {
     return told(library.write(this.#object, FORMS[form] || 0)).toString();
   }
 
-  // The first caveat that isn't understood or denies an ask, as { number, understood }; null if each allows it. An ask is
+  // Returns the first caveat that isn't understood or that denies a request, as { number, understood }, or null. A request is
   // { action, moment }, with { facility, day, hour } if it has a slot, and { kind, guests, owed, spent } if they aren't 0.
-  // Its moment and its day are the club's civil time, as "2026-05-01T18:00" and "2026-05-01". The signature isn't looked at.
+  // Moment and day are the club's local time, as "2026-05-01T18:00" and "2026-05-01". The signature isn't tested.
   firstFault({ action, moment, facility = "", day, hour = 0, kind, guests = 0, owed = 0, spent = 0 }) {
     const [fault, number] = library.firstFault(
       this.#object, Buffer.from(facility), ACTIONS[action] ?? 0, kind === undefined ? 0 : KINDS[kind] ?? -1, since1970(moment, MOMENT),

@@ -1,6 +1,6 @@
-// Package clubpass reads, writes, narrows and verifies passes by the library libclubpass.
+// Package clubpass reads, writes, narrows and verifies passes with the library libclubpass.
 //
-// A Pass is a value: a copy is another pass, and calls in different goroutines share nothing.
+// A copy of a Pass is a separate pass, and calls in different goroutines share no data.
 package clubpass
 
 /*
@@ -63,7 +63,7 @@ type Pass struct {
 
 var none [1]byte
 
-// at is where bytes begin: never nil, also for none.
+// at returns a pointer to the first byte. It is never nil, even if there are no bytes.
 func at(data []byte) *C.uint8_t {
 	if len(data) == 0 {
 		return (*C.uint8_t)(unsafe.Pointer(&none[0]))
@@ -78,7 +78,7 @@ func check(code C.clubpass_fault) error {
 	return Fault(code)
 }
 
-// Parse reads a text in any form.
+// Parse reads a pass from its text in any form.
 func Parse(text []byte) (Pass, error) {
 	var made Pass
 	err := check(C.clubpass_read(at(text), C.size_t(len(text)), &made.object))
@@ -93,7 +93,7 @@ func Mint(root, identifier, location []byte) (Pass, error) {
 	return made, err
 }
 
-// Narrow is the pass with these caveats after its own.
+// Narrow returns the pass with these caveats added.
 func (pass Pass) Narrow(caveats ...string) (Pass, error) {
 	for _, caveat := range caveats {
 		data := []byte(caveat)
@@ -104,12 +104,12 @@ func (pass Pass) Narrow(caveats ...string) (Pass, error) {
 	return pass, nil
 }
 
-// Verify says whether the root signed the pass with its caveats. It tries no caveat.
+// Verify returns whether the root signed the pass with its caveats. It doesn't test the caveats against a request.
 func (pass *Pass) Verify(root []byte) bool {
 	return bool(C.clubpass_is_signed(&pass.object, at(root), C.size_t(len(root))))
 }
 
-// Text is the pass in a form.
+// Text returns the text of the pass in a form.
 func (pass *Pass) Text(form Form) (string, error) {
 	out := make([]byte, C.CLUBPASS_MAX_TEXT)
 	var length C.size_t
@@ -117,10 +117,10 @@ func (pass *Pass) Text(form Form) (string, error) {
 	return string(out[:length]), err
 }
 
-// Form is the form of the text that the pass was read from; V2 for a new one.
+// Form returns the form of the text that the pass was read from; V2 for a new pass.
 func (pass *Pass) Form() Form { return Form(C.clubpass_form(&pass.object)) }
 
-// Location is a hint at where the pass is valid. It isn't signed.
+// Location returns a hint about where the pass is valid. It isn't signed.
 func (pass *Pass) Location() []byte {
 	out := make([]byte, C.CLUBPASS_ROOM)
 	var length C.size_t
@@ -128,7 +128,7 @@ func (pass *Pass) Location() []byte {
 	return out[:length:length]
 }
 
-// Identifier names the root.
+// Identifier returns the name of the root.
 func (pass *Pass) Identifier() []byte {
 	out := make([]byte, C.CLUBPASS_ROOM)
 	var length C.size_t
@@ -136,7 +136,7 @@ func (pass *Pass) Identifier() []byte {
 	return out[:length:length]
 }
 
-// Caveats are the caveats, in the order in which they were added.
+// Caveats returns the caveats, in the order in which they were added.
 func (pass *Pass) Caveats() []string {
 	caveats := make([]string, C.clubpass_caveat_count(&pass.object))
 	out := make([]byte, C.CLUBPASS_ROOM)
@@ -148,19 +148,19 @@ func (pass *Pass) Caveats() []string {
 	return caveats
 }
 
-// Signature is the last signature of the chain.
+// Signature returns the last signature of the chain.
 func (pass *Pass) Signature() (signature [32]byte) {
 	C.clubpass_signature(&pass.object, at(signature[:]))
 	return signature
 }
 
-// IsCaveat says whether a text is a caveat of the club's language, such as "kind = court".
+// IsCaveat returns whether a text is a caveat that the desk understands, such as "kind = court".
 func IsCaveat(text string) bool {
 	data := []byte(text)
 	return bool(C.clubpass_is_caveat(at(data), C.size_t(len(data))))
 }
 
-// An Action is what an Ask asks for.
+// An Action is the action that a request asks for.
 type Action uint32
 
 const (
@@ -170,7 +170,7 @@ const (
 	Account Action = C.CLUBPASS_ACCOUNT
 )
 
-// A Kind is that of a facility.
+// A Kind is the kind of a facility.
 type Kind uint32
 
 const (
@@ -180,8 +180,8 @@ const (
 	Room   Kind = C.CLUBPASS_ROOM_KIND
 )
 
-// An Ask is a request, as caveats see it. Without a facility there is no slot, and Day and Hour aren't looked at.
-// Moment and Day are the club's civil time: what they show in their own zones.
+// An Ask has the values of a request that caveats restrict. Without a facility there is no slot, and Day and Hour are ignored.
+// Moment and Day are the club's local time, as they show it in their own zones.
 type Ask struct {
 	Action      Action
 	Kind        Kind
@@ -193,13 +193,13 @@ type Ask struct {
 	Owed, Spent uint64
 }
 
-// civil is the seconds from 1970-01-01T00:00 to what a moment shows in its own zone.
+// civil returns the seconds from 1970-01-01T00:00 to the local time of a moment in its own zone.
 func civil(moment time.Time) int64 {
 	_, offset := moment.Zone()
 	return moment.Unix() + int64(offset)
 }
 
-// object is the ask in C; false if a value is out of its range there.
+// object returns the Ask as a C struct, or false if a value is out of the struct's range.
 func (ask *Ask) object() (C.clubpass_ask, bool) {
 	made := C.clubpass_ask{
 		owed: C.uint64_t(ask.Owed), spent: C.uint64_t(ask.Spent), action: C.uint32_t(ask.Action), kind: C.uint32_t(ask.Kind),
@@ -224,9 +224,9 @@ func (ask *Ask) object() (C.clubpass_ask, bool) {
 	return made, true
 }
 
-// FirstFault tries the caveats one after the other. It returns 0 and nil if each allows the ask, else the number of the
-// first that doesn't, from 1, with NotUnderstood or Denied. It returns 0 and BadAsk if a value of the ask is out of its
-// range. It doesn't look at the signature.
+// FirstFault tests the caveats one after the other. It returns 0 and nil if each allows the request. Otherwise it returns
+// the number, from 1, of the first caveat that doesn't, with NotUnderstood or Denied. It returns 0 and BadAsk if a value
+// of the request is out of range. It doesn't test the signature.
 func (pass *Pass) FirstFault(ask Ask) (int, error) {
 	made, ok := ask.object()
 	if !ok {

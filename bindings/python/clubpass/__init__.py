@@ -1,12 +1,12 @@
-"""Passes that their holders can narrow: read, written, narrowed and verified by the library libclubpass.
+"""Reads, writes, narrows and verifies passes with the library libclubpass.
 
     import clubpass
 
     lent = clubpass.Pass.parse(text).narrow("kind = court", "guests <= 1")
     print(lent, lent.verify(root))
 
-A pass is a value: no method changes it. Roots, signatures and the parts of a pass are bytes; where a method takes bytes, a str stands for
-its UTF-8. Each fault of the library is an exception of its own, a subclass of PassError.
+A Pass never changes: `narrow` returns a new Pass. Roots, signatures and the parts of a pass are bytes. A method that takes bytes also takes
+a str, and encodes it as UTF-8. Each fault of the library is an exception class of its own, a subclass of PassError.
 """
 
 from __future__ import annotations
@@ -33,7 +33,7 @@ Bytes = Union[bytes, str]
 
 
 class PassError(ValueError):
-    """Why a pass can't be read, written or narrowed."""
+    """A pass can't be read, written or narrowed."""
 
 
 class TooLong(PassError):
@@ -41,11 +41,11 @@ class TooLong(PassError):
 
 
 class Malformed(PassError):
-    """The text is no pass."""
+    """The text isn't a pass."""
 
 
 class ThirdParty(PassError):
-    """A caveat is a third party's."""
+    """A third party must discharge a caveat."""
 
 
 class TooMany(PassError):
@@ -53,11 +53,11 @@ class TooMany(PassError):
 
 
 class NoRoom(PassError):
-    """Memory ran out, or the pass has no room in its object: 8,192 bytes for its location, identifier and caveats."""
+    """Memory ran out, or the location, identifier and caveats of the pass have more than 8,192 bytes."""
 
 
 class NotAnAsk(PassError):
-    """A value of an ask is out of its range."""
+    """A value of a request is out of range."""
 
 
 _OK, _SHORT_BUFFER = 0, 6
@@ -70,13 +70,13 @@ _KINDS = {None: 0, "court": 1, "boat": 2, "room": 3}
 
 
 class _Object(ctypes.Structure):
-    """The `clubpass` of the header, whose members are the library's own."""
+    """The struct `clubpass` of the header. Only the library uses its members."""
 
     _fields_ = [("words", ctypes.c_uint32 * (_SIZE // 4))]
 
 
 class _AskObject(ctypes.Structure):
-    """The `clubpass_ask` of the header."""
+    """The struct `clubpass_ask` of the header."""
 
     _fields_ = [
         ("owed", ctypes.c_uint64), ("spent", ctypes.c_uint64), ("action", ctypes.c_uint32), ("kind", ctypes.c_uint32), ("moment", ctypes.c_uint32),
@@ -87,9 +87,9 @@ class _AskObject(ctypes.Structure):
 
 def _load() -> ctypes.PyDLL:
     beside = Path(__file__).with_name("libclubpass.so.0")
-    # A call keeps the interpreter's lock. It takes microseconds: to give the lock up for it costs more, also with several threads.
+    # A call holds the interpreter's lock. A call takes microseconds, so releasing the lock would cost more, even with several threads.
     library = ctypes.PyDLL(os.environ.get("CLUBPASS_LIBRARY") or (str(beside) if beside.exists() else "libclubpass.so.0"))
-    # Each pass is `byref` of an _Object: a type that says so would be tested anew at each call.
+    # Each pass is passed as `byref` of an _Object. If its type were declared here, ctypes would test it at each call.
     text, size, pass_at, length = ctypes.c_char_p, ctypes.c_size_t, ctypes.c_void_p, ctypes.POINTER(ctypes.c_size_t)
     code = ctypes.c_uint32
     for name, result, arguments in [
@@ -113,12 +113,12 @@ def _load() -> ctypes.PyDLL:
 
 
 _library = _load()
-# These two have no types of arguments, which ctypes would test at each call. They are given bytes, their `_length` and a `byref`.
+# These two functions declare no argument types, since ctypes would test them at each call. Callers pass bytes, their `_length` and a `byref`.
 _read: Callable[..., int] = _library.clubpass_read
 _is_signed: Callable[..., bool] = _library.clubpass_is_signed
 _length = lru_cache(1024)(ctypes.c_size_t.from_param)
 
-# Objects of passes that are gone, by reference: a new one takes a third of the time of reading a pass.
+# Objects of deleted passes, for reuse: making a new object takes a third of the time of reading a pass.
 _spare: deque[Any] = deque(maxlen=16)
 _new = object.__new__
 
@@ -132,7 +132,7 @@ def _bytes(value: Bytes) -> bytes:
 
 
 def _text(value: Bytes) -> bytes:
-    """The bytes of a text that is read. A str that has no UTF-8 becomes bytes that aren't UTF-8: they are no pass, and no caveat."""
+    """Returns the bytes of a text. A str that UTF-8 can't encode becomes bytes that aren't UTF-8, and so neither a pass nor a caveat."""
     return value.encode("utf-8", "surrogatepass") if isinstance(value, str) else _bytes(value)
 
 
@@ -147,16 +147,16 @@ def _check(code: int) -> None:
 
 
 def is_caveat(text: Bytes) -> bool:
-    """Whether a text is a caveat of the club's language, such as `kind = court`."""
+    """Returns whether a text is a caveat that the desk understands, such as `kind = court`."""
     line = _text(text)
     return bool(_library.clubpass_is_caveat(line, len(line)))
 
 
 @dataclass(frozen=True)
 class Ask:
-    """A request, as caveats see it: `action` is view, book, cancel or account. Without a facility there is no slot.
+    """The values of a request that caveats restrict: `action` is view, book, cancel or account. Without a facility there is no slot.
 
-    `moment` is the club's civil time. A time zone that it names isn't looked at.
+    `moment` is the club's local time. Its time zone, if it has one, is ignored.
     """
 
     action: str
@@ -185,7 +185,7 @@ class Ask:
 
 @dataclass(frozen=True)
 class CaveatFault:
-    """The first caveat that isn't understood, or denies an ask: its number from 1, and which of both."""
+    """The first caveat that isn't understood or that denies a request: its number, from 1, and which of the two it is."""
 
     number: int
     understood: bool
@@ -195,7 +195,7 @@ class CaveatFault:
 
 
 class Pass:
-    """A pass, with the form of the text that it was read from. `str` of it is its text in that form."""
+    """A pass, with the form of the text that it was read from. `str` returns the pass's text in that form."""
 
     __slots__ = ("_at",)
     _at: Any  # its object, by reference
@@ -214,7 +214,7 @@ class Pass:
 
     @classmethod
     def parse(cls, text: Bytes) -> Pass:
-        """Reads a text in any form. Raises TooLong, Malformed, ThirdParty or TooMany, and NoRoom without memory."""
+        """Reads a pass from its text in any form. Raises TooLong, Malformed, ThirdParty or TooMany, and NoRoom if memory runs out."""
         try:
             line = text.encode() if isinstance(text, str) else _bytes(text)
         except UnicodeEncodeError:
@@ -235,7 +235,7 @@ class Pass:
         return made
 
     def narrow(self, *caveats: Bytes) -> Pass:
-        """The pass with these caveats after its own. Raises TooMany for more than 64, else NoRoom for more than 8,192 bytes of parts."""
+        """Returns the pass with these caveats added. Raises TooMany for more than 64 caveats, else NoRoom if the parts have more than 8,192 bytes."""
         made = _made(Pass)
         ctypes.memmove(made._at, self._at, _SIZE)
         for caveat in caveats:
@@ -244,13 +244,13 @@ class Pass:
         return made
 
     def verify(self, root: bytes) -> bool:
-        """Whether the root signed the pass with its caveats. It tries no caveat."""
+        """Returns whether the root signed the pass with its caveats. It doesn't test the caveats against a request."""
         if not isinstance(root, bytes):
             raise _not_a_root(root)
         return _is_signed(self._at, root, _length(len(root)))
 
     def first_fault(self, ask: Ask) -> CaveatFault | None:
-        """The first caveat that isn't understood or denies the ask; None if each allows it. It doesn't look at the signature."""
+        """Returns the first caveat that isn't understood or that denies the request, or None. It doesn't test the signature."""
         number = ctypes.c_size_t()
         code = _library.clubpass_first_fault(self._at, ctypes.byref(ask._object()), ctypes.byref(number))
         if code in _VERDICTS:
@@ -259,19 +259,19 @@ class Pass:
         return None
 
     def to(self, form: str) -> str:
-        """The text in a form: v1, v2 or json. Raises TooLong if it would have more than 8,192 bytes, and NoRoom without memory."""
+        """Returns the text in a form: v1, v2 or json. Raises TooLong if the text would have more than 8,192 bytes, and NoRoom if memory runs out."""
         if form not in _FORMS:
             raise ValueError(f"no such form: {form}")
         return self._told(lambda *out: _library.clubpass_write(self._at, _FORMS[form], *out)).decode()
 
     @property
     def form(self) -> str:
-        """The form of the text that the pass was read from; v2 for a new one."""
+        """The form of the text that the pass was read from; v2 for a new pass."""
         return _FORM_NAMES[_library.clubpass_form(self._at)]
 
     @property
     def location(self) -> bytes:
-        """A hint at where the pass is valid. It isn't signed."""
+        """A hint about where the pass is valid. It isn't signed."""
         return self._told(lambda *out: _library.clubpass_location(self._at, *out))
 
     @property
@@ -293,7 +293,7 @@ class Pass:
         return out.raw
 
     def _told(self, call: Callable[..., int]) -> bytes:
-        """Returns the bytes that a call writes. The buffer has 1,024 bytes; if that is too short, a second one has the length that it tells."""
+        """Returns the bytes that a call writes. If a buffer of 1,024 bytes is too short, the call is repeated with a buffer of the length that it returned."""
         room, length = 1024, ctypes.c_size_t()
         while True:
             out = ctypes.create_string_buffer(room)
@@ -320,7 +320,7 @@ class Pass:
 
 
 def _made(kind: type[Pass]) -> Pass:
-    """A pass whose object has any bytes, for a call that fills it."""
+    """Returns a pass with an object of arbitrary bytes, for a call that fills the object."""
     made = _new(kind)
     try:
         made._at = _spare.pop()
