@@ -1,5 +1,5 @@
-"""The last correction: its changed rows are kept next to the club from before it begins. So `undo` can put back the rows that nobody has touched
-since, and an interrupted correction can continue."""
+"""Records the rows that the last correction changes, in a file next to the club, before the correction begins. So `undo` can restore the rows
+that nobody has changed since, and an interrupted correction can continue."""
 
 import contextlib
 import json
@@ -17,10 +17,10 @@ TABLES = ("members", "facilities", "keys", "slots", "bookings", "old_roots")
 KEYS = {"slots": 3, "bookings": 2}
 # The columns of the tables that commands change.
 COLUMNS = {"members": ("name", "credited", "quota", "used"), "facilities": ("name", "kind", "places", "price", "opens", "shuts")}
-# A correction by a clerk has no more rows than these. A new year keeps its own file, and an undo can't be undone.
+# Corrections that change more rows can't be undone. A new year keeps its own file, and can't be undone either.
 MOST_ROWS = 5_000
 NOT_UNDONE = "new-year"
-# Options that say how a correction is given, and not what it is.
+# Options that don't change what a correction does to the club.
 NOT_MEANT = ("--yes", "--mail")
 
 
@@ -41,8 +41,8 @@ def value_of(stored):
 
 
 def rows_changed(db):
-    """The rows of the club that aren't as in the copy that is attached as `before`: of each its rowid, and its values before and after, or
-    None where it wasn't there."""
+    """Returns the rows that differ from the copy attached as `before`: each row's table and rowid, then its old values and its new values.
+    None stands for the values of a missing row."""
     found = []
     for table in TABLES:
         was, is_now = (
@@ -55,13 +55,13 @@ def rows_changed(db):
 
 
 def row_of(db, table, key):
-    """The row of a key, with its rowid before it; None if there is none."""
+    """Returns the rowid and the values of the row with this key, or None."""
     columns = columns_of(db, table)[: KEYS.get(table, 1)]
     return db.execute(f"SELECT rowid, * FROM {table} WHERE {' AND '.join(f'{it} = ?' for it in columns)}", key).fetchone()
 
 
 def rows_edited(db, edits):
-    """The rows of a copy that the edits of commands change, as `rows_changed` has them. A slot that has no row yet has no rowid."""
+    """Returns the rows of a copy that the edits of commands change, in the form of `rows_changed`. A slot without a row has no rowid."""
     found = {}
     for it in edits:
         columns, place = columns_of(db, it.table), (it.table, *it.key)
@@ -77,7 +77,7 @@ def rows_edited(db, edits):
 
 
 def attach_before(db, copy):
-    """Attaches the copy of before a correction, which nobody changes."""
+    """Attaches the copy made before a correction. Nobody changes that copy."""
     db.execute("ATTACH ? AS before", [address(copy, "ro") + "&immutable=1"])
 
 
@@ -87,8 +87,8 @@ def forget_undo(club):
 
 
 def write_undo(club, db, words):
-    """Keeps what a correction is about to commit. If it isn't committed, no row is as it is kept, and nothing can be undone by it. An undo
-    keeps what it undoes until it is committed."""
+    """Records the rows that a correction is about to commit. If the commit fails, no row has the recorded new values, and `undo`
+    refuses. An undo itself records nothing, so the record of the correction stays until the undo is committed."""
     if words.command == "undo":
         return
     rows = rows_changed(db)
@@ -98,7 +98,7 @@ def write_undo(club, db, words):
     write(club, content_of(words, rows, True)).close()
 
 
-# ---- A correction that is under way, command by command: a line with its content, and further lines with what became of it.
+# ---- The record of a correction that is made command by command: a line with its content, then lines about its progress.
 
 DONE, MAILED = "done", "mailed "
 
@@ -108,7 +108,7 @@ def content_of(words, rows, is_done):
 
 
 def write(club, content):
-    """Writes a record in place of the last one, and returns its file, for further lines."""
+    """Replaces the last record with a new one, and returns the open file, to which lines can be added."""
     made = undo_of(club) + ".new"
     file = open(made, "w", encoding="ascii")
     add(file, json.dumps(content))
@@ -118,14 +118,14 @@ def write(club, content):
 
 
 def add(file, line):
-    """Adds a line to a record, also if it is that of the last correction no more."""
+    """Adds a line to a record, even if a newer correction has replaced it."""
     file.write(line + "\n")
     file.flush()
     os.fsync(file.fileno())
 
 
 def read(club):
-    """The content of the last record; None if there is none, or it can't be read."""
+    """Returns the content of the last record, or None if no record can be read."""
     with contextlib.suppress(FileNotFoundError, ValueError), open(undo_of(club), encoding="ascii") as file:
         content, *more = file.read().split("\n")
         content = json.loads(content)
@@ -135,7 +135,7 @@ def read(club):
 
 
 def meant(words):
-    """The words of a correction but for how it is given: with a question or without one, at which moment."""
+    """Returns the words of a correction without the options --yes, --mail and --at."""
     found, is_value = [], False
     for it in words:
         if not is_value and it not in NOT_MEANT and not it.startswith("--at"):
@@ -145,20 +145,20 @@ def meant(words):
 
 
 def broken_off(club, words):
-    """The content of this very correction's record, if it was begun and didn't come to its end; else None."""
+    """Returns the content of the last record if it is of this same correction and the correction isn't complete, otherwise None."""
     content = read(club)
     return content if content and not content["is_done"] and meant(content["words"]) == meant(words.given) else None
 
 
 class Record:
-    """The record of a correction under way. `left` is the content of an earlier run's: the rows that it changed are undone as well."""
+    """The record of a running correction. `left` is the content of an interrupted run's record: an undo restores the rows of both."""
 
     def __init__(self, club, words, left):
         self.club, self.file = club, None
         self.content = {**content_of(words, [], False), **{it: left[it] for it in ("rows", "cancelled", "mailed") if left}}
 
     def keep(self, rows, cancelled):
-        """Keeps rows and bookings that the correction is about to change."""
+        """Records the rows and bookings that the correction is about to change."""
         known = self.content["rows"]
         self.content["cancelled"] += [it for it in cancelled if it not in self.content["cancelled"]]
         if known is not None:
@@ -177,7 +177,7 @@ class Record:
 
 
 def with_sums(row, cancelled):
-    """A row whose sums before are those after with the cancelled bookings: between two runs members may have booked."""
+    """Returns the row with new old sums: the present sums plus the cancelled bookings, since members may have booked between two runs."""
     table, rowid, was, is_now = row
     if table == "slots":
         persons = sum(it[5] + 1 for it in cancelled if it[2:5] == is_now[:3])
@@ -189,13 +189,13 @@ def with_sums(row, cancelled):
 
 
 def row_place(row):
-    """The name of a row: its key, or its rowid where the key may change."""
+    """Returns the table of a row with its key, or with its rowid if the key may change."""
     table, rowid, was, is_now = row
     return (table, *(was or is_now)[: KEYS[table]]) if table in KEYS else (table, rowid)
 
 
 def rows_of_member(db, member):
-    """The rows that have the name of a member or of one of its keys, by their tables and rowids."""
+    """Returns the rows with the name of a member or of one of the member's keys, by table and rowid."""
     of_keys = "pass_key IN (SELECT name FROM keys WHERE member = ?)"
     tables = (("members", "name = ?"), ("keys", "member = ?"), ("bookings", of_keys), ("old_roots", of_keys))
     return {
@@ -209,7 +209,8 @@ def rows_of_member(db, member):
 
 
 def plan_undo(db, club):
-    """Puts the rows of the last correction back, each only if it is as the correction left it, or as it was, if the correction was interrupted."""
+    """Plans the restoring of the last correction's rows. Refuses if a row has changed since. After an interrupted correction, rows that it
+    didn't reach are skipped."""
     it = read(club)
     if not it or it["rows"] is None or is_undo(it):
         raise refusal("no undo", club=club.name)
@@ -218,7 +219,7 @@ def plan_undo(db, club):
     # References are tested at the end of the transaction.
     plan.change(-1, "PRAGMA defer_foreign_keys = ON")
     for table, rowid, was, is_now in it["rows"]:
-        if rowid is None:  # it had no row before
+        if rowid is None:  # the slot had no row before
             rowid = (row_of(db, table, is_now[: KEYS[table]]) or [None])[0]
         found = db.execute(f"SELECT * FROM {table} WHERE rowid = ?", [rowid]).fetchone()
         found = None if found is None else [plain(value) for value in found]
@@ -246,7 +247,7 @@ def is_undo(content):
 
 
 def order_between(table, now, then):
-    """The command that makes a row another one, and its edit; None if no single one does."""
+    """Returns the command that turns one row into another, and its edit, or None if no single command does."""
     columns = COLUMNS.get(table) if now and then else None
     changed = {it: after for it, before, after in zip(columns or (), now or (), then or ()) if before != after}
     if changed.keys() == {"quota"}:
@@ -259,7 +260,7 @@ def order_between(table, now, then):
 
 
 def row_undone(content):
-    """The one row that an undo changes, as it is before and after it, if a command does it; else None."""
+    """Returns the row that an undo changes, with its values before and after the undo, if one command can do it. Otherwise returns None."""
     rows = content["rows"] or [] if content else []
     if len(rows) != 1:
         return None
@@ -269,12 +270,12 @@ def row_undone(content):
 
 
 def is_by_command(club):
-    """Returns whether a command undoes the last correction, or goes on with its undo."""
+    """Returns whether a command can undo the last correction, or continue its undo."""
     return row_undone(read(club)) is not None
 
 
 def plan_undo_by_command(db, club):
-    """Puts the one row of the last correction back by a command, if it is as the correction left it."""
+    """Plans the command that restores the only row of the last correction. Refuses if the row has changed since."""
     it = read(club)
     row = row_undone(it)
     if row is None:
@@ -294,7 +295,7 @@ def plan_undo_by_command(db, club):
 
 
 def row_text(table, values):
-    """What a row is called to a clerk."""
+    """Returns a name for the row that clerks know."""
     if table == "slots":
         return say("row slots", row=f"{values[0]} {time.strftime('%Y-%m-%d', time.gmtime(values[1] * 86400))} {values[2]:02d}:00")
     if table == "bookings":
