@@ -108,7 +108,7 @@ def content_of(words, rows, is_done):
 
 
 def write(club, content):
-    """Replaces the last record with a new one, and returns the open file, to which lines can be added."""
+    """Replaces the last record with a new one, and returns the open file, for further lines."""
     made = undo_of(club) + ".new"
     file = open(made, "w", encoding="ascii")
     add(file, json.dumps(content))
