@@ -164,7 +164,7 @@ function lostFault(number, day) {
 // Returns whether the key used a number. A cancellation at a slot that no booking can have tells that, and changes nothing.
 async function isUsed(number) {
   const nowhere = { facility: "none-such", day: "2000-01-01", hour: 0 };
-  if (denial("cancel", nowhere) > 0) return true; // the pass can't ask
+  if (denial("cancel", nowhere) > 0) return true; // the pass doesn't allow the question
   try {
     const reply = await ask(state.text, "cancel", { ...nowhere, key: state.key, number });
     return reply.fault === undefined || reply.fault === NUMBER_USED || reply.fault === NO_SUCH_BOOKING || reply.fault < NUMBER_USED;

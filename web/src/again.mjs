@@ -16,7 +16,7 @@ import { say } from "./words.mjs";
 
 // The buttons that a card has below "More".
 export function moreOf(entry, whenDone) {
-  const isKnown = state.club !== null; // the zone, and when a slot begins
+  const isKnown = state.club !== null; // the list has the zone, which gives the beginning of a slot
   const isOwn = isKnown && entry.key === state.key && state.pass !== null && canSend();
   const buttons = [];
   if (["booked", "listed"].includes(stateOf(entry))) {

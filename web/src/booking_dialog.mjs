@@ -13,7 +13,7 @@ import { NotStored } from "./sender.mjs";
 import { clubMoment, denial, liveAt, ownAt, state } from "./state.mjs";
 import { dateText, dayText, say } from "./words.mjs";
 
-const SEEN_AFTER = 1000; // milliseconds until a person hears that there is no answer yet
+const SEEN_AFTER = 1000; // milliseconds until the page says that there is no answer yet
 const LONG_AFTER = 10000;
 
 export function slotText({ day, hour }, words = dateText) {

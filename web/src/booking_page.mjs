@@ -28,7 +28,7 @@ const VIEWS = ["day", "bookings", "lend", "account"];
 let view = "day";
 let clubTrouble = "";
 let storageTrouble = "";
-let linked = { kind: "none", text: "" }; // what came in the address that is no pass
+let linked = { kind: "none", text: "" }; // a list or spare passes from the page's address
 let others = null; // tells the other tabs that the record changed
 
 // ---- The display
@@ -98,7 +98,7 @@ async function refresh() {
   show();
   showCells();
   if (openRequests() < open) {
-    state.taken.clear(); // the slots have other persons in them now
+    state.taken.clear(); // other persons may have booked or cancelled the slots
     state.closed.clear();
     if (view === "bookings") lookAfterBookings(() => showBookings(refresh));
     lookAtAccount().then(() => { showPassSays(); showBookings(refresh); });

@@ -154,7 +154,7 @@ function noteSlot(name, { taken, closed }) {
   else state.closed.delete(name);
 }
 
-let lookRound = 0; // what an older one finds isn't shown
+let lookRound = 0; // numbers each check of the slots: results of an older check are dropped
 
 // Checks that the slots of bookings still hold them.
 export async function lookAfterBookings(whenDone) {

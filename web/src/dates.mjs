@@ -31,7 +31,7 @@ export function startOf(slot) {
   return `${slot.day}T${hourText(slot.hour)}:00`;
 }
 
-const clocks = new Map(); // by zone: making one takes long
+const clocks = new Map(); // formatters by zone: making one is slow
 
 function clockOf(zone) {
   if (!clocks.has(zone)) {

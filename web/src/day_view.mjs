@@ -19,12 +19,12 @@ const SWIPE = 50; // pixels
 
 let day = null;
 let chosen = null; // the facility of a narrow screen
-let isFinding = false; // whether a time is looked for over a week
-let isEarlierShown = false; // whether the hours that are over are shown, of today
-let cells = new Map(); // by facility and hour: the slot, its button, and what is known of it
-let round = 0; // of looking: what an older one finds isn't shown
+let isFinding = false; // whether the page shows the search over a week
+let isEarlierShown = false; // whether today's past hours are shown
+let cells = new Map(); // by facility and hour: the slot, its button, and its last reply
+let round = 0; // numbers each load of a day: replies to an older load are dropped
 let lookedAt = 0;
-let waiting = []; // the cells that are still to be asked for
+let waiting = []; // the cells whose slots aren't requested yet
 
 export function shownDay() {
   return day;
@@ -174,7 +174,7 @@ function looksOf({ slot, view, state: known }) {
   if (mine.some((entry) => stateOf(entry) === "asked")) return { looks: "mine", words: say("cell-asked"), below: "", isFree: false };
   if (mine.length > 0) {
     const isKnown = mine.every((entry) => entry.guests !== null);
-    const isFree = !isOver && view !== null; // it can be cancelled there, also where it is full or closed
+    const isFree = !isOver && view !== null; // the member can cancel here, even if the slot is full or closed
     const whose = isKnown ? say("cell-mine", { count: personsOf(mine) }) : say("cell-mine-only");
     return { looks: "mine", words: mine.every((entry) => stateOf(entry) === "listed") ? say("cell-listed") : whose, below: isOver ? say("cell-past") : view?.closed ? say("cell-closed") : "", isFree };
   }
@@ -261,7 +261,7 @@ export async function look() {
   const all = waiting.length;
   let done = 0;
   if (!navigator.onLine) {
-    lookedAt = 0; // once the network is back the day is looked at
+    lookedAt = 0; // so the day is loaded again once the network returns
     waiting = [];
     showProgress(0, 0);
     put("looked", say("looked-offline"));

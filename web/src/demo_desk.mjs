@@ -10,7 +10,7 @@ import { chain, SmallDesk } from "./small_desk.mjs";
 const ZONE = "Europe/Berlin";
 const KEPT = "club to try";
 const ROOTS = { "anna-1": 1, "anna-lend-1": 2, "anna-lend-2": 3, others: 4 };
-const OTHERS_ASK = 60; // bookings of others, spread over the days
+const OTHERS_ASK = 60; // bookings of other members, spread over the days
 const FACILITIES = [
   ["court-1", "Court 1", "court", 4, 200, 8, 22, "Clay"], ["court-2", "Court 2", "court", 4, 200, 8, 22, "Clay"], ["court-3", "Court 3 (indoor)", "court", 4, 300, 7, 23, ""],
   ["boat-1", "Double scull", "boat", 2, 150, 6, 21, "Bring your own life jacket"], ["room-1", "Club room", "room", 1, 600, 8, 23, ""],

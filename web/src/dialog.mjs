@@ -2,7 +2,7 @@
 import { button, byName, element } from "./elements.mjs";
 import { say } from "./words.mjs";
 
-let closed = null; // what is to be done once it closes, or null where it is closed
+let closed = null; // the function to call when the dialog closes; null if no dialog is open
 
 export function openDialog(title, content, whenClosed = () => {}) {
   if (isDialogOpen()) closeDialog();

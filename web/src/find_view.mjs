@@ -20,8 +20,8 @@ const FIRST_HOUR = 18;
 
 let firstDay = null;
 let search = { kind: null, from: FIRST_HOUR, to: FIRST_HOUR + 2 };
-let views = new Map(); // the desk's words on slots, by their names; "failed" where none came
-let findRound = 0; // of looking: what an older one finds isn't shown
+let views = new Map(); // the desk's reply for each slot, by name; "failed" if no reply came
+let findRound = 0; // numbers each search: results of an older search are dropped
 
 function facilitiesOf(kind) {
   return state.club.facilities.filter((facility) => facility.kind === kind);

@@ -102,7 +102,7 @@ const END_OF_SECTION = 0;
 
 export function readV2(bytes) {
   const reader = new Reader(bytes);
-  reader.take(1, part("first-byte")); // by which the form is known
+  reader.take(1, part("first-byte")); // the first byte tells the form
   const location = optionalField(reader, LOCATION, part("location")) ?? new Uint8Array();
   const identifier = field(reader, IDENTIFIER, part("identifier"));
   endSection(reader, part("identifier"));

@@ -11,7 +11,7 @@ class JsonNumber {
   }
 }
 
-const DEEPEST_JSON = 127; // arrays and objects in one another
+const DEEPEST_JSON = 127; // the greatest depth of nested arrays and objects
 
 class JsonReader {
   constructor(text) {

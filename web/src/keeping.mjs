@@ -5,11 +5,11 @@ import { splitGiven } from "./pass.mjs";
 import { placeName } from "./place.mjs";
 
 const LONGEST_NAME = 40;
-export const MOST_PASSES = 20; // and as many spare ones
+export const MOST_PASSES = 20; // the limit of kept passes, and the same limit for spare passes
 const MOST_LOANS = 50;
 const MOST_NOTED = 2000;
 
-let loansOfPage = []; // loans that the browser didn't keep: they are known until the page is left
+let loansOfPage = []; // loans that the browser couldn't store: the page knows them until it is closed
 
 function storageOf(forGood) {
   return forGood ? globalThis.localStorage : globalThis.sessionStorage;

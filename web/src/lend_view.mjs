@@ -21,8 +21,8 @@ const DAYS_TO_CHOOSE = 7;
 const POINTS = [200, 600, 1000];
 const LONGEST_LOAN = 365; // days
 
-const spentBy = new Map(); // what the keys of spare passes spent, by their texts, as the desk last said
-const unfit = new Set(); // spare passes that the desk refuses, or that are another member's, by their texts
+const spentBy = new Map(); // the points spent under each spare pass, by its text, from the desk's last reply
+const unfit = new Set(); // the texts of spare passes that the desk refuses or that belong to another member
 let isMaking = false;
 
 // Returns the spare passes for a loan. Without the account, the page can't tell which are the same member's.

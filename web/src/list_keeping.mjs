@@ -7,7 +7,7 @@ import { say } from "./words.mjs";
 
 const REMINDED_FROM = 3; // bookings
 
-let persists = null; // whether the browser promised to keep it, or null where that isn't known
+let persists = null; // whether the browser promised to keep the list; null if unknown
 
 // A browser asks its user, or decides by itself.
 export async function askToPersist() {

@@ -74,7 +74,7 @@ const result = byName("result");
 
 // The pass read from the entered text, or null.
 let pass = null;
-let club = null; // from club.json, where there is one
+let club = null; // read from club.json, if it exists
 // Counts withdrawn results. Signing takes a moment, and input during it makes the result outdated.
 let round = 0;
 
@@ -113,7 +113,7 @@ function fieldsIn(id) {
 
 // Returns a fieldset's line, "" if it is empty, or null if it is wrong.
 function chosenLine(id, form) {
-  if (fieldsIn(id).some((field) => field.validity.badInput)) return null; // a date that is half entered has no value
+  if (fieldsIn(id).some((field) => field.validity.badInput)) return null; // an incomplete date has no value
   const line = CHOICES[id](form);
   return line === "" || sentenceOf(bytesOf(line)) !== null ? line : null;
 }
@@ -258,7 +258,7 @@ async function loadClub() {
     const response = await fetch("club.json", { cache: "no-cache", credentials: "omit", redirect: "error", referrerPolicy: "no-referrer" });
     club = response.ok ? readClub(await response.json()) : null;
   } catch {
-    club = null; // the page does all else without it
+    club = null; // the page works without the list
   }
   showClub(club);
   put("club-facilities", ...(club?.facilities ?? []).map(facilityLine));
@@ -318,7 +318,7 @@ function sayPage() {
   sayAll();
   if (!canSign()) put("unsigned", element("strong", "", say("unsigned-title")), say("unsigned"));
   showClub(club);
-  readGiven(); // a browser may have kept what was entered
+  readGiven(); // after a reload the browser may have restored the fields
   Object.keys(CHOICES).forEach(showChoice);
 }
 

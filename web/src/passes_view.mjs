@@ -10,11 +10,11 @@ import { faultContent, untilText } from "./pass_words.mjs";
 import { clubMoment, state } from "./state.mjs";
 import { say } from "./words.mjs";
 
-let isAsked = false; // whether the pass came in a link and nobody said yet if it is to be kept
-let isEntering = false; // whether another pass is to be entered
-const used = new Map(); // the names of passes that this page used, by their texts
-let keepTrouble = ""; // the key of the words that say why the pass that is used couldn't be kept
-let page = {}; // what the page does: begin() and show()
+let isAsked = false; // whether the pass came in a link and the member hasn't decided yet whether to keep it
+let isEntering = false; // whether the field for another pass is shown
+const used = new Map(); // names of the passes that this page used, by the text of the pass
+let keepTrouble = ""; // the key of the text that says why the pass in use couldn't be kept
+let page = {}; // the page's functions begin() and show()
 
 export function isPassShown() {
   return state.pass !== null && !isEntering;

@@ -3,7 +3,7 @@ import { qrRows } from "./qr.mjs";
 
 const SPACE = "http://www.w3.org/2000/svg";
 const MARGIN = 4; // modules
-const DENSE = 90; // modules: from here on a camera has to come close
+const DENSE = 90; // modules: a camera must come close to a code of this size
 
 // Null where the text is too long.
 export function drawQr(text, label) {

@@ -16,7 +16,7 @@ export const SLOT_CLOSED = 17;
 export const SLOT_HAS_BEGUN = 21;
 const UNAVAILABLE = 22;
 
-const TOO_MANY_REQUESTS = 429; // the proxy's
+const TOO_MANY_REQUESTS = 429; // the status comes from the proxy
 
 // No reply of the desk came. `wait` is the wait that the proxy asked for, in milliseconds, if any; `status` is that of the answer, or 0 without
 // one.

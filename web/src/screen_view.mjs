@@ -19,10 +19,10 @@ import { dayText, say } from "./words.mjs";
 const MINUTE = 60000;
 const STALE = 3 * MINUTE;
 
-const slotReplies = new Map(); // by slot
+const slotReplies = new Map(); // the last reply for each slot
 let trouble = "";
-let newsAt = null; // when a reply came, by this browser's clock
-let newsTime = ""; // the same at the club
+let newsAt = null; // the moment of the last reply, by this browser's clock
+let newsTime = ""; // the moment of the last reply, by the club's clock
 
 function slotsOn(day) {
   const moment = clubMoment();

@@ -14,15 +14,15 @@ export class Sender {
   // `pause(milliseconds)`; `changed()` is called after each change; `now()` in milliseconds.
   constructor({ store, exchange, lock, pause, changed, now = Date.now, draw = drawnNumber }) {
     Object.assign(this, { store, exchange, lock, pause, changed, now, draw });
-    this.pass = null; // its text, and the key that it is of
+    this.pass = null; // the text of the pass; `key` is the name of its key
     this.key = null;
-    this.fresh = new Set(); // what this tab wrote down and didn't send yet
-    this.stopped = new Set(); // what the desk refused for this pass
-    this.unsaved = new Map(); // what the browser couldn't write down after it was answered
-    this.followers = new Map(); // who waits for what becomes of a booking
-    this.tries = 0; // without a reply, one after the other
-    this.status = 0; // of what came at the last of them in a reply's place
-    this.wait = 0; // how long the proxy wants it to wait, in milliseconds
+    this.fresh = new Set(); // requests that this tab recorded and hasn't sent yet
+    this.stopped = new Set(); // bookings that the desk refused under this pass
+    this.unsaved = new Map(); // answered bookings that the browser couldn't store
+    this.followers = new Map(); // the functions to call when a booking changes
+    this.tries = 0; // the number of successive tries without a reply
+    this.status = 0; // the status that came instead of a reply at the last try
+    this.wait = 0; // the wait that the proxy asked for, in milliseconds
     this.running = false;
   }
 

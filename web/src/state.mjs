@@ -6,20 +6,20 @@ import { facilityOf } from "./club.mjs";
 import { costOf, isAt, isLive, personsOf, slotName, stateOf } from "./record.mjs";
 
 export const state = {
-  club: null, // from club.json
-  pass: null, // as it was read, with its text as it is sent and the name of its key
+  club: null, // read from club.json
+  pass: null, // the pass, with the text to send and the name of its key
   text: "",
-  given: "", // the same with what its key spent before it was lent, which is `base`
+  given: "", // the pass's text with `base`, the points that its key spent before the loan
   base: 0,
   key: null,
-  name: "", // of the pass, by which a member chooses it
+  name: "", // the name by which a member chooses the pass
   isKept: false,
-  store: null, // null where the browser keeps nothing
+  store: null, // null if the browser stores nothing
   sender: null,
-  entries: [], // the record, of all keys
-  account: null, // the reply, with `at`, the moment when it came
-  taken: new Map(), // taken places of slots, by their names, where they were looked up
-  closed: new Set(), // the names of those that the office closed
+  entries: [], // the record's bookings, under all keys
+  account: null, // the desk's reply, with its moment in `at`
+  taken: new Map(), // the taken places of each requested slot, by the slot's name
+  closed: new Set(), // the names of the slots that the office closed
 };
 
 let shownMoment = { minute: null, zone: null, text: "" };
