@@ -3,11 +3,11 @@
 
     tests/desk/arguments_as_before.py BEFORE NOW
 
-Run this after a change to argument reading that must not change behaviour. Plays some 400 command lines of the program that the paths end in.
-They have help, versions, each argument given correctly, wrongly, twice or not at all, two or three faults at once, words after `--`, bytes that
-aren't text. A `clubdesk` gets its own folder for each line; a line that serves names a folder as its database, so that it ends. Compares status,
-standard output and standard error byte for byte, prints each line that differs, and its last line has the counts. The status is 1 if one
-differs. No run of `tests/run` has a program of before, so none plays it."""
+Run this after a change to argument reading that must not change behaviour. The last part of the two paths names the program. The test plays some
+400 command lines: help, versions, each argument correct, wrong, repeated or missing, two or three faults at once, words after `--`, and bytes that
+aren't text. Each line of `clubdesk` gets its own folder. A `serve` line names a folder as its database, so that it ends. The test compares status,
+standard output and standard error byte for byte, prints each line that differs, and prints the counts last. The status is 1 if a line differs.
+`tests/run` has no program of before, so it doesn't play this test."""
 
 import subprocess
 import sys

@@ -5,8 +5,8 @@ Each allocation is refused in turn, also while passes are printed. After a fault
 is unchanged, or the command is done.
 
 Then sqlite3 finds the file sound, and clubdesk reads it.
-- Each allocation is refused in turn: the command ends with status 4, or 2 if clap met the refusal, or as with ample memory.
-- The file may grow only to a number of blocks: the command ends with status 5, or as with ample storage.
+- Each allocation is refused in turn. The command ends with status 4, with status 2 if clap met the refusal, or as with ample memory.
+- The file may grow only to a number of blocks. The command ends with status 5, or as with ample storage.
 - The command is killed after a number of milliseconds.
 STEP=N refuses only each Nth allocation, which is faster.
 """

@@ -3,10 +3,10 @@
 
 The test sends truncated, slow and foreign commands, with such senders and servers, and the real server keeps running. Some of it needs root.
 
-Commands: cut at each byte, of 70,000 bytes, with a wrong count, with arguments that aren't UTF-8, without a name, and of `serve`. Senders: gone
-before the greeting, silent, or not taking an answer. Servers: they don't greet or answer, are stopped for longer than a limit, or end before
-they greet. Then 50 commands at once, and root's command at another user's desk. Doors: a stale one of root's, one of a stranger, one behind a
-link, in a folder that a server can't write, and on a full disk. Root is wanted for other users and disks.
+Commands are cut at each byte, have 70,000 bytes, a wrong count, arguments that aren't UTF-8 or no name, or are `serve`. Senders close before the
+greeting, are silent, or read no answer. Servers don't greet or answer, are stopped for longer than a limit, or end before they greet. Then come
+50 commands at once, and root's command at another user's desk. Doors are stale and root's, a stranger's, behind a link, in a folder that a
+server can't write, or on a full disk. Tests with other users and disks need root.
 """
 
 import contextlib

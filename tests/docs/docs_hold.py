@@ -2,14 +2,14 @@
 """The commands, outputs, links and names of the pages hold.
 
 Holds README.md, CONTRIBUTING.md, docs/, and the README.md of each crate against the repository.
-- Each ```console block is run, the blocks of a page one after the other in a folder of its own. The programs and bin/ are on the path. A line
-  that begins with `$ ` is a command, and the lines after it are its standard output and error. Empty lines and spaces at the end of a line
-  don't count, and another port may replace 8080.
+- Each ```console block is run: the blocks of a page one after the other, in the page's own folder. The programs and bin/ are on the path. A
+  line that begins with `$ ` is a command, and the lines after it are its standard output and error. Empty lines and spaces at the end of a
+  line don't count, and another port may replace 8080.
 - Each test below says what else it checks.
-The programs are those of the variables CLUBDESK and PASSTOOL. One without a variable is proved and built first.
+The variables CLUBDESK and PASSTOOL name the programs. A program without a variable is proved and built first.
   tests/docs/docs_hold.py                    every page
   tests/docs/docs_hold.py -k DESK            the pages whose names have this word
-  tests/docs/docs_hold.py --no-commands ..   what wants no program of ours
+  tests/docs/docs_hold.py --no-commands ..   only the checks that need no program of ours
 """
 
 import os
@@ -83,7 +83,7 @@ OF_STD = {"test_kit": {"expect"}}
 
 @each_page
 def test_quoted_lines_are_in_a_file(page):
-    """Each paragraph of a ```rust, ```antt or ```text block is in a file of crates/, but for how far it is indented."""
+    """Each paragraph of a ```rust, ```antt or ```text block is in a file of crates/, apart from its indentation."""
     texts = [re.sub(r"^ +", "", text, flags=re.MULTILINE) for text in CODE.values()]
     for language in ("rust", "antt", "text"):
         for quote in (it for block in blocks(page, language) for it in re.split(r"\n\n+", re.sub(r"^ +", "", block, flags=re.MULTILINE))):
@@ -91,7 +91,7 @@ def test_quoted_lines_are_in_a_file(page):
 
 
 def anchors(page):
-    """Makes anchors from headings: lower case, dashes for spaces, and of the other signs only `-` and `_`."""
+    """Makes anchors from headings: in lower case, with dashes for spaces, and without signs other than `-` and `_`."""
     text = re.sub(r"^```.*?^```.*?\n", "", Path(page).read_text(encoding="utf-8"), flags=re.MULTILINE | re.DOTALL)
     return {re.sub(r"[^a-z0-9 _-]", "", it.lower()).replace(" ", "-") for it in re.findall(r"^#+ (.*)", text, re.MULTILINE)}
 
@@ -107,8 +107,8 @@ def test_links_lead_to_pages_and_headings(page):
 
 @each_page
 def test_files_and_names_are_there(page):
-    """Each file that a page names is there, in a crate's page also each of its own folders, and each name `crate::..::name` or `Type::name` is
-    defined."""
+    """Each file that a page names exists, and so does each folder of its own that a crate's page names. Each name `crate::..::name` or
+    `Type::name` is defined."""
     words = ticked(prose(page))
     scripts = [it for block in blocks(page, "sh") for it in re.findall(r"^(?:bin|tests|deploy)/[a-z_./]+", block, re.MULTILINE)]
     for path in [*words, *scripts]:
@@ -190,8 +190,8 @@ def test_layers():
 
 
 def test_tour():
-    """Under each heading that asks, three to six steps, each `PATH`: `NAME`, .., where that file defines NAME, or has it as a word if it is
-    no file of code."""
+    """Each question has three to six steps of the form `PATH`: `NAME`, .. The file defines NAME; a file that isn't code contains it as a
+    word."""
     questions = re.split(r"^## ", TEXTS["docs/TOUR.md"], flags=re.MULTILINE)[1:]
     assert len(questions) == 24
     for question in questions:
@@ -203,13 +203,13 @@ def test_tour():
 
 
 def test_audit_is_made_of_the_sources():
-    """It is what tests/audit.py makes; no clause of a promise's function reaches a definition of specs/computed/, and each step of the tour's
-    paths through definitions is cited by the one before it."""
+    """docs/AUDIT.md is what tests/audit.py makes. No clause of a promise's function reaches a definition of specs/computed/. In the tour's
+    paths through definitions, each step cites the next."""
     subprocess.run(["tests/audit.py", "--strict"], check=True, stdout=subprocess.DEVNULL)
 
 
 def test_table_of_scripts():
-    """It says of each what `tests/run --list` says, if a page of docs/ is no link."""
+    """The table of docs/TRUST.md has the text of `tests/run --list` for each script, with links for pages of docs/."""
     listed = subprocess.run(["tests/run", "--list"], check=True, capture_output=True, text=True).stdout
     listed = re.sub(r"docs/([A-Z_]+)\.md", r"[\1](\1.md)", re.sub(r"docs/(vectors\.json|openapi\.yaml)", r"[\1](\1)", listed))
     rows = [f"| `{name}` | {shown} |" for name, shown in re.findall(r"^(\S+) \([^)]*\): (.*)$", listed, re.MULTILINE)]

@@ -1,7 +1,7 @@
-"""A reader of specs/*.antt and of the clauses in src/*.rt: which definition cites which.
+"""Reads specs/*.antt and the clauses in src/*.rt, and finds which definition cites which.
 
-It knows declarations, imports and binders, and proves nothing. A word that is neither bound nor imported nor built in is
-kept in `Definition.unknown`, so that whoever reads by it sees what it didn't understand."""
+The reader knows declarations, imports and binders, and proves nothing. It keeps a word that is neither bound nor imported nor built in
+in `Definition.unknown`, so that callers see which words it didn't understand."""
 
 import re
 from functools import cached_property
@@ -53,7 +53,7 @@ class CodeFile:
         return len(self.text)
 
     def block_around(self, at):
-        """The `impl` or `trait` that a place is in, as (head, text); empty at the top of the file."""
+        """Returns the `impl` or `trait` around a place, as (head, text); both are empty at the top of the file."""
         best = ("", "")
         for found in re.finditer(r"^(?:pub(?:\([a-z]+\))? )?(?:impl|trait)\b[^{]*\{", self.text, re.MULTILINE):
             end = self.block_end(found.start())
@@ -80,7 +80,7 @@ class CodeFile:
 
     @cached_property
     def uses(self):
-        """The names that `use` brings: name here, crate, name there."""
+        """Returns the names that `use` imports: the name here, the crate, and the name there."""
         found = {}
         for line in re.finditer(r"^(?:pub(?:\([a-z]+\))? )?use ((?:[^;])*);", self.text, re.MULTILINE):
             for crate, name, here in flat(line[1]):
@@ -123,7 +123,7 @@ class CodeFile:
         raise KeyError(f"{self.path}: no function {name}")
 
     def generics_at(self, at):
-        """The bounds of the parameters of the function at a place and of its `impl`: traits."""
+        """Returns the traits that bound the parameters of the function at a place, and those of its `impl`."""
         head = self.block_around(at)[0]
         paren = self.text.find("(", at)
         bounds = {}
@@ -158,7 +158,7 @@ class CodeFile:
 
 
 def flat(text, before=()):
-    """The names of a `use`, as (crate, name, name here)."""
+    """Returns the names that a `use` imports, as (crate, name, name here)."""
     text = text.strip()
     brace = text.find("{")
     if brace < 0:

@@ -52,18 +52,18 @@ def refused_in_turn(run, folder, step=1):
 
 
 def limit_files(size):
-    """Limits the bytes of a file of this process; a write beyond them is a fault, not a signal."""
+    """Limits the size in bytes of each file of this process. A write beyond the limit fails, and sends no signal."""
     signal.signal(signal.SIGXFSZ, signal.SIG_IGN)
     resource.setrlimit(resource.RLIMIT_FSIZE, (size, size))
 
 
 class Server:
-    """A server of `clubdesk` over a file, as a context manager: it listens at `port` once the block begins, and has ended after it.
+    """A server of `clubdesk` over a file, as a context manager. It listens at `port` when the block begins, and has ended after the block.
 
-    `words` are further options; `by` is a command that runs it; `variables` further variables of its environment; `given` a file that it
-    reads; `file_limit` the bytes that a file of it may have. At the end of a block without an exception its status has to be `status`, unless it
-    was killed; one without a `count` is killed there. `log` has what it wrote on standard error, which is printed if the block ends with an
-    exception."""
+    `words` are further options, and `by` is a command that runs the server. `variables` are further variables of its environment, `given` is
+    its standard input, and `file_limit` the size in bytes that its files may have. At the end of a block without an exception, the server's
+    status must be `status`, unless it was killed. A server without a `count` is killed there. `log` has the server's standard error, which
+    is printed if the block ends with an exception."""
 
     killed_by = signal.SIGKILL
 

@@ -1,9 +1,9 @@
-# Read by the tests of the office beside it: a machine of their own, of which nothing stays. In a mount namespace, folders are laid over
-# those of the machine; what bin/package packs of deploy/, web/ and the programs lies there as a package puts it; the clerk anna is made
-# by the lines of docs/RUNNING.md under "The clerks", ben is another one, and carl is none. `systemctl` knows one word, `kill`, and hands
-# it to a small manager of services (tests/lib/office_room.py). Wants root.
-# Before it is read, `room_net` may be not empty: then the room has a network of its own. If it is run itself, it runs the command that
-# stands behind its name, with ROOM as the room's folder.
+# Makes a temporary machine, the room, for the tests of the office. In a mount namespace, overlays cover the machine's folders. The files of
+# deploy/ and web/ and the programs are where bin/package puts them. The lines of docs/RUNNING.md under "The clerks" make the clerk anna.
+# ben is a clerk too, and carl isn't. `systemctl` knows only the word `kill`, and signals a server of the small service manager in
+# tests/lib/office_room.py. Needs root.
+# If the caller sets `room_net` to a text that isn't empty, the room has a network of its own. If this script is run itself, it runs the
+# command in its arguments, with the room's folder in ROOM.
 set -eu
 PATH=/usr/sbin:/sbin:$PATH
 [ "$(id -u)" = 0 ] || { echo "$0 wants root, for other users and folders of its own" >&2; exit 2; }
@@ -19,14 +19,14 @@ chmod 755 "$work"
 room=/mnt
 mount -t tmpfs tmpfs "$room"
 
-# over FOLDER: what is written to it from now on lies in the room.
+# over FOLDER: from now on, the room keeps everything that is written to the folder.
 over() {
     called=$(echo "$1" | tr / _)
     mkdir "$room/$called" "$room/$called.work"
     mount -t overlay overlay -o "lowerdir=$1,upperdir=$room/$called,workdir=$room/$called.work" "$1"
 }
 for folder in /usr/bin /usr/lib /usr/share /etc /var/lib /home /root; do over "$folder"; done
-# For systemd's journal and what it keeps, and for copies of a club that are in use.
+# Folders for systemd's journal and state, and for temporary copies of a club.
 for folder in /run/systemd /run/log /dev/shm; do
     mkdir -p "$folder"
     mount -t tmpfs tmpfs "$folder"
@@ -48,7 +48,7 @@ find "$top/deploy" -maxdepth 1 -type f -perm -100 ! -name office ! -name clubdes
 install -m 644 -t /usr/share/doc/clubdesk/examples "$top"/deploy/*.conf "$top/deploy/Caddyfile"
 find "$top/web" -maxdepth 1 -type f -exec install -m 644 -t /usr/share/clubdesk/web {} +
 
-# page_block HEADING: the lines of docs/RUNNING.md for root under this heading, but for those that install Debian's packages.
+# page_block HEADING: prints docs/RUNNING.md's lines for root under this heading, without those that install Debian's packages.
 page_block() {
     awk -v heading="## $1" '
         /^## / { here = $0 == heading; next }
