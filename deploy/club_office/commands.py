@@ -75,12 +75,12 @@ ORDER, LOOK, PASS, LIST, CORRECTION, DESK, COUNTER = "order look pass list corre
 # The most words of a command, including its name, and the most bytes of each.
 MOST_WORDS = 200
 MOST_BYTES = 1_000
-AT = ("--at", {"metavar": "MOMENT", "type": moment, "help": "the moment, in place of the clock's"})
+AT = ("--at", {"metavar": "MOMENT", "type": moment, "help": "use this moment instead of the clock's"})
 YES = ("--yes", {"action": "store_true", "help": "don't ask"})
-MAIL = ("--mail", {"action": "store_true", "help": "mail the members what was cancelled, as far as their addresses are known"})
+MAIL = ("--mail", {"action": "store_true", "help": "send mail about the cancelled bookings to members whose addresses are known"})
 CSV = ("--csv", {"action": "store_true", "help": "print comma-separated values"})
-FORM = ("--form", {"metavar": "FORM", "help": "v1, v2 or json; v2 without it"})
-TO = ("--to", {"metavar": "FILE", "help": "write the pass into a file, which gets its name once it is whole"})
+FORM = ("--form", {"metavar": "FORM", "help": "v1, v2 or json; the default is v2"})
+TO = ("--to", {"metavar": "FILE", "help": "write the pass to a file, which gets its name once it is complete"})
 ROOT_STDIN = ("--root-stdin", {"action": "store_true", "help": "read the root from standard input"})
 
 
@@ -88,9 +88,9 @@ def word(called, **how):
     return called.lower(), {"metavar": called, **how}
 
 
-SEVERAL = word("FACILITIES", type=names, nargs="+", help="as court-1 court-2, courts, or all")
+SEVERAL = word("FACILITIES", type=names, nargs="+", help="such as court-1 court-2, courts, or all")
 FACILITY, MEMBER, DAY = word("FACILITY", type=name), word("MEMBER", type=name), word("DAY", type=day)
-HOUR = word("HOUR", help="as 15, or 15-17 for each of them")
+HOUR = word("HOUR", help="such as 15, or 15-17 for several hours")
 
 COMMANDS = {
     "add-member": Command(ORDER, [word("NAME"), word("QUOTA")], "add a member, with spare keys if the configuration has them", None),
@@ -102,116 +102,116 @@ COMMANDS = {
         None,
     ),
     "add-key": Command(
-        PASS, [word("KEY"), word("MEMBER"), word("ROOT", nargs="?"), ROOT_STDIN, FORM, TO], "add a key of a member, and print its pass", None
+        PASS, [word("KEY"), word("MEMBER"), word("ROOT", nargs="?"), ROOT_STDIN, FORM, TO], "add a key for a member, and print the key's pass", None
     ),
     "rotate-key": Command(
         PASS,
         [word("KEY"), word("ROOT", nargs="?"), word("MOMENT"), ROOT_STDIN, FORM, TO],
-        "give a key another root, and print its new pass; the older root is good until the moment",
+        "give a key a new root, and print the new pass; passes under the old root are served until MOMENT",
         None,
     ),
     "revoke-key": Command(ORDER, [word("KEY")], "revoke a key", None),
-    "close-slot": Command(ORDER, [word("FACILITY"), word("DAY"), HOUR], "close a slot that nobody booked, or those of several hours", None),
+    "close-slot": Command(ORDER, [word("FACILITY"), word("DAY"), HOUR], "close the slot of an hour, or of several hours, if nobody has booked it", None),
     "sheet": Command(LOOK, [word("DAY")], "print the day sheet", None),
     "show-account": Command(
-        LOOK, [word("KEY"), ("--zone", {"metavar": "RULE"}), ("--at", {"metavar": "MOMENT"})], "print what the desk answers a key", None
+        LOOK, [word("KEY"), ("--zone", {"metavar": "RULE"}), ("--at", {"metavar": "MOMENT"})], "print the account that the desk shows to the key", None
     ),
-    "show-slot": Command(LOOK, [word("FACILITY"), word("DAY"), HOUR], "print a slot as the desk shows it, or those of several hours", None),
+    "show-slot": Command(LOOK, [word("FACILITY"), word("DAY"), HOUR], "print the slot of an hour, or of several hours, as the desk shows it", None),
     "members": Command(LIST, [CSV, AT], "list the members: balance, quota, open bookings, keys", lists.list_members),
     "facilities": Command(LIST, [CSV], "list the facilities", lists.list_facilities),
     "keys": Command(LIST, [MEMBER, CSV], "list the keys of a member", lists.list_keys),
     "bookings": Command(
         LIST,
-        [("what", {"metavar": "MEMBER|DAY|FACILITY"}), ("--all", {"action": "store_true", "help": "also past and cancelled ones"}), CSV, AT],
-        "list the bookings of a day, or from today on of a member or a facility",
+        [("what", {"metavar": "MEMBER|DAY|FACILITY"}), ("--all", {"action": "store_true", "help": "list past and cancelled bookings too"}), CSV, AT],
+        "list the bookings of a day, or the bookings of a member or facility from today on",
         lists.list_bookings,
     ),
     "closed": Command(LIST, [CSV, AT], "list the closed slots from today on", lists.list_closed),
     "money": Command(
-        LIST, [word("MEMBER", nargs="?", type=name), CSV], "list what a member was credited, charged and refunded, or all members", lists.list_money
+        LIST, [word("MEMBER", nargs="?", type=name), CSV], "list the credits, charges and refunds of a member, or of all members", lists.list_money
     ),
-    "check": Command(LIST, [], "test that the totals are the sums of the bookings", lists.list_faults),
+    "check": Command(LIST, [], "check that the stored totals match the sums of the bookings", lists.list_faults),
     "set-facility": Command(
         CORRECTION,
         [
             FACILITY,
-            ("--price", {"metavar": "PRICE", "type": number(0, 9999), "help": "points of a place for an hour, 0 to 9999"}),
+            ("--price", {"metavar": "PRICE", "type": number(0, 9999), "help": "points for one place and one hour, 0 to 9999"}),
             ("--places", {"metavar": "PLACES", "type": number(1, 50), "help": "1 to 50"}),
-            ("--hours", {"metavar": "OPENS-SHUTS", "type": hours, "help": "as 8-22"}),
+            ("--hours", {"metavar": "OPENS-SHUTS", "type": hours, "help": "such as 8-22"}),
         ],
         "change the price, the places or the hours of a facility",
         plans.plan_facility,
     ),
     "set-quota": Command(CORRECTION, [MEMBER, word("QUOTA", type=number(0, 99))], "change the quota of a member", plans.plan_quota),
     "debit": Command(
-        CORRECTION, [MEMBER, word("POINTS", type=number(1, 999_999_999))], "take points back that were credited wrongly", plans.plan_debit
+        CORRECTION, [MEMBER, word("POINTS", type=number(1, 999_999_999))], "take points back, but no more than the balance", plans.plan_debit
     ),
-    "reopen-slot": Command(CORRECTION, [FACILITY, DAY, ("hours", {"metavar": "HOURS", "type": hour_or_hours, "help": "as 15 or 15-17"})], "open closed slots again", plans.plan_reopen),
+    "reopen-slot": Command(CORRECTION, [FACILITY, DAY, ("hours", {"metavar": "HOURS", "type": hour_or_hours, "help": "such as 15 or 15-17"})], "reopen closed slots", plans.plan_reopen),
     "cancel": Command(
         CORRECTION,
         [
             word("KEY", type=name),
             word("NUMBER", nargs="?", type=number(1, MOST_NUMBER)),
-            ("--all", {"action": "store_true", "help": "all that is to come, in place of a NUMBER"}),
+            ("--all", {"action": "store_true", "help": "cancel all future bookings of the key, instead of one NUMBER"}),
         ],
-        "cancel a booking of any key, with the whole refund",
+        "cancel a booking of any key, with a full refund",
         plans.plan_cancel,
     ),
     "close": Command(
         CORRECTION,
         [
             ("day", {"metavar": "DAYS", "type": days, "help": "a day, or the days FIRST..LAST"}),
-            ("hours", {"metavar": "HOURS", "type": hour_or_hours, "help": "as 10-18"}),
+            ("hours", {"metavar": "HOURS", "type": hour_or_hours, "help": "such as 10-18"}),
             SEVERAL,
-            ("--weekday", {"metavar": "WEEKDAY", "type": weekday, "help": "of the days those of a weekday, as tue"}),
-            ("--why", {"metavar": "TEXT", "type": reason, "help": "a reason that the page shows"}),
+            ("--weekday", {"metavar": "WEEKDAY", "type": weekday, "help": "close only the days on this weekday, such as tue"}),
+            ("--why", {"metavar": "TEXT", "type": reason, "help": "the reason, which the booking page shows"}),
             MAIL,
         ],
-        "close slots, as for a tournament; who has booked them is listed, cancelled and refunded",
+        "close slots, for example for a tournament; list their bookings, cancel and refund them",
         plans.plan_close,
     ),
     "rain": Command(
         CORRECTION,
-        [DAY, word("FACILITIES", type=names, help="as court-1,court-2 or courts"), word("HOURS", type=hour_or_hours, nargs="+", help="as 15 or 15-17"), MAIL],
-        "cancel what is booked in these hours, with the whole refund, also afterwards",
+        [DAY, word("FACILITIES", type=names, help="such as court-1,court-2 or courts"), word("HOURS", type=hour_or_hours, nargs="+", help="such as 15 or 15-17"), MAIL],
+        "cancel all bookings in these hours with a full refund, even if the hours are over",
         plans.plan_rain,
     ),
-    "undo": Command(CORRECTION, [], "undo the last correction, if what it changed is as it left it", None),
+    "undo": Command(CORRECTION, [], "restore what the last correction changed, if nothing has changed it since", None),
     "credit-all": Command(
         DESK,
         [
             word("POINTS", type=number(1, MOST_CREDIT)),
-            ("--as", {"metavar": "NAME", "type": name, "dest": "label", "required": True, "help": "a name by which it is given once, as season-2027"}),
+            ("--as", {"metavar": "NAME", "type": name, "dest": "label", "required": True, "help": "a name for the credit, such as season-2027, so that no member gets it twice"}),
             YES,
         ],
-        "credit each member that may book with the season's points, once",
+        "credit each member whose quota isn't 0 with the season's points, once",
         credit_all,
     ),
-    "lost-pass": Command(PASS, [word("KEY"), FORM, TO], "give a key another pass, and refuse each one of before", None),
+    "lost-pass": Command(PASS, [word("KEY"), FORM, TO], "give a key a new pass, and refuse its earlier passes", None),
     "leave": Command(
-        CORRECTION, [MEMBER], "a member leaves: keys revoked, bookings to come cancelled, quota 0, a number in place of the name", plans.plan_leave
+        CORRECTION, [MEMBER], "revoke a leaving member's keys, cancel the future bookings, set the quota to 0, and replace the name with a number", plans.plan_leave
     ),
     "new-year": Command(
         CORRECTION,
-        [("--before", {"metavar": "DAY", "type": day, "help": "bookings of days before it leave the file; today without it"})],
-        "keep a copy of the file, and take what is over out of it; balances, keys and bookings to come stay",
+        [("--before", {"metavar": "DAY", "type": day, "help": "the first day that stays in the file; the default is today"})],
+        "keep a copy of the file, and remove past bookings and slots from the file; balances, keys and future bookings stay",
         plans.plan_new_year,
     ),
     "person": Command(
-        COUNTER, [MEMBER], "ask for a member's name as it is written, mail address and telephone number; an empty answer keeps it, - takes it out", ask_person
+        COUNTER, [MEMBER], "ask for a member's full name, mail address and telephone number; an empty answer keeps the old value, and - removes it", ask_person
     ),
-    "record": Command(LIST, [word("KEY", type=name)], "print a key's bookings as its page reads them, for a lost list", outputs.print_record),
+    "record": Command(LIST, [word("KEY", type=name)], "print a key's bookings in the form that the member's page can import", outputs.print_record),
     "book": Command(
         DESK,
         [
             MEMBER,
             FACILITY,
             DAY,
-            word("HOUR", type=hour_or_hours, help="as 15, or 15-17 for each of them"),
-            word("GUESTS", nargs="?", type=number(0, 49), help="how many come along; nobody without it"),
-            ("--again", {"action": "store_true", "help": "also if the office has booked this slot for the member"}),
+            word("HOUR", type=hour_or_hours, help="such as 15, or 15-17 for several hours"),
+            word("GUESTS", nargs="?", type=number(0, 49), help="the number of guests; the default is 0"),
+            ("--again", {"action": "store_true", "help": "book even if the office has already booked the slot for the member"}),
         ],
-        "book for a member who calls, under a key of the office; of several hours each",
+        "book one hour or several for a member who calls, under a key of the office",
         phoning.book,
     ),
     "cancel-for": Command(
@@ -220,55 +220,55 @@ COMMANDS = {
             MEMBER,
             FACILITY,
             DAY,
-            word("HOUR", type=hour_or_hours, help="as 15, or 15-17 for each of them"),
-            ("--number", {"metavar": "NUMBER", "type": number(1, MOST_NUMBER), "help": "which, if the member has several there"}),
+            word("HOUR", type=hour_or_hours, help="such as 15, or 15-17 for several hours"),
+            ("--number", {"metavar": "NUMBER", "type": number(1, MOST_NUMBER), "help": "the number of the booking, if the member has several in the slot"}),
         ],
-        "cancel for a member who calls, with the refund of the rules; of several hours each",
+        "cancel one hour or several for a member who calls, with the refund that the rules give",
         phoning.cancel_for,
     ),
-    "page": Command(DESK, [], "make the page's list of the club anew", outputs.make_page),
+    "page": Command(DESK, [], "rebuild the list of facilities that the booking page reads", outputs.make_page),
     "letters": Command(
         COUNTER,
         [
-            word("KEY", nargs="*", help="all passes of the folder without it"),
-            ("--passes", {"metavar": "FOLDER", "default": "passes", "help": "where the passes are: passes without it"}),
-            ("--to", {"metavar": "FILE", "default": "letters.html", "help": "the file; letters.html without it"}),
+            word("KEY", nargs="*", help="the keys whose passes to print; the default is all passes in the folder"),
+            ("--passes", {"metavar": "FOLDER", "default": "passes", "help": "the folder with the passes; the default is passes"}),
+            ("--to", {"metavar": "FILE", "default": "letters.html", "help": "the file to write; the default is letters.html"}),
         ],
-        "write a sheet for each pass into a file to print: the link, its code, what to do, and spare passes as a half to cut off",
+        "write a file to print, with a sheet for each pass: link, QR code, instructions, and a half with spare passes to cut off",
         lambda club, words: letters(club, words, names_of),
     ),
     "report": Command(
         COUNTER,
         [
-            word("YEAR", nargs="?", type=number(2000, 2099), help="this year without it"),
-            ("--no-names", {"action": "store_true", "help": "leave the members' names out"}),
-            ("--to", {"metavar": "FILE", "help": "the file; report-YEAR.html without it"}),
+            word("YEAR", nargs="?", type=number(2000, 2099), help="the default is this year"),
+            ("--no-names", {"action": "store_true", "help": "leave the members' names out of the report"}),
+            ("--to", {"metavar": "FILE", "help": "the file to write; the default is report-YEAR.html"}),
         ],
-        "write the board's page: use, points and members of a year, beside the year before",
+        "write the board's page, which compares use, points and members of a year with the year before",
         write_report,
     ),
     "import": Command(
         COUNTER,
         [
             word("FILE"),
-            ("--passes", {"metavar": "FOLDER", "default": "passes", "help": "where the passes are written: passes without it"}),
-            ("--columns", {"metavar": "MAP", "help": "which column is what, as name=Player,points=Balance"}),
-            ("--quota", {"metavar": "QUOTA", "type": number(0, 99), "help": "of each, if no column has it"}),
-            ("--points", {"metavar": "POINTS", "type": number(0, MOST_CREDIT), "help": "of each, if no column has it"}),
+            ("--passes", {"metavar": "FOLDER", "default": "passes", "help": "the folder for the passes; the default is passes"}),
+            ("--columns", {"metavar": "MAP", "help": "the column of each value, such as name=Player,points=Balance"}),
+            ("--quota", {"metavar": "QUOTA", "type": number(0, 99), "help": "the quota of each member, if no column has it"}),
+            ("--points", {"metavar": "POINTS", "type": number(0, MOST_CREDIT), "help": "the points of each member, if no column has them"}),
             YES,
         ],
         "add members with points and keys from a list of comma-separated values",
         import_members,
     ),
-    "copies": Command(DESK, [CSV], "list the copies of the club: of each night, and of before each correction", list_copies),
+    "copies": Command(DESK, [CSV], "list the copies of the club: one of each night, and one from before each correction", list_copies),
     "restore": Command(
         DESK,
         [word("COPY", type=copy_name), YES, AT],
-        "put a copy of the club in its place; what was done since is undone, and the club as it is now becomes a copy",
+        "replace the club with a copy, which undoes everything done since; the replaced club becomes a copy too",
         restore,
     ),
-    "new": Command(DESK, [], "make the club's file", lambda club, _words: make_new(club)),
-    "log": Command(COUNTER, [word("WORD", nargs="?")], "print the book of commands, or only its lines with a word", read_book),
+    "new": Command(DESK, [], "create the club's file", lambda club, _words: make_new(club)),
+    "log": Command(COUNTER, [word("WORD", nargs="?")], "print the book of commands, or only the lines that contain WORD", read_book),
     # Internal commands, which the clerk's side calls on the desk's side.
     "names": Command(LIST, [], "", print_names),
     "import-state": Command(LIST, [], "", import_state),
@@ -293,7 +293,7 @@ COMMANDS = {
 
 def words_of(given, is_desk):
     """Parses a command line by the table of commands."""
-    top = Words(prog="office", description="The office of a club, for clerks who are not root: office CLUB COMMAND [WORD ..].", epilog="office CLUB COMMAND --help shows the words of a command.")
+    top = Words(prog="office", description="The office of a club, for clerks who are not root: office CLUB COMMAND [WORD ..].", epilog="office CLUB COMMAND --help shows the arguments of a command.")
     top.add_argument("--version", action=ShowVersion, nargs=0, help="print the program's name and version")
     top.add_argument("club", metavar="CLUB", help="a club that /etc/clubdesk/CLUB.conf describes")
     commands = top.add_subparsers(dest="command", metavar="COMMAND", required=True, title="commands", parser_class=Words)
