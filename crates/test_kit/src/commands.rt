@@ -47,111 +47,66 @@ pub static FIXTURE: [PlainCommand; 8] = [
     PlainCommand::AddFacility("room-1", Kind::Room, 1, 601, 8, 22),
 ];
 
-fn add_member(member: &str, quota: u32) -> Option<Command> {
-    let name = Name::read(member.as_bytes())?;
-    Some(Command::AddMember { name, quota })
-}
-
-fn credit(member: &str, points: u32) -> Option<Command> {
-    let member = Name::read(member.as_bytes())?;
-    Some(Command::Credit { member, points })
-}
-
-fn debit(member: &str, points: u32) -> Option<Command> {
-    let member = Name::read(member.as_bytes())?;
-    Some(Command::Debit { member, points })
-}
-
-fn set_quota(member: &str, quota: u32) -> Option<Command> {
-    let member = Name::read(member.as_bytes())?;
-    Some(Command::SetQuota { member, quota })
-}
-
-fn add_facility(
-    facility: &str,
-    kind: Kind,
-    (places, price): (u32, u32),
-    (opens, shuts): (u32, u32),
-) -> Option<Command> {
-    let name = Name::read(facility.as_bytes())?;
-    Some(Command::AddFacility {
-        name,
-        kind,
-        places,
-        price,
-        opens,
-        shuts,
-    })
-}
-
-fn set_facility(
-    facility: &str,
-    (places, price): (u32, u32),
-    (opens, shuts): (u32, u32),
-) -> Option<Command> {
-    let name = Name::read(facility.as_bytes())?;
-    Some(Command::SetFacility {
-        name,
-        places,
-        price,
-        opens,
-        shuts,
-    })
-}
-
-fn add_key(key: &str, member: &str, root: &[u8]) -> Option<Command> {
-    let name = Name::read(key.as_bytes())?;
-    let member = Name::read(member.as_bytes())?;
-    let root = Root::new(root)?;
-    Some(Command::AddKey { name, member, root })
-}
-
-fn revoke_key(key: &str) -> Option<Command> {
-    let name = Name::read(key.as_bytes())?;
-    Some(Command::RevokeKey { name })
-}
-
-fn rotate_key(key: &str, root: &[u8], until: u32) -> Option<Command> {
-    let name = Name::read(key.as_bytes())?;
-    let root = Root::new(root)?;
-    let until = Moment::from_number(until)?;
-    Some(Command::RotateKey { name, root, until })
-}
-
-fn cancel_booking(key: &str, number: u32) -> Option<Command> {
-    let key = Name::read(key.as_bytes())?;
-    let number = BookingNumber::new(number)?;
-    Some(Command::CancelBooking { key, number })
-}
-
-fn close_slot(slot: &PlainSlot) -> Option<Command> {
-    Some(Command::CloseSlot(slot.slot()?))
-}
-
-fn open_slot(slot: &PlainSlot) -> Option<Command> {
-    Some(Command::OpenSlot(slot.slot()?))
+fn named(text: &str) -> Option<Name> {
+    Name::read(text.as_bytes())
 }
 
 impl PlainCommand {
     /// Returns the command; `None` if a name, a root, a moment or a slot is outside its limits.
     pub fn command(&self) -> Option<Command> {
-        match self {
-            PlainCommand::AddMember(member, quota) => add_member(member, *quota),
-            PlainCommand::Credit(member, points) => credit(member, *points),
-            PlainCommand::Debit(member, points) => debit(member, *points),
-            PlainCommand::SetQuota(member, quota) => set_quota(member, *quota),
+        Some(match *self {
+            PlainCommand::AddMember(member, quota) => Command::AddMember {
+                name: named(member)?,
+                quota,
+            },
+            PlainCommand::Credit(member, points) => Command::Credit {
+                member: named(member)?,
+                points,
+            },
+            PlainCommand::Debit(member, points) => Command::Debit {
+                member: named(member)?,
+                points,
+            },
+            PlainCommand::SetQuota(member, quota) => Command::SetQuota {
+                member: named(member)?,
+                quota,
+            },
             PlainCommand::AddFacility(facility, kind, places, price, opens, shuts) => {
-                add_facility(facility, *kind, (*places, *price), (*opens, *shuts))
+                Command::AddFacility {
+                    name: named(facility)?,
+                    kind,
+                    places,
+                    price,
+                    opens,
+                    shuts,
+                }
             }
             PlainCommand::SetFacility(facility, places, price, opens, shuts) => {
-                set_facility(facility, (*places, *price), (*opens, *shuts))
+                Command::SetFacility {
+                    name: named(facility)?,
+                    places,
+                    price,
+                    opens,
+                    shuts,
+                }
             }
-            PlainCommand::AddKey(key, member, root) => add_key(key, member, root),
-            PlainCommand::RevokeKey(key) => revoke_key(key),
-            PlainCommand::RotateKey(key, root, until) => rotate_key(key, root, *until),
-            PlainCommand::CancelBooking(key, number) => cancel_booking(key, *number),
-            PlainCommand::CloseSlot(slot) => close_slot(slot),
-            PlainCommand::OpenSlot(slot) => open_slot(slot),
-        }
+            PlainCommand::AddKey(key, member, root) => Command::AddKey {
+                name: named(key)?,
+                member: named(member)?,
+                root: Root::new(root)?,
+            },
+            PlainCommand::RevokeKey(key) => Command::RevokeKey { name: named(key)? },
+            PlainCommand::RotateKey(key, root, until) => Command::RotateKey {
+                name: named(key)?,
+                root: Root::new(root)?,
+                until: Moment::from_number(until)?,
+            },
+            PlainCommand::CancelBooking(key, number) => Command::CancelBooking {
+                key: named(key)?,
+                number: BookingNumber::new(number)?,
+            },
+            PlainCommand::CloseSlot(slot) => Command::CloseSlot(slot.slot()?),
+            PlainCommand::OpenSlot(slot) => Command::OpenSlot(slot.slot()?),
+        })
     }
 }

@@ -6,7 +6,7 @@ use crate::commands::PlainCommand;
 use crate::minutes::START;
 use crate::requests::PlainRequest;
 use crate::roots::{ROOT, SECOND_ROOT};
-use crate::slots::{COURT_AT_18, PlainSlot, ROOM_AT_18};
+use crate::slots::{COURT_AT_18, COURT_AT_19, PlainSlot, ROOM_AT_18};
 use club_values::Kind;
 use pass_forms::Form;
 
@@ -23,20 +23,13 @@ static MEMBERS: [&str; 3] = [AMY, "bob", "cy"];
 
 static KEYS: [&str; 4] = ["amy-1", "bob-1", "cy-1", SPARE];
 
-// A key that no member has at the start.
+// A key name that no member has at the start.
 const SPARE: &str = "spare";
 
 /// The slots on 2026-05-01.
-pub static SLOTS: [PlainSlot; 3] = [
-    COURT_AT_18,
-    PlainSlot {
-        hour: 19,
-        ..COURT_AT_18
-    },
-    ROOM_AT_18,
-];
+pub static SLOTS: [PlainSlot; 3] = [COURT_AT_18, COURT_AT_19, ROOM_AT_18];
 
-/// A key for each of the three members, which no event names. Their accounts show the totals.
+/// Audit keys, one for each member. No event uses them. Their accounts show the members' totals.
 pub const AUDIT_AMY: &str = "audit-amy";
 
 const AUDIT_BOB: &str = "audit-bob";

@@ -27,8 +27,5 @@ pub use process::Process;
 pub use replies::PlainReply;
 pub use requests::PlainRequest;
 pub use rows::{BOOKING_7, BOOKING_8, COURT, PlainBooking, PlainFacility, ROOM, amy};
-pub use slots::{
-    COURT_AT_9, COURT_AT_10, COURT_AT_18, COURT_AT_19, FRIDAY, PlainSlot, ROOM_AT_9, ROOM_AT_10,
-    ROOM_AT_18,
-};
+pub use slots::{COURT_AT_18, COURT_AT_19, FRIDAY, PlainSlot, ROOM_AT_18};
 pub use words::signed_pass;

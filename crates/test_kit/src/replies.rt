@@ -24,9 +24,6 @@ pub const BOOKED_7: PlainReply = PlainReply::Booked("amy-1", 7, 600, 1);
 
 pub const CANCELLED_7: PlainReply = PlainReply::Cancelled("amy-1", 7, 600);
 
-/// Amy's booking of `court-1` for herself alone, under number 8.
-pub const BOOKED_8: PlainReply = PlainReply::Booked("amy-1", 8, 200, 3);
-
 /// Bob's booking for himself alone, the first one of the slot, and number 7 after it.
 pub const BOOKED_2: PlainReply = PlainReply::Booked("bob-1", 2, 200, 3);
 
@@ -48,59 +45,37 @@ pub const NO_SUCH_FACILITY: PlainReply = PlainReply::Refused(Refusal::NoSuchFaci
 
 pub const NO_SUCH_BOOKING: PlainReply = PlainReply::Refused(Refusal::NoSuchBooking);
 
-pub const NOT_BOOKABLE: PlainReply = PlainReply::Refused(Refusal::NotBookable);
-
-fn slot_shown(taken: u64, closed: bool) -> Option<Reply> {
-    Some(Reply::SlotShown {
-        slot: COURT_AT_18.slot()?,
-        kind: Kind::Court,
-        price: 200,
-        places: 4,
-        taken,
-        closed,
-    })
-}
-
-fn booked_reply(key: &str, number: u32, charge: u32, left: u8) -> Option<Reply> {
-    Some(Reply::Booked {
-        key: Name::read(key.as_bytes())?,
-        number: BookingNumber::new(number)?,
-        charge,
-        left,
-    })
-}
-
-fn cancelled_reply(key: &str, number: u32, refund: u32) -> Option<Reply> {
-    Some(Reply::Cancelled {
-        key: Name::read(key.as_bytes())?,
-        number: BookingNumber::new(number)?,
-        refund,
-    })
-}
-
-fn account_shown(balance: u32, open_count: u64, spent: u64) -> Option<Reply> {
-    Some(Reply::AccountShown {
-        member: Name::read(b"amy")?,
-        balance,
-        quota: 5,
-        open_count,
-        spent,
-    })
-}
-
 impl PlainReply {
     /// Returns the reply; `None` if a name or a number is outside its limits.
     pub fn reply(&self) -> Option<Reply> {
-        match self {
-            PlainReply::SlotShown(taken, closed) => slot_shown(*taken, *closed),
-            PlainReply::Booked(key, number, charge, left) => booked_reply(
-                key, *number, *charge, *left,
-            ),
-            PlainReply::Cancelled(key, number, refund) => cancelled_reply(key, *number, *refund),
-            PlainReply::AccountShown(balance, open, spent) => {
-                account_shown(*balance, *open, *spent)
-            }
-            PlainReply::Refused(refusal) => Some(Reply::Refused(*refusal)),
-        }
+        Some(match *self {
+            PlainReply::SlotShown(taken, closed) => Reply::SlotShown {
+                slot: COURT_AT_18.slot()?,
+                kind: Kind::Court,
+                price: 200,
+                places: 4,
+                taken,
+                closed,
+            },
+            PlainReply::Booked(key, number, charge, left) => Reply::Booked {
+                key: Name::read(key.as_bytes())?,
+                number: BookingNumber::new(number)?,
+                charge,
+                left,
+            },
+            PlainReply::Cancelled(key, number, refund) => Reply::Cancelled {
+                key: Name::read(key.as_bytes())?,
+                number: BookingNumber::new(number)?,
+                refund,
+            },
+            PlainReply::AccountShown(balance, open_count, spent) => Reply::AccountShown {
+                member: Name::read(b"amy")?,
+                balance,
+                quota: 5,
+                open_count,
+                spent,
+            },
+            PlainReply::Refused(refusal) => Reply::Refused(refusal),
+        })
     }
 }

@@ -33,36 +33,21 @@ pub const BOOK_2: PlainRequest = PlainRequest::Book(COURT_AT_18, 2, 0);
 
 pub const BOOK_8: PlainRequest = PlainRequest::Book(COURT_AT_18, 8, 0);
 
-fn view(slot: &PlainSlot) -> Option<Request> {
-    let slot = slot.slot()?;
-    Some(Request::View { slot })
-}
-
-fn book(slot: &PlainSlot, number: u32, guests: u8) -> Option<Request> {
-    let slot = slot.slot()?;
-    let number = BookingNumber::new(number)?;
-    let guests = Guests::new(guests)?;
-    Some(Request::Book {
-        slot,
-        number,
-        guests,
-    })
-}
-
-fn cancel(slot: &PlainSlot, number: u32) -> Option<Request> {
-    let slot = slot.slot()?;
-    let number = BookingNumber::new(number)?;
-    Some(Request::Cancel { slot, number })
-}
-
 impl PlainRequest {
     /// Returns the request; `None` if a part is outside its limits.
     pub fn request(&self) -> Option<Request> {
-        match self {
-            PlainRequest::View(slot) => view(slot),
-            PlainRequest::Book(slot, number, guests) => book(slot, *number, *guests),
-            PlainRequest::Cancel(slot, number) => cancel(slot, *number),
-            PlainRequest::Account => Some(Request::Account),
-        }
+        Some(match self {
+            PlainRequest::View(slot) => Request::View { slot: slot.slot()? },
+            PlainRequest::Book(slot, number, guests) => Request::Book {
+                slot: slot.slot()?,
+                number: BookingNumber::new(*number)?,
+                guests: Guests::new(*guests)?,
+            },
+            PlainRequest::Cancel(slot, number) => Request::Cancel {
+                slot: slot.slot()?,
+                number: BookingNumber::new(*number)?,
+            },
+            PlainRequest::Account => Request::Account,
+        })
     }
 }

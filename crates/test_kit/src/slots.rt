@@ -26,20 +26,11 @@ pub const ROOM_AT_18: PlainSlot = PlainSlot {
     hour: 18,
 };
 
-const COURT: PlainSlot = COURT_AT_18;
-
-const ROOM: PlainSlot = ROOM_AT_18;
-
-/// Both facilities at other hours of that day. They are open from 8 to 22.
-pub const COURT_AT_9: PlainSlot = PlainSlot { hour: 9, ..COURT };
-
-pub const COURT_AT_10: PlainSlot = PlainSlot { hour: 10, ..COURT };
-
-pub const COURT_AT_19: PlainSlot = PlainSlot { hour: 19, ..COURT };
-
-pub const ROOM_AT_9: PlainSlot = PlainSlot { hour: 9, ..ROOM };
-
-pub const ROOM_AT_10: PlainSlot = PlainSlot { hour: 10, ..ROOM };
+/// `court-1` an hour later.
+pub const COURT_AT_19: PlainSlot = PlainSlot {
+    hour: 19,
+    ..COURT_AT_18
+};
 
 impl PlainSlot {
     /// Returns the slot; `None` if a part is outside its limits.

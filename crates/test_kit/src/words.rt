@@ -13,12 +13,6 @@ fn texts(alloc: Global, caveats: &[&str]) -> Result<Vec<Vec<u8>>, AllocError> {
     Ok(texts)
 }
 
-fn only(alloc: Global, root: Root) -> Result<Vec<Root>, AllocError> {
-    let mut roots = Vec::new(alloc);
-    roots.push(root)?;
-    Ok(roots)
-}
-
 /// Returns a pass with these caveats that is signed under one root. Returns `None` if the root
 /// isn't valid, or memory is refused.
 pub fn signed_pass(
@@ -28,12 +22,8 @@ pub fn signed_pass(
     caveats: &[&str],
 ) -> Option<Pass> {
     let root = Root::new(root)?;
-    let Ok(caveats) = texts(alloc, caveats) else {
-        return None;
-    };
-    let Ok(roots) = only(alloc, root) else {
-        return None;
-    };
+    let caveats = texts(alloc, caveats).ok()?;
+    let roots = Vec::from_array(alloc, [root]).ok()?;
     Some(Pass {
         key,
         caveats,
