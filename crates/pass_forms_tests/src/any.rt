@@ -3,11 +3,10 @@
 use crate::calls::read_any;
 use crate::read::Refused;
 use crate::refused_memory::{convert, is_written, read_in};
-use crate::rows::{expect_eq, expect_pass, join};
+use crate::rows::{Host, expect_eq, expect_pass, join};
 use crate::texts::{EXAMPLE, KNOWN, OF_1_LETTER, OF_24_LETTERS, UNLOCATED};
 use crate::v2::KEYID_FIELDS;
 use pass_forms::{Form, FormFault};
-use std::process::Abort;
 
 #[test]
 fn converts_passes_of_short_and_long_names(rt: HostRuntime) {
@@ -57,7 +56,7 @@ static REFUSED: [Refused; 8] = [
     (&[(8192, b"{")], FormFault::Malformed),
 ];
 
-fn is_refused(rt: &(impl Abort + AllocGlobal), text: &[u8], fault: FormFault) {
+fn is_refused(rt: &impl Host, text: &[u8], fault: FormFault) {
     expect_eq(rt, &read_any(rt.alloc(), text).err(), &Some(fault), &text);
 }
 
@@ -68,7 +67,7 @@ fn shows_each_fault(rt: HostRuntime) {
     }
 }
 
-fn is_refused_cut_short(rt: &(impl Abort + AllocGlobal), text: &str) {
+fn is_refused_cut_short(rt: &impl Host, text: &str) {
     for len in 0..text.len() {
         is_refused(rt, &text.as_bytes()[..len], FormFault::Malformed);
     }

@@ -47,12 +47,3 @@ pub(crate) fn write_any(alloc: Global, form: Form, pass: &Pass) -> Result<String
 pub(crate) fn narrow(alloc: Global, pass: &mut Pass, caveat: &[u8]) -> Result<(), FormFault> {
     pass_forms::narrow(alloc, pass, caveat)
 }
-
-pub(crate) fn new_pass(
-    location: Vec<u8>,
-    identifier: Vec<u8>,
-    caveats: Vec<Vec<u8>>,
-    signature: [u8; 32],
-) -> Pass {
-    Pass::new(location, identifier, caveats, signature)
-}

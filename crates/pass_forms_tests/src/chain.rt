@@ -1,9 +1,9 @@
 //! HMAC, key derivation and the signature chain.
 
 use crate::calls::hmac;
-use crate::rows::expect_eq;
+use crate::rows::{Host, expect_eq};
+use crate::v1::{BARE_FIELDS, KNOWN_FIELDS, ROOT};
 use pass_mac::{Chain, derive, same};
-use std::process::Abort;
 
 // A key, a text and their HMAC.
 type Mac = (&'static [u8], &'static [u8], &'static [u8; 32]);
@@ -70,43 +70,30 @@ fn macs_of_the_rfc(rt: HostRuntime) {
     expect_eq(&rt, &&mac[..16], &FRONT, &"case 5");
 }
 
-// The root, identifier and caveat of libmacaroons' README, with the signatures that libmacaroons
-// gives.
-const ROOT: &[u8] = b"this is our super secret key; only we should know it";
-
-const IDENTIFIER: &[u8] = b"we used our secret key";
-
 const CAVEAT: &[u8] = b"test = caveat";
-
-const SIGNED: &[u8; 32] =
-    b"\xe3\xd9\xe0\x29\x08\x52\x6c\x4c\x00\x39\xae\x15\x11\x41\x15\xd9\x7f\xdd\x68\xbf\x2b\xa3\x79\xb3\x42\xaa\xf0\xf6\x17\xd0\x55\x2f";
-
-const NARROWED: &[u8; 32] =
-    b"\x19\x7b\xac\x7a\x04\x4a\xf3\x33\x32\x86\x5b\x92\x66\xe2\x6d\x49\x3b\xdd\x66\x8a\x66\x0e\x44\xd8\x8c\xe1\xa9\x98\xc2\x3d\xbd\x67";
 
 #[test]
 fn chain_of_a_known_root(rt: HostRuntime) {
-    let mut chain = Chain::start(ROOT, IDENTIFIER);
-    expect_eq(&rt, &chain.signature(), SIGNED, &"of the identifier");
+    let (bare, known) = (&BARE_FIELDS, &KNOWN_FIELDS);
+    let mut chain = Chain::start(ROOT, bare.identifier);
+    expect_eq(&rt, &chain.signature(), bare.signature, &"bare");
     chain.add(CAVEAT);
-    expect_eq(&rt, &chain.signature(), NARROWED, &"with the caveat");
+    expect_eq(&rt, &chain.signature(), known.signature, &"known");
 }
 
-fn expect_same(rt: &impl Abort, a: &[u8; 32], b: &[u8; 32], alike: bool) {
+fn expect_same(rt: &impl Host, a: &[u8; 32], b: &[u8; 32], alike: bool) {
     expect_eq(rt, &same(a, b), &alike, &(a, b));
-}
-
-#[test]
-fn chain_resumes_from_a_signature_or_a_key(rt: HostRuntime) {
-    let mut chain = Chain::resume(*SIGNED);
-    chain.add(CAVEAT);
-    expect_same(&rt, &chain.signature(), NARROWED, true);
-    let chain = Chain::from_key(&derive(ROOT), IDENTIFIER);
-    expect_same(&rt, &chain.signature(), SIGNED, true);
 }
 
 // The derivation matters: under the root itself the signature is another.
 #[test]
-fn raw_root_is_no_key(rt: HostRuntime) {
-    expect_same(&rt, &hmac(ROOT, IDENTIFIER), SIGNED, false);
+fn chain_resumes_from_a_signature_or_a_key(rt: HostRuntime) {
+    let (bare, known) = (&BARE_FIELDS, &KNOWN_FIELDS);
+    let mut chain = Chain::resume(*bare.signature);
+    chain.add(CAVEAT);
+    expect_same(&rt, &chain.signature(), known.signature, true);
+    let chain = Chain::from_key(&derive(ROOT), bare.identifier);
+    expect_same(&rt, &chain.signature(), bare.signature, true);
+    let raw = hmac(ROOT, bare.identifier);
+    expect_same(&rt, &raw, bare.signature, false);
 }

@@ -1,9 +1,8 @@
 //! What is taken off round the bytes of a pass.
 
 use crate::calls::unwrap_text;
-use crate::rows::{Piece, expect_eq, join};
+use crate::rows::{Host, Piece, expect_eq, join};
 use pass_forms::{Form, FormFault, MAX_BYTES, decode_base64};
-use std::process::Abort;
 
 // The bytes of a V2 pass of location `http://example.org/` and identifier `keyid`.
 const PASS: &[u8] = b"\x02\x01\x13http://example.org/\x02\x05keyid\x00\x00\x06\x20\
@@ -25,7 +24,7 @@ static OBJECTS: [(&[u8], bool, &[u8]); 3] = [
 ];
 
 // A text wraps these bytes in this form, plainly or in base64.
-fn wraps(rt: &impl Abort, text: &[u8], form: Form, plain: bool, bytes: &[u8]) {
+fn wraps(rt: &impl Host, text: &[u8], form: Form, plain: bool, bytes: &[u8]) {
     let mut room = [1; MAX_BYTES];
     let unwrapped = unwrap_text(text, &mut room).expect(rt, "a form");
     let shape = (unwrapped.form, unwrapped.plain, unwrapped.len);
@@ -67,7 +66,7 @@ static OTHER_TEXTS: [&[u8]; 8] = [
     b"\xff\xfe",
 ];
 
-fn expect_outcomes(rt: &impl Abort, texts: &[&[u8]], want: Result<(Form, usize), FormFault>) {
+fn expect_outcomes(rt: &impl Host, texts: &[&[u8]], want: Result<(Form, usize), FormFault>) {
     for text in texts {
         expect_eq(rt, &outcome(text), &want, text);
     }
@@ -124,7 +123,7 @@ static DECODED: [(&[u8], Option<&[u8]>); 13] = [
     (b" Zg", None),
 ];
 
-fn decodes(rt: &(impl Abort + AllocGlobal), text: &[u8], want: Option<&[u8]>) {
+fn decodes(rt: &impl Host, text: &[u8], want: Option<&[u8]>) {
     match decode_base64(rt.alloc(), text).expect(rt, "memory") {
         Some(bytes) => expect_eq(rt, &Some(bytes.as_slice()), &want, &text),
         None => expect_eq(rt, &None, &want, &text),

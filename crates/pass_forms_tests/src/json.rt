@@ -2,12 +2,11 @@
 
 use crate::calls::read;
 use crate::read::{Refused, Row, are_read, are_refused, are_refused_between};
-use crate::rows::{Fields, Piece, expect_eq, join};
+use crate::rows::{Fields, Host, Piece, expect_eq, join};
 use crate::v1::KNOWN_FIELDS;
 use crate::v2::KEYID_FIELDS;
 use pass_forms::Form;
 use pass_forms::FormFault::{Malformed, ThirdParty, TooLong, TooMany};
-use std::process::Abort;
 
 const OPEN: Piece = (1, b"{");
 
@@ -185,7 +184,7 @@ const SIGNED: Piece = (
     b",\"s64\":\"fN7nklEcW8b1KEhYBd_psk54XijiqZMB-dcRxgnjjvc\"}",
 );
 
-fn identifies(rt: &(impl Abort + AllocGlobal), member: &'static [u8], identifier: &[u8]) {
+fn identifies(rt: &impl Host, member: &'static [u8], identifier: &[u8]) {
     let text = join(rt, &[OPEN, (1, member), SIGNED]);
     let pass = read(rt.alloc(), Form::Json, &text).expect(rt, "a pass");
     expect_eq(rt, &pass.identifier(), &identifier, &member);

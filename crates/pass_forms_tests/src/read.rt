@@ -1,10 +1,9 @@
 //! Passes that are read, all at once and field by field, and what is refused.
 
 use crate::calls::{open_v1, open_v2, read};
-use crate::rows::{Fields, Piece, expect_eq, expect_pass, join};
+use crate::rows::{Fields, Host, Piece, expect_eq, expect_pass, join};
 use pass_forms::{Field, FieldSource, Form, FormFault, Pass};
 use pass_json::JsonFields;
-use std::process::Abort;
 
 /// A pass in pieces, and what it says.
 pub(crate) type Row = (&'static [Piece], Fields<'static>);
@@ -12,12 +11,12 @@ pub(crate) type Row = (&'static [Piece], Fields<'static>);
 /// Bytes that are no pass, in pieces, and their fault.
 pub(crate) type Refused = (&'static [Piece], FormFault);
 
-fn expect_next<'a, S: FieldSource<'a>>(rt: &impl Abort, fields: &mut S, want: Option<Field<'a>>) {
+fn expect_next<'a, S: FieldSource<'a>>(rt: &impl Host, fields: &mut S, want: Option<Field<'a>>) {
     expect_eq(rt, &fields.next(), &want, &"the next field");
 }
 
 // The fields come in their order, and then none, however often one is asked for.
-fn expect_fields<'a, S: FieldSource<'a>>(rt: &impl Abort, fields: &mut S, want: &Fields<'a>) {
+fn expect_fields<'a, S: FieldSource<'a>>(rt: &impl Host, fields: &mut S, want: &Fields<'a>) {
     expect_next(rt, fields, Some(Field::Location(want.location)));
     expect_next(rt, fields, Some(Field::Identifier(want.identifier)));
     for caveat in want.caveats {
@@ -31,7 +30,7 @@ fn expect_fields<'a, S: FieldSource<'a>>(rt: &impl Abort, fields: &mut S, want: 
 // The fields come, and come again from a second source, which was made before the first one was
 // gone over.
 fn expect_fields_twice<'a, S: FieldSource<'a> + Drop>(
-    rt: &impl Abort,
+    rt: &impl Host,
     fields: &mut S,
     want: &Fields<'a>,
 ) {
@@ -41,7 +40,7 @@ fn expect_fields_twice<'a, S: FieldSource<'a> + Drop>(
 }
 
 // The fields of bytes that are read without memory, as JSON can't be.
-fn walks<'a>(rt: &impl Abort, form: Form, bytes: &'a [u8], want: &Fields<'a>) {
+fn walks<'a>(rt: &impl Host, form: Form, bytes: &'a [u8], want: &Fields<'a>) {
     match form {
         Form::V1 => expect_fields_twice(rt, &mut open_v1(bytes).expect(rt, "fields"), want),
         Form::V2 => expect_fields_twice(rt, &mut open_v2(bytes).expect(rt, "fields"), want),
@@ -49,15 +48,15 @@ fn walks<'a>(rt: &impl Abort, form: Form, bytes: &'a [u8], want: &Fields<'a>) {
     }
 }
 
-fn walks_in_memory<'a>(rt: &impl Abort, pass: &'a Pass, want: &Fields<'a>) {
+fn walks_in_memory<'a>(rt: &impl Host, pass: &'a Pass, want: &Fields<'a>) {
     expect_fields_twice(rt, &mut pass.fields(), want);
 }
 
-fn walks_in_json<'a>(rt: &impl Abort, pass: &'a Pass, want: &Fields<'a>) {
+fn walks_in_json<'a>(rt: &impl Host, pass: &'a Pass, want: &Fields<'a>) {
     expect_fields_twice(rt, &mut JsonFields::over(pass), want);
 }
 
-fn is_read(rt: &(impl Abort + AllocGlobal), form: Form, row: &Row) {
+fn is_read(rt: &impl Host, form: Form, row: &Row) {
     let bytes = join(rt, row.0);
     walks(rt, form, &bytes, &row.1);
     let pass = read(rt.alloc(), form, &bytes).expect(rt, "a pass");
@@ -66,14 +65,14 @@ fn is_read(rt: &(impl Abort + AllocGlobal), form: Form, row: &Row) {
     walks_in_json(rt, &pass, &row.1);
 }
 
-pub(crate) fn are_read(rt: &(impl Abort + AllocGlobal), form: Form, rows: &[Row]) {
+pub(crate) fn are_read(rt: &impl Host, form: Form, rows: &[Row]) {
     for row in rows {
         is_read(rt, form, row);
     }
 }
 
 // Opening and reading answer this fault both.
-fn is_refused(rt: &(impl Abort + AllocGlobal), form: Form, bytes: &[u8], fault: FormFault) {
+fn is_refused(rt: &impl Host, form: Form, bytes: &[u8], fault: FormFault) {
     let want = Some(fault);
     let opened = match form {
         Form::V1 => open_v1(bytes).err(),
@@ -85,7 +84,7 @@ fn is_refused(rt: &(impl Abort + AllocGlobal), form: Form, bytes: &[u8], fault: 
 }
 
 /// Each of these is refused with its fault.
-pub(crate) fn are_refused(rt: &(impl Abort + AllocGlobal), form: Form, rows: &[Refused]) {
+pub(crate) fn are_refused(rt: &impl Host, form: Form, rows: &[Refused]) {
     for (pieces, fault) in rows {
         is_refused(rt, form, &join(rt, pieces), *fault);
     }
@@ -93,7 +92,7 @@ pub(crate) fn are_refused(rt: &(impl Abort + AllocGlobal), form: Form, rows: &[R
 
 /// A pass is refused with this fault when one of these is between its parts.
 pub(crate) fn are_refused_between(
-    rt: &(impl Abort + AllocGlobal),
+    rt: &impl Host,
     form: Form,
     (before, after): (Piece, Piece),
     rows: &[&'static [u8]],
@@ -105,12 +104,7 @@ pub(crate) fn are_refused_between(
 }
 
 /// A pass of so many bytes is refused when it is cut short anywhere.
-pub(crate) fn is_refused_cut_short(
-    rt: &(impl Abort + AllocGlobal),
-    form: Form,
-    pieces: &[Piece],
-    len: usize,
-) {
+pub(crate) fn is_refused_cut_short(rt: &impl Host, form: Form, pieces: &[Piece], len: usize) {
     let bytes = join(rt, pieces);
     expect_eq(rt, &bytes.len(), &len, &form);
     for len in 0..bytes.len() {

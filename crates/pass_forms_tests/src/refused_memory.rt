@@ -3,13 +3,12 @@
 //! given what it asks for.
 
 use crate::calls::{read_any, write_any};
-use crate::rows::expect_eq;
+use crate::rows::{Host, expect_eq};
 use crate::texts::{BARE, EXAMPLE, FORMS, KNOWN};
 use pass_forms::{Form, FormFault, Pass};
-use std::process::Abort;
 
 /// The pass of a text that is read in this form, by the second call if the first is out of memory.
-pub(crate) fn read_in(rt: &(impl Abort + AllocGlobal), form: Form, text: &str) -> Pass {
+pub(crate) fn read_in(rt: &impl Host, form: Form, text: &str) -> Pass {
     let found = match read_any(rt.alloc(), text.as_bytes()) {
         Err(FormFault::Memory) => read_any(rt.alloc(), text.as_bytes()),
         found => found,
@@ -20,7 +19,7 @@ pub(crate) fn read_in(rt: &(impl Abort + AllocGlobal), form: Form, text: &str) -
 }
 
 // The text of a pass, by the second call if the first is out of memory.
-fn written_text(rt: &(impl Abort + AllocGlobal), form: Form, pass: &Pass) -> String {
+fn written_text(rt: &impl Host, form: Form, pass: &Pass) -> String {
     let text = match write_any(rt.alloc(), form, pass) {
         Err(FormFault::Memory) => write_any(rt.alloc(), form, pass),
         text => text,
@@ -29,14 +28,14 @@ fn written_text(rt: &(impl Abort + AllocGlobal), form: Form, pass: &Pass) -> Str
 }
 
 /// The pass is written as these texts.
-pub(crate) fn is_written(rt: &(impl Abort + AllocGlobal), pass: &Pass, texts: &[&str; 3]) {
+pub(crate) fn is_written(rt: &impl Host, pass: &Pass, texts: &[&str; 3]) {
     for (form, text) in FORMS.iter().zip(texts) {
         expect_eq(rt, &written_text(rt, *form, pass).as_str(), text, form);
     }
 }
 
 /// Each text is read in its form, and its pass is written in every form.
-pub(crate) fn convert(rt: &(impl Abort + AllocGlobal), texts: &[&str; 3]) {
+pub(crate) fn convert(rt: &impl Host, texts: &[&str; 3]) {
     for (form, text) in FORMS.iter().zip(texts) {
         is_written(rt, &read_in(rt, *form, text), texts);
     }

@@ -1,9 +1,13 @@
 //! What the rows of the tests are made of, and what a row expects.
 
-use crate::calls::new_pass;
 use pass_forms::Pass;
 use std::fmt::Debug;
 use std::process::Abort;
+
+/// Ends a test, and allocates.
+pub(crate) trait Host: Abort + AllocGlobal {}
+
+impl<R: Abort + AllocGlobal> Host for R {}
 
 /// Ends the test of this row unless the values are equal.
 pub(crate) fn expect_eq<T: PartialEq + Debug>(
@@ -25,7 +29,7 @@ fn append(rt: &impl Abort, bytes: &mut Vec<u8>, piece: &Piece) {
 }
 
 /// The pieces, one after the other.
-pub(crate) fn join(rt: &(impl Abort + AllocGlobal), pieces: &[Piece]) -> Vec<u8> {
+pub(crate) fn join(rt: &impl Host, pieces: &[Piece]) -> Vec<u8> {
     let mut bytes = Vec::new(rt.alloc());
     for piece in pieces {
         append(rt, &mut bytes, piece);
@@ -57,19 +61,11 @@ pub(crate) fn expect_pass(rt: &impl Abort, pass: &Pass, want: &Fields<'_>) {
 }
 
 /// A pass with no location, this identifier and `caveat_count` empty caveats.
-pub(crate) fn pass_of(
-    rt: &(impl Abort + AllocGlobal),
-    identifier: &[Piece],
-    caveat_count: usize,
-) -> Pass {
+pub(crate) fn pass_of(rt: &impl Host, identifier: &[Piece], caveat_count: usize) -> Pass {
     let mut caveats = Vec::new(rt.alloc());
     for _ in 0..caveat_count {
         caveats.push(Vec::new(rt.alloc())).expect(rt, "memory");
     }
-    new_pass(
-        Vec::new(rt.alloc()),
-        join(rt, identifier),
-        caveats,
-        [0xff; 32],
-    )
+    let (location, identifier) = (Vec::new(rt.alloc()), join(rt, identifier));
+    Pass::new(location, identifier, caveats, [0xff; 32])
 }

@@ -2,11 +2,10 @@
 
 use crate::calls::{open_v1, read};
 use crate::read::{Refused, Row, are_read, are_refused, are_refused_between, is_refused_cut_short};
-use crate::rows::{Fields, Piece, expect_eq, join};
+use crate::rows::{Fields, Host, Piece, expect_eq, join};
 use pass_forms::FormFault::{Malformed, ThirdParty, TooLong, TooMany};
 use pass_forms::{Field, FieldSource, Form, is_signed_by};
 use pass_mac::Chain;
-use std::process::Abort;
 
 // The known pass of libmacaroons' README, in packets: the part before its caveat, the caveat,
 // and what follows it.
@@ -28,6 +27,13 @@ pub(crate) const KNOWN_FIELDS: Fields<'static> = Fields {
     identifier: b"we used our secret key",
     caveats: &[b"test = caveat"],
     signature: b"\x19\x7b\xac\x7a\x04\x4a\xf3\x33\x32\x86\x5b\x92\x66\xe2\x6d\x49\x3b\xdd\x66\x8a\x66\x0e\x44\xd8\x8c\xe1\xa9\x98\xc2\x3d\xbd\x67",
+};
+
+/// The same without the caveat.
+pub(crate) const BARE_FIELDS: Fields<'static> = Fields {
+    caveats: &[],
+    signature: b"\xe3\xd9\xe0\x29\x08\x52\x6c\x4c\x00\x39\xae\x15\x11\x41\x15\xd9\x7f\xdd\x68\xbf\x2b\xa3\x79\xb3\x42\xaa\xf0\xf6\x17\xd0\x55\x2f",
+    ..KNOWN_FIELDS
 };
 
 /// The root of the known pass.
@@ -126,7 +132,7 @@ fn is_signed(bytes: &[u8], root: &[u8]) -> bool {
     is_signed_by(Chain::start(root, identifier), &mut fields)
 }
 
-fn expect_signed(rt: &(impl Abort + AllocGlobal), root: &[u8], signed: bool) {
+fn expect_signed(rt: &impl Host, root: &[u8], signed: bool) {
     let bytes = join(rt, &KNOWN);
     expect_eq(rt, &is_signed(&bytes, root), &signed, &root);
     let pass = read(rt.alloc(), Form::V1, &bytes).expect(rt, "a pass");

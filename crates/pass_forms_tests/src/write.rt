@@ -1,21 +1,13 @@
 //! Passes that are made, narrowed and written.
 
 use crate::calls::{narrow, read, read_any, write, write_any};
-use crate::rows::{Fields, Piece, expect_caveats, expect_eq, expect_pass, pass_of};
+use crate::rows::{Fields, Host, Piece, expect_caveats, expect_eq, expect_pass, pass_of};
 use crate::texts::{FORMS, KNOWN};
-use crate::v1::{KNOWN_FIELDS, ROOT};
+use crate::v1::{BARE_FIELDS, KNOWN_FIELDS, ROOT};
 use pass_forms::{Form, FormFault, Pass};
 use std::alloc::Global;
-use std::process::Abort;
 
-// The known pass of libmacaroons' README before its caveat.
-static WITHOUT_CAVEAT: Fields<'static> = Fields {
-    caveats: &[],
-    signature: b"\xe3\xd9\xe0\x29\x08\x52\x6c\x4c\x00\x39\xae\x15\x11\x41\x15\xd9\x7f\xdd\x68\xbf\x2b\xa3\x79\xb3\x42\xaa\xf0\xf6\x17\xd0\x55\x2f",
-    ..KNOWN_FIELDS
-};
-
-fn mint_known(rt: &(impl Abort + AllocGlobal), want: &Fields<'_>) -> Pass {
+fn mint_known(rt: &impl Host, want: &Fields<'_>) -> Pass {
     let pass = Pass::mint(rt.alloc(), ROOT, want.location, want.identifier).expect(rt, "memory");
     expect_pass(rt, &pass, want);
     expect_eq(rt, &pass.is_signed(ROOT), &true, want);
@@ -23,8 +15,8 @@ fn mint_known(rt: &(impl Abort + AllocGlobal), want: &Fields<'_>) -> Pass {
 }
 
 // The known pass, made under its root.
-fn known_pass(rt: &(impl Abort + AllocGlobal)) -> Pass {
-    let mut pass = mint_known(rt, &WITHOUT_CAVEAT);
+fn known_pass(rt: &impl Host) -> Pass {
+    let mut pass = mint_known(rt, &BARE_FIELDS);
     narrow(rt.alloc(), &mut pass, b"test = caveat").expect(rt, "memory");
     pass
 }
@@ -38,7 +30,7 @@ fn gives_its_parts_back(rt: HostRuntime) {
     expect_caveats(&rt, &parts.caveats, want);
 }
 
-fn expect_text(rt: &(impl Abort + AllocGlobal), form: Form, pass: &Pass, want: &str) {
+fn expect_text(rt: &impl Host, form: Form, pass: &Pass, want: &str) {
     let text = write(rt.alloc(), form, pass).expect(rt, "a text");
     expect_eq(rt, &text.as_str(), &want, &form);
 }
@@ -53,7 +45,7 @@ fn answers_with_ample_memory(rt: HostRuntime) {
 }
 
 // The pass is written in JSON as this text, which is read as the same pass.
-fn is_written_in_json(rt: &(impl Abort + AllocGlobal), pass: &Pass, text: &str) {
+fn is_written_in_json(rt: &impl Host, pass: &Pass, text: &str) {
     expect_text(rt, Form::Json, pass, text);
     let back = read(rt.alloc(), Form::Json, text.as_bytes()).expect(rt, "the pass of its text");
     expect_eq(rt, &back.location(), &pass.location(), &"a location");
@@ -126,7 +118,7 @@ fn lens_of(alloc: Global, text: Result<String, FormFault>) -> Result<Lens, FormF
     Ok((text.len(), back.identifier().len(), back.caveats().len()))
 }
 
-fn has_lens(rt: &(impl Abort + AllocGlobal), row: &Row) {
+fn has_lens(rt: &impl Host, row: &Row) {
     let (form, identifier_len, caveat_count, want) = row;
     let pass = pass_of(rt, &[(*identifier_len, b"x")], *caveat_count);
     let written = write(rt.alloc(), *form, &pass);
