@@ -1,12 +1,10 @@
 //! Answers to commands of the office that are carried out, what a refusal and a root print, and the
 //! roots of a key that are good at a moment.
 
-use crate::expect::expect_eq;
+use crate::expect::{Host, expect_eq};
 use crate::values::{key, moment, name, root};
 use club_core::{OfficeAnswer, Refusal};
 use club_rows::OlderRoot;
-use std::process::Abort;
-use std::test::*;
 use test_kit::PlainCommand::{
     self, AddKey, CancelBooking, Debit, OpenSlot, RevokeKey, RotateKey, SetFacility, SetQuota,
 };
@@ -29,7 +27,7 @@ static DONE: [(PlainCommand, Option<&[u8]>); 8] = [
     ),
 ];
 
-fn answer(rt: &impl Abort, bytes: &Option<&[u8]>) -> OfficeAnswer {
+fn answer(rt: &impl Host, bytes: &Option<&[u8]>) -> OfficeAnswer {
     match bytes {
         Some(bytes) => OfficeAnswer::NewKey {
             name: name(rt, "amy-1"),

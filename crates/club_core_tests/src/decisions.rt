@@ -1,19 +1,17 @@
 //! Requests as caveats see them, and a decision that no scenario leads to. The views are those of
 //! the key `amy-1` of amy, who has quota 5 and 10,000 points, and of `court-1`.
 
-use crate::expect::expect_eq;
+use crate::expect::{Host, expect_eq};
 use crate::values::{booking, facility, key, moment, slot};
 use club_core::{Refusal, Verdict, View, decide};
 use club_values::{Action, Kind};
 use pass_caveats::Ask;
-use std::process::Abort;
-use std::test::*;
 use test_kit::moments::{NOON, START};
 use test_kit::requests::{ACCOUNT, BOOK_7, BOOK_7_ALONE};
 use test_kit::{BOOKING_7, COURT, COURT_AT_18, PlainRequest, amy};
 
 /// The view before the first booking.
-fn fresh(rt: &impl Abort) -> View {
+fn fresh(rt: &impl Host) -> View {
     View {
         key: key(rt, false).row(),
         spent: 0,
@@ -27,14 +25,14 @@ fn fresh(rt: &impl Abort) -> View {
     }
 }
 
-fn nowhere(rt: &impl Abort) -> View {
+fn nowhere(rt: &impl Host) -> View {
     View {
         facility: None,
         ..fresh(rt)
     }
 }
 
-fn recorded(rt: &impl Abort) -> View {
+fn recorded(rt: &impl Host) -> View {
     View {
         booking: booking(rt, &Some(BOOKING_7)),
         ..fresh(rt)
@@ -42,7 +40,7 @@ fn recorded(rt: &impl Abort) -> View {
 }
 
 /// The view with the key alone; the member's name comes from the key's row.
-fn bare(rt: &impl Abort) -> View {
+fn bare(rt: &impl Host) -> View {
     View {
         member: amy(0, 0).expect(rt, "a member"),
         balance: 0,
@@ -71,7 +69,7 @@ fn order_of_refusals(rt: HostRuntime) {
 }
 
 /// The account as caveats see it at noon.
-fn account(rt: &impl Abort) -> Ask {
+fn account(rt: &impl Host) -> Ask {
     Ask {
         action: Action::Account,
         slot: None,
@@ -84,7 +82,7 @@ fn account(rt: &impl Abort) -> Ask {
 }
 
 /// A booking of number 7 that costs so much.
-fn booking_for(rt: &impl Abort, owed: u64) -> Ask {
+fn booking_for(rt: &impl Host, owed: u64) -> Ask {
     Ask {
         action: Action::Book,
         slot: Some(slot(rt, &COURT_AT_18)),
@@ -95,7 +93,7 @@ fn booking_for(rt: &impl Abort, owed: u64) -> Ask {
     }
 }
 
-fn ask(rt: &impl Abort, view: &View, asked: &PlainRequest) -> Ask {
+fn ask(rt: &impl Host, view: &View, asked: &PlainRequest) -> Ask {
     let request = asked.request().expect(rt, "a request");
     view.ask(&request, moment(rt, NOON))
 }

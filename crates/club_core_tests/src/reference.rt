@@ -1,13 +1,10 @@
 //! Tests of the reference machine: a member's part of a club, copies of one, and a list of many
 //! requests. Its replies in other states are scenarios.
 
-use crate::expect::expect_eq;
+use crate::expect::{Host, expect_eq};
 use crate::values::{moment, name, slot};
 use club_core::{OfficeAnswer, Refusal, SlotUse};
 use club_reference::{Club, Words};
-use std::alloc::Global;
-use std::process::Abort;
-use std::test::*;
 use test_kit::moments::NOON;
 use test_kit::replies::{
     ACCOUNT_AFTER, ACCOUNT_BEFORE, BOOKED_2, BOOKED_7, CANCELLED_7, FILLED_BY_7, NOT_VERIFIED,
@@ -21,7 +18,7 @@ use test_kit::{
 /// A request at noon under a pass of this key, and its reply.
 type Step = (&'static str, PlainRequest, PlainReply);
 
-fn words(rt: &(impl Abort + Alloc<A = Global>), key: &str, asked: &PlainRequest) -> Words {
+fn words(rt: &impl Host, key: &str, asked: &PlainRequest) -> Words {
     let pass = signed_pass(rt.alloc(), Some(name(rt, key)), ROOT, &[]);
     Words {
         pass: Ok(pass.expect(rt, "a pass")),
@@ -31,12 +28,7 @@ fn words(rt: &(impl Abort + Alloc<A = Global>), key: &str, asked: &PlainRequest)
 
 /// Ends the test unless the club gives the replies of these steps, in their order; if others than
 /// its member hold something of each slot, as a member's part.
-fn plays(
-    rt: &(impl Abort + Alloc<A = Global>),
-    club: &mut Club,
-    others: Option<SlotUse>,
-    steps: &[Step],
-) {
+fn plays(rt: &impl Host, club: &mut Club, others: Option<SlotUse>, steps: &[Step]) {
     for (row, (key, asked, want)) in steps.iter().enumerate() {
         let (words, at) = (words(rt, key, asked), moment(rt, NOON));
         let returned = match others {
@@ -49,13 +41,13 @@ fn plays(
 }
 
 /// Gives a command, and ends the test unless it is carried out.
-fn carry_out(rt: &impl Abort, club: &mut Club, plain: &PlainCommand) {
+fn carry_out(rt: &impl Host, club: &mut Club, plain: &PlainCommand) {
     let command = plain.command().expect(rt, "a command");
     let answer = club.office(&command).expect(rt, "memory");
     expect_eq(rt, &answer, &OfficeAnswer::done(&command), &"a command");
 }
 
-fn fixture_club(rt: &(impl Abort + Alloc<A = Global>)) -> Club {
+fn fixture_club(rt: &impl Host) -> Club {
     let mut club = Club::new(rt.alloc());
     for plain in &FIXTURE {
         carry_out(rt, &mut club, plain);
@@ -63,29 +55,19 @@ fn fixture_club(rt: &(impl Abort + Alloc<A = Global>)) -> Club {
     club
 }
 
+/// Ends the test unless this many persons have booked a slot, and it is closed or open.
+fn expect_use(rt: &impl Host, slot: &SlotUse, held: (u32, bool)) {
+    expect_eq(rt, &(slot.taken, slot.closed), &held, &"a slot");
+}
+
 /// Ends the test unless amy's part gives the replies of these steps, and others than amy hold this
 /// of the court at 18. They hold nothing where no slot is asked for.
-fn part_plays(
-    rt: &(impl Abort + Alloc<A = Global>),
-    club: &Club,
-    (taken, closed): (u32, bool),
-    steps: &[Step],
-) {
+fn part_plays(rt: &impl Host, club: &Club, held: (u32, bool), steps: &[Step]) {
     let amy = name(rt, "amy");
     let nothing = club.outside(&amy, None);
-    expect_eq(
-        rt,
-        &(nothing.taken, nothing.closed),
-        &(0, false),
-        &"no slot",
-    );
+    expect_use(rt, &nothing, (0, false));
     let others = club.outside(&amy, Some(slot(rt, &COURT_AT_18)));
-    expect_eq(
-        rt,
-        &(others.taken, others.closed),
-        &(taken, closed),
-        &"a slot",
-    );
+    expect_use(rt, &others, held);
     let mut part = club.part(&amy).expect(rt, "memory");
     plays(rt, &mut part, Some(others), steps);
     // There are no rows of others.
@@ -159,12 +141,8 @@ fn answers_a_long_list(rt: HostRuntime) {
     for day in FRIDAY..FRIDAY + 15 {
         for hour in 8..22 {
             booking = booking.saturating_add(1);
-            plays(
-                &rt,
-                &mut club,
-                None,
-                &booked_and_cancelled(day, hour, booking),
-            );
+            let steps = booked_and_cancelled(day, hour, booking);
+            plays(&rt, &mut club, None, &steps);
         }
     }
 }

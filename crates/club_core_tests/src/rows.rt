@@ -5,8 +5,6 @@ use crate::values::{booking, facility};
 use club_rows::{
     Booking, BookingColumns, BookingNumber, Facility, FacilityColumns, Guests, Member, Root,
 };
-use std::process::Abort;
-use std::test::*;
 use test_kit::{BOOKING_7, COURT, PlainBooking};
 
 static NUMBERS: [(u32, bool); 4] = [

@@ -1,28 +1,28 @@
 //! Values of the tests, made from plain ones. The key `amy-1` of amy's has the first root.
 
+use crate::expect::Host;
 use club_rows::{Booking, Facility, Key, Root};
 use club_values::{Moment, Name, Slot};
-use std::process::Abort;
 use test_kit::roots::ROOT;
 use test_kit::{PlainBooking, PlainFacility, PlainSlot};
 
-pub(crate) fn name(rt: &impl Abort, text: &str) -> Name {
+pub(crate) fn name(rt: &impl Host, text: &str) -> Name {
     Name::read(text.as_bytes()).expect(rt, "a name")
 }
 
-pub(crate) fn root(rt: &impl Abort, bytes: &[u8]) -> Root {
+pub(crate) fn root(rt: &impl Host, bytes: &[u8]) -> Root {
     Root::new(bytes).expect(rt, "a root")
 }
 
-pub(crate) fn moment(rt: &impl Abort, text: &str) -> Moment {
+pub(crate) fn moment(rt: &impl Host, text: &str) -> Moment {
     Moment::read(text.as_bytes()).expect(rt, "a moment")
 }
 
-pub(crate) fn slot(rt: &impl Abort, slot: &PlainSlot) -> Slot {
+pub(crate) fn slot(rt: &impl Host, slot: &PlainSlot) -> Slot {
     slot.slot().expect(rt, "a slot")
 }
 
-pub(crate) fn key(rt: &impl Abort, revoked: bool) -> Key {
+pub(crate) fn key(rt: &impl Host, revoked: bool) -> Key {
     Key {
         name: name(rt, "amy-1"),
         member: name(rt, "amy"),
@@ -32,14 +32,14 @@ pub(crate) fn key(rt: &impl Abort, revoked: bool) -> Key {
     }
 }
 
-pub(crate) fn facility(rt: &impl Abort, facility: &Option<PlainFacility>) -> Option<Facility> {
+pub(crate) fn facility(rt: &impl Host, facility: &Option<PlainFacility>) -> Option<Facility> {
     match facility {
         Some(facility) => Some(facility.facility().expect(rt, "a facility")),
         None => None,
     }
 }
 
-pub(crate) fn booking(rt: &impl Abort, booking: &Option<PlainBooking>) -> Option<Booking> {
+pub(crate) fn booking(rt: &impl Host, booking: &Option<PlainBooking>) -> Option<Booking> {
     match booking {
         Some(booking) => Some(booking.booking().expect(rt, "a booking")),
         None => None,

@@ -1,18 +1,16 @@
 //! Which bookings a limit of points allows after more than requests can spend, and faults.
 
 use super::calls::{answer, fault_at};
-use crate::expect::expect_eq;
+use crate::expect::{Host, expect_eq};
 use crate::values::{moment, slot};
 use club_values::{Action, Kind};
 use pass_caveats::{Ask, CaveatFault};
-use std::process::Abort;
-use std::test::*;
 use test_kit::COURT_AT_18;
 use test_kit::moments::NOON;
 
 /// A request to book `court-1` on 2026-05-01 at 18 for two guests, made on 2026-04-20 at noon, of a
 /// key that has spent so much.
-fn booking(rt: &impl Abort, spent: u64) -> Ask {
+fn booking(rt: &impl Host, spent: u64) -> Ask {
     Ask {
         action: Action::Book,
         slot: Some(slot(rt, &COURT_AT_18)),

@@ -4,13 +4,11 @@ use super::calls::{
     day_numbered, hour_numbered, is_name, moment_at, moment_numbered, read_action, read_day,
     read_hour, read_kind, read_moment, read_name,
 };
-use crate::expect::expect_eq;
+use crate::expect::{Host, expect_eq};
 use crate::values::{moment, slot};
 use club_values::ascii::text_of;
 use club_values::digits::{read_digits, read_number, read_two, two_digits};
 use club_values::{Day, Moment, Weekday};
-use std::process::Abort;
-use std::test::*;
 use test_kit::COURT_AT_18;
 
 /// Whether a text is a name, and that name has the text.
@@ -42,7 +40,7 @@ fn names(rt: HostRuntime) {
 }
 
 /// The day has this text and this number, and its number and its date give the day again.
-fn is_day(rt: &impl Abort, day: Day, text: &str, number: u16) {
+fn is_day(rt: &impl Host, day: Day, text: &str, number: u16) {
     expect_eq(rt, &day.number(), &number, &text);
     expect_eq(rt, &day.text().as_slice(), &text.as_bytes(), &text);
     expect_eq(rt, &day_numbered(number), &Some(day), &text);
@@ -115,7 +113,7 @@ static NO_MOMENTS: [u32; 2] = [15_778_079, 68_374_080];
 
 /// The moment has this text and this number; its number gives the moment again, and so do its day
 /// and minute.
-fn is_moment(rt: &impl Abort, moment: Moment, text: &str, number: u32) {
+fn is_moment(rt: &impl Host, moment: Moment, text: &str, number: u32) {
     expect_eq(rt, &moment.number(), &number, &text);
     expect_eq(rt, &moment.text().as_slice(), &text.as_bytes(), &text);
     expect_eq(rt, &moment_numbered(number), &Some(moment), &text);
