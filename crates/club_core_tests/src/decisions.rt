@@ -10,7 +10,6 @@ use test_kit::moments::{NOON, START};
 use test_kit::requests::{ACCOUNT, BOOK_7, BOOK_7_ALONE};
 use test_kit::{BOOKING_7, COURT, COURT_AT_18, PlainRequest, amy};
 
-/// The view before the first booking.
 fn fresh(rt: &impl Host) -> View {
     View {
         key: key(rt, false).row(),
@@ -68,7 +67,6 @@ fn order_of_refusals(rt: HostRuntime) {
     }
 }
 
-/// The account as caveats see it at noon.
 fn account(rt: &impl Host) -> Ask {
     Ask {
         action: Action::Account,

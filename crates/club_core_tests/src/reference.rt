@@ -40,7 +40,6 @@ fn plays(rt: &impl Host, club: &mut Club, others: Option<SlotUse>, steps: &[Step
     }
 }
 
-/// Gives a command, and ends the test unless it is carried out.
 fn carry_out(rt: &impl Host, club: &mut Club, plain: &PlainCommand) {
     let command = plain.command().expect(rt, "a command");
     let answer = club.office(&command).expect(rt, "memory");

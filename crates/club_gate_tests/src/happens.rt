@@ -1,22 +1,15 @@
 //! Events with their replies, in plain values.
 
-use crate::expect::Host;
-use crate::values::{at, command, push, request};
-use club_gate::{Event, EventReply, OfficeReply, Words};
-use std::process::Abort;
-use test_kit::minutes::NOON;
-use test_kit::{PlainCommand, PlainReply, PlainRequest};
+use crate::prelude::*;
+use club_gate::{Event, EventReply, Words};
 
-/// An event, and its reply.
 #[derive(Clone, Copy)]
 pub(crate) enum Happens {
-    /// A command of the office, and its answer.
     Commanded(PlainCommand, OfficeReply),
     /// A request at noon under the text of a pass, and its reply.
     Asked(&'static str, PlainRequest, PlainReply),
 }
 
-/// The events of rows, and their replies.
 pub(crate) fn events_and_replies(
     rt: &impl Host,
     rows: &[Happens],
@@ -32,7 +25,7 @@ pub(crate) fn events_and_replies(
 }
 
 impl Happens {
-    fn event_and_reply(&self, rt: &impl Abort) -> (Event<'static>, EventReply) {
+    fn event_and_reply(&self, rt: &impl Host) -> (Event<'static>, EventReply) {
         match *self {
             Happens::Commanded(plain, answer) => {
                 let event = Event::Commanded(command(rt, &plain));

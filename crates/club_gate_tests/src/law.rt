@@ -1,22 +1,12 @@
 //! Lists of events from an empty database, a request after one, and the files that one leaves.
 
-use crate::expect::{Host, expect_eq};
 use crate::happens::{Happens, events_and_replies};
-use crate::values::at;
+use crate::prelude::*;
 use club_core::Request;
-use club_gate::{Desk, OfficeReply, Words};
-use club_store::Store;
-use club_values::Kind;
+use club_gate::Words;
 use desk_theorem::{reply_from_nothing, run_and_leave, run_from_nothing};
-use sqlite::{Alter, Connection, Files, Options};
+use sqlite::{Files, Options};
 use sqlite_disk::{Disk, Memory};
-use std::test::*;
-use test_kit::minutes::NOON;
-use test_kit::passes::{AMY_1_SIGNATURE, AMY_JSON, AMY_V1, AMY_V2};
-use test_kit::replies::{ACCOUNT_AFTER, BOOKED_7, NOT_VERIFIED};
-use test_kit::requests::{ACCOUNT, BOOK_7};
-use test_kit::roots::ROOT;
-use test_kit::{PlainCommand, PlainReply};
 
 const SIGNED: OfficeReply = OfficeReply::Key {
     signature: AMY_1_SIGNATURE,
@@ -66,7 +56,6 @@ fn answers_after_a_list(rt: HostRuntime) {
     expect_reply_after(&rt, &[], &NOT_VERIFIED);
 }
 
-/// The desk of a database that was just opened.
 fn desk_over<S: Alter + Drop>(rt: &impl Host, connection: Connection<S>) -> Desk<Store<S>> {
     let store = Store::adopt(rt.alloc(), connection).ok();
     Desk::new(rt.alloc(), store.expect(rt, "tables"))

@@ -4,8 +4,6 @@
 #![tactic(auto)]
 
 #[cfg(test)]
-mod commands;
-#[cfg(test)]
 mod expect;
 #[cfg(test)]
 mod happens;
@@ -17,6 +15,8 @@ mod lists;
 mod long;
 #[cfg(test)]
 mod passes;
+#[cfg(test)]
+mod prelude;
 #[cfg(test)]
 mod readings;
 #[cfg(test)]

@@ -1,14 +1,8 @@
 //! Random lists of events, one by one and at once: the desk's replies are the reference machine's,
 //! and those to amy are the solo machine's, which holds only her part.
 
-use crate::expect::Host;
-use crate::scene::{Scene, play};
+use crate::prelude::*;
 use crate::trial::Trial;
-use crate::values::push;
-use club_core::ClubStore;
-use club_gate::Desk;
-use std::test::*;
-use test_kit::PlainRequest;
 use test_kit::drawn::{AUDIT_AMY, AUDITORS, Asking, Event, Numbers, SLOTS, audit};
 
 // How many pairs of lists a test draws: the second begins with the club that the first one left. A
@@ -26,7 +20,6 @@ struct Pair {
 }
 
 impl Pair {
-    /// The trial after a list.
     fn trial_after<S: ClubStore>(
         &self,
         rt: &impl Host,
@@ -86,41 +79,25 @@ fn play_lists(rt: &impl Host, first: u64, pairs: u32, are_run: bool) {
 #[test]
 fn answers_as_the_reference(rt: HostRuntime) {
     play_lists(&rt, 2_026, PAIRS, false);
-}
-
-#[test]
-fn answers_a_second_row_of_lists(rt: HostRuntime) {
     play_lists(&rt, 2_027, PAIRS, false);
 }
 
 #[test]
-fn answers_a_third_row_of_lists(rt: HostRuntime) {
+fn answers_more_lists_as_the_reference(rt: HostRuntime) {
     play_lists(&rt, 2_028, PAIRS, false);
-}
-
-#[test]
-fn answers_a_fourth_row_of_lists(rt: HostRuntime) {
     play_lists(&rt, 2_029, PAIRS, false);
-}
-
-#[test]
-fn answers_a_fifth_row_of_lists(rt: HostRuntime) {
-    play_lists(&rt, 2_030, PAIRS, false);
 }
 
 // The reference machine never replies `Unavailable`. So neither does the desk, here or in any other
 // list.
 #[test]
 fn no_unavailable_with_ample_memory(rt: HostRuntime) {
+    play_lists(&rt, 2_030, PAIRS, false);
     play_lists(&rt, 2_031, 1, false);
 }
 
 #[test]
 fn runs_as_the_reference(rt: HostRuntime) {
     play_lists(&rt, 2_026, PAIRS, true);
-}
-
-#[test]
-fn runs_a_second_row_of_lists(rt: HostRuntime) {
     play_lists(&rt, 2_027, PAIRS, true);
 }

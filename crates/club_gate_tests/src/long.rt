@@ -1,22 +1,9 @@
 //! Long passes, runs of events and sheets: the desk has memory for each.
 
-use crate::expect::{Host, expect_eq, expect_row};
 use crate::happens::{Happens, events_and_replies};
 use crate::passes::Shown;
-use crate::scene::{Scene, carry_out, furnish, play, reply};
-use crate::values::day;
-use club_core::{ClubStore, Refusal, Reply};
-use club_gate::{Desk, OfficeReply};
-use club_values::Kind;
+use crate::prelude::*;
 use pass_forms::Form;
-use std::process::Abort;
-use std::test::*;
-use test_kit::minutes::NOON;
-use test_kit::passes::AMY_V2;
-use test_kit::replies::ACCOUNT_BEFORE;
-use test_kit::requests::ACCOUNT;
-use test_kit::roots::ROOT;
-use test_kit::{FRIDAY, Piece, PlainCommand, PlainReply, PlainRequest, PlainSlot, join};
 
 /// Amy's pass with 64 caveats `guests <= 49`, and spaces at its end: by names of text and by those
 /// of base64. By a program of another language.
@@ -135,7 +122,6 @@ static MEMBERS: [PlainCommand; 5] = [
     PlainCommand::AddFacility(FACILITY, Kind::Room, 50, 0, 0, 24),
 ];
 
-/// The number of bookings of each key.
 const BOOKINGS: u8 = 60;
 
 /// The number of a booking, in one of the hours of a day in turn.
@@ -148,7 +134,7 @@ fn booking(number: u8) -> PlainRequest {
     PlainRequest::Book(slot, 999_999_000 + u32::from(number), 0)
 }
 
-fn book_all<S: ClubStore>(rt: &impl Abort, desk: &mut Desk<S>, text: &str) {
+fn book_all<S: ClubStore>(rt: &impl Host, desk: &mut Desk<S>, text: &str) {
     for number in 0..BOOKINGS {
         let returned = reply(rt, desk, NOON, text.as_bytes(), &booking(number));
         let refused = matches!(returned, Reply::Refused(_));
@@ -161,7 +147,7 @@ const HEAD: &str = "Day sheet 2026-05-01\na-facility-of-24-letters 00:00 ";
 const END: &str = "\nTotal bookings 120, persons 120, charge 0\n";
 
 /// The sheet has a line of 76 bytes for each booking.
-fn prints_all<S: ClubStore>(rt: &impl Abort, desk: &mut Desk<S>) {
+fn prints_all<S: ClubStore>(rt: &impl Host, desk: &mut Desk<S>) {
     let sheet = desk.sheet(day(rt, "2026-05-01")).expect(rt, "a sheet");
     expect_eq(rt, &sheet.len(), &(21 + 120 * 76 + 42));
     expect_eq(rt, &sheet.starts_with(HEAD), &true);

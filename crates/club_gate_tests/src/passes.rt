@@ -1,12 +1,10 @@
 //! Passes, in plain values.
 
-use crate::expect::Host;
-use crate::values::{name, root};
+use crate::prelude::*;
 use club_gate::{LOCATION, key_signature, minted};
 use pass_forms::{Form, Pass, narrow};
 use pass_json::write_any;
 use test_kit::drawn::Asking;
-use test_kit::roots::ROOT;
 
 pub(crate) static FORMS: [Form; 3] = [Form::V1, Form::V2, Form::Json];
 
@@ -21,7 +19,6 @@ pub(crate) enum Shown {
     Unnamed,
 }
 
-/// The office's pass of a key under a root, with these caveats.
 fn narrowed_pass(rt: &impl Host, key: &str, root_bytes: &[u8], caveats: &[&str]) -> Pass {
     let name = name(rt, key);
     let signature = key_signature(&name, &root(rt, root_bytes));
@@ -53,13 +50,11 @@ impl Shown {
         }
     }
 
-    /// The text of the pass in a form.
     pub fn text(&self, rt: &impl Host, form: Form) -> String {
         write_any(rt.alloc(), form, &self.pass(rt)).expect(rt, "the text of a pass")
     }
 }
 
-/// The text of the pass of a drawn request.
 pub(crate) fn text_of_asking(rt: &impl Host, asking: &Asking) -> String {
     Shown::Of(asking.key, asking.root, asking.caveats).text(rt, asking.form)
 }

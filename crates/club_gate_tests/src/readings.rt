@@ -1,29 +1,22 @@
-//! The desk reads of its store only what an answer needs, and its change is the last call. The key
-//! comes first, and the older root for a pass that the current one doesn't sign. Then come the
-//! record under the number and the facility, then the sums for a limit of points, and at last the
-//! rows for the decision.
+//! The desk reads of its store only what an answer to a request or a command needs, and its change
+//! is the last call. For a request the key comes first, and the older root for a pass that the
+//! current one doesn't sign. Then come the record under the number and the facility, then the sums
+//! for a limit of points, and at last the rows for the decision.
 
-use crate::expect::{Host, expect_eq, expect_row};
 use crate::passes::{AMY, BOB, FORMS, Shown};
+use crate::prelude::*;
 use crate::refusing::Call::{
-    self, Account, Change, Facility, Key, OlderRoot, OpenCount, Record, Slot, Spent,
+    self, Account, Change, Facility, Key, MostTaken, OlderRoot, OpenCount, Record, Slot, Spent,
 };
 use crate::refusing::Refusing;
-use crate::scene::{Scene, carry_out, furnish, play, reply};
-use club_core::ClubStore;
-use club_gate::Desk;
+use club_core::OfficeFault::{Exists, OutOfRange, Unknown};
+use club_values::Kind::Boat;
 use pass_forms::Form;
-use std::process::Abort;
-use std::test::*;
-use test_kit::minutes::{NOON, UNTIL};
-use test_kit::passes::AMY_V2;
-use test_kit::replies::{
-    ACCOUNT_AFTER, ACCOUNT_BEFORE, BOOKED_7, CANCELLED_7, DENIED_1, KEY_REVOKED, NO_SUCH_BOOKING,
-    NO_SUCH_FACILITY, NOT_VERIFIED,
+use test_kit::PlainCommand::{
+    AddFacility, AddKey, AddMember, CancelBooking, CloseSlot, Credit, Debit, OpenSlot, RevokeKey,
+    RotateKey, SetFacility, SetQuota,
 };
-use test_kit::requests::{ACCOUNT, BOOK_7, BOOK_8, CANCEL_7, VIEW};
-use test_kit::roots::{ROOT, SECOND_ROOT, THIRD_ROOT};
-use test_kit::{FRIDAY, PlainCommand, PlainReply, PlainRequest, PlainSlot};
+use test_kit::replies::{NO_SUCH_BOOKING, NO_SUCH_FACILITY};
 
 const BOTH_ROOTS: &[Call] = &[Key, OlderRoot];
 
@@ -85,9 +78,10 @@ const BOATS: Shown = Shown::Of("amy-1", ROOT, &["kind = boat"]);
 /// A facility that the club lacks.
 const NOWHERE: PlainSlot = PlainSlot {
     facility: "court-9",
-    day: FRIDAY,
-    hour: 18,
+    ..COURT_AT_18
 };
+
+const CANCEL_8: PlainRequest = PlainRequest::Cancel(COURT_AT_18, 8);
 
 const BOOK_NOWHERE: PlainRequest = PlainRequest::Book(NOWHERE, 7, 2);
 
@@ -169,66 +163,159 @@ static LIMITS: [Limited; 8] = [
     ("amy-2", &["spend <= 199"], DENIED_1, RECORD),
 ];
 
-/// The event before a request. The desk is that of the fixture, where bob's key is revoked and amy
-/// has a second one.
+/// A command, why it is refused, if it is, and the calls of the store.
+type Commanded = (PlainCommand, Option<OfficeFault>, &'static [Call]);
+
+const PLACED: &[Call] = &[Facility, Change];
+
+const MEASURED: &[Call] = &[Facility, MostTaken, Change];
+
+const KEYED: &[Call] = &[Key, OlderRoot, Change];
+
+const RECORDED: &[Call] = &[Key, OlderRoot, Record];
+
+const CANCELS: &[Call] = &[Key, OlderRoot, Record, Change];
+
+const ADD_AGAIN: PlainCommand = AddFacility("court-1", Boat, 2, 100, 8, 20);
+
+const SET_NOWHERE: PlainCommand = SetFacility("court-9", 2, 100, 8, 20);
+
+const ADD_KEY_AGAIN: PlainCommand = AddKey("amy-1", "amy", ROOT);
+
+const ROTATE_TO_THE_SAME: PlainCommand = RotateKey("amy-1", ROOT, UNTIL);
+
+static DONE: [Commanded; 11] = [
+    (AddMember("cy", 1), None, &[Account, Change]),
+    (Credit("amy", 1), None, &[Account, Change]),
+    (Debit("amy", 1), None, &[Account, Change]),
+    (SetQuota("amy", 1), None, &[Account, Change]),
+    (AddFacility("boat-1", Boat, 2, 100, 8, 20), None, PLACED),
+    (SetFacility("court-1", 1, 0, 0, 24), None, MEASURED),
+    (AddKey("amy-3", "amy", ROOT), None, &[Account, Key, Change]),
+    (RevokeKey("amy-1"), None, KEYED),
+    (RotateKey("amy-1", SECOND_ROOT, UNTIL), None, KEYED),
+    (CloseSlot(COURT_AT_18), None, &[Facility, Slot, Change]),
+    (OpenSlot(COURT_AT_18), None, PLACED),
+];
+
+// A command that is refused changes nothing.
+static REFUSED_COMMANDS: [Commanded; 12] = [
+    (AddMember("amy", 1), Some(Exists), &[Account]),
+    (Credit("cy", 1), Some(Unknown), &[Account]),
+    (Debit("cy", 1), Some(Unknown), &[Account]),
+    // A point more than amy's balance.
+    (Debit("amy", 10_001), Some(OutOfRange), &[Account]),
+    (SetQuota("cy", 1), Some(Unknown), &[Account]),
+    (ADD_AGAIN, Some(Exists), &[Facility]),
+    (SET_NOWHERE, Some(Unknown), &[Facility, MostTaken]),
+    (ADD_KEY_AGAIN, Some(Exists), &[Account, Key, OlderRoot]),
+    (RevokeKey("amy-9"), Some(Unknown), &[Key]),
+    (ROTATE_TO_THE_SAME, Some(Exists), BOTH_ROOTS),
+    (CloseSlot(NOWHERE), Some(Unknown), &[Facility, Slot]),
+    (OpenSlot(NOWHERE), Some(Unknown), &[Facility]),
+];
+
+/// Amy has booked `court-1` under the numbers 7 and 8, and cancelled 8. A command that finds
+/// nothing to do is done without a change.
+static CANCELLED: [Commanded; 4] = [
+    (CancelBooking("amy-1", 7), None, CANCELS),
+    (CancelBooking("amy-1", 8), None, RECORDED),
+    (CancelBooking("amy-1", 9), Some(Unknown), RECORDED),
+    (CancelBooking("amy-9", 7), Some(Unknown), &[Key, Record]),
+];
+
+/// The events before. The desk is that of the fixture, where bob's key is revoked and amy has a
+/// second one.
 #[derive(Clone, Copy)]
 enum Before {
     Nothing,
     /// Number 7 is booked.
     Booking,
+    /// So is number 8, which is then cancelled.
+    Cancellation,
     /// Amy's first key gets another root.
     Rotation,
 }
 
 impl Before {
-    fn happen<S: ClubStore>(self, rt: &impl Abort, desk: &mut Desk<S>) {
-        carry_out(rt, desk, &PlainCommand::RevokeKey("bob-1"));
-        carry_out(rt, desk, &PlainCommand::AddKey("amy-2", "amy", ROOT));
+    fn requests(self) -> &'static [PlainRequest] {
         match self {
-            Before::Nothing => {}
-            Before::Booking => {
-                let returned = reply(rt, desk, NOON, AMY_V2.as_bytes(), &BOOK_7);
-                expect_eq(rt, &returned, &BOOKED_7.reply().expect(rt, "a reply"));
+            Before::Booking => &[BOOK_7],
+            Before::Cancellation => &[BOOK_7, BOOK_8, CANCEL_8],
+            Before::Nothing | Before::Rotation => &[],
+        }
+    }
+
+    fn happen<S: ClubStore>(self, rt: &impl Host, desk: &mut Desk<S>) {
+        carry_out(rt, desk, &RevokeKey("bob-1"));
+        carry_out(rt, desk, &AddKey("amy-2", "amy", ROOT));
+        if let Before::Rotation = self {
+            carry_out(rt, desk, &RotateKey("amy-1", SECOND_ROOT, UNTIL));
+        }
+        for asked in self.requests() {
+            let served = reply(rt, desk, NOON, AMY_V2.as_bytes(), asked);
+            expect_eq(rt, &matches!(served, Reply::Refused(_)), &false);
+        }
+    }
+}
+
+/// What the desk is asked, and its answer.
+#[derive(Clone, Copy)]
+enum Asked {
+    /// A request under a pass in this form.
+    Request(Form, Shown, PlainRequest, PlainReply),
+    Command(PlainCommand, Option<OfficeFault>),
+}
+
+impl Asked {
+    fn is_answered<S: ClubStore>(&self, rt: &impl Host, desk: &mut Desk<S>, place: usize) {
+        match *self {
+            Asked::Request(form, shown, asked, want) => {
+                let text = shown.text(rt, form);
+                let returned = reply(rt, desk, NOON, text.as_bytes(), &asked);
+                expect_row(rt, &place, &returned, &want.reply().expect(rt, "a reply"));
             }
-            Before::Rotation => {
-                let rotation = PlainCommand::RotateKey("amy-1", SECOND_ROOT, UNTIL);
-                carry_out(rt, desk, &rotation);
+            Asked::Command(plain, fault) => {
+                let returned = match desk.office(&command(rt, &plain)) {
+                    OfficeReply::Refused(fault) => Some(fault),
+                    _ => None,
+                };
+                let want = fault.map(|fault| Fault::from(fault));
+                expect_row(rt, &place, &returned, &want);
             }
         }
     }
 }
 
-/// A row with its place, and with its pass in a form.
+/// What is asked after these events, the place of its row, and the calls of the store.
 #[derive(Clone, Copy)]
-struct Reading<'a> {
+struct Reading {
     before: Before,
-    form: Form,
+    asked: Asked,
     place: usize,
-    row: &'a Row,
+    calls: &'static [Call],
 }
 
-impl Scene for Reading<'_> {
+impl Scene for Reading {
     fn play<S: ClubStore + Drop>(&self, rt: &impl Host, desk: Desk<S>) {
-        let (shown, asked, expected, calls) = self.row;
         let mut desk = furnish(rt, desk);
         self.before.happen(rt, &mut desk);
         let mut desk = Desk::new(rt.alloc(), Refusing::never(desk.into_store()));
-        let text = shown.text(rt, self.form);
-        let returned = reply(rt, &mut desk, NOON, text.as_bytes(), asked);
-        let want = expected.reply().expect(rt, "a reply");
-        expect_row(rt, &self.place, &returned, &want);
-        desk.into_store().expect_calls(rt, self.place, calls);
+        self.asked.is_answered(rt, &mut desk, self.place);
+        desk.into_store().expect_calls(rt, self.place, self.calls);
     }
 }
 
 /// Plays a row with its pass in each form.
 fn reads(rt: &impl Host, before: Before, place: usize, row: &Row) {
+    let (shown, request, want, calls) = *row;
     for form in &FORMS {
+        let asked = Asked::Request(*form, shown, request, want);
         let reading = Reading {
             before,
-            form: *form,
+            asked,
             place,
-            row,
+            calls,
         };
         play(rt, &reading);
     }
@@ -237,6 +324,18 @@ fn reads(rt: &impl Host, before: Before, place: usize, row: &Row) {
 fn reads_each(rt: &impl Host, before: Before, rows: &[Row]) {
     for (place, row) in rows.iter().enumerate() {
         reads(rt, before, place, row);
+    }
+}
+
+fn are_called(rt: &impl Host, before: Before, rows: &[Commanded]) {
+    for (place, (plain, fault, calls)) in rows.iter().enumerate() {
+        let reading = Reading {
+            before,
+            asked: Asked::Command(*plain, *fault),
+            place,
+            calls: *calls,
+        };
+        play(rt, &reading);
     }
 }
 
@@ -266,4 +365,19 @@ fn a_sum_is_read_only_where_the_limit_lies_below_what_the_member_has_used(rt: Ho
 #[test]
 fn an_older_root_that_is_good_serves_and_is_read_only_then(rt: HostRuntime) {
     reads_each(&rt, Before::Rotation, &ROTATED);
+}
+
+#[test]
+fn the_change_of_a_command_is_the_last_call(rt: HostRuntime) {
+    are_called(&rt, Before::Nothing, &DONE);
+}
+
+#[test]
+fn a_refused_command_only_reads(rt: HostRuntime) {
+    are_called(&rt, Before::Nothing, &REFUSED_COMMANDS);
+}
+
+#[test]
+fn a_cancellation_reads_its_key_and_its_record(rt: HostRuntime) {
+    are_called(&rt, Before::Cancellation, &CANCELLED);
 }

@@ -1,19 +1,9 @@
 //! The desk's replies if its store fails, or isn't called.
 
-use crate::expect::{Host, expect_eq, expect_row};
+use crate::prelude::*;
 use crate::refusing::Refusing;
-use crate::scene::{Scene, furnish, play, reply};
-use crate::values::{command, day, name, root, slot};
-use club_core::{ClubStore, OfficeFault, Refusal, Reply, StoreFault};
-use club_gate::{Desk, Fault, OfficeReply, key_signature};
+use club_gate::key_signature;
 use pass_forms::MAX_TEXT;
-use std::process::Abort;
-use std::test::*;
-use test_kit::minutes::NOON;
-use test_kit::passes::AMY_V2;
-use test_kit::requests::{ACCOUNT, BOOK_7};
-use test_kit::roots::ROOT;
-use test_kit::{COURT_AT_18, Piece, PlainCommand, join};
 
 // The signature of the longest name under a root of 64 bytes 7, by an independent program.
 const LONGEST: [u8; 32] = *b"\
@@ -27,7 +17,6 @@ struct Failure {
     fault: StoreFault,
 }
 
-/// The fixture, whose store fails so.
 fn failing_desk<S: ClubStore>(
     rt: &impl Host,
     desk: Desk<S>,
@@ -39,7 +28,7 @@ fn failing_desk<S: ClubStore>(
 }
 
 /// A booking is unavailable, and a new key and the day sheet fail.
-fn expect_failures<S: ClubStore>(rt: &impl Abort, desk: &mut Desk<S>, fault: StoreFault) {
+fn expect_failures<S: ClubStore>(rt: &impl Host, desk: &mut Desk<S>, fault: StoreFault) {
     let returned = reply(rt, desk, NOON, AMY_V2.as_bytes(), &BOOK_7);
     expect_eq(rt, &returned, &Reply::Refused(Refusal::Unavailable));
     let add_key = PlainCommand::AddKey("amy-2", "amy", ROOT);
@@ -49,7 +38,7 @@ fn expect_failures<S: ClubStore>(rt: &impl Abort, desk: &mut Desk<S>, fault: Sto
 }
 
 /// `court-1` has no persons at 18, and there is no key `amy-2`.
-fn expect_untouched<S: ClubStore>(rt: &impl Abort, store: &mut S) {
+fn expect_untouched<S: ClubStore>(rt: &impl Host, store: &mut S) {
     let held = store.slot(&slot(rt, &COURT_AT_18)).expect(rt, "a slot");
     expect_eq(rt, &held.taken, &0);
     let key = store.key_row(&name(rt, "amy-2")).expect(rt, "no fault");
@@ -91,17 +80,11 @@ const HEAD: &str = "MDAxN2xvY2F0aW9uIGNsdWItZGVzawowMDE5aWRlbnRpZmllciBrZXk6YW15
 
 const END: &str = "MDAyZnNpZ25hdHVyZSAAAAAAAAAAAAAAAAAAAAAAAAAAAAAAAAAAAAAAAAAAAAo";
 
-fn expect_refused<S: ClubStore>(
-    rt: &impl Abort,
-    desk: &mut Desk<S>,
-    pass: &[u8],
-    refusal: Refusal,
-) {
+fn expect_refused<S: ClubStore>(rt: &impl Host, desk: &mut Desk<S>, pass: &[u8], refusal: Refusal) {
     let returned = reply(rt, desk, NOON, pass, &ACCOUNT);
     expect_eq(rt, &returned, &Reply::Refused(refusal));
 }
 
-/// Every call fails.
 const ALWAYS: Failure = Failure {
     first: 1,
     fault: StoreFault::Storage,

@@ -2,26 +2,16 @@
 //! `tests/desk/refused_memory_tests.py` refuses each in turn, and none after it: a call that is out
 //! of memory changes nothing, and a second call is answered.
 
-use crate::expect::{Host, expect_eq};
-use crate::scene::{Scene, reply, try_to_play};
-use crate::values::{at, command, request};
-use club_core::{ClubStore, OfficeFault, Refusal, Reply, StoreFault};
-use club_gate::{Desk, Event, EventReply, Fault, OfficeReply, Words};
-use club_values::Kind;
-use std::process::Abort;
-use std::test::*;
-use test_kit::minutes::{NOON, START};
-use test_kit::passes::{AMY_1_SECOND_SIGNATURE, AMY_1_SIGNATURE, AMY_JSON, AMY_V1, AMY_V2};
-use test_kit::replies::{ACCOUNT_AFTER, ACCOUNT_BEFORE, BOOKED_7, KEY_REVOKED};
-use test_kit::requests::{ACCOUNT, BOOK_7, VIEW};
-use test_kit::roots::{ROOT, SECOND_ROOT};
-use test_kit::{COURT_AT_19, PlainCommand, PlainReply, PlainRequest};
+use crate::prelude::*;
+use crate::scene::try_to_play;
+use club_gate::{Event, EventReply, Words};
+use test_kit::passes::AMY_1_SECOND_SIGNATURE;
 
 const UNAVAILABLE: Reply = Reply::Refused(Refusal::Unavailable);
 
 /// The reply at noon; by a second call if the first is out of memory.
 fn reply_at_noon<S: ClubStore>(
-    rt: &impl Abort,
+    rt: &impl Host,
     desk: &mut Desk<S>,
     pass: &str,
     asked: &PlainRequest,
@@ -34,7 +24,7 @@ fn reply_at_noon<S: ClubStore>(
 }
 
 /// What amy's key sees of the club: her account, and two slots.
-fn amys_view<S: ClubStore>(rt: &impl Abort, desk: &mut Desk<S>) -> [Reply; 3] {
+fn amys_view<S: ClubStore>(rt: &impl Host, desk: &mut Desk<S>) -> [Reply; 3] {
     [
         reply_at_noon(rt, desk, AMY_V2, &ACCOUNT),
         reply_at_noon(rt, desk, AMY_V2, &VIEW),
@@ -47,7 +37,7 @@ const OUT_OF_MEMORY: OfficeReply = OfficeReply::Refused(Fault::Store(StoreFault:
 /// Ends the test unless the office gets this answer. If the first call is out of memory, the club
 /// must be unchanged, and a second call must get it.
 fn expect_answer<S: ClubStore>(
-    rt: &impl Abort,
+    rt: &impl Host,
     desk: &mut Desk<S>,
     plain: &PlainCommand,
     answer: &OfficeReply,
@@ -64,7 +54,7 @@ fn expect_answer<S: ClubStore>(
 }
 
 fn expect_answers<S: ClubStore>(
-    rt: &impl Abort,
+    rt: &impl Host,
     desk: &mut Desk<S>,
     commands: &[(PlainCommand, OfficeReply)],
 ) {
@@ -119,7 +109,7 @@ static REVOKED: [(PlainCommand, OfficeReply); 2] = [
     (PlainCommand::CloseSlot(COURT_AT_19), EXISTS),
 ];
 
-fn carries_out_commands<S: ClubStore>(rt: &impl Abort, desk: &mut Desk<S>) {
+fn carries_out_commands<S: ClubStore>(rt: &impl Host, desk: &mut Desk<S>) {
     expect_replied(rt, desk, AMY_V2, &ACCOUNT, &ACCOUNT_BEFORE);
     books(rt, desk, AMY_V2);
     expect_answers(rt, desk, &COMMANDS);
@@ -128,7 +118,7 @@ fn carries_out_commands<S: ClubStore>(rt: &impl Abort, desk: &mut Desk<S>) {
 }
 
 fn expect_replied<S: ClubStore>(
-    rt: &impl Abort,
+    rt: &impl Host,
     desk: &mut Desk<S>,
     pass: &str,
     asked: &PlainRequest,
@@ -141,7 +131,7 @@ fn expect_replied<S: ClubStore>(
 /// The first reply to the booking is the booking's, which is then on record. Or it is unavailable:
 /// then nothing changed, and a second request is served.
 fn is_booked_or_unavailable<S: ClubStore>(
-    rt: &impl Abort,
+    rt: &impl Host,
     desk: &mut Desk<S>,
     pass: &str,
     first: &Reply,
@@ -156,12 +146,11 @@ fn is_booked_or_unavailable<S: ClubStore>(
     expect_replied(rt, desk, pass, &ACCOUNT, &ACCOUNT_AFTER);
 }
 
-fn books<S: ClubStore>(rt: &impl Abort, desk: &mut Desk<S>, pass: &str) {
+fn books<S: ClubStore>(rt: &impl Host, desk: &mut Desk<S>, pass: &str) {
     let first = reply(rt, desk, NOON, pass.as_bytes(), &BOOK_7);
     is_booked_or_unavailable(rt, desk, pass, &first);
 }
 
-/// The one reply of these.
 fn only(replies: &[EventReply]) -> Option<Reply> {
     match replies {
         [EventReply::Replied(reply)] => Some(*reply),
@@ -170,7 +159,7 @@ fn only(replies: &[EventReply]) -> Option<Reply> {
 }
 
 /// The reply to a list of only the booking; unavailable too if the list is out of memory.
-fn reply_of_a_run<S: ClubStore>(rt: &impl Abort, desk: &mut Desk<S>, pass: &str) -> Reply {
+fn reply_of_a_run<S: ClubStore>(rt: &impl Host, desk: &mut Desk<S>, pass: &str) -> Reply {
     let words = Words {
         pass: pass.as_bytes(),
         request: request(rt, &BOOK_7),

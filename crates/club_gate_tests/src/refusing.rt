@@ -1,13 +1,11 @@
 //! A store that notes its calls in their order, and may fail from one of them on. Its contracts
 //! promise nothing.
 
-use crate::expect::expect_row;
-use club_core::{Change, ClubStore, MemberAccount, SlotUse, StoreFault};
+use crate::prelude::*;
+use club_core::{Change, MemberAccount, SlotUse};
 use club_rows::{Booking, BookingNumber, Facility, KeyRow, OlderRoot};
 use club_values::{Day, Moment, Name, Slot};
-use std::process::Abort;
 
-/// A call of a store.
 #[derive(Clone, Copy, Debug, PartialEq, Eq)]
 pub(crate) enum Call {
     Key,
@@ -49,13 +47,12 @@ impl<S: ClubStore> Refusing<S> {
         }
     }
 
-    /// A store of which no call fails.
     pub fn never(store: S) -> Refusing<S> {
         Refusing::from_call(usize::MAX, StoreFault::Storage, store)
     }
 
     /// Ends the test of a row unless these were the calls, in this order.
-    pub fn expect_calls(&self, rt: &impl Abort, row: usize, want: &[Call]) {
+    pub fn expect_calls(&self, rt: &impl Host, row: usize, want: &[Call]) {
         expect_row(rt, &row, &self.calls, &want.len());
         for (call, noted) in want.iter().zip(&self.noted) {
             expect_row(rt, &row, noted, &Some(*call));

@@ -5,10 +5,8 @@ use crate::values::{at, command, request};
 use club_core::{ClubStore, Reply, StoreFault};
 use club_gate::{Desk, OfficeReply, Words};
 use club_store::Store;
-use std::process::Abort;
 use test_kit::{FIXTURE, PlainCommand, PlainRequest};
 
-/// What happens at the desk of an empty club.
 pub(crate) trait Scene {
     fn play<S: ClubStore + Drop>(&self, rt: &impl Host, desk: Desk<S>);
 }
@@ -25,19 +23,17 @@ pub(crate) fn try_to_play(rt: &impl Host, scene: &impl Scene) -> Result<(), Stor
     Ok(())
 }
 
-/// Plays a scene over new tables in memory.
 pub(crate) fn play(rt: &impl Host, scene: &impl Scene) {
     try_to_play(rt, scene).expect(rt, "empty tables");
 }
 
-/// Gives a command that has to succeed.
-pub(crate) fn carry_out<S: ClubStore>(rt: &impl Abort, desk: &mut Desk<S>, plain: &PlainCommand) {
+pub(crate) fn carry_out<S: ClubStore>(rt: &impl Host, desk: &mut Desk<S>, plain: &PlainCommand) {
     let answer = desk.office(&command(rt, plain));
     expect_eq(rt, &matches!(answer, OfficeReply::Refused(_)), &false);
 }
 
 /// Makes the fixture at the desk of an empty club.
-pub(crate) fn furnish<S: ClubStore>(rt: &impl Abort, mut desk: Desk<S>) -> Desk<S> {
+pub(crate) fn furnish<S: ClubStore>(rt: &impl Host, mut desk: Desk<S>) -> Desk<S> {
     for plain in &FIXTURE {
         carry_out(rt, &mut desk, plain);
     }
@@ -46,7 +42,7 @@ pub(crate) fn furnish<S: ClubStore>(rt: &impl Abort, mut desk: Desk<S>) -> Desk<
 
 /// The reply at a moment to a request whose pass is these bytes.
 pub(crate) fn reply<S: ClubStore>(
-    rt: &impl Abort,
+    rt: &impl Host,
     desk: &mut Desk<S>,
     moment: u32,
     pass: &[u8],

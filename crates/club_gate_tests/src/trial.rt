@@ -1,17 +1,12 @@
 //! A desk beside the reference machine, and beside the solo machine, which holds only amy's part.
 
-use crate::expect::{Host, expect_eq};
 use crate::passes::text_of_asking;
-use crate::scene::reply;
-use crate::values::{at, command, name, push, request};
-use club_core::{ClubStore, OfficeAnswer};
-use club_gate::{
-    Desk, Event as SentEvent, EventReply, Fault, OfficeReply, Words as SentWords, key_signature,
-};
+use crate::prelude::*;
+use club_core::OfficeAnswer;
+use club_gate::{Event as SentEvent, EventReply, Words as SentWords, key_signature};
 use club_reference::{Club, Words};
-use std::process::Abort;
 use test_kit::drawn::{AMY, Asking, BEGINNING, Event};
-use test_kit::{PlainCommand, signed_pass};
+use test_kit::signed_pass;
 
 /// The desk, the reference machine, the solo machine of amy, and the names of her keys.
 #[derive(Drop)]
@@ -31,7 +26,7 @@ fn text_of(rt: &impl Host, event: &Event) -> String {
 }
 
 /// An event as it is sent to the desk, with the text of its pass.
-fn sent_event<'a>(rt: &impl Abort, event: &Event, text: &'a str) -> SentEvent<'a> {
+fn sent_event<'a>(rt: &impl Host, event: &Event, text: &'a str) -> SentEvent<'a> {
     match event {
         Event::Asked(asking) => SentEvent::Asked {
             words: SentWords {
@@ -65,7 +60,7 @@ fn desk_reply(answer: &OfficeAnswer) -> OfficeReply {
     }
 }
 
-fn office_answer(rt: &impl Abort, club: &mut Club, plain: &PlainCommand) -> OfficeAnswer {
+fn office_answer(rt: &impl Host, club: &mut Club, plain: &PlainCommand) -> OfficeAnswer {
     club.office(&command(rt, plain)).expect(rt, "memory")
 }
 
@@ -134,7 +129,7 @@ impl<S: ClubStore> Trial<S> {
     }
 
     /// Gives a command to the desk and the reference machine, and to amy's part if it is her own.
-    fn give(&mut self, rt: &impl Abort, plain: &PlainCommand) {
+    fn give(&mut self, rt: &impl Host, plain: &PlainCommand) {
         let answer = office_answer(rt, &mut self.reference, plain);
         let returned = self.desk.office(&command(rt, plain));
         expect_eq(rt, &returned, &desk_reply(&answer));
@@ -162,7 +157,6 @@ impl<S: ClubStore> Trial<S> {
         }
     }
 
-    /// Gives an event to the desk and to the machines.
     pub fn play(&mut self, rt: &impl Host, event: &Event) {
         match event {
             Event::Asked(asking) => self.ask(rt, asking),
@@ -170,7 +164,6 @@ impl<S: ClubStore> Trial<S> {
         }
     }
 
-    /// The desk's replies to events that are run at once.
     fn desk_replies(&mut self, rt: &impl Host, events: &[Event]) -> Vec<EventReply> {
         let mut texts = Vec::new(rt.alloc());
         for event in events {

@@ -1,57 +1,54 @@
 //! Values of the tests, made from plain ones.
 
-use crate::expect::expect_row;
+use crate::expect::{Host, expect_row};
 use club_core::{Command, Request};
 use club_rows::{Booking, BookingNumber, Root};
 use club_values::{Day, Moment, Name, Slot};
-use std::process::Abort;
-use std::test::*;
 use test_kit::minutes::{FIRST, NOON, START, UNTIL};
 use test_kit::{PlainBooking, PlainCommand, PlainRequest, PlainSlot};
 
-pub(crate) fn name(rt: &impl Abort, text: &str) -> Name {
+pub(crate) fn name(rt: &impl Host, text: &str) -> Name {
     Name::read(text.as_bytes()).expect(rt, "a name")
 }
 
-pub(crate) fn day(rt: &impl Abort, text: &str) -> Day {
+pub(crate) fn day(rt: &impl Host, text: &str) -> Day {
     Day::read(text.as_bytes()).expect(rt, "a day")
 }
 
 /// The moment of a minute, counted from 1970-01-01T00:00.
-pub(crate) fn at(rt: &impl Abort, minute: u32) -> Moment {
+pub(crate) fn at(rt: &impl Host, minute: u32) -> Moment {
     Moment::from_number(minute).expect(rt, "a moment")
 }
 
-pub(crate) fn moment(rt: &impl Abort, text: &str) -> Moment {
+pub(crate) fn moment(rt: &impl Host, text: &str) -> Moment {
     Moment::read(text.as_bytes()).expect(rt, "a moment")
 }
 
-pub(crate) fn root(rt: &impl Abort, bytes: &[u8]) -> Root {
+pub(crate) fn root(rt: &impl Host, bytes: &[u8]) -> Root {
     Root::new(bytes).expect(rt, "a root")
 }
 
-pub(crate) fn slot(rt: &impl Abort, slot: &PlainSlot) -> Slot {
+pub(crate) fn slot(rt: &impl Host, slot: &PlainSlot) -> Slot {
     slot.slot().expect(rt, "a slot")
 }
 
-pub(crate) fn number(rt: &impl Abort, number: u32) -> BookingNumber {
+pub(crate) fn number(rt: &impl Host, number: u32) -> BookingNumber {
     BookingNumber::new(number).expect(rt, "a number")
 }
 
-pub(crate) fn booking(rt: &impl Abort, booking: &PlainBooking) -> Booking {
+pub(crate) fn booking(rt: &impl Host, booking: &PlainBooking) -> Booking {
     booking.booking().expect(rt, "a booking")
 }
 
-pub(crate) fn request(rt: &impl Abort, asked: &PlainRequest) -> Request {
+pub(crate) fn request(rt: &impl Host, asked: &PlainRequest) -> Request {
     asked.request().expect(rt, "a request")
 }
 
-pub(crate) fn command(rt: &impl Abort, plain: &PlainCommand) -> Command {
+pub(crate) fn command(rt: &impl Host, plain: &PlainCommand) -> Command {
     plain.command().expect(rt, "a command")
 }
 
-/// Adds a value at the end.
-pub(crate) fn push<T: Drop>(rt: &impl Abort, values: &mut Vec<T>, value: T) {
+pub(crate) fn push<T: Drop>(rt: &impl Host, values: &mut Vec<T>, value: T) {
     values.push(value).expect(rt, "memory");
 }
 

@@ -4,6 +4,11 @@ use std::fmt::Debug;
 use std::process::Abort;
 use test_kit::{End, Output};
 
+/// Ends a test, and allocates.
+pub(crate) trait Host: Abort + AllocGlobal {}
+
+impl<R: Abort + AllocGlobal> Host for R {}
+
 /// Ends the test unless the values are equal. A test that calls it is proved in a third of the time
 /// of one that asserts.
 pub(crate) fn expect_eq<T: PartialEq + Debug>(rt: &impl Abort, returned: &T, want: &T) {

@@ -2,21 +2,17 @@
 
 use crate::desk::{Event, FIXTURE};
 use crate::disk::{Bytes, NEVER, Part, Stop, Stops};
-use crate::expect::{append, expect_case, push, text};
+use crate::expect::{Host, append, expect_case, push};
 use crate::reference_club::{Version, lines_of, replies};
 use crate::torn::{Case, KEPT, LOST, changes_in, digest_of_left, left, tried_of};
 use crate::work::{Work, do_over};
 use club_reference::Club;
 use sqlite::Files;
-use std::alloc::Global;
-use std::process::Abort;
 use test_kit::exchanges::UNAVAILABLE;
 use test_kit::version_1::{OLDER_ROOTS, STATEMENTS};
 
-/// The files before the task.
 #[derive(Clone, Copy)]
 pub(crate) enum Beginning {
-    /// They are empty.
     Nothing,
     /// A desk has made the club of the fixture and these events.
     Made(&'static [Event]),
@@ -26,21 +22,15 @@ pub(crate) enum Beginning {
     Unindexed(&'static [Event]),
 }
 
-/// A task, and its expected results.
-pub(crate) struct Trial {
-    pub beginning: Beginning,
-    /// Events at the desk that is opened; none if the opening is the task.
-    pub task: &'static [Event],
-    /// Events after the restart: the task again, and requests that change nothing.
-    pub again: &'static [Event],
-    /// The replies to these, and in place of the first one the refusal of what was done before, if
-    /// it is refused.
-    pub replies: &'static [&'static str],
-    pub refused: Option<&'static str>,
-    /// The number of the task's calls of the log, and of the database: for a commit 42 and 60, and
-    /// two and one for each page that it changes.
-    pub calls: [u64; 2],
-}
+/// The files before a task, its events (none if the opening is the task), and the events after it
+/// is done again, which change nothing. Then the number of the task's calls of the log, and of the
+/// database: for a commit 42 and 60, and two and one for each page that it changes.
+pub(crate) struct Trial(
+    pub Beginning,
+    pub &'static [Event],
+    pub &'static [Event],
+    pub [u64; 2],
+);
 
 impl Beginning {
     fn version(&self) -> Version {
@@ -51,8 +41,7 @@ impl Beginning {
         }
     }
 
-    /// The reference machine's club.
-    fn club(&self, rt: &(impl Abort + Alloc<A = Global>)) -> Club {
+    fn club(&self, rt: &impl Host) -> Club {
         let mut club = Club::new(rt.alloc());
         match *self {
             Beginning::Nothing => {}
@@ -64,14 +53,13 @@ impl Beginning {
         club
     }
 
-    /// What is in the files.
-    fn bytes(&self, rt: &(impl Abort + Alloc<A = Global>)) -> Bytes {
+    fn bytes(&self, rt: &impl Host) -> Bytes {
         let none = Bytes::none(rt);
         match *self {
             Beginning::Nothing => none,
             Beginning::Made(events) => {
-                let made = after(rt, &none, Work::Serves(&FIXTURE));
-                after(rt, &made, Work::Serves(events))
+                let made = after(rt, &none, Work::Serves(&FIXTURE, &[]));
+                after(rt, &made, Work::Serves(events, &[]))
             }
             Beginning::First(_) => after(rt, &none, Work::Runs(&STATEMENTS)),
             Beginning::Unindexed(_) => {
@@ -83,15 +71,15 @@ impl Beginning {
 }
 
 /// What is in files of these bytes after this, which doesn't fail.
-fn after(rt: &(impl Abort + Alloc<A = Global>), bytes: &Bytes, work: Work) -> Bytes {
+fn after(rt: &impl Host, bytes: &Bytes, work: Work) -> Bytes {
     Bytes::of_files(rt, &do_over(rt, bytes, NEVER, work).files)
 }
 
 /// The number of replies before the first that is another than wanted.
-fn alike(replies: &[String], wanted: &[&str]) -> usize {
+fn alike(replies: &[String], wanted: &[String]) -> usize {
     let mut alike = 0;
     for (reply, text) in replies.iter().zip(wanted) {
-        if reply.as_str() != *text {
+        if reply != text {
             return alike;
         }
         alike = alike.saturating_add(1);
@@ -100,85 +88,63 @@ fn alike(replies: &[String], wanted: &[&str]) -> usize {
 }
 
 impl Trial {
+    /// The expected lines of files with a club, of which the tables have this version: its rows,
+    /// the replies to the task again and to the events after it, and the rows after these.
+    fn lines(&self, rt: &impl Host, club: &Club, version: Version) -> Vec<String> {
+        let Trial(_, task, then, _) = self;
+        let mut lines = lines_of(rt, club, version);
+        let mut club = club.duplicate().expect(rt, "memory");
+        append(rt, &mut lines, replies(rt, &mut club, task));
+        append(rt, &mut lines, replies(rt, &mut club, then));
+        append(rt, &mut lines, lines_of(rt, &club, Version::Second));
+        lines
+    }
+
     /// The expected lines of files with each club that the task goes through, from the first one
-    /// on: rows, replies to the task again, and the rows after these.
-    fn clubs(&self, rt: &(impl Abort + Alloc<A = Global>)) -> Vec<Vec<String>> {
-        let mut club = self.beginning.club(rt);
+    /// on.
+    fn clubs(&self, rt: &impl Host) -> Vec<Vec<String>> {
+        let Trial(beginning, task, _, _) = self;
+        let mut club = beginning.club(rt);
         let mut clubs = Vec::new(rt.alloc());
-        push(
-            rt,
-            &mut clubs,
-            lines_of(rt, &club, self.beginning.version()),
-        );
-        for event in self.task {
+        push(rt, &mut clubs, self.lines(rt, &club, beginning.version()));
+        for event in *task {
             replies(rt, &mut club, &[*event]);
-            push(rt, &mut clubs, lines_of(rt, &club, Version::Second));
+            push(rt, &mut clubs, self.lines(rt, &club, Version::Second));
         }
-        if self.task.is_empty() {
-            push(rt, &mut clubs, lines_of(rt, &club, Version::Second));
-        }
-        let mut refused = None;
-        for lines in clubs.iter_mut() {
-            append(rt, lines, self.replies_with(rt, refused));
-            append(rt, lines, lines_of(rt, &club, Version::Second));
-            refused = self.refused;
+        if task.is_empty() {
+            push(rt, &mut clubs, self.lines(rt, &club, Version::Second));
         }
         clubs
     }
 
-    /// The replies, with this refusal in place of the first one, if there is one.
-    fn replies_with(
-        &self,
-        rt: &(impl Abort + Alloc<A = Global>),
-        mut refused: Option<&'static str>,
-    ) -> Vec<String> {
-        let mut lines = Vec::new(rt.alloc());
-        for reply in self.replies {
-            let line = refused.take().unwrap_or(reply);
-            push(rt, &mut lines, text(rt, String::from_str(rt.alloc(), line)));
-        }
-        lines
-    }
-
-    /// The number of the task's events that were done, by its replies; `None` if the database
-    /// wasn't opened. An event that is done has the first of the replies to the task again. At the
-    /// next one, if there is one, the desk failed.
-    fn done_by(&self, rt: &impl Abort, replies: &Option<Vec<String>>) -> Option<usize> {
-        let Some(replies) = replies else {
-            return None;
-        };
-        let done = alike(replies, self.replies);
-        if let Some(reply) = replies.get(done) {
-            let has_failed = reply.as_str() == UNAVAILABLE || reply.as_str() == "storage failed";
-            expect_case(rt, reply.as_str(), &has_failed, &true);
-        }
-        Some(done)
-    }
-
     /// The numbers of the first and the last of the clubs that may be found after a number of
-    /// events. After an event that failed this may also be the club from after it.
+    /// events; `None` if the database wasn't opened. After an event that failed this may also be
+    /// the club from after it.
     fn may_be_found(&self, done: Option<usize>) -> (usize, usize) {
+        let task = self.1;
         match done {
-            None if self.task.is_empty() => (0, 1),
+            None if task.is_empty() => (0, 1),
             None => (0, 0),
-            Some(events) if events < self.task.len() => (events, events.saturating_add(1)),
+            Some(events) if events < task.len() => (events, events.saturating_add(1)),
             Some(events) => (events.max(1), events.max(1)),
         }
     }
 
-    /// The lines of files of these bytes: their rows, the replies to the task again, and the rows
-    /// then.
-    fn found_in(&self, rt: &(impl Abort + Alloc<A = Global>), bytes: &Bytes) -> Vec<String> {
-        let found = do_over(rt, bytes, NEVER, Work::Inspects(self.again));
+    /// The lines of files of these bytes: their rows, the replies to the task again and to the
+    /// events after it, and the rows then.
+    fn found_in(&self, rt: &impl Host, bytes: &Bytes) -> Vec<String> {
+        let found = do_over(rt, bytes, NEVER, Work::Inspects(self.1, self.2));
         found.lines.expect(rt, "a database")
     }
 
     /// Ends the test unless the club is whole wherever one of the files fails.
-    pub fn holds(&self, rt: &(impl Abort + Alloc<A = Global>)) {
+    pub fn holds(&self, rt: &impl Host) {
+        let wanted = replies(rt, &mut self.0.club(rt), self.1);
         let mut crashes = Crashes {
             trial: self,
-            bytes: self.beginning.bytes(rt),
+            bytes: self.0.bytes(rt),
             clubs: self.clubs(rt),
+            replies: wanted,
             tried: Vec::new(rt.alloc()),
         };
         let found = self.found_in(rt, &crashes.bytes);
@@ -186,26 +152,42 @@ impl Trial {
         expect_case(rt, "the club before the task", &found, before);
         let log = crashes.calls_of(rt, Part::Log);
         let database = crashes.calls_of(rt, Part::Database);
-        expect_case(rt, "calls", &[log, database], &self.calls);
+        expect_case(rt, "calls", &[log, database], &self.3);
     }
 }
 
-/// A task with the files before it, and the lines of each club that it goes through. The digests
-/// are of the files that it left and were tried, each with the number of events done.
+/// A task with the files before it, the lines of each club that it goes through, and the replies to
+/// its events. The digests are of the files that it left and were tried, each with the number of
+/// events done.
 #[derive(Drop)]
 struct Crashes<'a> {
     trial: &'a Trial,
     bytes: Bytes,
     clubs: Vec<Vec<String>>,
+    replies: Vec<String>,
     tried: Vec<u64>,
 }
 
 impl Crashes<'_> {
+    /// The number of the task's events that were done, by its replies; `None` if the database
+    /// wasn't opened. At the next event, if there is one, the desk failed.
+    fn done_by(&self, rt: &impl Host, replies: &Option<Vec<String>>) -> Option<usize> {
+        let Some(replies) = replies else {
+            return None;
+        };
+        let done = alike(replies, &self.replies);
+        if let Some(reply) = replies.get(done) {
+            let has_failed = reply.as_str() == UNAVAILABLE || reply.as_str() == "storage failed";
+            expect_case(rt, reply.as_str(), &has_failed, &true);
+        }
+        Some(done)
+    }
+
     /// Ends the test unless the files that are left in this case hold one of the clubs that may be
     /// found, and after the task again the club after it. Returns whether it wasn't tried before.
     fn expect_left(
         &mut self,
-        rt: &(impl Abort + Alloc<A = Global>),
+        rt: &impl Host,
         done: Option<usize>,
         files: &Files<Stops>,
         case: &Case,
@@ -232,7 +214,7 @@ impl Crashes<'_> {
     /// of keeping a part of it; not at all if they were left so at another stop.
     fn expect_each_left(
         &mut self,
-        rt: &(impl Abort + Alloc<A = Global>),
+        rt: &impl Host,
         done: Option<usize>,
         files: &Files<Stops>,
         turn: usize,
@@ -254,22 +236,18 @@ impl Crashes<'_> {
 
     /// Does the task on files of which one stops there, and reopens what is left of them. Returns
     /// whether the file had calls left: then it didn't stop.
-    fn survives(&mut self, rt: &(impl Abort + Alloc<A = Global>), stop: Stop) -> bool {
-        let work = do_over(rt, &self.bytes, stop, Work::Serves(self.trial.task));
-        let done = self.trial.done_by(rt, &work.lines);
+    fn survives(&mut self, rt: &impl Host, stop: Stop) -> bool {
+        let work = do_over(rt, &self.bytes, stop, Work::Serves(self.trial.1, &[]));
+        let done = self.done_by(rt, &work.lines);
         self.expect_each_left(rt, done, &work.files, stop.calls as usize);
-        let is_done = done == Some(self.trial.task.len());
-        expect_case(
-            rt,
-            "done or stopped",
-            &(is_done || !work.has_calls_left),
-            &true,
-        );
+        let is_done = done == Some(self.trial.1.len());
+        let is_done_or_stopped = is_done || !work.has_calls_left;
+        expect_case(rt, "done or stopped", &is_done_or_stopped, &true);
         work.has_calls_left
     }
 
     /// The number of the task's calls of one file, which fails at each of them in turn.
-    fn calls_of(&mut self, rt: &(impl Abort + Alloc<A = Global>), part: Part) -> u64 {
+    fn calls_of(&mut self, rt: &impl Host, part: Part) -> u64 {
         self.tried.clear();
         for calls in 0..1_000u64 {
             if self.survives(rt, Stop { part, calls }) {

@@ -1,18 +1,15 @@
 //! Events at a desk, and the texts of their replies.
 
-use crate::expect::{expect_case, push, text};
+use crate::expect::{Host, expect_case, push, text};
 use club_core::{ClubStore, Reply};
 use club_gate::OfficeReply;
 use club_http::{
     Desk, Face, MAX_REPLY_LEN, ReadInlet, Routes, Words, WriteOutlet, answer, reply_bytes, words_of,
 };
 use club_values::{Kind, Moment};
-use std::alloc::Global;
-use std::process::Abort;
 use test_kit::PlainCommand;
 use test_kit::roots::ROOT;
 
-/// An event at a desk.
 #[derive(Clone, Copy)]
 pub(crate) enum Event {
     Gives(PlainCommand),
@@ -34,12 +31,11 @@ pub(crate) static FIXTURE: [Event; 8] = [
     Event::Gives(PlainCommand::AddFacility("room-1", Kind::Room, 1, 601, 8, 22)),
 ];
 
-pub(crate) fn moment(rt: &impl Abort, text: &str) -> Moment {
+pub(crate) fn moment(rt: &impl Host, text: &str) -> Moment {
     Moment::read(text.as_bytes()).expect(rt, "a moment")
 }
 
-/// The bytes of a reply.
-pub(crate) fn reply_text(rt: &(impl Abort + Alloc<A = Global>), reply: &Reply) -> String {
+pub(crate) fn reply_text(rt: &impl Host, reply: &Reply) -> String {
     let mut room = [0; MAX_REPLY_LEN];
     let len = reply_bytes(reply, &mut room);
     let bytes = room[..len].to_vec(rt.alloc()).expect(rt, "memory");
@@ -47,7 +43,7 @@ pub(crate) fn reply_text(rt: &(impl Abort + Alloc<A = Global>), reply: &Reply) -
 }
 
 /// The answer to the office: `done`, the signature of a pass, or why nothing was done.
-pub(crate) fn office_text(rt: &(impl Abort + Alloc<A = Global>), reply: &OfficeReply) -> String {
+pub(crate) fn office_text(rt: &impl Host, reply: &OfficeReply) -> String {
     match reply {
         OfficeReply::Done => text(rt, format!(in rt.alloc(); "done")),
         OfficeReply::Key { signature } => text(rt, hex::encode(rt.alloc(), *signature)),
@@ -55,8 +51,7 @@ pub(crate) fn office_text(rt: &(impl Abort + Alloc<A = Global>), reply: &OfficeR
     }
 }
 
-/// The words of a request's bytes.
-pub(crate) fn words_in<'a>(rt: &(impl Abort + Alloc<A = Global>), bytes: &'a str) -> Words<'a> {
+pub(crate) fn words_in<'a>(rt: &impl Host, bytes: &'a str) -> Words<'a> {
     let routes = Routes::new(rt.alloc()).expect(rt, "routes");
     match words_of(&routes, bytes.as_bytes()) {
         Ok(words) => words,
@@ -65,12 +60,7 @@ pub(crate) fn words_in<'a>(rt: &(impl Abort + Alloc<A = Global>), bytes: &'a str
 }
 
 /// The reply to a request's bytes, by `answer`, which writes the reply and nothing else.
-fn exchange<S: ClubStore>(
-    rt: &(impl Abort + Alloc<A = Global>),
-    desk: &mut Desk<S>,
-    at: &str,
-    bytes: &str,
-) -> String {
+fn exchange<S: ClubStore>(rt: &impl Host, desk: &mut Desk<S>, at: &str, bytes: &str) -> String {
     let mut face = Face::new(rt.alloc()).expect(rt, "a face");
     let mut reader = ReadInlet::new(bytes.as_bytes());
     let mut output = Vec::new(rt.alloc());
@@ -82,12 +72,7 @@ fn exchange<S: ClubStore>(
     written
 }
 
-/// The reply to an event.
-fn reply<S: ClubStore>(
-    rt: &(impl Abort + Alloc<A = Global>),
-    desk: &mut Desk<S>,
-    event: &Event,
-) -> String {
+fn reply<S: ClubStore>(rt: &impl Host, desk: &mut Desk<S>, event: &Event) -> String {
     match event {
         Event::Gives(plain) => {
             let command = plain.command().expect(rt, "a command");
@@ -101,15 +86,16 @@ fn reply<S: ClubStore>(
     }
 }
 
-/// The replies of a desk over a store to events, one after the other; and the store after them.
+/// The replies of a desk over a store to the events of two lists; and the store after them.
 pub(crate) fn replies_over<S: ClubStore>(
-    rt: &(impl Abort + Alloc<A = Global>),
+    rt: &impl Host,
     store: S,
     events: &[Event],
+    then: &[Event],
 ) -> (Vec<String>, S) {
     let mut desk = Desk::new(rt.alloc(), store);
     let mut replies = Vec::new(rt.alloc());
-    for event in events {
+    for event in events.iter().chain(then) {
         push(rt, &mut replies, reply(rt, &mut desk, event));
     }
     (replies, desk.into_store())

@@ -1,15 +1,13 @@
 //! Two files in memory, of which one may fail after so many calls.
 
+use crate::expect::Host;
 use crate::recorded::Recorded;
 use sqlite::Files;
 use sqlite_disk::{Disk, Fuse};
-use std::alloc::Global;
-use std::process::Abort;
 
 /// A file that fails from some call on.
 pub(crate) type Stops = Fuse<Recorded>;
 
-/// The log beside the database, and the database itself.
 #[derive(Clone, Copy)]
 pub(crate) enum Part {
     Log,
@@ -23,13 +21,11 @@ pub(crate) struct Stop {
     pub calls: u64,
 }
 
-/// Neither ever fails.
 pub(crate) const NEVER: Stop = Stop {
     part: Part::Log,
     calls: u64::MAX,
 };
 
-/// The bytes of the files.
 #[derive(Drop)]
 pub(crate) struct Bytes {
     pub log: Vec<u8>,
@@ -37,8 +33,7 @@ pub(crate) struct Bytes {
 }
 
 impl Bytes {
-    /// None.
-    pub fn none(rt: &impl Alloc<A = Global>) -> Bytes {
+    pub fn none(rt: &impl Host) -> Bytes {
         Bytes {
             log: Vec::new(rt.alloc()),
             db: Vec::new(rt.alloc()),
@@ -46,7 +41,7 @@ impl Bytes {
     }
 
     /// All that is in the files, synced or not.
-    pub fn of_files(rt: &(impl Abort + Alloc<A = Global>), files: &Files<Stops>) -> Bytes {
+    pub fn of_files(rt: &impl Host, files: &Files<Stops>) -> Bytes {
         Bytes {
             log: Vec::from_slice(rt.alloc(), files.log.inner().bytes()).expect(rt, "memory"),
             db: Vec::from_slice(rt.alloc(), files.db.inner().bytes()).expect(rt, "memory"),
@@ -54,7 +49,7 @@ impl Bytes {
     }
 
     /// Files of which one stops there.
-    pub fn files(&self, rt: &(impl Abort + Alloc<A = Global>), stop: Stop) -> Files<Stops> {
+    pub fn files(&self, rt: &impl Host, stop: Stop) -> Files<Stops> {
         let (log_calls, db_calls) = match stop.part {
             Part::Log => (stop.calls, u64::MAX),
             Part::Database => (u64::MAX, stop.calls),

@@ -4,6 +4,11 @@ use std::alloc::AllocError;
 use std::fmt::Debug;
 use std::process::Abort;
 
+/// Ends a test, and allocates.
+pub(crate) trait Host: Abort + AllocGlobal {}
+
+impl<R: Abort + AllocGlobal> Host for R {}
+
 /// Ends the test unless the values are equal. A test that calls it is proved in a third of the time
 /// of one that asserts.
 pub(crate) fn expect_eq<T: PartialEq + Debug>(rt: &impl Abort, returned: &T, want: &T) {
@@ -20,12 +25,10 @@ pub(crate) fn expect_case<T: PartialEq + Debug>(
     assert_eq!(rt; returned, want, "{case}");
 }
 
-/// Adds a value at the end.
 pub(crate) fn push<T: Drop>(rt: &impl Abort, values: &mut Vec<T>, value: T) {
     values.push(value).expect(rt, "memory");
 }
 
-/// Adds lines at the end of others.
 pub(crate) fn append(rt: &impl Abort, lines: &mut Vec<String>, mut more: Vec<String>) {
     lines.append(&mut more).expect(rt, "memory");
 }

@@ -1,12 +1,10 @@
 //! Requests that are cut, and writers that fail.
 
 use crate::ends::{Giver, Taker, WHOLE};
-use crate::expect::{expect_case, expect_eq};
+use crate::expect::{Host, expect_case, expect_eq};
 use crate::front::{Front, KEPT, NOT_YET, Scene, play};
 use club_core::ClubStore;
 use club_http::{AnswerFault, MAX_REPLY_LEN};
-use std::alloc::Global;
-use std::process::Abort;
 use test_kit::exchanges::{BAD_REQUEST, BOOK_7, BOOKED_7};
 use test_kit::join;
 use test_kit::passes::AMY_V2;
@@ -36,18 +34,15 @@ static WHOLE_ONES: [Whole; 8] = [
 ];
 
 impl Scene for Whole {
-    fn play<S: ClubStore>(&self, rt: &(impl Abort + Alloc<A = Global>), front: &mut Front<S>) {
+    fn play<S: ClubStore>(&self, rt: &impl Host, front: &mut Front<S>) {
         let Whole(behind, gives, takes, stay, reads, writes) = *self;
         let text = join(rt.alloc(), &[(1, BOOK_7), (behind, "x")]).expect(rt, "memory");
         let mut giver = Giver::failing(text.as_bytes(), gives);
         let mut taker = Taker::new(takes, MAX_REPLY_LEN, false);
         expect_eq(rt, &front.exchange(rt, &mut giver, &mut taker), &None);
         expect_case(rt, BOOK_7, &taker.written_bytes(), &BOOKED_7.as_bytes());
-        expect_eq(
-            rt,
-            &(giver.left.len(), giver.calls, taker.calls),
-            &(stay, reads, writes),
-        );
+        let counts = (giver.left.len(), giver.calls, taker.calls);
+        expect_eq(rt, &counts, &(stay, reads, writes));
     }
 }
 
@@ -63,7 +58,7 @@ fn whole_exchanges(rt: HostRuntime) {
 struct CutInput;
 
 impl Scene for CutInput {
-    fn play<S: ClubStore>(&self, rt: &(impl Abort + Alloc<A = Global>), front: &mut Front<S>) {
+    fn play<S: ClubStore>(&self, rt: &impl Host, front: &mut Front<S>) {
         let bytes = BOOK_7.as_bytes();
         for len in 0..bytes.len() {
             let taker = front.written_to(rt, &bytes[..len]);
@@ -91,7 +86,7 @@ struct ShortWriter {
 }
 
 impl Scene for ShortWriter {
-    fn play<S: ClubStore>(&self, rt: &(impl Abort + Alloc<A = Global>), front: &mut Front<S>) {
+    fn play<S: ClubStore>(&self, rt: &impl Host, front: &mut Front<S>) {
         let mut giver = Giver::failing(BOOK_7.as_bytes(), WHOLE);
         let mut taker = Taker::new(MAX_REPLY_LEN, self.len, self.stalls);
         let fault = front.exchange(rt, &mut giver, &mut taker);

@@ -2,13 +2,11 @@
 
 use crate::desk::moment;
 use crate::ends::{Giver, Taker};
-use crate::expect::{expect_case, expect_eq, text};
+use crate::expect::{Host, expect_case, expect_eq, text};
 use club_core::ClubStore;
 use club_gate::OfficeReply;
 use club_http::{AnswerFault, Desk, Face, ReadInlet, WriteOutlet, answer};
 use club_store::Store;
-use std::alloc::Global;
-use std::process::Abort;
 use test_kit::FIXTURE;
 use test_kit::exchanges::{ACCOUNT, BALANCE_9400, BALANCE_10000, BOOK_7, BOOKED_7};
 use test_kit::moments::NOON;
@@ -42,16 +40,11 @@ pub(crate) static KEPT: [Step; 3] = [
 ];
 
 /// A request with another pass in the place of amy's in V2.
-pub(crate) fn with_pass(
-    rt: &(impl Abort + Alloc<A = Global>),
-    request: &str,
-    pass: &str,
-) -> String {
+pub(crate) fn with_pass(rt: &impl Host, request: &str, pass: &str) -> String {
     let (front, end) = request.split_once(AMY_V2).expect(rt, "a pass");
     text(rt, format!(in rt.alloc(); "{front}{pass}{end}"))
 }
 
-/// A desk behind its face.
 #[derive(Drop)]
 pub(crate) struct Front<S: ClubStore> {
     face: Face,
@@ -60,12 +53,12 @@ pub(crate) struct Front<S: ClubStore> {
 
 /// What is done at a desk behind its face, whose club is the fixture.
 pub(crate) trait Scene {
-    fn play<S: ClubStore>(&self, rt: &(impl Abort + Alloc<A = Global>), front: &mut Front<S>);
+    fn play<S: ClubStore>(&self, rt: &impl Host, front: &mut Front<S>);
 }
 
 /// Plays a scene over a new fixture in memory. It is the one function here that names the type of
 /// the tables: the proof of each takes some ten seconds.
-pub(crate) fn play(rt: &(impl Abort + Alloc<A = Global>), scene: &impl Scene) {
+pub(crate) fn play(rt: &impl Host, scene: &impl Scene) {
     let store = Store::open_in_memory(rt.alloc()).expect(rt, "a store");
     let mut front = Front {
         face: Face::new(rt.alloc()).expect(rt, "a face"),
@@ -76,7 +69,7 @@ pub(crate) fn play(rt: &(impl Abort + Alloc<A = Global>), scene: &impl Scene) {
 }
 
 impl<S: ClubStore> Front<S> {
-    fn makes_the_fixture(&mut self, rt: &impl Abort) {
+    fn makes_the_fixture(&mut self, rt: &impl Host) {
         for plain in &FIXTURE {
             let command = plain.command().expect(rt, "a command");
             let fault = match self.desk.office(&command) {
@@ -90,7 +83,7 @@ impl<S: ClubStore> Front<S> {
     /// One exchange at noon, and why it fails; `None` where it doesn't.
     pub fn exchange(
         &mut self,
-        rt: &impl Abort,
+        rt: &impl Host,
         giver: &mut Giver<'_>,
         taker: &mut Taker,
     ) -> Option<AnswerFault> {
@@ -101,7 +94,7 @@ impl<S: ClubStore> Front<S> {
     }
 
     /// The output for these bytes, after which the input ends.
-    pub fn written_to(&mut self, rt: &impl Abort, bytes: &[u8]) -> Taker {
+    pub fn written_to(&mut self, rt: &impl Host, bytes: &[u8]) -> Taker {
         let mut taker = Taker::whole();
         let fault = self.exchange(rt, &mut Giver::ending(bytes), &mut taker);
         expect_eq(rt, &fault, &None);
@@ -109,16 +102,11 @@ impl<S: ClubStore> Front<S> {
     }
 
     /// Plays steps under a pass; fails the test at the first that gets another reply.
-    pub fn plays(&mut self, rt: &(impl Abort + Alloc<A = Global>), pass: &str, steps: &[Step]) {
+    pub fn plays(&mut self, rt: &impl Host, pass: &str, steps: &[Step]) {
         for Step(asked, want) in steps {
             let request = with_pass(rt, asked, pass);
             let taker = self.written_to(rt, request.as_bytes());
-            expect_case(
-                rt,
-                request.as_str(),
-                &taker.written_bytes(),
-                &want.as_bytes(),
-            );
+            expect_case(rt, asked, &taker.written_bytes(), &want.as_bytes());
         }
     }
 }

@@ -5,10 +5,9 @@ use club_store::laws::{files_hold_one_of, memory_disk_is_clean, one_club_recover
 use desk_theorem::served_survives_a_crash;
 use sqlite::Unknown;
 use std::process::Abort;
-use std::test::*;
+use std::test::Fail;
 use std::{env, fs, process};
 
-/// A path of this process alone.
 fn new_path(rt: &HostRuntime, name: &str) -> Result<String, Fail> {
     let folder = env::temp_dir(rt)?;
     let folder = folder.as_str();
@@ -16,7 +15,6 @@ fn new_path(rt: &HostRuntime, name: &str) -> Result<String, Fail> {
     Ok(format!(in rt.alloc(); "{folder}/crash-{name}-{id}")?)
 }
 
-/// Removes a database and its log.
 fn remove(rt: &HostRuntime, path: &str) {
     let _ = fs::remove_file(rt, path);
     if let Ok(log) = format!(in rt.alloc(); "{path}-wal") {

@@ -21,7 +21,6 @@ pub(crate) struct Change {
     pub digest: u64,
 }
 
-/// A file in memory.
 #[derive(Drop)]
 pub(crate) struct Recorded {
     bytes: Vec<u8>,
@@ -166,7 +165,6 @@ fn count(outcome: Result<(), AllocError>, faults: &mut u64) -> io::Result<()>
     Ok(())
 }
 
-/// Keeps a change.
 fn note(
     changes: &mut Vec<Change>,
     at: Option<usize>,

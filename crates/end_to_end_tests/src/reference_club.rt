@@ -1,34 +1,31 @@
 //! The reference machine's club: its replies to events, and the rows that its tables have then.
 
 use crate::desk::{Event, moment, office_text, reply_text, words_in};
-use crate::expect::{push, text};
+use crate::expect::{Host, push, text};
 use crate::tables::{add_no_tables, none_of};
 use club_core::OfficeAnswer;
 use club_gate::{Fault, OfficeReply, key_signature};
 use club_reference::{Club, Words};
 use club_rows::{Booking, Facility, Key, Member};
 use club_values::{Name, Slot};
-use std::alloc::Global;
-use std::process::Abort;
 use test_kit::roots::ROOT;
 use test_kit::signed_pass;
 
 /// Which tables a file has.
 #[derive(Clone, Copy, PartialEq, Eq)]
 pub(crate) enum Version {
-    /// None yet.
     None,
     /// Tables without older roots.
     First,
     Second,
 }
 
-fn name(rt: &impl Abort, text: &str) -> Name {
+fn name(rt: &impl Host, text: &str) -> Name {
     Name::read(text.as_bytes()).expect(rt, "a name")
 }
 
 /// The reply to a request under the pass of `amy-1` that is signed under the first root.
-fn ask(rt: &(impl Abort + Alloc<A = Global>), club: &mut Club, at: &str, bytes: &str) -> String {
+fn ask(rt: &impl Host, club: &mut Club, at: &str, bytes: &str) -> String {
     let pass = signed_pass(rt.alloc(), Some(name(rt, "amy-1")), ROOT, &[]);
     let words = Words {
         pass: Ok(pass.expect(rt, "a pass")),
@@ -48,7 +45,7 @@ fn desk_reply(answer: &OfficeAnswer) -> OfficeReply {
     }
 }
 
-fn reply(rt: &(impl Abort + Alloc<A = Global>), club: &mut Club, event: &Event) -> String {
+fn reply(rt: &impl Host, club: &mut Club, event: &Event) -> String {
     match event {
         Event::Gives(plain) => {
             let command = plain.command().expect(rt, "a command");
@@ -59,12 +56,7 @@ fn reply(rt: &(impl Abort + Alloc<A = Global>), club: &mut Club, event: &Event) 
     }
 }
 
-/// The reference machine's replies to events.
-pub(crate) fn replies(
-    rt: &(impl Abort + Alloc<A = Global>),
-    club: &mut Club,
-    events: &[Event],
-) -> Vec<String> {
+pub(crate) fn replies(rt: &impl Host, club: &mut Club, events: &[Event]) -> Vec<String> {
     let mut replies = Vec::new(rt.alloc());
     for event in events {
         push(rt, &mut replies, reply(rt, club, event));
@@ -72,34 +64,25 @@ pub(crate) fn replies(
     replies
 }
 
-fn add_member(
-    rt: &(impl Abort + Alloc<A = Global>),
-    lines: &mut Vec<String>,
-    club: &Club,
-    member: &Member,
-) {
+fn add_member(rt: &impl Host, lines: &mut Vec<String>, club: &Club, member: &Member) {
     let (name, credited, quota) = (&member.name, member.credited, member.quota);
     let used = credited.saturating_sub(club.balance(member));
     let line = format!(in rt.alloc(); "member {name} {credited} {quota} {used}");
     push(rt, lines, text(rt, line));
 }
 
-fn add_facility(
-    rt: &(impl Abort + Alloc<A = Global>),
-    lines: &mut Vec<String>,
-    facility: &Facility,
-) {
+fn add_facility(rt: &impl Host, lines: &mut Vec<String>, facility: &Facility) {
     let (name, kind, places) = (&facility.name, facility.kind, facility.places);
     let (price, opens, shuts) = (facility.price, facility.opens, facility.shuts);
     let line = format!(in rt.alloc(); "facility {name} {kind} {places} {price} {opens} {shuts}");
     push(rt, lines, text(rt, line));
 }
 
-fn hex_of(rt: &(impl Abort + Alloc<A = Global>), bytes: &[u8]) -> String {
+fn hex_of(rt: &impl Host, bytes: &[u8]) -> String {
     text(rt, hex::encode_upper(rt.alloc(), bytes))
 }
 
-fn add_key(rt: &(impl Abort + Alloc<A = Global>), lines: &mut Vec<String>, key: &Key) {
+fn add_key(rt: &impl Host, lines: &mut Vec<String>, key: &Key) {
     let (name, member) = (&key.name, &key.member);
     let (root, revoked) = (hex_of(rt, key.root.as_bytes()), u8::from(key.revoked));
     let line = format!(in rt.alloc(); "key {name} {member} {root} {revoked}");
@@ -111,19 +94,13 @@ fn add_key(rt: &(impl Abort + Alloc<A = Global>), lines: &mut Vec<String>, key: 
     }
 }
 
-/// Where and when a slot is.
-fn place(rt: &(impl Abort + Alloc<A = Global>), slot: &Slot) -> String {
+fn place(rt: &impl Host, slot: &Slot) -> String {
     let (facility, day, hour) = (&slot.facility, slot.day.number(), slot.hour.number());
     text(rt, format!(in rt.alloc(); "{facility} {day} {hour}"))
 }
 
 /// Adds a booking; and, unless it is cancelled, its slot.
-fn add_booking(
-    rt: &(impl Abort + Alloc<A = Global>),
-    lines: &mut Vec<String>,
-    club: &Club,
-    booking: &Booking,
-) {
+fn add_booking(rt: &impl Host, lines: &mut Vec<String>, club: &Club, booking: &Booking) {
     let (key, number, guests) = (&booking.key, booking.number.get(), booking.guests.get());
     let (charge, left, refund) = (booking.charge, booking.left, booking.refund);
     let (place, cancelled) = (place(rt, &booking.slot), u8::from(booking.cancelled));
@@ -138,12 +115,7 @@ fn add_booking(
 
 /// Adds what is taken of a slot by all members, and whether it is closed, unless that is there.
 /// Nobody is a member's name.
-fn add_slot(
-    rt: &(impl Abort + Alloc<A = Global>),
-    lines: &mut Vec<String>,
-    club: &Club,
-    slot: &Slot,
-) {
+fn add_slot(rt: &impl Host, lines: &mut Vec<String>, club: &Club, slot: &Slot) {
     let all = club.outside(&name(rt, "nobody"), Some(*slot));
     let (place, closed, taken) = (place(rt, slot), u8::from(all.closed), all.taken);
     let line = text(rt, format!(in rt.alloc(); "slot {place} {closed} {taken}"));
@@ -152,8 +124,7 @@ fn add_slot(
     }
 }
 
-/// Adds the rows of a club.
-fn add_rows(rt: &(impl Abort + Alloc<A = Global>), lines: &mut Vec<String>, club: &Club) {
+fn add_rows(rt: &impl Host, lines: &mut Vec<String>, club: &Club) {
     for member in club.members() {
         add_member(rt, lines, club, member);
     }
@@ -173,11 +144,7 @@ fn add_rows(rt: &(impl Abort + Alloc<A = Global>), lines: &mut Vec<String>, club
 
 /// The lines of the tables of this version that hold a club, sorted. Tables of version 1 have no
 /// older roots.
-pub(crate) fn lines_of(
-    rt: &(impl Abort + Alloc<A = Global>),
-    club: &Club,
-    version: Version,
-) -> Vec<String> {
+pub(crate) fn lines_of(rt: &impl Host, club: &Club, version: Version) -> Vec<String> {
     let mut lines = Vec::new(rt.alloc());
     match version {
         Version::None => add_no_tables(rt, &mut lines),

@@ -2,11 +2,9 @@
 //! in turn, those of the fixture too. A test ends with out of memory if the refusal fell before or
 //! after what it is about.
 
-use crate::expect::expect_case;
+use crate::expect::{Host, expect_case};
 use crate::front::{Front, KEPT, NOT_YET, Scene, Step, play, with_pass};
 use club_core::ClubStore;
-use std::alloc::Global;
-use std::process::Abort;
 use test_kit::exchanges::{ACCOUNT, BOOK_7, BOOKED_7, UNAVAILABLE};
 use test_kit::passes::{AMY_JSON, AMY_V1, AMY_V2};
 
@@ -15,7 +13,7 @@ use test_kit::passes::{AMY_JSON, AMY_V1, AMY_V2};
 struct Exchange(&'static str);
 
 impl Scene for Exchange {
-    fn play<S: ClubStore>(&self, rt: &(impl Abort + Alloc<A = Global>), front: &mut Front<S>) {
+    fn play<S: ClubStore>(&self, rt: &impl Host, front: &mut Front<S>) {
         let request = with_pass(rt, BOOK_7, self.0);
         let taker = front.written_to(rt, request.as_bytes());
         if taker.written_bytes() == UNAVAILABLE.as_bytes() {
@@ -84,7 +82,7 @@ static FAULTS: [(&str, &str); 4] = [
 struct Faults;
 
 impl Scene for Faults {
-    fn play<S: ClubStore>(&self, rt: &(impl Abort + Alloc<A = Global>), front: &mut Front<S>) {
+    fn play<S: ClubStore>(&self, rt: &impl Host, front: &mut Front<S>) {
         for (pass, want) in &FAULTS {
             let request = with_pass(rt, ACCOUNT, pass);
             let taker = front.written_to(rt, request.as_bytes());

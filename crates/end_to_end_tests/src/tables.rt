@@ -1,9 +1,7 @@
 //! The rows of a database, as lines of text.
 
-use crate::expect::{push, text};
+use crate::expect::{Host, push, text};
 use sqlite::{Alter, Connection, Row};
-use std::alloc::Global;
-use std::process::Abort;
 
 /// The tables: the name of each, and the statement that makes a line of each row. The row of a slot
 /// that is open and that nobody has booked is left out.
@@ -40,18 +38,17 @@ static TABLES: [(&str, &str); 7] = [
 ];
 
 /// The line of a table that isn't there.
-pub(crate) fn none_of(rt: &(impl Abort + Alloc<A = Global>), table: &str) -> String {
+pub(crate) fn none_of(rt: &impl Host, table: &str) -> String {
     text(rt, format!(in rt.alloc(); "no {table}"))
 }
 
-/// Adds the lines of tables that aren't there.
-pub(crate) fn add_no_tables(rt: &(impl Abort + Alloc<A = Global>), lines: &mut Vec<String>) {
+pub(crate) fn add_no_tables(rt: &impl Host, lines: &mut Vec<String>) {
     for (table, _) in &TABLES {
         push(rt, lines, none_of(rt, table));
     }
 }
 
-fn add_rows(rt: &impl Abort, lines: &mut Vec<String>, rows: &[Row]) {
+fn add_rows(rt: &impl Host, lines: &mut Vec<String>, rows: &[Row]) {
     for row in rows {
         let line: Option<String> = row.get(0).ok();
         push(rt, lines, line.expect(rt, "a line"));
@@ -59,10 +56,7 @@ fn add_rows(rt: &impl Abort, lines: &mut Vec<String>, rows: &[Row]) {
 }
 
 /// Each row of each table, sorted.
-pub(crate) fn lines_in<S: Alter>(
-    rt: &(impl Abort + Alloc<A = Global>),
-    connection: &mut Connection<S>,
-) -> Vec<String> {
+pub(crate) fn lines_in<S: Alter>(rt: &impl Host, connection: &mut Connection<S>) -> Vec<String> {
     let mut lines = Vec::new(rt.alloc());
     for (table, statement) in &TABLES {
         let rows: Option<Vec<Row>> = connection.query_all(statement, &[]).ok();

@@ -1,277 +1,114 @@
-//! The tasks in which a disk fails. The expected replies are by an independent program.
+//! The tasks in which a disk fails. What is answered is in scenarios.
 
-use crate::crash::{Beginning, Trial};
-use crate::desk::Event;
-use std::test::*;
-use test_kit::exchanges::{
-    ACCOUNT, BALANCE_9099, BALANCE_9400, BALANCE_10000, BOOK_7, BOOK_8, BOOKED_7, BOOKED_8,
-    CANCEL_7, CANCEL_8, CANCELLED_7,
+use crate::crash::Beginning::{self, First, Made, Nothing, Unindexed};
+use crate::crash::Trial;
+use crate::desk::Event::{self, Asks, Exchanges, Gives};
+use crate::expect::Host;
+use test_kit::PlainCommand::{
+    AddKey, CancelBooking, CloseSlot, Debit, OpenSlot, RotateKey, SetFacility, SetQuota,
 };
+use test_kit::exchanges::{ACCOUNT, BOOK_7, BOOK_8, CANCEL_7, CANCEL_8};
 use test_kit::moments::{LATER, NOON};
 use test_kit::roots::{ROOT, SECOND_ROOT};
-use test_kit::{COURT_AT_18, COURT_AT_19, PlainCommand, minutes};
+use test_kit::{COURT_AT_18, COURT_AT_19, minutes};
 
-const BOOK: Event = Event::Asks(NOON, BOOK_7);
+const BOOK: Event = Asks(NOON, BOOK_7);
 
-const CANCEL: Event = Event::Asks(NOON, CANCEL_7);
+const CANCEL: Event = Asks(NOON, CANCEL_7);
 
-const BOOK_ROOM: Event = Event::Asks(NOON, BOOK_8);
+const BOOK_ROOM: Event = Asks(NOON, BOOK_8);
 
-const SHOW: Event = Event::Asks(NOON, ACCOUNT);
+const SHOW: Event = Asks(NOON, ACCOUNT);
 
-/// At the club of the fixture.
-const AT_FIRST: Trial = Trial {
-    beginning: Beginning::Made(&[]),
-    task: &[],
-    again: &[],
-    replies: &[],
-    refused: None,
-    calls: [0, 0],
-};
+/// The booking by `answer`; other requests are by `Desk::ask`.
+const EXCHANGE: Event = Exchanges(NOON, BOOK_7);
 
-/// After the booking.
-const BOOKED: Beginning = Beginning::Made(&[BOOK]);
+/// The club of the fixture, and the same after the booking.
+const FRESH: Beginning = Made(&[]);
 
-/// By `Desk::ask`.
-static BOOKS: Trial = Trial {
-    task: &[BOOK],
-    again: &[BOOK, SHOW],
-    replies: &[BOOKED_7, BALANCE_9400],
-    calls: [54, 66],
-    ..AT_FIRST
-};
+const BOOKED: Beginning = Made(&[BOOK]);
 
-#[test]
-fn books_whole_or_not_at_all(rt: HostRuntime) {
-    BOOKS.holds(&rt);
-}
+static REQUESTS: [Trial; 4] = [
+    Trial(FRESH, &[BOOK], &[SHOW], [54, 66]),
+    Trial(FRESH, &[EXCHANGE], &[Exchanges(NOON, ACCOUNT)], [54, 66]),
+    Trial(BOOKED, &[CANCEL], &[BOOK, SHOW], [50, 64]),
+    // The second commit of an opened database, over what the first one has made room for, so that
+    // one sync has to do.
+    Trial(FRESH, &[BOOK, CANCEL], &[SHOW], [58, 66]),
+];
 
-/// By `answer`.
-static EXCHANGES: Trial = Trial {
-    task: &[Event::Exchanges(NOON, BOOK_7)],
-    again: &[
-        Event::Exchanges(NOON, BOOK_7),
-        Event::Exchanges(NOON, ACCOUNT),
-    ],
-    replies: &[BOOKED_7, BALANCE_9400],
-    calls: [54, 66],
-    ..AT_FIRST
-};
+const ADD_KEY: Event = Gives(AddKey("amy-2", "amy", ROOT));
 
-#[test]
-fn exchanges_a_booking_whole_or_not_at_all(rt: HostRuntime) {
-    EXCHANGES.holds(&rt);
-}
-
-static CANCELS: Trial = Trial {
-    beginning: BOOKED,
-    task: &[CANCEL],
-    again: &[CANCEL, BOOK, SHOW],
-    replies: &[CANCELLED_7, BOOKED_7, BALANCE_10000],
-    calls: [50, 64],
-    ..AT_FIRST
-};
-
-#[test]
-fn cancels_whole_or_not_at_all(rt: HostRuntime) {
-    CANCELS.holds(&rt);
-}
-
-/// The second commit of an opened database, over what the first one has made room for, so that one
-/// sync has to do.
-static BOOKS_AND_CANCELS: Trial = Trial {
-    task: &[BOOK, CANCEL],
-    again: &[BOOK, CANCEL, SHOW],
-    replies: &[BOOKED_7, CANCELLED_7, BALANCE_10000],
-    calls: [58, 66],
-    ..AT_FIRST
-};
-
-#[test]
-fn books_and_cancels_whole_or_not_at_all(rt: HostRuntime) {
-    BOOKS_AND_CANCELS.holds(&rt);
-}
-
-const ADD_KEY: Event = Event::Gives(PlainCommand::AddKey("amy-2", "amy", ROOT));
-
-/// The first reply is the signature of the pass.
-static ADDS_A_KEY: Trial = Trial {
-    task: &[ADD_KEY],
-    again: &[ADD_KEY],
-    replies: &["50e3b0b20dfaab6c19f3db5a215d610423d675e346e47a03ddcc59a578043743"],
-    refused: Some("exists"),
-    calls: [48, 63],
-    ..AT_FIRST
-};
-
-#[test]
-fn adds_a_key_whole_or_not_at_all(rt: HostRuntime) {
-    ADDS_A_KEY.holds(&rt);
-}
-
-const CLOSE_AT_19: Event = Event::Gives(PlainCommand::CloseSlot(COURT_AT_19));
-
-/// While the slot before it is booked.
-static CLOSES: Trial = Trial {
-    beginning: BOOKED,
-    task: &[CLOSE_AT_19],
-    again: &[CLOSE_AT_19],
-    replies: &["done"],
-    refused: Some("exists"),
-    calls: [46, 62],
-};
-
-#[test]
-fn closes_a_slot_or_not(rt: HostRuntime) {
-    CLOSES.holds(&rt);
-}
-
-const CLOSE_AT_18: Event = Event::Gives(PlainCommand::CloseSlot(COURT_AT_18));
-
-const OPEN_AT_19: Event = Event::Gives(PlainCommand::OpenSlot(COURT_AT_19));
-
-/// While the slot before it stays closed.
-static OPENS: Trial = Trial {
-    beginning: Beginning::Made(&[CLOSE_AT_18, CLOSE_AT_19]),
-    task: &[OPEN_AT_19],
-    again: &[OPEN_AT_19, CLOSE_AT_18],
-    replies: &["done", "exists"],
-    calls: [44, 61],
-    ..AT_FIRST
-};
-
-#[test]
-fn opens_a_slot_or_not(rt: HostRuntime) {
-    OPENS.holds(&rt);
-}
-
-const DEBIT: Event = Event::Gives(PlainCommand::Debit("amy", 9_400));
+const ROTATE: Event = Gives(RotateKey("amy-1", SECOND_ROOT, minutes::UNTIL));
 
 /// Of all that the booking leaves, so that a second debit is refused.
-static DEBITS: Trial = Trial {
-    beginning: BOOKED,
-    task: &[DEBIT],
-    again: &[DEBIT, BOOK],
-    replies: &["done", BOOKED_7],
-    refused: Some("out of range"),
-    calls: [44, 61],
-};
-
-#[test]
-fn debits_a_member_or_not(rt: HostRuntime) {
-    DEBITS.holds(&rt);
-}
-
-const SET_FACILITY: Event = Event::Gives(PlainCommand::SetFacility("court-1", 3, 100, 9, 20));
-
-/// As many places as persons in a slot.
-static SETS_A_FACILITY: Trial = Trial {
-    beginning: BOOKED,
-    task: &[SET_FACILITY],
-    again: &[SET_FACILITY, BOOK],
-    replies: &["done", BOOKED_7],
-    calls: [44, 61],
-    ..AT_FIRST
-};
-
-#[test]
-fn sets_a_facility_whole_or_not_at_all(rt: HostRuntime) {
-    SETS_A_FACILITY.holds(&rt);
-}
-
-const CANCEL_BOOKING: Event = Event::Gives(PlainCommand::CancelBooking("amy-1", 7));
-
-/// A second one finds nothing to do, and the member's own gets the whole charge.
-static CANCELS_FOR_A_MEMBER: Trial = Trial {
-    beginning: BOOKED,
-    task: &[CANCEL_BOOKING],
-    again: &[CANCEL_BOOKING, CANCEL, BOOK, SHOW],
-    replies: &["done", CANCELLED_7, BOOKED_7, BALANCE_10000],
-    calls: [50, 64],
-    ..AT_FIRST
-};
-
-#[test]
-fn cancels_for_a_member_whole_or_not_at_all(rt: HostRuntime) {
-    CANCELS_FOR_A_MEMBER.holds(&rt);
-}
-
-const SET_QUOTA: Event = Event::Gives(PlainCommand::SetQuota("amy", 1));
+const DEBIT: Event = Gives(Debit("amy", 9_400));
 
 /// Below the open bookings, which stay.
-static SETS_A_QUOTA: Trial = Trial {
-    beginning: Beginning::Made(&[BOOK, BOOK_ROOM]),
-    task: &[SET_QUOTA],
-    again: &[SET_QUOTA, BOOK],
-    replies: &["done", BOOKED_7],
-    calls: [44, 61],
-    ..AT_FIRST
-};
+const SET_QUOTA: Event = Gives(SetQuota("amy", 1));
 
-#[test]
-fn sets_a_quota_or_not(rt: HostRuntime) {
-    SETS_A_QUOTA.holds(&rt);
-}
+static COMMANDS: [Trial; 4] = [
+    Trial(FRESH, &[ADD_KEY], &[], [48, 63]),
+    Trial(FRESH, &[ROTATE], &[SHOW], [48, 63]),
+    Trial(BOOKED, &[DEBIT], &[BOOK], [44, 61]),
+    Trial(Made(&[BOOK, BOOK_ROOM]), &[SET_QUOTA], &[BOOK], [44, 61]),
+];
 
-const ROTATE: Event = Event::Gives(PlainCommand::RotateKey("amy-1", SECOND_ROOT, minutes::UNTIL));
+const CLOSE_AT_18: Event = Gives(CloseSlot(COURT_AT_18));
 
-/// The first reply is the signature of the pass.
-static ROTATES: Trial = Trial {
-    task: &[ROTATE],
-    again: &[ROTATE, SHOW],
-    replies: &[
-        "282157e98ba6978eaa38d39a5cb77c35d49c30717746181eaf66e9bc38691e8f",
-        BALANCE_10000,
-    ],
-    refused: Some("exists"),
-    calls: [48, 63],
-    ..AT_FIRST
-};
+const CLOSE_AT_19: Event = Gives(CloseSlot(COURT_AT_19));
 
-#[test]
-fn rotates_a_key_whole_or_not_at_all(rt: HostRuntime) {
-    ROTATES.holds(&rt);
-}
+const CLOSED: Beginning = Made(&[CLOSE_AT_18, CLOSE_AT_19]);
 
-static MAKES_TABLES: Trial = Trial {
-    beginning: Beginning::Nothing,
-    calls: [61, 32],
-    ..AT_FIRST
-};
+const OPEN_AT_19: Event = Gives(OpenSlot(COURT_AT_19));
 
-#[test]
-fn makes_all_tables_or_none(rt: HostRuntime) {
-    MAKES_TABLES.holds(&rt);
-}
+/// As many places as persons in a slot.
+const SET_FACILITY: Event = Gives(SetFacility("court-1", 3, 100, 9, 20));
+
+/// A second one finds nothing to do, and the member's own gets the whole charge.
+const CANCEL_BOOKING: Event = Gives(CancelBooking("amy-1", 7));
+
+static COMMANDS_OF_SLOTS: [Trial; 4] = [
+    // While the slot before it is booked, and while it stays closed.
+    Trial(BOOKED, &[CLOSE_AT_19], &[], [46, 62]),
+    Trial(CLOSED, &[OPEN_AT_19], &[CLOSE_AT_18], [44, 61]),
+    Trial(BOOKED, &[SET_FACILITY], &[BOOK], [44, 61]),
+    Trial(BOOKED, &[CANCEL_BOOKING], &[CANCEL, BOOK, SHOW], [50, 64]),
+];
 
 /// Two bookings. The second is cancelled.
-const BOOKED_TWICE: &[Event] = &[BOOK, BOOK_ROOM, Event::Asks(LATER, CANCEL_8)];
+const TWICE: &[Event] = &[BOOK, BOOK_ROOM, Asks(LATER, CANCEL_8)];
 
-/// The tables are changed when they are opened.
-const CHANGES: Trial = Trial {
-    again: &[BOOK, BOOK_ROOM, SHOW],
-    replies: &[BOOKED_7, BOOKED_8, BALANCE_9099],
-    ..AT_FIRST
-};
+/// The tables are made or changed when they are opened.
+static OPENINGS: [Trial; 3] = [
+    Trial(Nothing, &[], &[], [61, 32]),
+    Trial(First(TWICE), &[], &[BOOK, BOOK_ROOM, SHOW], [52, 56]),
+    Trial(Unindexed(TWICE), &[], &[BOOK, BOOK_ROOM, SHOW], [46, 59]),
+];
 
-static MIGRATES: Trial = Trial {
-    beginning: Beginning::First(BOOKED_TWICE),
-    calls: [52, 56],
-    ..CHANGES
-};
-
-#[test]
-fn migrates_whole_or_not_at_all(rt: HostRuntime) {
-    MIGRATES.holds(&rt);
+/// Each of the tasks is done whole or not at all.
+fn hold(rt: &impl Host, trials: &[Trial]) {
+    for trial in trials {
+        trial.holds(rt);
+    }
 }
 
-static ADDS_THE_INDEX: Trial = Trial {
-    beginning: Beginning::Unindexed(BOOKED_TWICE),
-    calls: [46, 59],
-    ..CHANGES
-};
+#[test]
+fn requests_are_done_whole_or_not_at_all(rt: HostRuntime) {
+    hold(&rt, &REQUESTS);
+}
 
 #[test]
-fn adds_the_index_or_not(rt: HostRuntime) {
-    ADDS_THE_INDEX.holds(&rt);
+fn commands_are_done_whole_or_not_at_all(rt: HostRuntime) {
+    hold(&rt, &COMMANDS);
+}
+
+#[test]
+fn commands_of_slots_are_done_whole_or_not_at_all(rt: HostRuntime) {
+    hold(&rt, &COMMANDS_OF_SLOTS);
+}
+
+#[test]
+fn tables_are_made_and_changed_whole_or_not_at_all(rt: HostRuntime) {
+    hold(&rt, &OPENINGS);
 }

@@ -2,14 +2,11 @@
 //! or kept in part.
 
 use crate::disk::{Bytes, Stops};
-use crate::expect::push;
+use crate::expect::{Host, push};
 use crate::recorded::{Change, Recorded, overwrite};
 use sqlite::Files;
 use sqlite_disk::digest_of;
-use std::alloc::Global;
-use std::process::Abort;
 
-/// What comes of a change.
 #[derive(Clone, Copy)]
 pub(crate) enum Fate {
     Kept,
@@ -49,13 +46,11 @@ pub(crate) struct Case {
     pub fates: Fates,
 }
 
-/// All of it is kept.
 pub(crate) const KEPT: Case = Case {
     number: 0,
     fates: Fates(Fate::Kept, Fate::Kept, Fate::Kept),
 };
 
-/// All of it is lost.
 pub(crate) const LOST: Case = Case {
     number: 0,
     fates: Fates(Fate::Lost, Fate::Lost, Fate::Lost),
@@ -88,7 +83,6 @@ impl Fate {
         }
     }
 
-    /// Its number, for digests.
     fn number(self) -> u8 {
         match self {
             Fate::Kept => 0,
@@ -116,7 +110,7 @@ impl Case {
 }
 
 /// Writes a byte there, whatever is before it.
-fn put(rt: &impl Abort, file: &mut Vec<u8>, index: usize, byte: u8) {
+fn put(rt: &impl Host, file: &mut Vec<u8>, index: usize, byte: u8) {
     match file.get_mut(index) {
         Some(place) => *place = byte,
         None => {
@@ -126,8 +120,7 @@ fn put(rt: &impl Abort, file: &mut Vec<u8>, index: usize, byte: u8) {
     }
 }
 
-/// Writes a part of these bytes.
-fn write_part(rt: &impl Abort, file: &mut Vec<u8>, at: usize, bytes: &[u8], fate: Fate) {
+fn write_part(rt: &impl Host, file: &mut Vec<u8>, at: usize, bytes: &[u8], fate: Fate) {
     for (place, byte) in bytes.iter().enumerate() {
         if fate.keeps(place, bytes.len()) {
             put(rt, file, at.saturating_add(place), *byte);
@@ -145,7 +138,7 @@ fn torn_len(old: usize, new: usize, fate: Fate) -> usize {
 }
 
 /// Does to a file what comes of a change.
-fn make(rt: &impl Abort, file: &mut Vec<u8>, change: &Change, fate: Fate) {
+fn make(rt: &impl Host, file: &mut Vec<u8>, change: &Change, fate: Fate) {
     match (change.at, fate) {
         (_, Fate::Lost) => {}
         (None, _) => {
@@ -158,12 +151,7 @@ fn make(rt: &impl Abort, file: &mut Vec<u8>, change: &Change, fate: Fate) {
 }
 
 /// What is left of a file whose first change has this number.
-fn left_of(
-    rt: &(impl Abort + Alloc<A = Global>),
-    file: &Recorded,
-    first: usize,
-    case: &Case,
-) -> Vec<u8> {
+fn left_of(rt: &impl Host, file: &Recorded, first: usize, case: &Case) -> Vec<u8> {
     let mut bytes = Vec::from_slice(rt.alloc(), file.synced()).expect(rt, "memory");
     for (place, change) in file.changes().iter().enumerate() {
         let fate = case.fate(first.saturating_add(place), change);
@@ -172,12 +160,7 @@ fn left_of(
     bytes
 }
 
-/// What is left of the files.
-pub(crate) fn left(
-    rt: &(impl Abort + Alloc<A = Global>),
-    files: &Files<Stops>,
-    case: &Case,
-) -> Bytes {
+pub(crate) fn left(rt: &impl Host, files: &Files<Stops>, case: &Case) -> Bytes {
     let (log, db) = (files.log.inner(), files.db.inner());
     Bytes {
         log: left_of(rt, log, 0, case),

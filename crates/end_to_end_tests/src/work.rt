@@ -2,33 +2,31 @@
 
 use crate::desk::{Event, replies_over};
 use crate::disk::{Bytes, Stop, Stops, has_calls_left};
-use crate::expect::append;
+use crate::expect::{Host, append};
 use crate::tables::lines_in;
 use club_store::Store;
 use sqlite::{Alter, Connection, Files, Options};
-use std::alloc::Global;
-use std::process::Abort;
 
 /// A task over a database that is opened before it and closed after it.
 #[derive(Clone, Copy)]
 pub(crate) enum Work {
-    /// Statements are run.
     Runs(&'static [&'static str]),
-    /// A desk is opened, and answers these events.
-    Serves(&'static [Event]),
-    /// As `Serves`, between two readings of each row of each table.
-    Inspects(&'static [Event]),
+    /// A desk is opened, and answers the events of two lists.
+    Serves(&'static [Event], &'static [Event]),
+    /// The same, between two readings of each row of each table.
+    Inspects(&'static [Event], &'static [Event]),
 }
 
 /// The replies of a desk over the database; `None` if no store adopts it.
 fn replies_of_desk<S: Alter + Drop>(
-    rt: &(impl Abort + Alloc<A = Global>),
+    rt: &impl Host,
     connection: Connection<S>,
     events: &[Event],
+    then: &[Event],
 ) -> (Option<Vec<String>>, Connection<S>) {
     match Store::adopt(rt.alloc(), connection) {
         Ok(store) => {
-            let (replies, store) = replies_over(rt, store, events);
+            let (replies, store) = replies_over(rt, store, events, then);
             (Some(replies), store.into_connection())
         }
         Err((_, connection)) => (None, connection),
@@ -37,7 +35,7 @@ fn replies_of_desk<S: Alter + Drop>(
 
 /// Does this over a database: the lines of output, `None` if no store adopts it.
 fn do_work<S: Alter + Drop>(
-    rt: &(impl Abort + Alloc<A = Global>),
+    rt: &impl Host,
     mut connection: Connection<S>,
     work: Work,
 ) -> (Option<Vec<String>>, Connection<S>) {
@@ -48,10 +46,10 @@ fn do_work<S: Alter + Drop>(
             }
             (Some(Vec::new(rt.alloc())), connection)
         }
-        Work::Serves(events) => replies_of_desk(rt, connection, events),
-        Work::Inspects(events) => {
+        Work::Serves(events, then) => replies_of_desk(rt, connection, events, then),
+        Work::Inspects(events, then) => {
             let mut lines = lines_in(rt, &mut connection);
-            let (replies, mut connection) = replies_of_desk(rt, connection, events);
+            let (replies, mut connection) = replies_of_desk(rt, connection, events, then);
             append(rt, &mut lines, replies.expect(rt, "a store"));
             append(rt, &mut lines, lines_in(rt, &mut connection));
             (Some(lines), connection)
@@ -63,7 +61,7 @@ fn do_work<S: Alter + Drop>(
 /// the files after it. It is the one function here that names their type: the proof of each takes
 /// half a minute.
 fn over_files(
-    rt: &(impl Abort + Alloc<A = Global>),
+    rt: &impl Host,
     files: Files<Stops>,
     work: Work,
 ) -> (Option<Vec<String>>, Files<Stops>) {
@@ -93,12 +91,7 @@ pub(crate) struct Done {
 }
 
 /// Does this over the database in files of these bytes, of which one stops there.
-pub(crate) fn do_over(
-    rt: &(impl Abort + Alloc<A = Global>),
-    bytes: &Bytes,
-    stop: Stop,
-    work: Work,
-) -> Done {
+pub(crate) fn do_over(rt: &impl Host, bytes: &Bytes, stop: Stop, work: Work) -> Done {
     let (lines, mut files) = over_files(rt, bytes.files(rt, stop), work);
     Done {
         lines,

@@ -15,7 +15,6 @@ fn expect_next<'a, S: FieldSource<'a>>(rt: &impl Host, fields: &mut S, want: Opt
     expect_eq(rt, &fields.next(), &want, &"the next field");
 }
 
-// The fields come in their order, and then none, however often one is asked for.
 fn expect_fields<'a, S: FieldSource<'a>>(rt: &impl Host, fields: &mut S, want: &Fields<'a>) {
     expect_next(rt, fields, Some(Field::Location(want.location)));
     expect_next(rt, fields, Some(Field::Identifier(want.identifier)));

@@ -19,7 +19,6 @@ pub(crate) fn expect_eq<T: PartialEq + Debug>(
     assert_eq!(rt; outcome, want, "{row:?}");
 }
 
-/// Some bytes, so many times.
 pub(crate) type Piece = (usize, &'static [u8]);
 
 fn append(rt: &impl Abort, bytes: &mut Vec<u8>, piece: &Piece) {
@@ -28,7 +27,6 @@ fn append(rt: &impl Abort, bytes: &mut Vec<u8>, piece: &Piece) {
     }
 }
 
-/// The pieces, one after the other.
 pub(crate) fn join(rt: &impl Host, pieces: &[Piece]) -> Vec<u8> {
     let mut bytes = Vec::new(rt.alloc());
     for piece in pieces {
@@ -37,7 +35,6 @@ pub(crate) fn join(rt: &impl Host, pieces: &[Piece]) -> Vec<u8> {
     bytes
 }
 
-/// What a pass says.
 #[derive(Debug)]
 pub(crate) struct Fields<'a> {
     pub(crate) location: &'a [u8],

@@ -83,7 +83,6 @@ fn refuses_the_known_pass_cut_short(rt: HostRuntime) {
     is_refused_cut_short(&rt, Form::V1, &KNOWN, 135);
 }
 
-// Other packets in the caveat's place.
 static ODD: [&[u8]; 6] = [
     b"0003",
     b"ffffcid x\n",

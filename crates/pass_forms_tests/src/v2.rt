@@ -91,7 +91,6 @@ fn refuses_the_known_pass_cut_short(rt: HostRuntime) {
     is_refused_cut_short(&rt, Form::V2, &KNOWN, 65);
 }
 
-// Odd sections of caveats.
 static ODD: [&[u8]; 3] = [
     b"\x02\x01x\x05\x00\x00",
     b"\x02\x01x\x04\x00\x04\x00\x00",

@@ -7,18 +7,11 @@ use super::write::Write::{
     Rotate,
 };
 use super::write::change;
-use crate::expect::{Host, expect_row};
-use crate::scene::{Scene, play};
-use crate::values::{booking, day, moment, name, number, slot};
-use club_core::{ClubStore, MemberAccount, StoreFault};
-use club_gate::Desk;
-use std::process::Abort;
-use std::test::*;
+use crate::prelude::*;
+use crate::values::{booking, number};
+use club_core::MemberAccount;
 use test_kit::moments::START;
-use test_kit::roots::{ROOT, SECOND_ROOT, THIRD_ROOT};
-use test_kit::{
-    BOOKING_7, COURT, COURT_AT_18, COURT_AT_19, PlainBooking, PlainFacility, PlainSlot,
-};
+use test_kit::{COURT, PlainFacility};
 
 /// Rows and sums of a club. A member has its credited points, the points of its bookings, and its
 /// quota. A slot has its persons, and whether it is closed. Amy's bookings are all under `amy-1`.
@@ -69,7 +62,7 @@ const FILLED: Seen = Seen {
 };
 
 /// Bookings that aren't those of the filled club, or don't fit into it.
-const CANCELLED_7: PlainBooking = PlainBooking {
+const REFUNDED_7: PlainBooking = PlainBooking {
     refund: Some(300),
     ..BOOKING_7
 };
@@ -171,7 +164,7 @@ const WITH_BEN: Seen = Seen {
 /// The booking as it was on record and as it is; and no place at all.
 const UNFIT_ONCE_CANCELLED: &[Write] = &[
     Cancel(BOOKING_7, "amy", 300),
-    Cancel(CANCELLED_7, "amy", 300),
+    Cancel(REFUNDED_7, "amy", 300),
     Numbers("court-1", 0, 200, 8, 22),
 ];
 
@@ -179,7 +172,7 @@ const UNFIT_ONCE_CANCELLED: &[Write] = &[
 const CANCELLED: Seen = Seen {
     amy: Some((10_000, 300, 5)),
     at_18: (0, false),
-    seventh: Some(CANCELLED_7),
+    seventh: Some(REFUNDED_7),
     open: 0,
     ..FILLED
 };
@@ -222,14 +215,14 @@ static ROWS: [Row; 9] = [
 ];
 
 /// A member's points, what its bookings cost, and its quota.
-fn account<C: ClubStore>(rt: &impl Abort, store: &mut C, text: &str) -> Option<(u32, u32, u8)> {
+fn account<C: ClubStore>(rt: &impl Host, store: &mut C, text: &str) -> Option<(u32, u32, u8)> {
     let account = store.account(&name(rt, text)).expect(rt, "an answer")?;
     let MemberAccount { member, balance } = account;
     let used = member.credited.saturating_sub(balance);
     Some((member.credited, used, member.quota))
 }
 
-fn expect_accounts<C: ClubStore>(rt: &impl Abort, store: &mut C, row: usize, seen: &Seen) {
+fn expect_accounts<C: ClubStore>(rt: &impl Host, store: &mut C, row: usize, seen: &Seen) {
     expect_row(rt, &row, &account(rt, store, "amy"), &seen.amy);
     expect_row(rt, &row, &account(rt, store, "ben"), &seen.ben);
     let used = seen.amy.unwrap_or((0, 0, 0)).1;
@@ -239,7 +232,7 @@ fn expect_accounts<C: ClubStore>(rt: &impl Abort, store: &mut C, row: usize, see
 }
 
 /// The key with its older root. There is no second one.
-fn expect_keys<C: ClubStore>(rt: &impl Abort, store: &mut C, row: usize, seen: &Seen) {
+fn expect_keys<C: ClubStore>(rt: &impl Host, store: &mut C, row: usize, seen: &Seen) {
     let amy_1 = name(rt, "amy-1");
     let (bare, older) = match seen.key {
         Some(kept) => {
@@ -256,7 +249,7 @@ fn expect_keys<C: ClubStore>(rt: &impl Abort, store: &mut C, row: usize, seen: &
 }
 
 /// The court and its slots. There is no second court.
-fn expect_court<C: ClubStore>(rt: &impl Abort, store: &mut C, row: usize, seen: &Seen) {
+fn expect_court<C: ClubStore>(rt: &impl Host, store: &mut C, row: usize, seen: &Seen) {
     let court_1 = name(rt, "court-1");
     let want = seen.court.map(|court| facility(rt, &court));
     expect_row(rt, &row, &store.facility(&court_1), &Ok(want));
@@ -275,7 +268,7 @@ fn expect_court<C: ClubStore>(rt: &impl Abort, store: &mut C, row: usize, seen: 
 }
 
 /// The day's bookings, which aren't cancelled. There is none on the next day.
-fn expect_days<C: ClubStore>(rt: &impl Abort, store: &mut C, row: usize, seen: &Seen) {
+fn expect_days<C: ClubStore>(rt: &impl Host, store: &mut C, row: usize, seen: &Seen) {
     let rows = store.day(day(rt, "2026-05-01")).expect(rt, "a day");
     expect_row(rt, &row, &(rows.len() as u64), &seen.open);
     let first = match seen.open {
@@ -291,7 +284,7 @@ fn expect_days<C: ClubStore>(rt: &impl Abort, store: &mut C, row: usize, seen: &
 const BEFORE: &str = "2026-05-01T17:59";
 
 /// The bookings on record. They are open until their slot begins.
-fn expect_bookings<C: ClubStore>(rt: &impl Abort, store: &mut C, row: usize, seen: &Seen) {
+fn expect_bookings<C: ClubStore>(rt: &impl Host, store: &mut C, row: usize, seen: &Seen) {
     let amy_1 = name(rt, "amy-1");
     for (numbered, want) in [(7, seen.seventh), (8, None), (9, None)] {
         let found = store.booking(&amy_1, number(rt, numbered));
@@ -309,8 +302,7 @@ fn expect_bookings<C: ClubStore>(rt: &impl Abort, store: &mut C, row: usize, see
     }
 }
 
-/// Ends the test unless all of this is read.
-fn expect_seen<C: ClubStore>(rt: &impl Abort, store: &mut C, row: usize, seen: &Seen) {
+fn expect_seen<C: ClubStore>(rt: &impl Host, store: &mut C, row: usize, seen: &Seen) {
     expect_accounts(rt, store, row, seen);
     expect_keys(rt, store, row, seen);
     expect_court(rt, store, row, seen);
@@ -320,7 +312,7 @@ fn expect_seen<C: ClubStore>(rt: &impl Abort, store: &mut C, row: usize, seen: &
 
 /// Makes changes, which all end so.
 fn apply<C: ClubStore>(
-    rt: &impl Abort,
+    rt: &impl Host,
     store: &mut C,
     writes: &[Write],
     want: Result<(), StoreFault>,
@@ -350,7 +342,6 @@ impl Scene for Played<'_> {
     }
 }
 
-/// Plays rows, each after the same writes.
 fn plays(rt: &impl Host, before: &[Write], rows: &[Row]) {
     for (number, row) in rows.iter().enumerate() {
         let played = Played {

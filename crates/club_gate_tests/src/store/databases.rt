@@ -1,14 +1,12 @@
 //! Databases as they are before a store opens them.
 
-use crate::expect::Host;
-use sqlite::{Alter, Connection, MemStore};
-use std::process::Abort;
+use crate::prelude::*;
+use sqlite::MemStore;
 use test_kit::version_1::{OLDER_ROOTS, STATEMENTS};
 
 /// What a database holds before it is opened.
 #[derive(Clone, Copy)]
 pub(crate) enum Contents {
-    /// No tables.
     Nothing,
     /// The tables of version 1 with the rows of its tests.
     First,
@@ -24,7 +22,6 @@ static INDEX: [&str; 1] = [
 ];
 
 impl Contents {
-    /// The statements that make it.
     pub fn statements(self) -> [&'static [&'static str]; 3] {
         match self {
             Contents::Nothing => [&[], &[], &[]],
@@ -44,14 +41,14 @@ impl Contents {
     }
 }
 
-pub(crate) fn runs<S: Alter>(rt: &impl Abort, connection: &mut Connection<S>, texts: &[&str]) {
+pub(crate) fn runs<S: Alter>(rt: &impl Host, connection: &mut Connection<S>, texts: &[&str]) {
     for text in texts {
         connection.execute_batch(text).expect(rt, text);
     }
 }
 
 pub(crate) fn runs_all<S: Alter>(
-    rt: &impl Abort,
+    rt: &impl Host,
     connection: &mut Connection<S>,
     lists: &[&[&str]],
 ) {
@@ -60,14 +57,12 @@ pub(crate) fn runs_all<S: Alter>(
     }
 }
 
-/// A database in memory in which these lists of statements were run.
 pub(crate) fn database_after(rt: &impl Host, lists: &[&[&str]]) -> Connection<MemStore> {
     let mut connection = Connection::open_in_memory(rt.alloc()).expect(rt, "memory");
     runs_all(rt, &mut connection, lists);
     connection
 }
 
-/// A database in memory that holds this.
 pub(crate) fn database(rt: &impl Host, contents: Contents) -> Connection<MemStore> {
     database_after(rt, &contents.statements())
 }
@@ -80,7 +75,6 @@ pub(crate) fn bookings<S: Alter>(connection: &mut Connection<S>) -> Option<i64> 
     row.get(0).ok()
 }
 
-/// The version of a database, if it has one.
 pub(crate) fn version<S: Alter>(connection: &mut Connection<S>) -> Option<i64> {
     let row = connection.query_row("SELECT version FROM desk", &[]).ok()?;
     row.get(0).ok()

@@ -4,11 +4,9 @@
 
 use super::databases::{Contents, bookings, runs_all};
 use super::shown::shows;
-use crate::expect::{Host, expect_eq};
-use club_core::StoreFault;
-use club_store::{Remains, Store};
-use sqlite::{Alter, Connection, Unknown};
-use std::process::Abort;
+use crate::prelude::*;
+use club_store::Remains;
+use sqlite::Unknown;
 use std::test::Fail;
 use std::{env, fs, process};
 use test_kit::version_1::STATEMENTS;
@@ -41,7 +39,6 @@ pub fn remove(host: &HostRuntime, path: &str) -> Result<(), Fail> {
     Ok(())
 }
 
-/// What is done over a store in a file.
 pub trait FileWork {
     fn work<S: Alter>(&self, rt: &impl Host, store: &mut Store<S>);
 }
@@ -67,8 +64,7 @@ pub fn do_in_file(
     }
 }
 
-/// Runs these lists of statements in a file that isn't there yet.
-pub fn make_file(host: &HostRuntime, rt: &impl Abort, path: &str, lists: &[&[&str]]) {
+pub fn make_file(host: &HostRuntime, rt: &impl Host, path: &str, lists: &[&[&str]]) {
     let mut connection = Connection::open(host, path).expect(rt, "a file");
     runs_all(rt, &mut connection, lists);
     connection.close().expect(rt, "closed");
@@ -125,7 +121,6 @@ fn a_held_file(rt: HostRuntime) -> Result<(), Fail> {
     Ok(())
 }
 
-/// A version that no store knows.
 static NINTH: [&str; 1] = ["UPDATE desk SET version = 9"];
 
 /// A file whose tables are refused is left open, with its rows: at the next opening too.

@@ -2,15 +2,7 @@
 
 use super::databases::{database_after, runs};
 use super::shown::adopt;
-use crate::expect::{Host, expect_row};
-use crate::values::{day, moment, name, request, slot};
-use club_core::StoreFault;
-use club_store::Store;
-use sqlite::Alter;
-use std::process::Abort;
-use std::test::*;
-use test_kit::COURT_AT_18;
-use test_kit::requests::CANCEL_7;
+use crate::prelude::*;
 
 /// The tables of version 2 without their checks, and without references.
 static TABLES: [&str; 8] = [
@@ -44,117 +36,55 @@ static ROWS: [&str; 6] = [
     "INSERT INTO bookings VALUES ('amy-1', 7, 'court-1', 20574, 18, 2, 600, 1, 0, 0)",
 ];
 
-/// What is read.
 #[derive(Clone, Copy, Debug)]
 enum Read {
     Member,
     Key,
     Facility,
     Slot,
-    /// The bookings of a day.
     Day,
     /// The booking, among all that the key sees of it.
     View,
 }
 
-/// Statements that take a row out of its limits, for each kind of reading.
-static MEMBERS: [&str; 6] = [
-    "UPDATE members SET credited = -1",
-    "UPDATE members SET credited = 1000000000",
-    "UPDATE members SET quota = -1",
-    "UPDATE members SET quota = 100",
-    "UPDATE members SET used = -1",
-    "UPDATE members SET used = 1000000000",
-];
+/// What takes a row of a table out of its limits.
+const MEMBERS: &str = "credited = -1; credited = 1000000000; quota = -1; quota = 100; used = -1; \
+    used = 1000000000";
 
-static KEYS: [&str; 10] = [
-    "UPDATE keys SET member = ''",
-    "UPDATE keys SET member = 'Amy'",
-    "UPDATE keys SET root = X'303132333435363738396162636465'",
-    "UPDATE keys SET root = X'0707070707070707070707070707070707070707070707070707070707070707070707070707070707070707070707070707070707070707070707070707070707'",
-    "UPDATE keys SET revoked = -1",
-    "UPDATE keys SET revoked = 2",
-    "UPDATE old_roots SET root = X'303132333435363738396162636465'",
-    "UPDATE old_roots SET root = X'0707070707070707070707070707070707070707070707070707070707070707070707070707070707070707070707070707070707070707070707070707070707'",
-    "UPDATE old_roots SET until = 15778079",
-    "UPDATE old_roots SET until = 68374080",
-];
+const KEYS: &str = "member = ''; member = 'Amy'; revoked = -1; revoked = 2";
 
-static FACILITIES: [&str; 10] = [
-    "UPDATE facilities SET kind = 'pool'",
-    "UPDATE facilities SET places = 0",
-    "UPDATE facilities SET places = 51",
-    "UPDATE facilities SET price = -1",
-    "UPDATE facilities SET price = 10000",
-    "UPDATE facilities SET opens = -1",
-    "UPDATE facilities SET opens = 22",
-    "UPDATE facilities SET opens = 24, shuts = 25",
-    "UPDATE facilities SET shuts = 8",
-    "UPDATE facilities SET shuts = 25",
-];
+const OLDER_ROOTS: &str = "until = 15778079; until = 68374080";
 
-static SLOTS: [&str; 4] = [
-    "UPDATE slots SET closed = -1",
-    "UPDATE slots SET closed = 2",
-    "UPDATE slots SET taken = -1",
-    "UPDATE slots SET taken = 51",
-];
+/// In both tables of roots: of 15 bytes, and of 65.
+const ROOTS: &str = "root = X'303132333435363738396162636465'; \
+    root = X'0707070707070707070707070707070707070707070707070707070707070707070707070707070707070707070707070707070707070707070707070707070707'";
+
+const FACILITIES: &str = "kind = 'pool'; places = 0; places = 51; price = -1; price = 10000; \
+    opens = -1; opens = 22; opens = 24, shuts = 25; shuts = 8; shuts = 25";
+
+const SLOTS: &str = "closed = -1; closed = 2; taken = -1; taken = 51";
 
 /// Something is given back though the booking isn't cancelled.
-static DAYS: [&str; 9] = [
-    "UPDATE bookings SET pass_key = 'Amy-1'",
-    "UPDATE bookings SET number = 0",
-    "UPDATE bookings SET number = 1000000000",
-    "UPDATE bookings SET facility = 'Court-1'",
-    "UPDATE bookings SET hour = -1",
-    "UPDATE bookings SET guests = 50",
-    "UPDATE bookings SET charge = -1",
-    "UPDATE bookings SET remains = 50",
-    "UPDATE bookings SET refund = 1",
-];
+const DAYS: &str = "pass_key = 'Amy-1'; number = 0; number = 1000000000; facility = 'Court-1'; \
+    hour = -1; guests = 50; charge = -1; remains = 50; refund = 1";
 
 /// The same, and more is given back than was charged.
-static VIEWS: [&str; 11] = [
-    "UPDATE bookings SET facility = ''",
-    "UPDATE bookings SET day = 10956",
-    "UPDATE bookings SET day = 47482",
-    "UPDATE bookings SET hour = 24",
-    "UPDATE bookings SET guests = -1",
-    "UPDATE bookings SET charge = 499951",
-    "UPDATE bookings SET remains = -1",
-    "UPDATE bookings SET cancelled = 2",
-    "UPDATE bookings SET cancelled = 1, refund = -1",
-    "UPDATE bookings SET cancelled = 1, refund = 601",
-    "UPDATE bookings SET refund = 1",
-];
+const VIEWS: &str = "facility = ''; day = 10956; day = 47482; hour = 24; guests = -1; \
+    charge = 499951; remains = -1; cancelled = 2; cancelled = 1, refund = -1; \
+    cancelled = 1, refund = 601; refund = 1";
 
-/// Statements that leave all rows within their limits, and the reading after each.
-static WITHIN: [(&str, Read); 6] = [
-    (
-        "UPDATE members SET credited = 999999999, quota = 99, used = 0",
-        Read::Member,
-    ),
-    (
-        "UPDATE old_roots SET root = X'07070707070707070707070707070707070707070707070707070707070707070707070707070707070707070707070707070707070707070707070707070707', until = 68374079",
-        Read::Key,
-    ),
-    (
-        "UPDATE facilities SET places = 50, price = 9999, opens = 0, shuts = 24",
-        Read::Facility,
-    ),
-    ("UPDATE slots SET closed = 1, taken = 50", Read::Slot),
-    (
-        "UPDATE bookings SET guests = 49, charge = 499950, remains = 49",
-        Read::Day,
-    ),
-    (
-        "UPDATE bookings SET cancelled = 1, refund = 600",
-        Read::View,
-    ),
-];
+/// What leaves a row within its limits.
+const LAST_MEMBER: &str = "credited = 999999999, quota = 99, used = 0";
+
+const LAST_OLDER_ROOT: &str = "until = 68374079, \
+    root = X'07070707070707070707070707070707070707070707070707070707070707070707070707070707070707070707070707070707070707070707070707070707'";
+
+const LAST_FACILITY: &str = "places = 50, price = 9999, opens = 0, shuts = 24";
+
+const LAST_BOOKING: &str = "guests = 49, charge = 499950, remains = 49";
 
 /// The fault of a reading, if any.
-fn fault_of<S: Alter>(rt: &impl Abort, store: &mut Store<S>, read: Read) -> Option<StoreFault> {
+fn fault_of<S: Alter>(rt: &impl Host, store: &mut Store<S>, read: Read) -> Option<StoreFault> {
     match read {
         Read::Member => store.member(&name(rt, "amy")).err(),
         Read::Key => store.key(&name(rt, "amy-1")).err(),
@@ -162,41 +92,49 @@ fn fault_of<S: Alter>(rt: &impl Abort, store: &mut Store<S>, read: Read) -> Opti
         Read::Slot => store.slot(&slot(rt, &COURT_AT_18)).err(),
         Read::Day => store.day(day(rt, "2026-05-01")).err(),
         Read::View => {
-            let at = moment(rt, "2026-04-20T12:00");
-            store
-                .view(&name(rt, "amy-1"), &request(rt, &CANCEL_7), at)
-                .err()
+            let (key, asked) = (name(rt, "amy-1"), request(rt, &CANCEL_7));
+            store.view(&key, &asked, at(rt, NOON)).err()
         }
     }
 }
 
 /// Ends the test unless the reading ends so once this was done to the rows.
-fn ends(rt: &impl Host, text: &'static str, read: Read, want: Option<StoreFault>) {
+fn ends(rt: &impl Host, text: &str, read: Read, want: Option<StoreFault>) {
     let mut connection = database_after(rt, &[&TABLES, &ROWS]);
     runs(rt, &mut connection, &[text]);
     let fault = fault_of(rt, &mut adopt(rt, connection), read);
     expect_row(rt, &text, &fault, &want);
 }
 
-fn are_refused(rt: &impl Host, read: Read, texts: &[&'static str]) {
-    for text in texts {
-        ends(rt, text, read, Some(StoreFault::Storage));
+/// The reading ends so after each of these was done to the rows of a table.
+fn end(rt: &impl Host, read: Read, table: &str, settings: &str, want: Option<StoreFault>) {
+    for setting in settings.split(';') {
+        let text = format!(in rt.alloc(); "UPDATE {table} SET {setting}").expect(rt, "memory");
+        ends(rt, text.as_str(), read, want);
     }
 }
 
 #[test]
 fn rows_out_of_their_limits(rt: HostRuntime) {
-    are_refused(&rt, Read::Member, &MEMBERS);
-    are_refused(&rt, Read::Key, &KEYS);
-    are_refused(&rt, Read::Facility, &FACILITIES);
-    are_refused(&rt, Read::Slot, &SLOTS);
-    are_refused(&rt, Read::Day, &DAYS);
-    are_refused(&rt, Read::View, &VIEWS);
+    let fault = Some(StoreFault::Storage);
+    end(&rt, Read::Member, "members", MEMBERS, fault);
+    end(&rt, Read::Key, "keys", KEYS, fault);
+    end(&rt, Read::Key, "keys", ROOTS, fault);
+    end(&rt, Read::Key, "old_roots", ROOTS, fault);
+    end(&rt, Read::Key, "old_roots", OLDER_ROOTS, fault);
+    end(&rt, Read::Facility, "facilities", FACILITIES, fault);
+    end(&rt, Read::Slot, "slots", SLOTS, fault);
+    end(&rt, Read::Day, "bookings", DAYS, fault);
+    end(&rt, Read::View, "bookings", VIEWS, fault);
 }
 
 #[test]
 fn rows_at_their_limits(rt: HostRuntime) {
-    for (text, read) in &WITHIN {
-        ends(&rt, text, *read, None);
-    }
+    end(&rt, Read::Member, "members", LAST_MEMBER, None);
+    end(&rt, Read::Key, "old_roots", LAST_OLDER_ROOT, None);
+    end(&rt, Read::Facility, "facilities", LAST_FACILITY, None);
+    end(&rt, Read::Slot, "slots", "closed = 1, taken = 50", None);
+    end(&rt, Read::Day, "bookings", LAST_BOOKING, None);
+    let cancelled = "cancelled = 1, refund = 600";
+    end(&rt, Read::View, "bookings", cancelled, None);
 }

@@ -5,10 +5,8 @@
 use super::databases::{Contents, database, version};
 use super::files::{do_in_file, make_file, path_of, remove};
 use super::shown::shows;
-use crate::expect::{Host, expect_eq};
-use club_core::StoreFault;
-use club_store::Store;
-use sqlite::{Alter, Connection, MemStore};
+use crate::prelude::*;
+use sqlite::MemStore;
 use std::test::Fail;
 
 /// The store over a database that holds this, by the second opening if the first is out of memory.
@@ -52,7 +50,6 @@ fn tables_of_version_2(rt: HostRuntime) {
     opens_in_memory(&rt, Contents::Second);
 }
 
-/// A new store in memory.
 fn new_store(rt: &impl Host) -> Store<MemStore> {
     match Store::open_in_memory(rt.alloc()) {
         Ok(store) => store,

@@ -1,9 +1,7 @@
 //! The rows of a small club, from plain values: members with quota 5, amy's keys, and facilities.
 
-use crate::values::{moment, name, root};
+use crate::prelude::*;
 use club_rows::{Facility, Key, Member, OlderRoot};
-use std::process::Abort;
-use test_kit::roots::ROOT;
 use test_kit::{PlainFacility, amy};
 
 /// A root that a key had, and the moment until which it is good.
@@ -26,19 +24,18 @@ pub(crate) const AMY_1: Kept = Kept {
     revoked: false,
 };
 
-/// A member with this name and these credited points.
-pub(crate) fn member(rt: &impl Abort, text: &str, credited: u32) -> Member {
+pub(crate) fn member(rt: &impl Host, text: &str, credited: u32) -> Member {
     Member {
         name: name(rt, text),
         ..amy(credited, 5).expect(rt, "a member")
     }
 }
 
-pub(crate) fn facility(rt: &impl Abort, facility: &PlainFacility) -> Facility {
+pub(crate) fn facility(rt: &impl Host, facility: &PlainFacility) -> Facility {
     facility.facility().expect(rt, "a facility")
 }
 
-pub(crate) fn key(rt: &impl Abort, kept: &Kept) -> Key {
+pub(crate) fn key(rt: &impl Host, kept: &Kept) -> Key {
     Key {
         name: name(rt, kept.name),
         member: name(rt, "amy"),

@@ -3,15 +3,10 @@
 
 use super::databases::{Contents, database};
 use super::rows::{AMY_1, Kept, key, member};
-use crate::expect::{Host, expect_eq, expect_row};
-use crate::values::{booking, moment, name, number, request};
-use club_core::{ClubStore, KeyView, MemberAccount};
-use club_store::Store;
-use sqlite::{Alter, Connection};
-use std::process::Abort;
-use std::test::*;
-use test_kit::requests::{ACCOUNT, CANCEL_7, VIEW};
-use test_kit::{BOOKING_7, BOOKING_8, COURT_AT_18, PlainBooking, PlainRequest, ROOM_AT_18};
+use crate::prelude::*;
+use crate::values::{booking, number};
+use club_core::{KeyView, MemberAccount};
+use test_kit::{BOOKING_8, ROOM_AT_18};
 
 const CANCELLED_8: PlainBooking = PlainBooking {
     refund: Some(300),
@@ -34,10 +29,8 @@ static BOOKINGS: [(u32, Option<PlainBooking>); 3] = [
     (9, None),
 ];
 
-/// The day before the slots.
 const DAY_BEFORE: &str = "2026-04-30T17:00";
 
-/// The store over a database that it takes over.
 pub(crate) fn adopt<S: Alter + Drop>(rt: &impl Host, connection: Connection<S>) -> Store<S> {
     Store::adopt(rt.alloc(), connection)
         .ok()
@@ -45,14 +38,14 @@ pub(crate) fn adopt<S: Alter + Drop>(rt: &impl Host, connection: Connection<S>) 
 }
 
 /// The view that `amy-1` has of a request on the day before the slots, with the key.
-fn view<S: Alter>(rt: &impl Abort, store: &mut Store<S>, asked: &PlainRequest) -> KeyView {
+fn view<S: Alter>(rt: &impl Host, store: &mut Store<S>, asked: &PlainRequest) -> KeyView {
     let at = moment(rt, DAY_BEFORE);
     let found = store.view(&name(rt, "amy-1"), &request(rt, asked), at);
     found.expect(rt, "an answer").expect(rt, "a view")
 }
 
 /// Ends the test unless the store has this key, with its older root, and a view has it, too.
-pub(crate) fn shows_key<S: Alter>(rt: &impl Abort, store: &mut Store<S>, kept: &Kept) {
+pub(crate) fn shows_key<S: Alter>(rt: &impl Host, store: &mut Store<S>, kept: &Kept) {
     let want = key(rt, kept);
     expect_eq(rt, &store.key(&want.name), &Ok(Some(want)));
     let seen = view(rt, store, &ACCOUNT);
@@ -61,7 +54,7 @@ pub(crate) fn shows_key<S: Alter>(rt: &impl Abort, store: &mut Store<S>, kept: &
 }
 
 /// Of 10,000 points 600 are spent on the court, and of 601 for the room 300 came back.
-fn shows_views<S: Alter>(rt: &impl Abort, store: &mut Store<S>) {
+fn shows_views<S: Alter>(rt: &impl Host, store: &mut Store<S>) {
     for (row, (asked, taken, booked)) in VIEWS.iter().enumerate() {
         let seen = view(rt, store, asked).view;
         let account = (seen.spent, seen.balance, seen.open_count);
@@ -73,7 +66,7 @@ fn shows_views<S: Alter>(rt: &impl Abort, store: &mut Store<S>) {
 }
 
 /// The same sums and bookings, each by a reading of its own.
-fn shows_rows<C: ClubStore>(rt: &impl Abort, store: &mut C) {
+fn shows_rows<C: ClubStore>(rt: &impl Host, store: &mut C) {
     let amy = name(rt, "amy");
     let account = MemberAccount {
         member: member(rt, "amy", 10_000),
@@ -92,7 +85,7 @@ fn shows_rows<C: ClubStore>(rt: &impl Abort, store: &mut C) {
 }
 
 /// Ends the test unless the store shows the club of these tables.
-pub(crate) fn shows<S: Alter>(rt: &impl Abort, store: &mut Store<S>, contents: Contents) {
+pub(crate) fn shows<S: Alter>(rt: &impl Host, store: &mut Store<S>, contents: Contents) {
     let amy = store.member(&name(rt, "amy"));
     if let Contents::Nothing = contents {
         expect_eq(rt, &amy, &Ok(None));

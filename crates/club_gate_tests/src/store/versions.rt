@@ -5,17 +5,11 @@ use super::databases::{database, runs, version};
 use super::rows::{AMY_1, Kept, Older};
 use super::shown::{adopt, shows_key};
 use super::write::{Write, change};
-use crate::expect::{Host, expect_eq, expect_row};
-use club_core::StoreFault;
-use club_store::Store;
-use sqlite::{Alter, Connection};
-use std::process::Abort;
-use std::test::*;
-use test_kit::roots::{ROOT, SECOND_ROOT};
+use crate::prelude::*;
 use test_kit::version_1::{DESK, WITHOUT_TOTALS};
 
 /// How many indexes of the bookings' name are listed.
-fn indexes<S: Alter>(rt: &impl Abort, connection: &mut Connection<S>) -> i64 {
+fn indexes<S: Alter>(rt: &impl Host, connection: &mut Connection<S>) -> i64 {
     let listed = "SELECT count(*) FROM sqlite_schema \
         WHERE type = 'index' AND name = 'bookings_by_key' AND tbl_name = 'bookings'";
     let row = connection.query_row(listed, &[]).expect(rt, "a count");

@@ -1,10 +1,10 @@
 //! Changes of a club, from plain data.
 
 use super::rows::{Kept, Older, facility, key, member};
-use crate::values::{booking, moment, name, root, slot};
+use crate::prelude::*;
+use crate::values::booking;
 use club_core::Change;
-use std::process::Abort;
-use test_kit::{PlainBooking, PlainFacility, PlainSlot};
+use test_kit::PlainFacility;
 
 #[derive(Clone, Copy)]
 pub(crate) enum Write {
@@ -29,7 +29,7 @@ pub(crate) enum Write {
     Cancel(PlainBooking, &'static str, u32),
 }
 
-fn numbers(rt: &impl Abort, facility: &str, places: u8, price: u16, hours: (u8, u8)) -> Change {
+fn numbers(rt: &impl Host, facility: &str, places: u8, price: u16, hours: (u8, u8)) -> Change {
     Change::ReplaceNumbers {
         facility: name(rt, facility),
         places,
@@ -39,7 +39,7 @@ fn numbers(rt: &impl Abort, facility: &str, places: u8, price: u16, hours: (u8, 
     }
 }
 
-fn rotation(rt: &impl Abort, key: &str, former: &Older, to: &[u8]) -> Change {
+fn rotation(rt: &impl Host, key: &str, former: &Older, to: &[u8]) -> Change {
     Change::ReplaceRoot {
         key: name(rt, key),
         former: root(rt, former.0),
@@ -48,7 +48,7 @@ fn rotation(rt: &impl Abort, key: &str, former: &Older, to: &[u8]) -> Change {
     }
 }
 
-fn cancellation(rt: &impl Abort, booked: &PlainBooking, member: &str, refund: u32) -> Change {
+fn cancellation(rt: &impl Host, booked: &PlainBooking, member: &str, refund: u32) -> Change {
     Change::MarkCancelled {
         booking: booking(rt, booked),
         member: name(rt, member),
@@ -56,7 +56,7 @@ fn cancellation(rt: &impl Abort, booked: &PlainBooking, member: &str, refund: u3
     }
 }
 
-pub(crate) fn change(rt: &impl Abort, write: &Write) -> Change {
+pub(crate) fn change(rt: &impl Host, write: &Write) -> Change {
     match write {
         Write::Member(text, credited) => Change::InsertMember(member(rt, text, *credited)),
         Write::Credit(member, points) => Change::AddCredit {

@@ -1,14 +1,13 @@
 //! Arguments that are refused, and help.
 
 use super::tasks::arguments_of;
-use crate::expect::expect_end;
+use crate::expect::{Host, expect_end};
 use clubdesk_arguments::{CommandName, Fault, Job};
 use command_line::{ArgumentsFault, Asked, read_job, text_fault};
-use std::process::Abort;
 use test_kit::End::{Begins, Prints};
 use test_kit::{End, Output, form_line};
 
-fn output_of_fault(rt: &(impl Abort + AllocGlobal), fault: &Fault) -> Output {
+fn output_of_fault(rt: &impl Host, fault: &Fault) -> Output {
     Output {
         status: fault.status(),
         text: fault.to_string(rt.alloc()).expect(rt, "memory"),
@@ -17,14 +16,14 @@ fn output_of_fault(rt: &(impl Abort + AllocGlobal), fault: &Fault) -> Output {
 
 // What arguments ask for.
 fn asked<'a>(
-    rt: &impl AllocGlobal,
+    rt: &impl Host,
     arguments: &'a [&'a str],
 ) -> Result<Asked<Job<'a>>, ArgumentsFault<()>> {
     read_job(rt.alloc(), arguments)
 }
 
 // The status and the line of the fault of arguments that are refused.
-pub(super) fn output_of(rt: &(impl Abort + AllocGlobal), line: &str) -> Output {
+pub(super) fn output_of(rt: &impl Host, line: &str) -> Output {
     let arguments = arguments_of(rt, line);
     match asked(rt, arguments.as_slice()) {
         Ok(_) => panic!(rt; "{line}"),
@@ -32,106 +31,93 @@ pub(super) fn output_of(rt: &(impl Abort + AllocGlobal), line: &str) -> Output {
     }
 }
 
-// The arguments of each line are refused so.
-fn expect_refused(rt: &(impl Abort + AllocGlobal), lines: &[&str], end: &End) {
-    for line in lines {
-        expect_end(rt, &output_of(rt, line), end, line);
+// The arguments of a line are refused so.
+fn expect_refused(rt: &impl Host, line: &str, end: &End) {
+    expect_end(rt, &output_of(rt, line), end, line);
+}
+
+const BAD_VALUE: End = Begins(3, "bad value");
+
+// The first arguments of a command, and after a colon their ends, each of which has a bad value.
+static BAD_VALUES: [&str; 18] = [
+    "add-member|F|: Amy|5 |5 amybobcydideeveflogushalfi|5 amy| amy|+5 amy|5x amy|1000000000 \
+    amy|0000000005",
+    "credit|F|: amy!|1 amy|1.0",
+    "debit|F|: amy!|1 amy|1.0 amy|1000000000",
+    "set-quota|F|: amy!|1 amy|-",
+    "add-facility|F|court-1|: Court|4|200|8|22 court|x|200|8|22 court|4|x|8|22 court|4|200|x|22 \
+    court|4|200|8|x",
+    "set-facility|F|court-1|: court|200|8|22 4|x|8|22 4|200|x|22 4|200|8|x",
+    "revoke-key|F|: amy_1",
+    "close-slot|F|: court-1|2026-02-29|18 court-1|2026-05-01|24 court-1|2026-05-01|8 \
+    Court-1|2026-05-01|18",
+    "open-slot|F|court-1|: 2026-05-01|24 2026-02-29|18",
+    "cancel-booking|F|: Amy-1|7 amy-1|seven amy-1|0 amy-1|1000000000",
+    "sheet|F|: 1999-12-31 2100-01-01 2026-5-1",
+    "serve|F|--port|: 65536|--count|1 x|--count|1 0|--count|0 0|--count|1000001",
+    "serve|F|--port|0|--count|1|--zone|:  UTC Europe/Berlin",
+    "serve|F|--port|0|--count|1|--at|: 2026-05-01 2026-05-01T24:00 2026-05-01T12:00|--zone|x",
+    "serve|F|--port|0|--count|1|--patience|: 0 3601 x  1.5",
+    "show-account|F|: Amy-1 amy-1|--zone|UTC amy-1|--at|2026-05-01 \
+    amy-1|--at|2026-05-01T12:00|--zone|x",
+    "show-slot|F|court-1|: 2026-02-29|18 2026-05-01|24",
+    ": add-key|F|K|bob|--root-stdin rotate-key|F|k|never|--root-stdin",
+];
+
+// Values with a space.
+static SPACED: [&str; 4] = [
+    "add-member|F|amy| 5",
+    "add-facility|F|court 1|court|4|200|8|22",
+    "set-facility|F|court 1|4|200|8|22",
+    "show-slot|F|court 1|2026-05-01|18",
+];
+
+// Roots of no byte, of 15 bytes, of 16 with half a byte more or with another letter, of 65 bytes.
+static BAD_ROOTS: [&str; 5] = [
+    "",
+    "000102030405060708090a0b0c0d0e",
+    "000102030405060708090a0b0c0d0e0f1",
+    "000102030405060708090a0b0c0d0e0g",
+    "0000000000000000000000000000000000000000000000000000000000000000\
+    000000000000000000000000000000000000000000000000000000000000000000",
+];
+
+// A moment before the first.
+const TOO_EARLY: &str = "rotate-key|F|k|000102030405060708090a0b0c0d0e0f|1999-12-31T23:59";
+
+fn expect_ends_refused(rt: &impl Host, row: &str) {
+    let (before, ends) = row.split_once(": ").expect(rt, "a row");
+    for rest in ends.split(' ') {
+        let line = format!(in rt.alloc(); "{before}{rest}").expect(rt, "memory");
+        expect_refused(rt, line.as_str(), &BAD_VALUE);
     }
 }
 
-static BAD_VALUES: [&str; 76] = [
-    "add-member|F|Amy|5",
-    "add-member|F||5",
-    "add-member|F|amybobcydideeveflogushalfi|5",
-    "add-member|F|amy|",
-    "add-member|F|amy|+5",
-    "add-member|F|amy| 5",
-    "add-member|F|amy|5x",
-    "add-member|F|amy|1000000000",
-    "add-member|F|amy|0000000005",
-    "credit|F|amy!|1",
-    "debit|F|amy!|1",
-    "debit|F|amy|1.0",
-    "debit|F|amy|1000000000",
-    "set-quota|F|amy!|1",
-    "set-quota|F|amy|-",
-    "credit|F|amy|1.0",
-    "add-facility|F|court-1|Court|4|200|8|22",
-    "add-facility|F|court 1|court|4|200|8|22",
-    "add-facility|F|court-1|court|x|200|8|22",
-    "add-facility|F|court-1|court|4|x|8|22",
-    "add-facility|F|court-1|court|4|200|x|22",
-    "add-facility|F|court-1|court|4|200|8|x",
-    "set-facility|F|court 1|4|200|8|22",
-    "set-facility|F|court-1|court|200|8|22",
-    "set-facility|F|court-1|4|x|8|22",
-    "set-facility|F|court-1|4|200|x|22",
-    "set-facility|F|court-1|4|200|8|x",
-    "revoke-key|F|amy_1",
-    "close-slot|F|court-1|2026-02-29|18",
-    "close-slot|F|court-1|2026-05-01|24",
-    "close-slot|F|court-1|2026-05-01|8",
-    "close-slot|F|Court-1|2026-05-01|18",
-    "open-slot|F|court-1|2026-05-01|24",
-    "open-slot|F|court-1|2026-02-29|18",
-    "cancel-booking|F|Amy-1|7",
-    "cancel-booking|F|amy-1|seven",
-    "cancel-booking|F|amy-1|0",
-    "cancel-booking|F|amy-1|1000000000",
-    "sheet|F|1999-12-31",
-    "sheet|F|2100-01-01",
-    "sheet|F|2026-5-1",
-    "serve|F|--port|65536|--count|1",
-    "serve|F|--port|x|--count|1",
-    "serve|F|--port|0|--count|0",
-    "serve|F|--port|0|--count|1000001",
-    "serve|F|--port|0|--count|1|--zone|",
-    "serve|F|--port|0|--count|1|--zone|UTC",
-    "serve|F|--port|0|--count|1|--zone|Europe/Berlin",
-    "serve|F|--port|0|--count|1|--at|2026-05-01",
-    "serve|F|--port|0|--count|1|--at|2026-05-01T24:00",
-    // The zone is checked beside a fixed moment.
-    "serve|F|--port|0|--count|1|--at|2026-05-01T12:00|--zone|x",
-    "serve|F|--port|0|--count|1|--patience|0",
-    "serve|F|--port|0|--count|1|--patience|3601",
-    "serve|F|--port|0|--count|1|--patience|x",
-    "serve|F|--port|0|--count|1|--patience|",
-    "serve|F|--port|0|--count|1|--patience|1.5",
-    "show-account|F|Amy-1",
-    "show-account|F|amy-1|--zone|UTC",
-    "show-account|F|amy-1|--at|2026-05-01",
-    "show-account|F|amy-1|--at|2026-05-01T12:00|--zone|x",
-    "show-slot|F|court 1|2026-05-01|18",
-    "show-slot|F|court-1|2026-02-29|18",
-    "show-slot|F|court-1|2026-05-01|24",
-    "add-key|F|K|bob|--root-stdin",
-    "rotate-key|F|k|never|--root-stdin",
-    // Roots: of 15 bytes, of 16 with half a byte or another letter, of 65 bytes.
-    "add-key|F|k|bob|",
-    "add-key|F|k|bob|000102030405060708090a0b0c0d0e",
-    "add-key|F|k|bob|000102030405060708090a0b0c0d0e0f1",
-    "add-key|F|k|bob|000102030405060708090a0b0c0d0e0g",
-    "add-key|F|k|bob|0000000000000000000000000000000000000000000000000000000000000000\
-    000000000000000000000000000000000000000000000000000000000000000000",
-    "rotate-key|F|k||2026-04-25T00:00",
-    "rotate-key|F|k|000102030405060708090a0b0c0d0e|2026-04-25T00:00",
-    "rotate-key|F|k|000102030405060708090a0b0c0d0e0f1|2026-04-25T00:00",
-    "rotate-key|F|k|000102030405060708090a0b0c0d0e0g|2026-04-25T00:00",
-    "rotate-key|F|k|0000000000000000000000000000000000000000000000000000000000000000\
-    000000000000000000000000000000000000000000000000000000000000000000|2026-04-25T00:00",
-    // A moment before the first.
-    "rotate-key|F|k|000102030405060708090a0b0c0d0e0f|1999-12-31T23:59",
-];
+fn expect_root_refused(rt: &impl Host, root: &str) {
+    let line = format!(in rt.alloc(); "add-key|F|k|bob|{root}").expect(rt, "memory");
+    expect_refused(rt, line.as_str(), &BAD_VALUE);
+    let line = format!(in rt.alloc(); "rotate-key|F|k|{root}|2026-04-25T00:00");
+    expect_refused(rt, line.expect(rt, "memory").as_str(), &BAD_VALUE);
+}
 
 #[test]
 fn bad_values(rt: HostRuntime) {
-    expect_refused(&rt, &BAD_VALUES, &Begins(3, "bad value"));
+    for row in &BAD_VALUES {
+        expect_ends_refused(&rt, row);
+    }
+    for line in &SPACED {
+        expect_refused(&rt, line, &BAD_VALUE);
+    }
+    for root in &BAD_ROOTS {
+        expect_root_refused(&rt, root);
+    }
+    expect_refused(&rt, TOO_EARLY, &BAD_VALUE);
 }
 
 static OTHER_FORMS: [&str; 5] = ["", "v3", "V1", "JSON", "v1 "];
 
 // A line before a form is refused by the line about this form.
-fn expect_other_form(rt: &(impl Abort + AllocGlobal), before: &str, form: &str) {
+fn expect_other_form(rt: &impl Host, before: &str, form: &str) {
     let line = format!(in rt.alloc(); "{before}|--form|{form}").expect(rt, "memory");
     let output = output_of(rt, line.as_str());
     let want = form_line(rt.alloc(), form).expect(rt, "memory");
@@ -148,56 +134,29 @@ fn bad_forms(rt: HostRuntime) {
     }
 }
 
-static BAD_ARGUMENTS: [&str; 42] = [
-    "frob",
-    "help|frob",
-    "add-member|--version",
-    "add-member",
-    "add-member|F|amy",
-    "add-member|F|amy|5|6",
-    "add-member|F|-amy|5",
-    "add-member|F|amy|-5",
-    "add-member|F|amy|5|--form|v1",
-    "credit|F",
-    "debit|F|amy",
-    "debit|F|amy|-1",
-    "set-quota|F|amy",
-    "add-facility|F|court-1|court|4|200|8",
-    "set-facility|F|court-1|4|200|8",
-    "set-facility|F|court-1|court|4|200|8|22",
-    "add-key|F|k|bob",
-    "add-key|F|k|bob|000102030405060708090a0b0c0d0e0f|--form",
-    "add-key|F|k|bob|000102030405060708090a0b0c0d0e0f|--form|v1|--form|v2",
-    "revoke-key|F",
-    "rotate-key|F|k|000102030405060708090a0b0c0d0e0f",
-    "close-slot|F|court-1|2026-05-01",
-    "open-slot|F|court-1|2026-05-01",
-    "cancel-booking|F|amy-1",
-    "cancel-booking|F|amy-1|7|8",
-    "sheet|F",
-    "sheet",
-    "serve|F",
-    "serve|F|--port|0",
-    "serve|F|--count|1",
-    "serve|--port|0|--count|1",
-    "serve|F|--port|0|--count|1|--verbose",
-    // Some versions had this command.
-    "pause|F|60",
-    "serve|F|--port|0|--count|1|--patience",
-    "show-account|F",
-    "show-account|F|amy-1|2026-05-01T12:00",
-    "show-slot|F|court-1|2026-05-01",
-    "show-slot|F|court-1|2026-05-01|18|--at|2026-05-01T12:00",
-    // A root is given once, by its argument or by the input.
-    "add-key|F|k|bob|000102030405060708090a0b0c0d0e0f|--root-stdin",
-    "rotate-key|F|k|000102030405060708090a0b0c0d0e0f|2026-04-25T00:00|--root-stdin",
-    "rotate-key|F|k|--root-stdin",
-    "add-key|F|k|bob|--root-stdin|--root-stdin",
-];
+// Lines with bars between their arguments. `pause` was a command of some versions. A root is given
+// once, by its argument or by the input.
+const BAD_ARGUMENTS: &str = "frob help|frob add-member|--version add-member add-member|F|amy \
+    add-member|F|amy|5|6 add-member|F|-amy|5 add-member|F|amy|-5 add-member|F|amy|5|--form|v1 \
+    credit|F debit|F|amy debit|F|amy|-1 set-quota|F|amy add-facility|F|court-1|court|4|200|8 \
+    set-facility|F|court-1|4|200|8 set-facility|F|court-1|court|4|200|8|22 add-key|F|k|bob \
+    add-key|F|k|bob|000102030405060708090a0b0c0d0e0f|--form \
+    add-key|F|k|bob|000102030405060708090a0b0c0d0e0f|--form|v1|--form|v2 \
+    revoke-key|F rotate-key|F|k|000102030405060708090a0b0c0d0e0f close-slot|F|court-1|2026-05-01 \
+    open-slot|F|court-1|2026-05-01 cancel-booking|F|amy-1 cancel-booking|F|amy-1|7|8 sheet|F sheet \
+    serve|F serve|F|--port|0 serve|F|--count|1 serve|--port|0|--count|1 \
+    serve|F|--port|0|--count|1|--verbose pause|F|60 serve|F|--port|0|--count|1|--patience \
+    show-account|F show-account|F|amy-1|2026-05-01T12:00 show-slot|F|court-1|2026-05-01 \
+    show-slot|F|court-1|2026-05-01|18|--at|2026-05-01T12:00 \
+    add-key|F|k|bob|000102030405060708090a0b0c0d0e0f|--root-stdin \
+    rotate-key|F|k|000102030405060708090a0b0c0d0e0f|2026-04-25T00:00|--root-stdin \
+    rotate-key|F|k|--root-stdin add-key|F|k|bob|--root-stdin|--root-stdin";
 
 #[test]
 fn arguments_that_clap_refuses(rt: HostRuntime) {
-    expect_refused(&rt, &BAD_ARGUMENTS, &Begins(2, "error: "));
+    for line in BAD_ARGUMENTS.split(' ') {
+        expect_refused(&rt, line, &Begins(2, "error: "));
+    }
 }
 
 // The text that clap writes in Rust.
@@ -216,7 +175,7 @@ fn arguments_that_are_no_text(rt: HostRuntime) {
 const HELP: &str =
     "--help help help|serve help|show-account help|show-slot add-facility|-h --version -V";
 
-fn help_of(rt: &(impl Abort + AllocGlobal), line: &str) -> String {
+fn help_of(rt: &impl Host, line: &str) -> String {
     let arguments = arguments_of(rt, line);
     match asked(rt, arguments.as_slice()) {
         Ok(Asked::ShowText(help)) => help.to_string(rt.alloc()).expect(rt, "memory"),
@@ -237,7 +196,7 @@ const COMMANDS: &str = "add-member credit debit set-quota add-facility set-facil
     revoke-key rotate-key close-slot open-slot cancel-booking sheet serve show-account show-slot";
 
 // The help of a command has an example of it.
-fn expect_example(rt: &(impl Abort + AllocGlobal), command: &str) {
+fn expect_example(rt: &impl Host, command: &str) {
     let line = format!(in rt.alloc(); "{command}|--help").expect(rt, "memory");
     let text = help_of(rt, line.as_str());
     let example = format!(in rt.alloc(); "\n  clubdesk {command} club.db ").expect(rt, "memory");

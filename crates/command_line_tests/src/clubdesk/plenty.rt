@@ -2,17 +2,15 @@
 
 use super::bad_arguments::output_of;
 use super::tasks::expect_asked;
-use crate::expect::{expect_case, expect_end};
+use crate::expect::{Host, expect_case, expect_end};
 use clubdesk_arguments::root_of;
-use std::process::Abort;
 use test_kit::End::Begins;
 use test_kit::{End, Piece, join};
 
-fn text_of(rt: &(impl Abort + AllocGlobal), pieces: &[Piece]) -> String {
+fn text_of(rt: &impl Host, pieces: &[Piece]) -> String {
     join(rt.alloc(), pieces).expect(rt, "memory")
 }
 
-// A path of 4,000 letters.
 static PATH: [Piece; 2] = [(1_999, "./"), (1, "aa")];
 
 // What comes before the path and after it, and what the arguments ask for.
@@ -39,7 +37,6 @@ fn takes_a_long_path(rt: HostRuntime) {
     }
 }
 
-// Credits of each decimal length.
 #[test]
 fn takes_numbers_of_each_length(rt: HostRuntime) {
     for points in "1 12 123 1234 12345 123456 1234567 12345678 123456789".split(' ') {
@@ -50,7 +47,7 @@ fn takes_numbers_of_each_length(rt: HostRuntime) {
 }
 
 // A root of so many bytes is read, and so is a command with it.
-fn takes_root(rt: &(impl Abort + AllocGlobal), len: usize) {
+fn takes_root(rt: &impl Host, len: usize) {
     let text = text_of(rt, &[(len, "a7")]);
     let root = root_of(text.as_str()).expect(rt, "a root");
     expect_case(rt, "a root", &root.as_bytes().len(), &len);

@@ -1,16 +1,15 @@
 //! What the arguments of `clubdesk` ask for.
 
-use crate::expect::expect_case;
+use crate::expect::{Host, expect_case};
 use club_clock::Clock;
 use club_rows::Root;
 use clubdesk_arguments::{Job, KeyChange, KeyCommand, Service, Task, Work, laws};
 use command_line::{ArgumentsFault, Asked, read_job};
 use std::alloc::AllocError;
 use std::fmt::Write;
-use std::process::Abort;
 
 // The arguments of a line, split at bars, after the program's name.
-pub(crate) fn arguments_of<'a>(rt: &(impl Abort + AllocGlobal), line: &'a str) -> Vec<&'a str> {
+pub(crate) fn arguments_of<'a>(rt: &impl Host, line: &'a str) -> Vec<&'a str> {
     let mut arguments = Vec::from_array(rt.alloc(), ["clubdesk"]).expect(rt, "memory");
     for argument in line.split('|') {
         arguments.push(argument).expect(rt, "memory");
@@ -18,7 +17,7 @@ pub(crate) fn arguments_of<'a>(rt: &(impl Abort + AllocGlobal), line: &'a str) -
     arguments
 }
 
-fn hex_of(rt: &(impl Abort + AllocGlobal), root: &Root) -> String {
+fn hex_of(rt: &impl Host, root: &Root) -> String {
     hex::encode(rt.alloc(), root.as_bytes()).expect(rt, "memory")
 }
 
@@ -47,11 +46,7 @@ fn describe_service(output: &mut String, service: &Service<'_>) -> Result<(), Al
     write!(output, " for {patience}{log}")
 }
 
-fn describe_work(
-    rt: &(impl Abort + AllocGlobal),
-    output: &mut String,
-    work: &Work<'_>,
-) -> Result<(), AllocError> {
+fn describe_work(rt: &impl Host, output: &mut String, work: &Work<'_>) -> Result<(), AllocError> {
     match work {
         Work::Office(Task::Give(command)) => write!(output, "{command:?}"),
         Work::Office(Task::Key(command, root)) => {
@@ -68,15 +63,14 @@ fn describe_work(
     }
 }
 
-// The work, as a text.
-fn work_text(rt: &(impl Abort + AllocGlobal), work: &Work<'_>) -> String {
+fn work_text(rt: &impl Host, work: &Work<'_>) -> String {
     let mut output = String::new(rt.alloc());
     describe_work(rt, &mut output, work).expect(rt, "memory");
     output
 }
 
 // The arguments of a line ask for this, over this file.
-pub(super) fn expect_asked(rt: &(impl Abort + AllocGlobal), line: &str, file: &str, want: &str) {
+pub(super) fn expect_asked(rt: &impl Host, line: &str, file: &str, want: &str) {
     let arguments = arguments_of(rt, line);
     let asked: Result<Asked<Job<'_>>, ArgumentsFault<()>> = read_job(
         rt.alloc(),
@@ -91,41 +85,18 @@ pub(super) fn expect_asked(rt: &(impl Abort + AllocGlobal), line: &str, file: &s
     }
 }
 
-// Lines, and what they ask for over the file `F`.
-static TASKS: [&str; 43] = [
-    "add-member|F|amy|5 asks for AddMember { name: \"amy\", quota: 5 }",
-    "credit|F|amy|10000 asks for Credit { member: \"amy\", points: 10000 }",
+// Lines, and what they ask for over the file `F`. Scenarios have commands that are carried out.
+static TASKS: [&str; 30] = [
     "debit|F|amy|500 asks for Debit { member: \"amy\", points: 500 }",
-    "add-facility|F|court-1|court|4|200|8|22 \
-    asks for AddFacility { name: \"court-1\", kind: Court, \
-    places: 4, price: 200, opens: 8, shuts: 22 }",
-    "add-facility|F|b|boat|1|0|0|24 \
-    asks for AddFacility { name: \"b\", kind: Boat, places: 1, price: 0, opens: 0, shuts: 24 }",
     "set-facility|F|court-1|4|250|8|21 \
     asks for SetFacility { name: \"court-1\", places: 4, price: 250, opens: 8, shuts: 21 }",
     "set-facility|F|b|51|10000|9|8 \
     asks for SetFacility { name: \"b\", places: 51, price: 10000, opens: 9, shuts: 8 }",
-    "revoke-key|F|amy-1 asks for RevokeKey { name: \"amy-1\" }",
-    "close-slot|F|court-1|2026-05-01|18 \
-    asks for CloseSlot(Slot { facility: \"court-1\", day: Day { number: 20574 }, \
-    hour: Hour { number: 18 } })",
-    "open-slot|F|court-1|2026-05-01|18 \
-    asks for OpenSlot(Slot { facility: \"court-1\", day: Day { number: 20574 }, \
-    hour: Hour { number: 18 } })",
-    "cancel-booking|F|amy-1|7 \
-    asks for CancelBooking { key: \"amy-1\", number: BookingNumber { number: 7 } }",
     "cancel-booking|F|amy-1|000000001 \
     asks for CancelBooking { key: \"amy-1\", number: BookingNumber { number: 1 } }",
-    "cancel-booking|F|amy-1|999999999 \
-    asks for CancelBooking { key: \"amy-1\", number: BookingNumber { number: 999999999 } }",
     "set-quota|F|amy|8 asks for SetQuota { member: \"amy\", quota: 8 }",
-    // What the club refuses is a value all the same.
-    "set-quota|F|amy|100 asks for SetQuota { member: \"amy\", quota: 100 }",
-    "debit|F|amy|0 asks for Debit { member: \"amy\", points: 0 }",
     "debit|F|amy|999999999 asks for Debit { member: \"amy\", points: 999999999 }",
-    "credit|F|amy|0 asks for Credit { member: \"amy\", points: 0 }",
     "credit|F|amy|000000000 asks for Credit { member: \"amy\", points: 0 }",
-    "credit|F|amy|1000001 asks for Credit { member: \"amy\", points: 1000001 }",
     "credit|F|amy|999999999 asks for Credit { member: \"amy\", points: 999999999 }",
     "credit|F|amy|000000017 asks for Credit { member: \"amy\", points: 17 }",
     "add-key|F|k|bob|000102030405060708090a0b0c0d0e0f \

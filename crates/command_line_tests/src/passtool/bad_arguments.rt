@@ -1,8 +1,7 @@
 //! Arguments that are refused before the input is read, and help.
 
 use super::runs::{MALFORMED, expect, expect_unread, unread_output_of};
-use crate::expect::expect_eq;
-use std::process::Abort;
+use crate::expect::{Host, expect_eq};
 use test_kit::End::{Begins, Prints};
 use test_kit::form_line;
 
@@ -16,7 +15,7 @@ static BAD_ROOTS: [&str; 5] = [
     00000000000000000000000000000000000000000000000000000000000000000",
 ];
 
-fn is_no_root(rt: &(impl Abort + AllocGlobal), root: &str) {
+fn is_no_root(rt: &impl Host, root: &str) {
     let verify = format!(in rt.alloc(); "verify|--root|{root}").expect(rt, "memory");
     expect_unread(rt, &[(verify.as_str(), Prints(6, "bad root"))]);
     let mint = format!(in rt.alloc(); "mint|--root|{root}|--id|k").expect(rt, "memory");
@@ -33,7 +32,7 @@ fn refuses_bad_roots(rt: HostRuntime) {
 static OTHER_FORMS: [&str; 6] = ["", "v3", "V1", "JSON", "v1 ", "binary"];
 
 // A line before a form is refused by the line about this form.
-fn expect_other_form(rt: &(impl Abort + AllocGlobal), before: &str, form: &str) {
+fn expect_other_form(rt: &impl Host, before: &str, form: &str) {
     let line = format!(in rt.alloc(); "{before}{form}").expect(rt, "memory");
     let output = unread_output_of(rt, line.as_str());
     let want = form_line(rt.alloc(), form).expect(rt, "memory");
@@ -49,68 +48,40 @@ fn refuses_other_forms(rt: HostRuntime) {
     }
 }
 
-static BAD_ARGUMENTS: [&str; 22] = [
-    "",
-    "frob",
-    "help|frob",
-    "mint",
-    "mint|--root|zz",
-    "mint|--id|k",
-    "mint|--root|zz|--id",
-    "mint|--root|00|--id|a|--id|b",
-    "mint|--root|00|--id|k|-x",
-    "show|more",
-    "show|--form|v1",
-    "narrow",
-    "narrow|--any",
-    "narrow|--any|--any|x",
-    "narrow|-x",
-    "convert",
-    "convert|--form",
-    "convert|v1",
-    "verify",
-    "verify|--root",
-    "verify|--root|00|more",
-    "verify|--root|00|--root|00",
-];
+// Lines with bars between their arguments; the first has none.
+const BAD_ARGUMENTS: &str = " frob help|frob mint mint|--root|zz mint|--id|k mint|--root|zz|--id \
+    mint|--root|00|--id|a|--id|b mint|--root|00|--id|k|-x show|more show|--form|v1 narrow \
+    narrow|--any narrow|--any|--any|x narrow|-x convert convert|--form convert|v1 verify \
+    verify|--root verify|--root|00|more verify|--root|00|--root|00";
 
 #[test]
 fn refuses_what_clap_refuses(rt: HostRuntime) {
-    for line in &BAD_ARGUMENTS {
-        expect_unread(&rt, &[(*line, Begins(2, "error: "))]);
+    for line in BAD_ARGUMENTS.split(' ') {
+        expect_unread(&rt, &[(line, Begins(2, "error: "))]);
     }
 }
 
-// A run shows help that has this part.
-fn expect_help(rt: &(impl Abort + AllocGlobal), line: &str, part: &str) {
+fn expect_help(rt: &impl Host, line: &str, part: &str) {
     let output = unread_output_of(rt, line);
     expect_eq(rt, &output.status, &0);
     assert!(rt; output.text.as_str().contains(part), "{line}: {output:?}");
 }
 
-static HELP: [&str; 8] = [
-    "--help",
-    "help",
-    "help|mint",
-    "mint|--help",
-    "show|-h",
-    "narrow|--help",
-    "convert|--help",
-    "verify|--root|ROOT|--help",
-];
+// Lines that show the help of a command.
+const HELP: &str =
+    "help|mint mint|--help show|-h narrow|--help convert|--help verify|--root|ROOT|--help";
 
 const OF_WEEKDAYS: &str =
     "\n  weekday = DAY,..          weekday = sat,sun (of mon,tue,wed,thu,fri,sat,sun, in this order)\n";
 
 #[test]
 fn shows_help(rt: HostRuntime) {
-    for line in &HELP {
+    for line in HELP.split(' ') {
         expect_help(&rt, line, "Usage:");
-    }
-    // The help of each command has an example of it.
-    for line in &HELP[2..] {
         expect_help(&rt, line, "Example:\n  passtool ");
     }
+    expect_help(&rt, "help", "Usage:");
+    expect_help(&rt, "--help", "Usage:");
     expect_help(&rt, "--help", "\n  7  input or output failed\n");
     expect_help(&rt, "narrow|--help", OF_WEEKDAYS);
 }

@@ -39,7 +39,6 @@ impl<'a> Slow<'a> {
         slow
     }
 
-    // Whether a signal comes now.
     fn is_interrupted(&mut self) -> bool {
         self.came = if self.came < self.signals {
             self.came + 1

@@ -5,8 +5,7 @@ use super::runs::{
     BARE_TEXT, MINT, NARROW, SHOW, SHOWN, TEXT, TO_V2, V2_TEXT, VERIFY, arguments_of, ended_by,
     output_of,
 };
-use crate::expect::{expect_end, expect_eq};
-use std::process::Abort;
+use crate::expect::{Host, expect_end, expect_eq};
 use test_kit::End;
 use test_kit::End::{Prints, Writes};
 
@@ -19,13 +18,13 @@ fn reads_in_pieces(rt: HostRuntime) {
     expect_end(&rt, &output, &Writes("signed"), VERIFY);
 }
 
-fn fails_after(rt: &(impl Abort + AllocGlobal), line: &str, left: &[u8]) {
+fn fails_after(rt: &impl Host, line: &str, left: &[u8]) {
     let output = output_of(rt, line, &mut Slow::failing(rt.alloc(), left));
     expect_end(rt, &output, &FAILED, line);
 }
 
 // A reader that fails at once, amidst a pass or after it fails the run, and nothing is written.
-fn fails_with_reader(rt: &(impl Abort + AllocGlobal), line: &str) {
+fn fails_with_reader(rt: &impl Host, line: &str) {
     let (half, _) = TEXT.as_bytes().split_at(90);
     fails_after(rt, line, b"");
     fails_after(rt, line, half);
@@ -46,13 +45,7 @@ type Run = (&'static str, &'static str, &'static str);
 
 // A run whose writer has room for this front of its text and no more, and flushes or fails to: it
 // ends so, and has written that front.
-fn expect_taken(
-    rt: &(impl Abort + AllocGlobal),
-    (line, input, _): &Run,
-    front: &[u8],
-    flushes: bool,
-    end: &End,
-) {
+fn expect_taken(rt: &impl Host, (line, input, _): &Run, front: &[u8], flushes: bool, end: &End) {
     let mut writer = Slow::new(rt.alloc(), b"");
     writer.room = front.len();
     writer.flushes = flushes;
@@ -64,7 +57,7 @@ fn expect_taken(
 
 // Each writer that is too small for the text of a run fails it. A large enough one doesn't, and one
 // that fails to flush fails after it has taken all.
-fn fails_with_writer(rt: &(impl Abort + AllocGlobal), run: &Run) {
+fn fails_with_writer(rt: &impl Host, run: &Run) {
     let text = run.2;
     let line = format!(in rt.alloc(); "{text}\n").expect(rt, "memory");
     let bytes = line.as_bytes();

@@ -4,7 +4,7 @@ use super::runs::{
     BARE_TEXT, FORMS, JSON_TEXT, MALFORMED, MINT, NARROW, Row, SHOW, SHOWN, TEXT, TO_JSON, TO_V1,
     TO_V2, V2_TEXT, VERIFY, expect, expect_rows, expect_unread,
 };
-use std::process::Abort;
+use crate::expect::Host;
 use test_kit::End;
 use test_kit::End::{Begins, Writes};
 use test_kit::passes::AMY_V2;
@@ -23,8 +23,7 @@ fn answers_with_ample_memory(rt: HostRuntime) {
     expect_unread(&rt, &[(MINT, Writes(V2_TEXT))]);
 }
 
-// A run on an input writes this text and a line feed.
-fn expect_text(rt: &(impl Abort + AllocGlobal), line: &str, input: &str, text: &'static str) {
+fn expect_text(rt: &impl Host, line: &str, input: &str, text: &'static str) {
     expect(rt, line, input.as_bytes(), &Writes(text));
 }
 
@@ -124,7 +123,7 @@ static OF_24_LETTERS: [&str; 3] = [
     "{\"c\":[],\"i\":\"key:abcdefghijklmnopqrstuvwx\",\"l\":\"club-desk\",\"s64\":\"E2VHhUaPyb3pmYgFRMdlNdU60H1ry2MS_d9DlLiV8XE\",\"v\":2}",
 ];
 
-fn expect_minted(rt: &(impl Abort + AllocGlobal), id: &str, texts: &[&'static str; 3]) {
+fn expect_minted(rt: &impl Host, id: &str, texts: &[&'static str; 3]) {
     for (form, text) in FORMS.iter().zip(texts) {
         let named = format!(in rt.alloc(); "|--id|{id}|--location|club-desk|--form|{form}");
         let named = named.expect(rt, "memory");

@@ -5,9 +5,8 @@ use super::runs::{
     BARE_TEXT, FORMS, TEXT, TO_V2, TOO_MANY, V2_TEXT, arguments_of, ended_by, expect, output_of,
     unread_output_of,
 };
-use crate::expect::{expect_case, expect_end, expect_eq};
+use crate::expect::{Host, expect_case, expect_end, expect_eq};
 use std::io::Read;
-use std::process::Abort;
 use test_kit::End::{Begins, Prints, Writes};
 use test_kit::passes::{AMY_JSON, AMY_V1, AMY_V2};
 use test_kit::{End, Output, Piece, join};
@@ -39,20 +38,19 @@ static GUESTS: [Guests; 3] = [
     ],
 ];
 
-fn text_of(rt: &(impl Abort + AllocGlobal), pieces: &[Piece]) -> String {
+fn text_of(rt: &impl Host, pieces: &[Piece]) -> String {
     join(rt.alloc(), pieces).expect(rt, "memory")
 }
 
-fn of_63(rt: &(impl Abort + AllocGlobal), of: &Guests) -> String {
+fn of_63(rt: &impl Host, of: &Guests) -> String {
     text_of(rt, &[(1, of[0]), (62, of[1]), (1, of[2])])
 }
 
-fn of_64(rt: &(impl Abort + AllocGlobal), of: &Guests) -> String {
+fn of_64(rt: &impl Host, of: &Guests) -> String {
     text_of(rt, &[(1, of[0]), (63, of[1]), (1, of[3])])
 }
 
-// A run on an input writes this text and a line feed.
-fn expect_text(rt: &(impl Abort + AllocGlobal), line: &str, input: &str, want: &str) {
+fn expect_text(rt: &impl Host, line: &str, input: &str, want: &str) {
     let mut reader = input.as_bytes();
     let output = output_of(rt, line, &mut reader);
     expect_case(rt, want, &output.status, &0);
@@ -60,7 +58,7 @@ fn expect_text(rt: &(impl Abort + AllocGlobal), line: &str, input: &str, want: &
 }
 
 // A text is signed, and converted to each form.
-fn is_converted(rt: &(impl Abort + AllocGlobal), text: &str) {
+fn is_converted(rt: &impl Host, text: &str) {
     expect_text(rt, VERIFY, text, "signed");
     for (form, of) in FORMS.iter().zip(&GUESTS) {
         let line = format!(in rt.alloc(); "convert|--form|{form}").expect(rt, "memory");
@@ -124,7 +122,7 @@ fn narrows_by_a_long_caveat(rt: HostRuntime) {
 }
 
 // A pipe with two signals before each call.
-fn with_signals<'a>(rt: &impl AllocGlobal, left: &'a str) -> Slow<'a> {
+fn with_signals<'a>(rt: &impl Host, left: &'a str) -> Slow<'a> {
     let mut slow = Slow::new(rt.alloc(), left.as_bytes());
     slow.signals = 2;
     slow
@@ -143,12 +141,12 @@ fn goes_on_after_two_signals_in_a_row(rt: HostRuntime) {
 const VERIFY_LONGEST: &str = "verify|--root|00";
 
 // A run that mints a pass with an identifier of `len` bytes, under a root of one zero byte.
-fn minted(rt: &(impl Abort + AllocGlobal), len: usize) -> Output {
+fn minted(rt: &impl Host, len: usize) -> Output {
     let line = text_of(rt, &[(1, "mint|--root|00|--id|"), (len, "k")]);
     unread_output_of(rt, line.as_str())
 }
 
-fn expect_signed(rt: &(impl Abort + AllocGlobal), reader: &mut impl Read) {
+fn expect_signed(rt: &impl Host, reader: &mut impl Read) {
     let output = output_of(rt, VERIFY_LONGEST, reader);
     expect_end(rt, &output, &Writes("signed"), VERIFY_LONGEST);
 }

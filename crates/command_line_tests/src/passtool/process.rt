@@ -3,19 +3,17 @@
 
 use super::doubles::Slow;
 use super::runs::{BARE_TEXT, OTHER_TEXT, SHOW, TEXT, VERIFY, arguments_of, output_of};
-use crate::expect::expect_eq;
+use crate::expect::{Host, expect_eq};
 use command_line::given_arguments;
 use passtool_commands::{BadValue, Name, run_process};
 use std::fmt::Write;
 use std::io::Read;
-use std::process::Abort;
 use test_kit::Process;
 
 /// The status of a process, and what it wrote on its standard output and on its standard error.
 type Ended = (u8, String, String);
 
-/// The end of a process with these arguments and this input.
-fn end_of(rt: &(impl Abort + AllocGlobal), arguments: &[&[u8]], input: &mut impl Read) -> Ended {
+fn end_of(rt: &impl Host, arguments: &[&[u8]], input: &mut impl Read) -> Ended {
     let process = Process::new(rt.alloc(), arguments);
     let mut written = Vec::new(rt.alloc());
     let status = run_process(rt.alloc(), &process, input, &mut written);
@@ -57,7 +55,7 @@ const SHOWN: &[&[u8]] = &[b"passtool", b"show"];
 const NO_TEXT_SHOWN: &[&[u8]] = &[b"passtool", b"show", b"\xff"];
 
 // An answer is written, and the line of a fault is printed.
-fn expect_ended(rt: &impl Abort, (status, written, printed): Ended, want: (u8, &str)) {
+fn expect_ended(rt: &impl Host, (status, written, printed): Ended, want: (u8, &str)) {
     expect_eq(rt, &status, &want.0);
     let (text, nothing) = if status < 2 {
         (written, printed)
@@ -68,7 +66,7 @@ fn expect_ended(rt: &impl Abort, (status, written, printed): Ended, want: (u8, &
     expect_eq(rt, &nothing.as_str(), &"");
 }
 
-fn ends(rt: &(impl Abort + AllocGlobal), (line, input, status, text): &Row) {
+fn ends(rt: &impl Host, (line, input, status, text): &Row) {
     let arguments = arguments_of(rt, line);
     let arguments: Vec<&[u8]> = arguments
         .iter()
@@ -111,7 +109,6 @@ fn is_given_all_its_arguments(rt: HostRuntime) {
     expect_eq(&rt, &given.ok().expect(&rt, "arguments"), &texts);
 }
 
-/// How many caveats a pass may have.
 const CAVEATS: usize = 64;
 
 // The chain of HMACs over as many caveats.

@@ -2,10 +2,9 @@
 //! libmacaroons' documentation; other values were computed by a program of another language.
 
 use super::doubles::Slow;
-use crate::expect::{expect_end, expect_eq};
+use crate::expect::{Host, expect_end, expect_eq};
 use passtool_commands::run;
 use std::io::{Read, Write};
-use std::process::Abort;
 use test_kit::End::Prints;
 use test_kit::{End, Output};
 
@@ -70,7 +69,7 @@ pub(crate) type Row = (&'static str, &'static str, End);
 
 /// The arguments of a line, split at bars, after the program's name. `ROOT` stands for the root of
 /// the known pass.
-pub(crate) fn arguments_of<'a>(rt: &(impl Abort + AllocGlobal), line: &'a str) -> Vec<&'a str> {
+pub(crate) fn arguments_of<'a>(rt: &impl Host, line: &'a str) -> Vec<&'a str> {
     let mut arguments = Vec::from_array(rt.alloc(), ["passtool"]).expect(rt, "memory");
     if line.is_empty() {
         return arguments;
@@ -82,9 +81,8 @@ pub(crate) fn arguments_of<'a>(rt: &(impl Abort + AllocGlobal), line: &'a str) -
     arguments
 }
 
-/// A run of the program; the text of its end is its line on standard error.
 pub(crate) fn ended_by<R: Read, W: Write>(
-    rt: &(impl Abort + AllocGlobal),
+    rt: &impl Host,
     arguments: &[&str],
     reader: &mut R,
     writer: &mut W,
@@ -102,11 +100,7 @@ pub(crate) fn ended_by<R: Read, W: Write>(
 }
 
 /// A run of the program, which writes nothing before a fault.
-pub(crate) fn output_of<R: Read>(
-    rt: &(impl Abort + AllocGlobal),
-    line: &str,
-    reader: &mut R,
-) -> Output {
+pub(crate) fn output_of<R: Read>(rt: &impl Host, line: &str, reader: &mut R) -> Output {
     let arguments = arguments_of(rt, line);
     let mut written = Vec::new(rt.alloc());
     let output = ended_by(rt, arguments.as_slice(), reader, &mut written);
@@ -122,25 +116,24 @@ pub(crate) fn output_of<R: Read>(
 }
 
 /// A run that reads no input.
-pub(crate) fn unread_output_of(rt: &(impl Abort + AllocGlobal), line: &str) -> Output {
+pub(crate) fn unread_output_of(rt: &impl Host, line: &str) -> Output {
     output_of(rt, line, &mut Slow::failing(rt.alloc(), b""))
 }
 
 /// A run on this input ends so.
-pub(crate) fn expect(rt: &(impl Abort + AllocGlobal), line: &str, input: &[u8], end: &End) {
+pub(crate) fn expect(rt: &impl Host, line: &str, input: &[u8], end: &End) {
     let mut reader = input;
     expect_end(rt, &output_of(rt, line, &mut reader), end, line);
 }
 
-/// Each run ends as its row says.
-pub(crate) fn expect_rows(rt: &(impl Abort + AllocGlobal), rows: &[Row]) {
+pub(crate) fn expect_rows(rt: &impl Host, rows: &[Row]) {
     for (line, input, end) in rows {
         expect(rt, line, input.as_bytes(), end);
     }
 }
 
 /// Each of these runs reads no input, and ends so.
-pub(crate) fn expect_unread(rt: &(impl Abort + AllocGlobal), rows: &[(&str, End)]) {
+pub(crate) fn expect_unread(rt: &impl Host, rows: &[(&str, End)]) {
     for (line, end) in rows {
         expect_end(rt, &unread_output_of(rt, line), end, line);
     }
