@@ -46,9 +46,7 @@ READERS = {
         "LONGEST": lambda value: [rows.decodes(rows.join(value), ("book", ("court-1", 20574, 18), 7, 2))]},
     "club_http_tests/replies": {"SERVED": rows.of_replies(), "REFUSED": rows.of_replies(), "NO_PASS": rows.of_replies("WWW-Authenticate: Bearer\r\n"),
                                 "BY_GET": rows.of_replies("Allow: GET\r\n"), "BY_PUT_OR_DELETE": rows.of_replies("Allow: PUT, DELETE\r\n")},
-    "end_to_end_tests/tasks": dict.fromkeys(("BOOKS", "EXCHANGES", "CANCELS", "BOOKS_AND_CANCELS", "ADDS_A_KEY", "CLOSES", "OPENS",
-                                             "SETS_A_QUOTA", "DEBITS", "SETS_A_FACILITY", "CANCELS_FOR_A_MEMBER", "ROTATES", "MAKES_TABLES", "MIGRATES",
-                                             "ADDS_THE_INDEX"), rows.of_crash),
+    "end_to_end_tests/tasks": dict.fromkeys(("REQUESTS", "COMMANDS", "COMMANDS_OF_SLOTS", "OPENINGS"), rows.of_crashes),
     "clubdesk_tests/commands": dict.fromkeys(("MEMBERS", "FACILITIES", "SLOTS_AND_SHEETS", "LOOKS", "KEYS", "PASSES_OF_KEYS"), rows.of_runs),
 }
 
@@ -60,7 +58,7 @@ STAYS = {
     "club_core_tests/answers": "calls of their own: the answer of a command that is done, a key's older root, and what values print",
     "club_core_tests/decisions": "calls of their own: what a request is to caveats, and a slot that no club has",
     "club_gate_tests/store": "tables and statements, by their own calls; odd and older databases",
-    "club_gate_tests/readings": "counted calls of the store", "club_gate_tests/commands": "counted calls of the store",
+    "club_gate_tests/readings": "counted calls of the store",
     "club_gate_tests/law": "runs from nothing, by the theorem's calls",
     "club_gate_tests/long": "long runs of events and sheets, in loops",
     "club_gate_tests/refusals": "a store that fails", "club_gate_tests/refused_memory": "refused memory",

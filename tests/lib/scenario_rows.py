@@ -199,9 +199,13 @@ def of_spaced(text):
 # ---- crashes
 
 
-def of_crash(value):
+def of_crashes(value):
+    return [row for trial in value for row in of_crash(trial.values[1])]
+
+
+def of_crash(task):
     found = []
-    for event in value.task:
+    for event in task:
         name, values = last(event.name), event.values
         asked = facts.plain_bytes(values[1].encode()) if name != "Gives" else tuple(spelled_words(command_of(values[0])))
         found.append([Fact("crash", (asked,), "whole or not at all")])

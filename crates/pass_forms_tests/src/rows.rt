@@ -35,7 +35,7 @@ pub(crate) fn join(rt: &impl Host, pieces: &[Piece]) -> Vec<u8> {
     bytes
 }
 
-#[derive(Debug)]
+#[derive(Clone, Copy, Debug)]
 pub(crate) struct Fields<'a> {
     pub(crate) location: &'a [u8],
     pub(crate) identifier: &'a [u8],
