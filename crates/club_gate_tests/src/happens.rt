@@ -3,6 +3,11 @@
 use crate::prelude::*;
 use club_gate::{Event, EventReply, Words};
 
+/// The answer to a new key `amy-1` under the first root.
+pub(crate) const SIGNED: OfficeReply = OfficeReply::Key {
+    signature: AMY_1_SIGNATURE,
+};
+
 #[derive(Clone, Copy)]
 pub(crate) enum Happens {
     Commanded(PlainCommand, OfficeReply),

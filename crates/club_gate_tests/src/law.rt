@@ -1,16 +1,12 @@
 //! Lists of events from an empty database, a request after one, and the files that one leaves.
 
-use crate::happens::{Happens, events_and_replies};
+use crate::happens::{Happens, SIGNED, events_and_replies};
 use crate::prelude::*;
 use club_core::Request;
 use club_gate::Words;
 use desk_theorem::{reply_from_nothing, run_and_leave, run_from_nothing};
 use sqlite::{Files, Options};
 use sqlite_disk::{Disk, Memory};
-
-const SIGNED: OfficeReply = OfficeReply::Key {
-    signature: AMY_1_SIGNATURE,
-};
 
 /// Four commands, a booking, its repeats in the two other forms, and the account, which was charged
 /// once.

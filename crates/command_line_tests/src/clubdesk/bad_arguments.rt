@@ -4,8 +4,8 @@ use super::tasks::arguments_of;
 use crate::expect::{Host, expect_end};
 use clubdesk_arguments::{CommandName, Fault, Job};
 use command_line::{ArgumentsFault, Asked, read_job, text_fault};
-use test_kit::End::{Begins, Prints};
-use test_kit::{End, Output, form_line};
+use test_kit::End::{self, Begins, Prints};
+use test_kit::{Output, form_line};
 
 fn output_of_fault(rt: &impl Host, fault: &Fault) -> Output {
     Output {

@@ -4,8 +4,8 @@ use super::bad_arguments::output_of;
 use super::tasks::expect_asked;
 use crate::expect::{Host, expect_case, expect_end};
 use clubdesk_arguments::root_of;
-use test_kit::End::Begins;
-use test_kit::{End, Piece, join};
+use test_kit::End::{self, Begins};
+use test_kit::{Piece, join};
 
 fn text_of(rt: &impl Host, pieces: &[Piece]) -> String {
     join(rt.alloc(), pieces).expect(rt, "memory")

@@ -1,6 +1,6 @@
 //! Arguments that are refused before the input is read, and help.
 
-use super::runs::{MALFORMED, expect, expect_unread, unread_output_of};
+use super::runs::*;
 use crate::expect::{Host, expect_eq};
 use test_kit::End::{Begins, Prints};
 use test_kit::form_line;

@@ -1,13 +1,9 @@
 //! Readers that give pieces, are interrupted or fail, and writers that are interrupted or fail.
 
 use super::doubles::Slow;
-use super::runs::{
-    BARE_TEXT, MINT, NARROW, SHOW, SHOWN, TEXT, TO_V2, V2_TEXT, VERIFY, arguments_of, ended_by,
-    output_of,
-};
+use super::runs::*;
 use crate::expect::{Host, expect_end, expect_eq};
-use test_kit::End;
-use test_kit::End::{Prints, Writes};
+use test_kit::End::{self, Prints, Writes};
 
 const FAILED: End = Prints(7, "input or output failed");
 

@@ -1,12 +1,8 @@
 //! Passes made, narrowed, shown and written in each form.
 
-use super::runs::{
-    BARE_TEXT, FORMS, JSON_TEXT, MALFORMED, MINT, NARROW, Row, SHOW, SHOWN, TEXT, TO_JSON, TO_V1,
-    TO_V2, V2_TEXT, VERIFY, expect, expect_rows, expect_unread,
-};
+use super::runs::*;
 use crate::expect::Host;
-use test_kit::End;
-use test_kit::End::{Begins, Writes};
+use test_kit::End::{self, Begins, Writes};
 use test_kit::passes::AMY_V2;
 
 static ANSWERED: [Row; 4] = [

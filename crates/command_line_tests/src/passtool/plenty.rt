@@ -1,10 +1,7 @@
 //! Passes of 64 caveats, long caveats and words, and slow pipes: a run has memory for each.
 
 use super::doubles::Slow;
-use super::runs::{
-    BARE_TEXT, FORMS, TEXT, TO_V2, TOO_MANY, V2_TEXT, arguments_of, ended_by, expect, output_of,
-    unread_output_of,
-};
+use super::runs::*;
 use crate::expect::{Host, expect_case, expect_end, expect_eq};
 use std::io::Read;
 use test_kit::End::{Begins, Prints, Writes};

@@ -2,7 +2,7 @@
 //! computed by a program of another language.
 
 use super::doubles::Slow;
-use super::runs::{BARE_TEXT, OTHER_TEXT, SHOW, TEXT, VERIFY, arguments_of, output_of};
+use super::runs::*;
 use crate::expect::{Host, expect_eq};
 use command_line::given_arguments;
 use passtool_commands::{BadValue, Name, run_process};

@@ -5,8 +5,8 @@ use super::doubles::Slow;
 use crate::expect::{Host, expect_end, expect_eq};
 use passtool_commands::run;
 use std::io::{Read, Write};
-use test_kit::End::Prints;
-use test_kit::{End, Output};
+use test_kit::End::{self, Prints};
+use test_kit::Output;
 
 // "this is our super secret key; only we should know it"
 const ROOT: &str =

@@ -1,11 +1,7 @@
 //! Verifying, and texts that are no pass.
 
-use super::runs::{
-    JSON_TEXT, MALFORMED, OTHER_TEXT, OTHER_V2, Row, SHOW, TEXT, TO_V1, V2_TEXT, VERIFY, expect,
-    expect_rows,
-};
-use test_kit::End;
-use test_kit::End::{Prints, Writes};
+use super::runs::*;
+use test_kit::End::{self, Prints, Writes};
 
 const VERIFY_OTHER: &str = "verify|--root|00";
 
