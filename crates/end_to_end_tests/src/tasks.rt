@@ -94,18 +94,33 @@ fn hold(rt: &impl Host, trials: &[Trial]) {
 }
 
 #[test]
-fn requests_are_done_whole_or_not_at_all(rt: HostRuntime) {
-    hold(&rt, &REQUESTS);
+fn bookings_are_done_whole_or_not_at_all(rt: HostRuntime) {
+    hold(&rt, &REQUESTS[..2]);
 }
 
 #[test]
-fn commands_are_done_whole_or_not_at_all(rt: HostRuntime) {
-    hold(&rt, &COMMANDS);
+fn cancellations_are_done_whole_or_not_at_all(rt: HostRuntime) {
+    hold(&rt, &REQUESTS[2..]);
 }
 
 #[test]
-fn commands_of_slots_are_done_whole_or_not_at_all(rt: HostRuntime) {
-    hold(&rt, &COMMANDS_OF_SLOTS);
+fn keys_are_changed_whole_or_not_at_all(rt: HostRuntime) {
+    hold(&rt, &COMMANDS[..2]);
+}
+
+#[test]
+fn members_are_changed_whole_or_not_at_all(rt: HostRuntime) {
+    hold(&rt, &COMMANDS[2..]);
+}
+
+#[test]
+fn slots_are_changed_whole_or_not_at_all(rt: HostRuntime) {
+    hold(&rt, &COMMANDS_OF_SLOTS[..2]);
+}
+
+#[test]
+fn facilities_and_bookings_are_changed_whole_or_not_at_all(rt: HostRuntime) {
+    hold(&rt, &COMMANDS_OF_SLOTS[2..]);
 }
 
 #[test]
