@@ -8,20 +8,12 @@ pub(crate) fn is_name(text: &[u8]) -> bool {
     Name::is_name(text)
 }
 
-pub(crate) fn read_name(text: &[u8]) -> Option<Name> {
-    Name::read(text)
-}
-
 pub(crate) fn read_day(text: &[u8]) -> Option<Day> {
     Day::read(text)
 }
 
 pub(crate) fn day_numbered(number: u16) -> Option<Day> {
     Day::from_number(number)
-}
-
-pub(crate) fn read_hour(text: &[u8]) -> Option<Hour> {
-    Hour::read(text)
 }
 
 pub(crate) fn hour_numbered(number: u8) -> Option<Hour> {

@@ -1,19 +1,16 @@
 //! Names, kinds, actions, days, hours, moments and slots.
 
-use super::calls::{
-    day_numbered, hour_numbered, is_name, moment_at, moment_numbered, read_action, read_day,
-    read_hour, read_kind, read_moment, read_name,
-};
+use super::calls::*;
 use crate::expect::{Host, expect_eq};
 use crate::values::{moment, slot};
 use club_values::ascii::text_of;
 use club_values::digits::{read_digits, read_number, read_two, two_digits};
-use club_values::{Day, Moment, Weekday};
+use club_values::{Day, Hour, Moment, Name, Weekday};
 use test_kit::COURT_AT_18;
 
 /// Whether a text is a name, and that name has the text.
 fn is_name_again(text: &str) -> bool {
-    match read_name(text.as_bytes()) {
+    match Name::read(text.as_bytes()) {
         Some(name) => name.as_str() == text && name.as_bytes() == text.as_bytes(),
         None => false,
     }
@@ -164,7 +161,7 @@ fn kinds_and_actions(rt: HostRuntime) {
 }
 
 fn hour_number(text: &str) -> Option<u8> {
-    Some(read_hour(text.as_bytes())?.number())
+    Some(Hour::read(text.as_bytes())?.number())
 }
 
 static HOURS: [(&str, Option<u8>); 5] = [
