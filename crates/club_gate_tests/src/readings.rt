@@ -224,37 +224,37 @@ static CANCELLED: [Commanded; 4] = [
     (CancelBooking("amy-9", 7), Some(Unknown), &[Key, Record]),
 ];
 
-/// The events before. The desk is that of the fixture, where bob's key is revoked and amy has a
-/// second one.
+/// The requests or the rotation before. The desk is that of the fixture, where bob's key is revoked
+/// and amy has a second one.
 #[derive(Clone, Copy)]
 enum Before {
-    Nothing,
-    /// Number 7 is booked.
-    Booking,
-    /// So is number 8, which is then cancelled.
-    Cancellation,
+    Requests(&'static [PlainRequest]),
     /// Amy's first key gets another root.
     Rotation,
 }
 
-impl Before {
-    fn requests(self) -> &'static [PlainRequest] {
-        match self {
-            Before::Booking => &[BOOK_7],
-            Before::Cancellation => &[BOOK_7, BOOK_8, CANCEL_8],
-            Before::Nothing | Before::Rotation => &[],
-        }
-    }
+const NOTHING: Before = Before::Requests(&[]);
 
+const BOOKED: Before = Before::Requests(&[BOOK_7]);
+
+const BOOKED_AND_CANCELLED: Before = Before::Requests(&[BOOK_7, BOOK_8, CANCEL_8]);
+
+fn ask_all<S: ClubStore>(rt: &impl Host, desk: &mut Desk<S>, requests: &[PlainRequest]) {
+    for asked in requests {
+        let served = reply(rt, desk, NOON, AMY_V2.as_bytes(), asked);
+        expect_eq(rt, &matches!(served, Reply::Refused(_)), &false);
+    }
+}
+
+impl Before {
     fn happen<S: ClubStore>(self, rt: &impl Host, desk: &mut Desk<S>) {
         carry_out(rt, desk, &RevokeKey("bob-1"));
         carry_out(rt, desk, &AddKey("amy-2", "amy", ROOT));
-        if let Before::Rotation = self {
-            carry_out(rt, desk, &RotateKey("amy-1", SECOND_ROOT, UNTIL));
-        }
-        for asked in self.requests() {
-            let served = reply(rt, desk, NOON, AMY_V2.as_bytes(), asked);
-            expect_eq(rt, &matches!(served, Reply::Refused(_)), &false);
+        match self {
+            Before::Requests(requests) => ask_all(rt, desk, requests),
+            Before::Rotation => {
+                carry_out(rt, desk, &RotateKey("amy-1", SECOND_ROOT, UNTIL));
+            }
         }
     }
 }
@@ -341,24 +341,24 @@ fn are_called(rt: &impl Host, before: Before, rows: &[Commanded]) {
 
 #[test]
 fn a_refused_pass_reads_its_key_alone(rt: HostRuntime) {
-    reads_each(&rt, Before::Nothing, &REFUSED);
+    reads_each(&rt, NOTHING, &REFUSED);
 }
 
 #[test]
 fn an_answer_reads_what_it_needs(rt: HostRuntime) {
-    reads_each(&rt, Before::Nothing, &FIRST);
+    reads_each(&rt, NOTHING, &FIRST);
 }
 
 #[test]
 fn a_repeat_and_a_cancellation_read_no_sum(rt: HostRuntime) {
-    reads_each(&rt, Before::Booking, &AGAIN);
+    reads_each(&rt, BOOKED, &AGAIN);
 }
 
 #[test]
 fn a_sum_is_read_only_where_the_limit_lies_below_what_the_member_has_used(rt: HostRuntime) {
     for (place, (key, caveats, want, calls)) in LIMITS.iter().enumerate() {
         let row = (Shown::Of(key, ROOT, caveats), BOOK_8, *want, *calls);
-        reads(&rt, Before::Booking, place, &row);
+        reads(&rt, BOOKED, place, &row);
     }
 }
 
@@ -369,15 +369,15 @@ fn an_older_root_that_is_good_serves_and_is_read_only_then(rt: HostRuntime) {
 
 #[test]
 fn the_change_of_a_command_is_the_last_call(rt: HostRuntime) {
-    are_called(&rt, Before::Nothing, &DONE);
+    are_called(&rt, NOTHING, &DONE);
 }
 
 #[test]
 fn a_refused_command_only_reads(rt: HostRuntime) {
-    are_called(&rt, Before::Nothing, &REFUSED_COMMANDS);
+    are_called(&rt, NOTHING, &REFUSED_COMMANDS);
 }
 
 #[test]
 fn a_cancellation_reads_its_key_and_its_record(rt: HostRuntime) {
-    are_called(&rt, Before::Cancellation, &CANCELLED);
+    are_called(&rt, BOOKED_AND_CANCELLED, &CANCELLED);
 }
