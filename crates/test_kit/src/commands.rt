@@ -71,6 +71,27 @@ impl PlainCommand {
                 member: named(member)?,
                 quota,
             },
+            PlainCommand::AddKey(key, member, root) => Command::AddKey {
+                name: named(key)?,
+                member: named(member)?,
+                root: Root::new(root)?,
+            },
+            PlainCommand::RevokeKey(key) => Command::RevokeKey { name: named(key)? },
+            PlainCommand::RotateKey(key, root, until) => Command::RotateKey {
+                name: named(key)?,
+                root: Root::new(root)?,
+                until: Moment::from_number(until)?,
+            },
+            PlainCommand::CancelBooking(key, number) => Command::CancelBooking {
+                key: named(key)?,
+                number: BookingNumber::new(number)?,
+            },
+            _ => return self.command_of_a_facility(),
+        })
+    }
+
+    fn command_of_a_facility(&self) -> Option<Command> {
+        Some(match *self {
             PlainCommand::AddFacility(facility, kind, places, price, opens, shuts) => {
                 Command::AddFacility {
                     name: named(facility)?,
@@ -90,23 +111,9 @@ impl PlainCommand {
                     shuts,
                 }
             }
-            PlainCommand::AddKey(key, member, root) => Command::AddKey {
-                name: named(key)?,
-                member: named(member)?,
-                root: Root::new(root)?,
-            },
-            PlainCommand::RevokeKey(key) => Command::RevokeKey { name: named(key)? },
-            PlainCommand::RotateKey(key, root, until) => Command::RotateKey {
-                name: named(key)?,
-                root: Root::new(root)?,
-                until: Moment::from_number(until)?,
-            },
-            PlainCommand::CancelBooking(key, number) => Command::CancelBooking {
-                key: named(key)?,
-                number: BookingNumber::new(number)?,
-            },
             PlainCommand::CloseSlot(slot) => Command::CloseSlot(slot.slot()?),
             PlainCommand::OpenSlot(slot) => Command::OpenSlot(slot.slot()?),
+            _ => return None,
         })
     }
 }
