@@ -30,22 +30,7 @@ TESTS = ("club_core_tests", "club_gate_tests", "club_http_tests", "end_to_end_te
 
 READERS = {
     "club_gate_tests/long": {"TEXTS": lambda value: [rows.of_spaced(rows.join(it).decode()) for it in value]},
-    "club_http_tests/heads": {
-        "LIMITS": lambda value: [rows.decodes(rows.join(pieces), rows.want_of(want)) for pieces, want in value],
-        "LINE_ENDS": rows.of_bytes(lambda it: it.encode()),
-        "LINES": rows.of_bytes(lambda it: f"{it}\r\n{rows.PASS}\r\n".encode()),
-        "LENGTHS": rows.of_bytes(lambda it: f"GET /account HTTP/1.1\r\n{it}\r\n".encode()),
-        "PASSES": rows.of_carried, "NO_PASSES": rows.of_bytes(lambda it: f"GET /account HTTP/1.1\r\n{it}\r\n".encode())},
-    "club_http_tests/targets": {
-        "PATHS": rows.of_bytes(lambda method, path: f"{method} {path} HTTP/1.1\r\n{rows.PASS}\r\n".encode()),
-        "METHODS": rows.of_bytes(lambda method, path: f"{method} {path} HTTP/1.1\r\n{rows.PASS}\r\n".encode()),
-        "ORDER": rows.of_bytes(lambda it: it.encode())},
-    "club_http_tests/bodies": {
-        "LENGTHS": rows.of_bytes(lambda length, body: rows.with_body(body, length)), "BODIES": rows.of_bytes(rows.with_body),
-        "SPACES": rows.of_bytes(lambda spaces: rows.with_body(f'{{"guests":2{" " * spaces}}}')),
-        "LONGEST": lambda value: [rows.decodes(rows.join(value), ("book", ("court-1", 20574, 18), 7, 2))]},
-    "club_http_tests/replies": {"SERVED": rows.of_replies(), "REFUSED": rows.of_replies(), "NO_PASS": rows.of_replies("WWW-Authenticate: Bearer\r\n"),
-                                "BY_GET": rows.of_replies("Allow: GET\r\n"), "BY_PUT_OR_DELETE": rows.of_replies("Allow: PUT, DELETE\r\n")},
+    "club_http_tests/bodies": {"LONGEST": lambda value: [rows.decodes(rows.join(value), ("book", ("court-1", 20574, 18), 7, 2))]},
     "end_to_end_tests/tasks": dict.fromkeys(("REQUESTS", "COMMANDS", "COMMANDS_OF_SLOTS", "OPENINGS"), rows.of_crashes),
     "clubdesk_tests/commands": dict.fromkeys(("MEMBERS", "FACILITIES", "SLOTS_AND_SHEETS", "LOOKS", "KEYS", "PASSES_OF_KEYS"), rows.of_runs),
 }

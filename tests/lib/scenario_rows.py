@@ -11,7 +11,6 @@ from scenario_facts import Fact
 REFUSALS = ("BadRequest", "NoSuchPath", "MethodNotAllowed", "NoPass", "PassTooLong", "PassMalformed", "ThirdPartyCaveat", "TooManyCaveats",
             "NotVerified", "KeyRevoked", "CaveatNotUnderstood", "CaveatDenies", "NumberUsed", "NoSuchFacility", "NoSuchBooking", "NotBookable",
             "SlotClosed", "NoPlaces", "QuotaReached", "BalanceTooLow", "SlotHasBegun", "Unavailable")
-METHODS = {"Resource::Slot": "GET", "Resource::Account": "GET", "Resource::Booking": "PUT, DELETE"}
 KIND = {"Kind::Court": "court", "Kind::Boat": "boat", "Kind::Room": "room"}
 ROOT = bytes.fromhex(lines.FIRST_ROOT)
 NOON = caveats.moment_of("2026-04-20T12:00")
@@ -30,10 +29,6 @@ def slot_of(it):
 
 def refusal_of(it):
     return rules.Refused(REFUSALS.index(last(it.name)) + 1, it.values[0] if it.values and isinstance(it.values[0], int) else None)
-
-
-def methods_of(it):
-    return METHODS[it.values[0].name] if last(it.name) == "MethodNotAllowed" else None
 
 
 def account(member, balance, quota, opened, spent):
@@ -136,48 +131,10 @@ def join(pieces):
     return "".join(text * count for count, text in pieces).encode()
 
 
-def want_of(it):
-    """Returns the decoded request, or the refusal, that a row expects."""
-    name, values = last(it.name), it.values
-    slot = ("court-1", 20574, 18)
-    return {"View": lambda: ("view", slot, None, 0), "Book": lambda: ("book", slot, 7, values[0]), "Cancel": lambda: ("cancel", slot, values[0], 0),
-            "Account": lambda: ("account", None, None, 0), "Refused": lambda: (refusal_of(values[0]).fault, methods_of(values[0]))}[name]()
-
-
 def decodes(data, want):
     if facts.decoded(data) != want:
         raise Differs(f"{data}: {facts.decoded(data)}")
     return [facts.bytes_fact(data, want)]
-
-
-def of_bytes(make):
-    return lambda value: [decodes(make(*it[:-1]), want_of(it[-1])) for it in value]
-
-
-PASS = "Authorization: Bearer x\r\n"
-PUT = "PUT /slots/court-1/2026-05-01/18/bookings/7 HTTP/1.1\r\n"
-
-
-def with_body(body, length=None):
-    return f"{PUT}{PASS}Content-Length: {len(body) if length is None else length}\r\n\r\n{body}".encode()
-
-
-def of_carried(value):
-    return [decodes(f"GET /account HTTP/1.1\r\n{fields}\r\n".encode(), ("account", None, None, 0)) for fields, _ in value]
-
-
-def of_replies(field=""):
-    def reader(value):
-        found = []
-        for row in value:
-            if len(row) == 3 and row[0].name == "ReplyFields::Account" and row[0].balance > rules.MOST_POINTS:
-                found.append("numbers beyond those of any club")
-                continue
-            status, length, body = ("200 OK", *row[1:]) if len(row) == 3 else row[1:]
-            text = f"HTTP/1.1 {status}\r\nContent-Type: application/json\r\nContent-Length: {length}\r\n{field}Connection: close\r\n\r\n{body}"
-            found.append([Fact("reply", (text,), len(text))])
-        return found
-    return reader
 
 
 # ---- texts of passes

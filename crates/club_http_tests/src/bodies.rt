@@ -1,35 +1,91 @@
-//! Bookings: whole, cut short, and with odd bodies.
+//! Requests for a booking: complete, cut short, in two pieces, and with bytes after them.
 
-use crate::asked::{
-    BAD_REQUEST, Want, asked_by, asked_in_two, asks, book, carries, is_whole, request_in,
-};
-use crate::rows::{expect_row, join};
-use club_core::Refusal;
-use http_request::Routes;
-use std::process::Abort;
+ghost use Rattle.http_request.specs.Front.{Covers};
+
+use crate::expect::{Runtime, expect_row, join};
+use club_core::{Refusal, Request};
+use http_request::{HeadScan, Routes, words_by_scan, words_of};
 use test_kit::Piece;
+use test_kit::requests::BOOK_7;
 
 const BOOKING: &str = "PUT /slots/court-1/2026-05-01/18/bookings/7 HTTP/1.1\r\nHost: club\r\n\
     Authorization: Bearer AgEJ\r\nContent-Length: 12\r\n\r\n{\"guests\":2}";
 
-#[test]
-fn a_booking(rt: HostRuntime) {
-    asks(&rt, BOOKING, &Want::Book(2));
-    carries(&rt, BOOKING, "AgEJ");
-    expect_row(&rt, &is_whole(BOOKING.as_bytes(), 0), &true, &"it is whole");
+/// The request that bytes decode to, or the refusal of the bytes.
+type Asked = Result<Request, Refusal>;
+
+pub(crate) const BAD_REQUEST: Asked = Err(Refusal::BadRequest);
+
+pub(crate) fn booked(rt: &impl Runtime) -> Asked {
+    Ok(BOOK_7.request().expect(rt, "a request"))
 }
 
-fn is_cut(rt: &(impl Abort + AllocGlobal), bytes: &[u8]) {
-    expect_row(
-        rt,
-        &request_in(rt, bytes),
-        &Err(Refusal::BadRequest),
-        &bytes.len(),
-    );
+fn routes(rt: &impl Runtime) -> Routes {
+    Routes::new(rt.alloc()).expect(rt, "memory")
+}
+
+fn asked_by(routes: &Routes, bytes: &[u8]) -> Asked {
+    match words_of(routes, bytes) {
+        Ok(words) => Ok(words.request),
+        Err(refusal) => Err(refusal),
+    }
+}
+
+fn asks(rt: &impl Runtime, bytes: &[u8], want: &Asked) {
+    expect_row(rt, &asked_by(&routes(rt), bytes), want, &bytes.len());
+}
+
+/// Scans the bytes in two pieces. The first piece has `first` bytes, or all of them.
+fn scan_of(bytes: &[u8], first: usize) -> HeadScan
+    ensures { Covers result bytes.now }
+{
+    let first = first.min(bytes.len());
+    let mut scan = HeadScan::new();
+    scan.go_on(&bytes[..first], 0);
+    scan.go_on(bytes, first);
+    scan
+}
+
+/// Returns whether a scan in two pieces finds a complete request at the start of the bytes.
+pub(crate) fn is_whole(bytes: &[u8], first: usize) -> bool {
+    scan_of(bytes, first).is_whole(bytes)
+}
+
+fn asked_in_two(routes: &Routes, bytes: &[u8], first: usize) -> Asked {
+    match words_by_scan(routes, bytes, &scan_of(bytes, first)) {
+        Ok(words) => Ok(words.request),
+        Err(refusal) => Err(refusal),
+    }
+}
+
+fn is_booked_in_two(rt: &impl Runtime, bytes: &[u8], first: usize) {
+    let asked = asked_in_two(&routes(rt), bytes, first);
+    expect_row(rt, &asked, &booked(rt), &first);
+    expect_row(rt, &is_whole(bytes, first), &true, &first);
+}
+
+fn pass_of<'a>(routes: &Routes, bytes: &'a [u8]) -> Option<&'a [u8]> {
+    match words_of(routes, bytes) {
+        Ok(words) => Some(words.pass),
+        Err(_) => None,
+    }
+}
+
+#[test]
+fn a_booking(rt: HostRuntime) {
+    let bytes = BOOKING.as_bytes();
+    asks(&rt, bytes, &booked(&rt));
+    expect_row(&rt, &is_whole(bytes, 0), &true, &"it is whole");
+    let carried = pass_of(&routes(&rt), bytes);
+    expect_row(&rt, &carried, &Some("AgEJ".as_bytes()), &"its pass");
+}
+
+fn is_cut(rt: &impl Runtime, bytes: &[u8]) {
+    asks(rt, bytes, &BAD_REQUEST);
     expect_row(rt, &is_whole(bytes, bytes.len() / 2), &false, &bytes.len());
 }
 
-/// Cut anywhere it is a bad request, and not whole.
+/// Each proper prefix of the booking is a bad request, and incomplete.
 #[test]
 fn cut(rt: HostRuntime) {
     let bytes = BOOKING.as_bytes();
@@ -38,156 +94,71 @@ fn cut(rt: HostRuntime) {
     }
 }
 
-fn asks_in_two(rt: &(impl Abort + AllocGlobal), bytes: &[u8], first: usize) {
-    expect_row(
-        rt,
-        &asked_in_two(rt, bytes, first),
-        &Ok(book(rt, 2)),
-        &first,
-    );
-    expect_row(rt, &is_whole(bytes, first), &true, &first);
-}
-
-/// In two pieces it is the same booking, wherever it is cut.
+/// The scan reads the same booking wherever it is cut in two.
 #[test]
 fn in_two_pieces(rt: HostRuntime) {
     for first in 0..BOOKING.len() + 1 {
-        asks_in_two(&rt, BOOKING.as_bytes(), first);
+        is_booked_in_two(&rt, BOOKING.as_bytes(), first);
     }
 }
 
-/// So many bytes after a booking.
+/// The number of bytes after a booking.
 static BEHIND: [usize; 3] = [1, 1_000, 100_000];
 
-fn is_booked_with(rt: &(impl Abort + AllocGlobal), behind: usize) {
-    let text = join(rt, &[(1, BOOKING), (behind, "x")]);
-    asks(rt, text.as_str(), &Want::Book(2));
-    asks_in_two(rt, text.as_bytes(), 100);
-}
-
-/// What follows a request changes nothing.
 #[test]
 fn with_bytes_behind(rt: HostRuntime) {
     for behind in &BEHIND {
-        is_booked_with(&rt, *behind);
+        let text = join(&rt, &[(1, BOOKING), (*behind, "x")]);
+        asks(&rt, text.as_bytes(), &booked(&rt));
+        is_booked_in_two(&rt, text.as_bytes(), 100);
     }
 }
 
-// Bookings with this length and this body.
-static LENGTHS: [(&str, &str, Want); 9] = [
-    ("12", "{\"guests\":2}", Want::Book(2)),
-    ("0012", "{\"guests\":2}", Want::Book(2)),
-    ("12", "{\"guests\":2}and more", Want::Book(2)),
-    ("00012", "{\"guests\":2}", BAD_REQUEST),
-    ("13", "{\"guests\":2}", BAD_REQUEST),
-    ("11", "{\"guests\":2}", BAD_REQUEST),
-    ("0", "{\"guests\":2}", BAD_REQUEST),
-    ("-1", "{\"guests\":2}", BAD_REQUEST),
-    ("257", "{\"guests\":2}", BAD_REQUEST),
-];
-
-fn booking_of(rt: &(impl Abort + AllocGlobal), length: &str, body: &str) -> String {
+/// Ends the test unless a booking with this body decodes to `want`.
+pub(crate) fn ask_with(rt: &impl Runtime, body: &str, want: &Asked) {
+    let length = body.len();
     let text = format!(in rt.alloc();
         "PUT /slots/court-1/2026-05-01/18/bookings/7 HTTP/1.1\r\n\
         Authorization: Bearer x\r\nContent-Length: {length}\r\n\r\n{body}"
     );
-    text.expect(rt, "memory")
-}
-
-fn ask_by_length(rt: &(impl Abort + AllocGlobal), rows: &[(&'static str, &'static str, Want)]) {
-    for (length, body, want) in rows {
-        asks(rt, booking_of(rt, length, body).as_str(), want);
-    }
-}
-
-// Bodies of the stated length.
-static BODIES: [(&str, Want); 19] = [
-    ("{ \"guests\" : 2 }", Want::Book(2)),
-    ("{\"guests\":49}", Want::Book(49)),
-    ("", BAD_REQUEST),
-    ("2", BAD_REQUEST),
-    ("null", BAD_REQUEST),
-    ("[2]", BAD_REQUEST),
-    ("{}", BAD_REQUEST),
-    ("{\"guests\":1.0}", BAD_REQUEST),
-    ("{\"guests\":2e0}", BAD_REQUEST),
-    ("{\"guests\":50}", BAD_REQUEST),
-    ("{\"guests\":-1}", BAD_REQUEST),
-    ("{\"guests\":\"2\"}", BAD_REQUEST),
-    ("{\"guests\":null}", BAD_REQUEST),
-    ("{\"guest\":2}", BAD_REQUEST),
-    ("{\"Guests\":2}", BAD_REQUEST),
-    ("{\"guests\":2,\"x\":1}", BAD_REQUEST),
-    ("{\"guests\":2", BAD_REQUEST),
-    ("guests=2", BAD_REQUEST),
-    ("{\"guests\":18446744073709551616}", BAD_REQUEST),
-];
-
-pub(crate) fn ask_with(rt: &(impl Abort + AllocGlobal), body: &str, want: &Want) {
-    let length = body.len().to_string(rt.alloc()).expect(rt, "memory");
-    asks(rt, booking_of(rt, length.as_str(), body).as_str(), want);
-}
-
-fn ask_by_body(rt: &(impl Abort + AllocGlobal), rows: &[(&'static str, Want)]) {
-    for (body, want) in rows {
-        ask_with(rt, body, want);
-    }
-}
-
-// So many spaces in a body that has 12 bytes without them: the longest has 256.
-static SPACES: [(usize, Want); 2] = [(244, Want::Book(2)), (245, BAD_REQUEST)];
-
-fn ask_by_spaces(rt: &(impl Abort + AllocGlobal), rows: &[(usize, Want)]) {
-    for (spaces, want) in rows {
-        let body = join(rt, &[(1, "{\"guests\":2"), (*spaces, " "), (1, "}")]);
-        ask_with(rt, body.as_str(), want);
-    }
-}
-
-#[test]
-fn bodies(rt: HostRuntime) {
-    ask_by_length(&rt, &LENGTHS);
-    ask_by_body(&rt, &BODIES);
-    ask_by_spaces(&rt, &SPACES);
+    asks(rt, text.expect(rt, "memory").as_bytes(), want);
 }
 
 /// A head of 16,384 bytes, and a body of 256.
-pub(crate) static LONGEST: [Piece; 7] = [
-    (1, "PUT /slots/court-1/2026-05-01/18/bookings/7 HTTP/1.1"),
+pub(crate) static LONGEST: [Piece; 6] = [
     (
         1,
-        "\r\nAuthorization: Bearer AgEJ\r\nContent-Length: 256\r\nHost: ",
+        "PUT /slots/court-1/2026-05-01/18/bookings/7 HTTP/1.1\r\n",
+    ),
+    (
+        1,
+        "Authorization: Bearer AgEJ\r\nContent-Length: 256\r\nHost: ",
     ),
     (16_384 - 113, "h"),
-    (1, "\r\n\r\n"),
-    (1, "{\"guests\":2"),
+    (1, "\r\n\r\n{\"guests\":2"),
     (244, " "),
     (1, "}"),
 ];
 
-// The longest request that the desk takes: it is whole, and one byte short it isn't.
+// The desk takes this request, which has the most bytes. One byte short, it is incomplete.
 #[test]
 fn longest(rt: HostRuntime) {
     let text = join(&rt, &LONGEST);
     let bytes = text.as_bytes();
     expect_row(&rt, &bytes.len(), &16_640, &"the longest");
-    asks(&rt, text.as_str(), &Want::Book(2));
-    asks_in_two(&rt, bytes, 16_384);
+    asks(&rt, bytes, &booked(&rt));
+    is_booked_in_two(&rt, bytes, 16_384);
     is_cut(&rt, &bytes[..bytes.len().saturating_sub(1)]);
 }
 
-fn is_booked_or_unavailable(rt: &impl Abort, routes: &Routes) {
-    match asked_by(routes, BOOKING.as_bytes()) {
-        Ok(request) => expect_row(rt, &request, &book(rt, 2), &BOOKING),
-        Err(refusal) => expect_row(rt, &refusal, &Refusal::Unavailable, &BOOKING),
-    }
-}
-
-/// With any allocation refused, as `rt try --test --fail-alloc N` refuses the Nth: no routes, the
-/// words, or `Unavailable`.
+/// `rt try --test --fail-alloc N` refuses the Nth allocation of this test. Then there are no
+/// routes, or the bytes decode to the booking or to `Unavailable`.
 #[test]
 fn refused_memory(rt: HostRuntime) {
     if let Ok(routes) = Routes::new(rt.alloc()) {
-        is_booked_or_unavailable(&rt, &routes);
+        let asked = asked_by(&routes, BOOKING.as_bytes());
+        if asked != Err(Refusal::Unavailable) {
+            expect_row(&rt, &asked, &booked(&rt), &BOOKING);
+        }
     }
 }

@@ -1,20 +1,18 @@
-//! Exchanges over memory and over a socket, with a responder that counts what it is asked.
+//! Exchanges over memory and over a socket, with a desk that counts its requests.
 
-mod doubles;
+pub mod doubles;
 mod reading;
 
-use crate::expect::{expect_bytes, expect_eq, expect_shown};
-use crate::rows::moment;
+use crate::desk::Desk;
+use crate::expect::{Runtime, expect_bytes, expect_eq, expect_shown, noon};
 use crate::sockets::{client_of, expect_reply, loopback_listener};
 use club_core::{Refusal, Reply, Request};
-use club_http::{AnswerFault, Face, Inlet, Outlet, ReadInlet, WriteOutlet, answer};
-use doubles::{Counting, Narrow, Pieces, ROOM};
-use std::alloc::Global;
+use club_http::{AnswerFault, Face, ReadInlet, WriteOutlet, answer};
+use doubles::{Narrow, Pieces, ROOM};
 use std::net::TcpListener;
-use std::process::Abort;
 use test_kit::exchanges::{BAD_REQUEST, BOOKED_7, UNAVAILABLE};
-use test_kit::moments::NOON;
-use test_kit::{replies, requests};
+use test_kit::replies;
+use test_kit::requests::BOOK_7;
 
 /// A head of 116 bytes and a body of 12.
 const BOOKING: &str = "PUT /slots/court-1/2026-05-01/18/bookings/7 HTTP/1.1\r\nHost: club\r\n\
@@ -22,161 +20,110 @@ const BOOKING: &str = "PUT /slots/court-1/2026-05-01/18/bookings/7 HTTP/1.1\r\nH
 
 const _: () = prove!(BOOKING.len() == 128);
 
-fn booked_reply(rt: &impl Abort) -> Reply {
+/// The outcome of an exchange with a desk that replies to the booking, the last request of the
+/// desk, and a text. The bytes written are the text, or a prefix of it if the writer failed.
+type Ended = (Result<Reply, AnswerFault>, Option<Request>, &'static str);
+
+const IS_BAD: Ended = (Ok(Reply::Refused(Refusal::BadRequest)), None, BAD_REQUEST);
+
+const IS_UNAVAILABLE: Ended = (Ok(Reply::Refused(Refusal::Unavailable)), None, UNAVAILABLE);
+
+const NO_REQUEST: Ended = (Err(AnswerFault::Read), None, "");
+
+fn booked_reply(rt: &impl Runtime) -> Reply {
     replies::BOOKED_7.reply().expect(rt, "a reply")
 }
 
-fn booking(rt: &impl Abort) -> Request {
-    requests::BOOK_7.request().expect(rt, "a request")
+fn booked(rt: &impl Runtime) -> Ended {
+    (Ok(booked_reply(rt)), BOOK_7.request(), BOOKED_7)
 }
 
-/// The outcome of an exchange with a desk that answers the booking.
-#[derive(Clone, Copy)]
-enum ExchangeResult {
-    /// The desk was asked, and its reply was written.
-    Booked,
-    /// The desk wasn't asked.
-    Refused(Refusal, &'static str),
-    /// The desk wasn't asked, and nothing was written.
-    NoRequest,
-    /// The desk was asked, and so many bytes of its reply were written.
-    CutOff(usize),
+/// The writer failed after `len` bytes.
+fn cut_off(len: usize) -> Ended {
+    (Err(AnswerFault::Write(len)), BOOK_7.request(), BOOKED_7)
 }
 
-const IS_BAD: ExchangeResult = ExchangeResult::Refused(Refusal::BadRequest, BAD_REQUEST);
-
-const IS_UNAVAILABLE: ExchangeResult = ExchangeResult::Refused(Refusal::Unavailable, UNAVAILABLE);
-
-impl ExchangeResult {
-    fn outcome(&self, rt: &impl Abort) -> Result<Reply, AnswerFault> {
-        match self {
-            ExchangeResult::Booked => Ok(booked_reply(rt)),
-            ExchangeResult::Refused(refusal, _) => Ok(Reply::Refused(*refusal)),
-            ExchangeResult::NoRequest => Err(AnswerFault::Read),
-            ExchangeResult::CutOff(len) => Err(AnswerFault::Write(*len)),
-        }
-    }
-
-    /// The last request that the desk was asked.
-    fn last(&self, rt: &impl Abort) -> Option<Request> {
-        match self {
-            ExchangeResult::Booked | ExchangeResult::CutOff(_) => Some(booking(rt)),
-            _ => None,
-        }
-    }
-
-    fn reply_bytes(&self, rt: &impl Abort) -> &'static [u8] {
-        match self {
-            ExchangeResult::Booked => BOOKED_7.as_bytes(),
-            ExchangeResult::Refused(_, text) => text.as_bytes(),
-            ExchangeResult::NoRequest => b"",
-            ExchangeResult::CutOff(len) => BOOKED_7
-                .as_bytes()
-                .get(..*len)
-                .expect(rt, "bytes of the reply"),
-        }
-    }
-
-    /// Fails the test unless the exchange had this outcome.
-    fn expect(
-        &self,
-        rt: &impl Abort,
-        outcome: &Result<Reply, AnswerFault>,
-        desk: &Counting,
-        writer: &Narrow,
-    ) {
-        expect_eq(rt, outcome, &self.outcome(rt));
-        expect_eq(rt, &desk.last, &self.last(rt));
-        expect_eq(rt, &desk.asked, &u64::from(desk.last.is_some()));
-        expect_bytes(
-            rt,
-            writer.written_bytes(),
-            self.reply_bytes(rt),
-            "the booking",
-        );
+/// A desk that replies to the booking.
+fn booking_desk(rt: &impl Runtime) -> Desk<'static> {
+    Desk {
+        reply: booked_reply(rt),
+        ..Desk::new(rt.alloc(), noon(rt))
     }
 }
 
-/// An exchange with this desk.
-fn exchange_with<R: Inlet, W: Outlet>(
-    rt: &(impl Abort + Alloc<A = Global>),
-    desk: &mut Counting,
-    reader: &mut R,
-    writer: &mut W,
-) -> Result<Reply, AnswerFault> {
+/// Ends the test unless the exchange had this end.
+fn expect_ended(
+    rt: &impl Runtime,
+    outcome: &Result<Reply, AnswerFault>,
+    desk: &Desk<'_>,
+    writer: &Narrow,
+    (want, last, text): &Ended,
+) {
+    expect_eq(rt, outcome, want);
+    let asked = u64::from(last.is_some());
+    expect_eq(rt, &(desk.asked, desk.last), &(asked, *last));
+    let len = match want {
+        Err(AnswerFault::Write(len)) => *len,
+        _ => text.len(),
+    };
+    let written = text.as_bytes().get(..len).expect(rt, "a prefix");
+    expect_bytes(rt, writer.written_bytes(), written, "the booking");
+}
+
+/// Runs an exchange, and ends the test unless it has this end.
+fn ends(rt: &impl Runtime, reader: &mut Pieces<'_>, writer: &mut Narrow, want: &Ended) {
+    let mut desk = booking_desk(rt);
     let mut face = Face::new(rt.alloc()).expect(rt, "a face");
-    answer(&mut face, desk, moment(rt, NOON), reader, writer)
+    let outcome = answer(&mut face, &mut desk, noon(rt), reader, writer);
+    expect_ended(rt, &outcome, &desk, writer, want);
 }
 
-/// Fails the test unless an exchange has this outcome.
-fn exchange_returns(
-    rt: &(impl Abort + Alloc<A = Global>),
-    reader: &mut Pieces<'_>,
-    writer: &mut Narrow,
-    returned: &ExchangeResult,
-) {
-    let mut desk = Counting::new(booked_reply(rt));
-    let outcome = exchange_with(rt, &mut desk, reader, writer);
-    returned.expect(rt, &outcome, &desk, writer);
+/// Runs an exchange with a writer that has room for a whole reply.
+fn returns(rt: &impl Runtime, reader: &mut Pieces<'_>, want: &Ended) {
+    ends(rt, reader, &mut Narrow::new(ROOM, ROOM), want);
 }
 
-/// The same with a writer that takes a whole reply.
-fn returns(
-    rt: &(impl Abort + Alloc<A = Global>),
-    reader: &mut Pieces<'_>,
-    returned: &ExchangeResult,
-) {
-    exchange_returns(rt, reader, &mut Narrow::new(ROOM), returned);
-}
-
-/// The booking, to a writer.
-fn gives(rt: &(impl Abort + Alloc<A = Global>), writer: &mut Narrow, returned: &ExchangeResult) {
+/// Runs the exchange of the booking with this writer.
+fn gives(rt: &impl Runtime, writer: &mut Narrow, want: &Ended) {
     let mut reader = Pieces::new(BOOKING.as_bytes(), 600, false);
-    exchange_returns(rt, &mut reader, writer, returned);
+    ends(rt, &mut reader, writer, want);
 }
 
-/// The writer fails after so many bytes.
-fn fails_after(rt: &(impl Abort + Alloc<A = Global>), len: usize) {
-    let mut writer = Narrow::failing(len);
-    gives(rt, &mut writer, &ExchangeResult::CutOff(len));
-    expect_eq(rt, &writer.failures, &1);
-}
-
+/// The writer fails after each number of bytes.
 #[test]
 fn failing_writers(rt: HostRuntime) {
     for len in 0..BOOKED_7.len() {
-        fails_after(&rt, len);
+        let mut writer = Narrow::new(ROOM, len);
+        gives(&rt, &mut writer, &cut_off(len));
+        expect_eq(&rt, &writer.failures, &1);
     }
 }
 
-/// A writer that takes a byte a call, and one that takes none.
+/// One writer takes a byte a call, and one takes no byte.
 #[test]
 fn short_writes(rt: HostRuntime) {
-    let mut writer = Narrow::new(1);
-    gives(&rt, &mut writer, &ExchangeResult::Booked);
+    let mut writer = Narrow::new(1, ROOM);
+    gives(&rt, &mut writer, &booked(&rt));
     expect_eq(&rt, &writer.calls, &133);
-    gives(&rt, &mut Narrow::stalled(), &ExchangeResult::CutOff(0));
+    let mut writer = Narrow::new(ROOM, 0);
+    writer.stalls = true;
+    gives(&rt, &mut writer, &cut_off(0));
 }
 
-/// The booking's reply, or that of `Unavailable`, and then the desk wasn't asked.
-fn is_booked_or_unavailable(rt: &impl Abort, face: &mut Face) {
-    let mut desk = Counting::new(booked_reply(rt));
-    let mut reader = Pieces::new(BOOKING.as_bytes(), 600, false);
-    let mut writer = Narrow::new(ROOM);
-    let outcome = answer(face, &mut desk, moment(rt, NOON), &mut reader, &mut writer);
-    if outcome == Ok(Reply::Refused(Refusal::Unavailable)) {
-        IS_UNAVAILABLE.expect(rt, &outcome, &desk, &writer);
-    } else {
-        ExchangeResult::Booked.expect(rt, &outcome, &desk, &writer);
-    }
-}
-
-/// With any allocation refused, as `rt try --test --fail-alloc N` refuses the Nth.
+/// `rt try --test --fail-alloc N` refuses the Nth allocation of this test. The client gets the
+/// booking's reply, or `Unavailable`. The desk isn't asked if the reply is `Unavailable`.
 #[test]
 fn refused_memory(rt: HostRuntime) {
-    if let Ok(mut face) = Face::new(rt.alloc()) {
-        is_booked_or_unavailable(&rt, &mut face);
-    }
+    let Ok(mut face) = Face::new(rt.alloc()) else {
+        return;
+    };
+    let mut desk = booking_desk(&rt);
+    let mut reader = Pieces::new(BOOKING.as_bytes(), 600, false);
+    let mut writer = Narrow::new(ROOM, ROOM);
+    let outcome = answer(&mut face, &mut desk, noon(&rt), &mut reader, &mut writer);
+    let refused = outcome == IS_UNAVAILABLE.0;
+    let want = if refused { IS_UNAVAILABLE } else { booked(&rt) };
+    expect_ended(&rt, &outcome, &desk, &writer, &want);
 }
 
 #[test]
@@ -185,21 +132,22 @@ fn names_of_faults(rt: HostRuntime) {
     expect_shown(&rt, &AnswerFault::Write(12), "output failed after 12 bytes");
 }
 
-/// The next connection of the listener has its exchange.
-fn answers_one(rt: &(impl Abort + Alloc<A = Global>), listener: &TcpListener) {
+/// Runs the exchange of the listener's next connection.
+fn answers_one(rt: &impl Runtime, listener: &TcpListener) {
     let (stream, _) = listener.accept().expect(rt, "a connection");
-    let mut desk = Counting::new(booked_reply(rt));
+    let mut face = Face::new(rt.alloc()).expect(rt, "a face");
+    let mut desk = booking_desk(rt);
     let mut reader = ReadInlet::new(&stream);
     let mut writer = WriteOutlet::new(&stream);
-    let outcome = exchange_with(rt, &mut desk, &mut reader, &mut writer);
+    let outcome = answer(&mut face, &mut desk, noon(rt), &mut reader, &mut writer);
     expect_eq(rt, &outcome, &Ok(booked_reply(rt)));
 }
 
-/// Over a socket: bound, connected, written, accepted, answered and read, one after the other.
+/// The test binds, connects, writes, accepts, replies and reads, one step after the other.
 #[test]
 fn over_a_socket(rt: HostRuntime) {
     let listener = loopback_listener(&rt);
     let mut client = client_of(&rt, &listener, BOOKING.as_bytes());
     answers_one(&rt, &listener);
-    expect_reply(&rt, &mut client, BOOKED_7.as_bytes());
+    expect_reply(&rt, &mut client, BOOKED_7);
 }

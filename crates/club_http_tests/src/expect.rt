@@ -1,26 +1,55 @@
-//! What a test expects.
+//! Expectations of tests, and parts of their rows.
 
+use club_values::Moment;
 use std::alloc::Global;
 use std::fmt::{Debug, Display};
 use std::process::Abort;
+use std::time::Clock;
+use test_kit::Piece;
+use test_kit::moments::NOON;
+
+/// The runtime of a test. Helpers for sockets add `Net` at their own bound, since the borrow
+/// checker doesn't cover a test that meets it through this trait.
+pub(crate) trait Runtime: Abort + Alloc<A = Global> + Clock {}
+
+impl<R: Abort + Alloc<A = Global> + Clock> Runtime for R {}
 
 /// Ends the test unless the values are equal. A test that calls it is proved in a third of the time
 /// of one that asserts.
-pub(crate) fn expect_eq<T: PartialEq + Debug>(rt: &impl Abort, returned: &T, want: &T) {
+pub(crate) fn expect_eq<T: PartialEq + Debug>(rt: &impl Runtime, returned: &T, want: &T) {
     assert_eq!(rt; returned, want);
 }
 
-/// Ends the test unless the bytes are equal. `asked` is for the message.
-pub(crate) fn expect_bytes(rt: &impl Abort, returned: &[u8], want: &[u8], asked: &str) {
+/// Ends the test unless the values are equal. The message shows the row.
+pub(crate) fn expect_row<T: PartialEq + Debug>(
+    rt: &impl Runtime,
+    returned: &T,
+    want: &T,
+    row: &impl Debug,
+) {
+    assert_eq!(rt; returned, want, "{row:?}");
+}
+
+/// Ends the test unless the bytes are equal. The message shows `asked`.
+pub(crate) fn expect_bytes(rt: &impl Runtime, returned: &[u8], want: &[u8], asked: &str) {
     assert_eq!(rt; returned, want, "{asked}");
 }
 
-/// Ends the test unless the value is shown so.
-pub(crate) fn expect_shown<T: Display>(
-    rt: &(impl Abort + Alloc<A = Global>),
-    value: &T,
-    want: &str,
-) {
+/// Ends the test unless this is the text of the value.
+pub(crate) fn expect_shown<T: Display>(rt: &impl Runtime, value: &T, want: &str) {
     let text = value.to_string(rt.alloc()).expect(rt, "memory");
     expect_bytes(rt, text.as_bytes(), want.as_bytes(), want);
+}
+
+/// Returns the pieces joined together.
+pub(crate) fn join(rt: &impl Runtime, pieces: &[Piece]) -> String {
+    test_kit::join(rt.alloc(), pieces).expect(rt, "memory")
+}
+
+pub(crate) fn moment(rt: &impl Runtime, text: &str) -> Moment {
+    Moment::read(text.as_bytes()).expect(rt, "a moment")
+}
+
+pub(crate) fn noon(rt: &impl Runtime) -> Moment {
+    moment(rt, NOON)
 }

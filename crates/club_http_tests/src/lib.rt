@@ -1,9 +1,7 @@
-//! Tests of requests as bytes, and of replies as bytes; of exchanges with a desk that counts what
-//! it is asked; and of the server, over sockets and over connections in memory.
+//! Tests of requests and replies as bytes, of exchanges with a desk that counts its requests, and
+//! of the server over sockets and over memory.
 #![tactic(auto)]
 
-#[cfg(test)]
-mod asked;
 #[cfg(test)]
 mod bodies;
 #[cfg(test)]
@@ -11,16 +9,14 @@ mod body_lengths;
 #[cfg(test)]
 mod counted;
 #[cfg(test)]
+mod desk;
+#[cfg(test)]
 mod expect;
 #[cfg(test)]
 mod heads;
 #[cfg(test)]
 mod replies;
 #[cfg(test)]
-mod rows;
-#[cfg(test)]
 mod server;
 #[cfg(test)]
 mod sockets;
-#[cfg(test)]
-mod targets;

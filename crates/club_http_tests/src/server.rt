@@ -1,5 +1,4 @@
-//! Zones, and servers over memory and over a socket. What clocks show was computed by a program of
-//! another language, from the zones' own database.
+//! Servers over memory, and helpers of the tests over sockets.
 
 mod accepted;
 mod at_the_door;
@@ -15,36 +14,33 @@ mod logs;
 mod over_sockets;
 mod request_lines;
 mod told;
-mod years;
-mod zones;
 
-use crate::expect::{expect_eq, expect_shown};
-use crate::rows::{expect_row, moment};
-use club_clock::{Clock, Moments, MomentsOf};
-use club_http::Face;
-use club_values::Moment;
+use crate::desk::Desk;
+use crate::expect::{Runtime, expect_eq, expect_row, expect_shown, noon};
+use club_clock::{Clock, MomentsOf};
+use club_core::Reply;
+use club_http::{AnswerFault, Face};
+use club_values::{Kind, Moment, Slot};
 use desk_server::{
-    Accepted, Arrival, Arrivals, ClientSocket, ClockOutOfRange, Listening, serve_on,
+    Accepted, Arrival, Arrivals, ClientSocket, ClockOutOfRange, Connection, Listening, Unlogged,
+    serve_on,
 };
-use doubles::{Countdown, Noting, Script, Stopped, Wire};
-use std::alloc::Global;
+use doubles::{Script, Step, Stopped, Wire};
+pub use journal::{Call, Journal};
 use std::net::TcpListener;
-use std::process::Abort;
+use std::os::unix::net::UnixListener;
 use std::time::{self, Duration};
-use test_kit::moments::NOON;
+use test_kit::exchanges::UNAVAILABLE;
 
 const REQUEST: &[u8] = b"GET /account HTTP/1.1\r\nAuthorization: Bearer AgEJ\r\n\r\n";
 
-const REPLY: &[u8] =
-    b"HTTP/1.1 503 Service Unavailable\r\nContent-Type: application/json\r\nContent-Length: 33\r\n\
-    Connection: close\r\n\r\n{\"fault\":22,\"text\":\"unavailable\"}";
+/// The reply of a desk that is out of memory.
+const REPLY: &str = UNAVAILABLE;
 
-const _: () = prove!(REPLY.len() == 140);
-
-/// A clock of the machine that can't be read.
+/// A clock that can't be read.
 static UNREADABLE: Stopped = Stopped(None);
 
-/// Always this moment, whatever the machine's clock shows.
+/// Returns a clock that always shows this moment.
 fn always(moment: Moment) -> MomentsOf<'static, 'static, Stopped> {
     MomentsOf {
         clock: Clock::Fixed(moment),
@@ -52,122 +48,132 @@ fn always(moment: Moment) -> MomentsOf<'static, 'static, Stopped> {
     }
 }
 
-/// Always noon.
-fn noon(rt: &impl Abort) -> MomentsOf<'static, 'static, Stopped> {
-    always(moment(rt, NOON))
+/// Returns a face without a request.
+fn new_face(rt: &impl Runtime) -> Face {
+    Face::new(rt.alloc()).expect(rt, "a face")
 }
 
-/// Gives noon so many times, and then no moment.
-fn noons(rt: &impl Abort, count: u32) -> Countdown {
-    Countdown::new(moment(rt, NOON), count)
+/// A desk that counts the requests at noon.
+fn desk_at_noon<'d>(rt: &impl Runtime) -> Desk<'d> {
+    Desk::new(rt.alloc(), noon(rt))
 }
 
-/// So many of these connections are served with this desk.
-fn serves_with<L: Arrivals, M: Moments>(
-    rt: &(impl Abort + Alloc<A = Global>),
-    arrivals: &mut L,
-    count: u32,
-    moments: &mut M,
-    desk: &mut Noting,
-) -> Result<(), ClockOutOfRange> {
-    let mut face = Face::new(rt.alloc()).expect(rt, "a face");
-    serve_on(arrivals, count, moments, &mut face, desk)
+/// The patience with a client in most tests.
+fn patience() -> Duration {
+    Duration::from_secs(10)
 }
 
-/// So many of these connections are served, and how many requests the desk is asked at noon.
-fn serves<L: Arrivals, M: Moments>(
-    rt: &(impl Abort + Alloc<A = Global>),
-    arrivals: &mut L,
-    count: u32,
-    moments: &mut M,
-) -> (Result<(), ClockOutOfRange>, u64) {
-    let mut desk = Noting::new(rt.alloc(), moment(rt, NOON));
-    let outcome = serves_with(rt, arrivals, count, moments, &mut desk);
-    (outcome, desk.asked)
-}
-
-/// Failing clients, refused requests, and commands of the office between them.
-static FAILING: [Wire<'static>; 10] = [
-    Wire::Whole(REQUEST),
-    Wire::Command(b"an order"),
-    Wire::Absent,
-    Wire::Broken,
-    Wire::Cut,
-    Wire::Command(b"another order"),
-    Wire::Whole(b"x"),
-    Wire::Deaf(REQUEST),
-    Wire::Whole(REQUEST),
-    Wire::Whole(REQUEST),
-];
-
-/// How many of these clients are served, how often is waited for one, and how many of them reach
-/// the desk, of the commands too. Commands don't count, and the one before the last client that is
-/// served is the last.
-type Count = (u32, u64, u64, u64);
-
-static COUNTS: [Count; 7] = [
-    (0, 0, 0, 0),
-    (1, 1, 1, 0),
-    (2, 3, 1, 1),
-    (3, 4, 1, 1),
-    (4, 7, 1, 2),
-    (5, 8, 2, 2),
-    (6, 9, 3, 2),
-];
-
-fn serves_so_many(
-    rt: &(impl Abort + Alloc<A = Global>),
-    (count, waited, asked, commanded): &Count,
-) {
-    let mut arrivals = Script::new(&FAILING);
-    let mut desk = Noting::new(rt.alloc(), moment(rt, NOON));
-    let served = serves_with(rt, &mut arrivals, *count, &mut noon(rt), &mut desk);
-    let returned = (served, arrivals.waited, desk.asked, desk.commanded);
-    expect_row(rt, &returned, &(Ok(()), *waited, *asked, *commanded), count);
-}
-
-// Failing clients count, and the server goes on after a refused request. Each command is carried
-// out once, with its own bytes; one that doesn't come whole isn't.
-#[test]
-fn serves_as_many_as_asked(rt: HostRuntime) {
-    for row in &COUNTS {
-        serves_so_many(&rt, row);
+/// A reply about a court's slot that `taken` persons booked.
+fn slot_shown(slot: Slot, price: u16, taken: u64) -> Reply {
+    Reply::SlotShown {
+        slot,
+        kind: Kind::Court,
+        price,
+        places: 4,
+        taken,
+        closed: false,
     }
-    let mut desk = Noting::new(rt.alloc(), moment(&rt, NOON));
-    let served = serves_with(
-        &rt,
-        &mut Script::new(&FAILING),
-        6,
-        &mut noon(&rt),
-        &mut desk,
-    );
-    expect_eq(&rt, &(served, desk.bytes), &(Ok(()), 21));
 }
 
-/// The next client of a listener.
+/// Returns the next client of a listener. The server may also have the office's door.
 fn client_at<'a, C: time::Clock>(
+    rt: &impl Runtime,
     listener: &'a TcpListener,
+    door: Option<&'a UnixListener>,
     clock: &'a C,
     patience: Duration,
-) -> Option<Accepted<'a, ClientSocket<'a, C>, C>> {
-    match Listening::new(listener, None, clock, patience).next() {
+) -> Accepted<'a, ClientSocket<'a, C>, C> {
+    let client = match Listening::new(listener, door, clock, patience).next() {
         Arrival::Client(client) => Some(client),
         Arrival::Command(_) | Arrival::Nobody => None,
+    };
+    client.expect(rt, "a connection")
+}
+
+/// Runs an exchange at the desk's moment. The bytes of the request stay in the face.
+fn exchange<C: Connection>(
+    face: &mut Face,
+    connection: &mut C,
+    desk: &mut Desk<'_>,
+) -> Result<Reply, AnswerFault> {
+    let at = desk.moment;
+    connection.exchange(face, &mut always(at), desk, &mut Unlogged, at)
+}
+
+/// Serves the next `count` of these arrivals at noon.
+fn serves<L: Arrivals>(
+    rt: &impl Runtime,
+    arrivals: &mut L,
+    count: u32,
+    desk: &mut Desk<'_>,
+) -> Result<(), ClockOutOfRange> {
+    let mut moments = always(noon(rt));
+    serve_on(arrivals, count, &mut moments, &mut new_face(rt), desk)
+}
+
+/// A client that sends a complete request, and then no more.
+const WHOLE: &[Step<'static>] = &[Step::Bytes(0, REQUEST), Step::End(0)];
+
+/// Clients that fail, refused requests, and commands of the office.
+static FAILING: [Wire<'static>; 10] = [
+    Wire::Client(WHOLE),
+    Wire::Command(Some(b"an order")),
+    Wire::Absent,
+    Wire::Client(&[Step::Fails(0)]),
+    Wire::Command(None),
+    Wire::Command(Some(b"another order")),
+    Wire::Client(&[Step::Bytes(0, b"x"), Step::End(0)]),
+    Wire::Deaf(WHOLE),
+    Wire::Client(WHOLE),
+    Wire::Client(WHOLE),
+];
+
+/// The number of clients to serve, and the number of waits for an arrival. Then the number of
+/// requests and of commands that reach the desk, and the bytes of these commands. A command isn't a
+/// client, and none is carried out after the last client.
+static COUNTS: [(u32, u64, u64, u64, usize); 7] = [
+    (0, 0, 0, 0, 0),
+    (1, 1, 1, 0, 0),
+    (2, 3, 1, 1, 8),
+    (3, 4, 1, 1, 8),
+    (4, 7, 1, 2, 21),
+    (5, 8, 2, 2, 21),
+    (6, 9, 3, 2, 21),
+];
+
+// A client that fails counts, and the server goes on after a refused request. The desk carries out
+// each complete command once, with its own bytes.
+#[test]
+fn serves_as_many_as_asked(rt: HostRuntime) {
+    for (count, waited, asked, commanded, bytes) in &COUNTS {
+        let journal = Journal::new(rt.alloc());
+        let mut arrivals = Script::new(&journal, &FAILING);
+        let mut desk = desk_at_noon(&rt);
+        let served = serves(&rt, &mut arrivals, *count, &mut desk);
+        let returned = (arrivals.waited, desk.asked, desk.commanded, desk.bytes);
+        let wanted = (*waited, *asked, *commanded, *bytes);
+        expect_row(&rt, &(served, returned), &(Ok(()), wanted), count);
     }
 }
 
 static WITH_REQUESTS: [Wire<'static>; 4] = [
     Wire::Absent,
-    Wire::Whole(REQUEST),
-    Wire::Whole(REQUEST),
-    Wire::Whole(REQUEST),
+    Wire::Client(WHOLE),
+    Wire::Client(WHOLE),
+    Wire::Client(WHOLE),
 ];
 
+// The clock can be read once.
 #[test]
 fn stops_without_a_moment(rt: HostRuntime) {
-    let mut arrivals = Script::new(&WITH_REQUESTS);
-    let served = serves(&rt, &mut arrivals, 4, &mut noons(&rt, 1));
-    expect_eq(&rt, &served, &(Err(ClockOutOfRange), 1));
-    expect_eq(&rt, &arrivals.waited, &3);
+    let journal = Journal::new(rt.alloc());
+    let mut arrivals = Script::new(&journal, &WITH_REQUESTS);
+    let clock = clocks::noons(1);
+    let mut moments = clocks::clock_in(&rt, "UTC0", &clock);
+    let mut desk = desk_at_noon(&rt);
+    let mut face = new_face(&rt);
+    let served = serve_on(&mut arrivals, 4, &mut moments, &mut face, &mut desk);
+    expect_eq(&rt, &served, &Err(ClockOutOfRange));
+    expect_eq(&rt, &(arrivals.waited, desk.asked), &(3, 1));
     expect_shown(&rt, &ClockOutOfRange, "clock out of range");
 }

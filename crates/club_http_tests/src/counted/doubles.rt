@@ -1,16 +1,14 @@
-//! A reader, a writer and a responder over memory.
+//! A reader and a writer over memory.
 
 ghost use Rattle.std.specs.Prelude.{◌≤◌};
 
-use club_core::{Reply, Request};
-use club_http::{Inlet, Outlet, Responder, Words};
-use club_values::Moment;
+use club_http::{Inlet, Outlet};
 
-/// Gives a few bytes a call; at its end it gives none, or fails.
+/// A reader that gives a few bytes a call. At its end it gives no bytes, or fails.
 #[derive(Drop)]
 pub struct Pieces<'a> {
     pub left: &'a [u8],
-    /// The most bytes of a call, less one.
+    /// The most bytes of a call, minus one.
     behind_first: usize,
     fails: bool,
     pub calls: u64,
@@ -55,45 +53,33 @@ impl Inlet for Pieces<'_> {
     }
 }
 
-/// The most bytes that a writer takes.
+/// The most bytes that a writer has room for.
 pub const ROOM: usize = 512;
 
-/// Takes a few bytes a call; after so many it fails, or takes none.
+/// A writer that takes a few bytes a call. After `limit` bytes it fails, or takes no more.
 #[derive(Drop)]
 pub struct Narrow {
     bytes: [u8; ROOM],
     len: usize,
     step: usize,
     limit: usize,
-    stalls: bool,
+    pub stalls: bool,
     pub calls: u64,
     pub failures: u64,
     ghost within: { len ≤ 512 },
 }
 
 impl Narrow {
-    fn with(step: usize, limit: usize, stalls: bool) -> Narrow {
+    pub fn new(step: usize, limit: usize) -> Narrow {
         Narrow {
             bytes: [0; ROOM],
             len: 0,
             step,
             limit,
-            stalls,
+            stalls: false,
             calls: 0,
             failures: 0,
         }
-    }
-
-    pub fn new(step: usize) -> Narrow {
-        Narrow::with(step, ROOM, false)
-    }
-
-    pub fn failing(limit: usize) -> Narrow {
-        Narrow::with(ROOM, limit, false)
-    }
-
-    pub fn stalled() -> Narrow {
-        Narrow::with(ROOM, 0, true)
     }
 
     pub fn written_bytes(&self) -> &[u8] {
@@ -123,36 +109,5 @@ impl Outlet for Narrow {
         self.bytes[self.len..self.len + n].copy_from_slice(&bytes[..n]);
         self.len += n;
         Some(n)
-    }
-}
-
-/// Gives one reply to all requests, and counts them.
-#[derive(Drop)]
-pub struct Counting {
-    reply: Reply,
-    pub asked: u64,
-    pub last: Option<Request>,
-}
-
-impl Counting {
-    pub fn new(reply: Reply) -> Counting {
-        Counting {
-            reply,
-            asked: 0,
-            last: None,
-        }
-    }
-}
-
-impl Responder for Counting {
-    ghost use Rattle.std.specs.Prelude.{◌≡◌, Some};
-
-    ghost answers = { λ _ _ request old reply new.
-        (reply ≡ old.reply) × (new.last ≡ Some request) };
-
-    fn ask(&mut self, _moment: Moment, words: &Words<'_>) -> Reply {
-        self.asked = self.asked.saturating_add(1);
-        self.last = Some(words.request);
-        self.reply
     }
 }

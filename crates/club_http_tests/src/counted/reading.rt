@@ -1,39 +1,32 @@
-//! How requests are read: in as few calls as the reader allows, and none once they are whole.
+//! The number of calls that read a request. After its last byte the reader isn't called again.
 
 use super::doubles::Pieces;
-use super::{BOOKING, ExchangeResult, IS_BAD, returns};
+use super::{BOOKING, Ended, IS_BAD, NO_REQUEST, booked, returns};
 use crate::bodies::LONGEST;
-use crate::expect::expect_eq;
-use crate::rows::join;
-use std::alloc::Global;
-use std::process::Abort;
+use crate::expect::{Runtime, expect_eq, join};
+use std::ops::Range;
 use test_kit::Piece;
 
-/// How a text is read of a reader that fails at the call after its end: at most so many bytes come
-/// in a call, so many calls are made, and so many bytes stay with the reader.
+/// The most bytes of a call, the number of calls that read a text, and the number of bytes that
+/// stay with the reader. The reader fails at a call after its last byte.
 type Reading = (usize, u64, usize);
 
-fn is_read(
-    rt: &(impl Abort + Alloc<A = Global>),
-    text: &str,
-    (step, calls, left): &Reading,
-    returned: &ExchangeResult,
-) {
+fn is_read(rt: &impl Runtime, text: &str, (step, calls, left): &Reading, want: &Ended) {
     let mut reader = Pieces::new(text.as_bytes(), *step, true);
-    returns(rt, &mut reader, returned);
+    returns(rt, &mut reader, want);
     expect_eq(rt, &(reader.calls, reader.left.len()), &(*calls, *left));
 }
 
-/// A text in pieces, and how it is read.
+/// A text in pieces, and its reading.
 type Read = (&'static [Piece], Reading);
 
-/// The booking has 128 bytes, and a buffer 16,640. What follows the booking is taken if a call
-/// gives it.
+/// The booking has 128 bytes, and the buffer has room for 16,640. The bytes after the booking are
+/// read if the last call gives them.
 static BOOKINGS: [Read; 14] = [
     (&[(1, BOOKING)], (1, 128, 0)),
     (&[(1, BOOKING)], (7, 19, 0)),
     (&[(1, BOOKING)], (115, 2, 0)),
-    // The head, and then the body.
+    // One call reads the head, and one the body.
     (&[(1, BOOKING)], (116, 2, 0)),
     (&[(1, BOOKING)], (127, 2, 0)),
     (&[(1, BOOKING)], (128, 1, 0)),
@@ -56,8 +49,8 @@ static LONGEST_READINGS: [Reading; 5] = [
     (1, 16_640, 0),
 ];
 
-/// 20,000 bytes in which no head ends are a bad request once 16,384 have come; no call is given
-/// room after 16,640.
+/// Here 20,000 bytes come without the end of a head. They are a bad request after 16,384 of them.
+/// The calls together have room for 16,640 bytes.
 static ENDLESS: [Reading; 4] = [
     (1, 16_384, 3_616),
     (3, 5_462, 3_614),
@@ -65,30 +58,20 @@ static ENDLESS: [Reading; 4] = [
     (200_000, 1, 3_360),
 ];
 
-fn are_read(rt: &(impl Abort + Alloc<A = Global>), rows: &[Read]) {
-    for (pieces, reading) in rows {
-        let text = join(rt, pieces);
-        is_read(rt, text.as_str(), reading, &ExchangeResult::Booked);
-    }
-}
-
-fn is_read_so(
-    rt: &(impl Abort + Alloc<A = Global>),
-    pieces: &[Piece],
-    readings: &[Reading],
-    returned: &ExchangeResult,
-) {
+fn is_read_so(rt: &impl Runtime, pieces: &[Piece], readings: &[Reading], want: &Ended) {
     let text = join(rt, pieces);
     for reading in readings {
-        is_read(rt, text.as_str(), reading, returned);
+        is_read(rt, text.as_str(), reading, want);
     }
 }
 
-/// The request is read whole, and no call comes after: the reader would fail.
+/// The reader would fail at a call after the request.
 #[test]
 fn reads_no_further_than_the_request(rt: HostRuntime) {
-    are_read(&rt, &BOOKINGS);
-    is_read_so(&rt, &LONGEST, &LONGEST_READINGS, &ExchangeResult::Booked);
+    for (pieces, reading) in &BOOKINGS {
+        is_read_so(&rt, pieces, &[*reading], &booked(&rt));
+    }
+    is_read_so(&rt, &LONGEST, &LONGEST_READINGS, &booked(&rt));
 }
 
 #[test]
@@ -96,33 +79,26 @@ fn endless_head(rt: HostRuntime) {
     is_read_so(&rt, &[(20_000, "x")], &ENDLESS, &IS_BAD);
 }
 
-/// How a request of so many bytes is read, so many a call, with five bytes after it.
+/// The reading of a request of `len` bytes and five bytes after it, with `step` bytes a call.
 fn by_steps(len: usize, step: usize) -> Reading {
-    let behind_first = step.max(1) - 1;
-    let calls = (len.min(20_000) + behind_first.min(20_000)) / (behind_first + 1);
+    let calls = len.div_ceil(step.max(1));
     let taken = calls.saturating_mul(step);
-    (
-        step,
-        calls as u64,
-        len.saturating_add(5).saturating_sub(taken),
-    )
+    let left = len.saturating_add(5).saturating_sub(taken);
+    (step, calls as u64, left)
 }
 
-/// The text is a request and five bytes after it.
-fn is_read_by_steps(
-    rt: &(impl Abort + Alloc<A = Global>),
-    text: &str,
-    step: usize,
-    returned: &ExchangeResult,
-) {
+/// Reads a text of a request and five bytes after it, with each of these steps.
+fn is_read_by_steps(rt: &impl Runtime, text: &str, steps: Range<usize>, want: &Ended) {
     let len = text.len().saturating_sub(5);
-    is_read(rt, text, &by_steps(len, step), returned);
+    for step in steps {
+        is_read(rt, text, &by_steps(len, step), want);
+    }
 }
 
-/// So many more bytes that the end of the head is at each place of four.
+/// Fields of 0, 5, 6 and 7 bytes. They move the end of the head to each remainder modulo 4.
 static FIELDS: [&str; 4] = ["", "A: \r\n", "A: b\r\n", "A: bc\r\n"];
 
-fn with_field(rt: &(impl Abort + Alloc<A = Global>), field: &str) -> String {
+fn with_field(rt: &impl Runtime, field: &str) -> String {
     let text = format!(in rt.alloc();
         "PUT /slots/court-1/2026-05-01/18/bookings/7 HTTP/1.1\r\n{field}\
         Authorization: Bearer AgEJ\r\nContent-Length: 12\r\n\r\n{{\"guests\":2}}GET /"
@@ -130,22 +106,16 @@ fn with_field(rt: &(impl Abort + Alloc<A = Global>), field: &str) -> String {
     text.expect(rt, "memory")
 }
 
-fn is_booked_with(rt: &(impl Abort + Alloc<A = Global>), field: &str) {
-    let text = with_field(rt, field);
-    for step in 1..180 {
-        is_read_by_steps(rt, text.as_str(), step, &ExchangeResult::Booked);
-    }
-}
-
-/// Wherever the calls split a head, its end and its body, it is the same request.
+/// The calls split the head, its end and its body at different places.
 #[test]
 fn splits_a_request(rt: HostRuntime) {
     for field in &FIELDS {
-        is_booked_with(&rt, field);
+        let text = with_field(&rt, field);
+        is_read_by_steps(&rt, text.as_str(), 1..180, &booked(&rt));
     }
 }
 
-/// Parts of a head's end before its end.
+/// Texts with parts of CR LF CR LF before the first whole one.
 static PARTS: [&str; 7] = [
     "\r\n\r\nGET /",
     "\r\r\n\r\nGET /",
@@ -156,29 +126,23 @@ static PARTS: [&str; 7] = [
     "GET /\r\n\r\r\r\n\r\nGET /",
 ];
 
-fn is_no_head(rt: &(impl Abort + Alloc<A = Global>), text: &str) {
-    for step in 1..20 {
-        is_read_by_steps(rt, text, step, &IS_BAD);
-    }
-}
-
-/// The first CR LF CR LF ends the head, and nothing before it does.
+/// The first CR LF CR LF ends the head.
 #[test]
 fn begins_the_end_of_a_head_again(rt: HostRuntime) {
     for text in &PARTS {
-        is_no_head(&rt, text);
+        is_read_by_steps(&rt, text, 1..20, &IS_BAD);
     }
 }
 
-/// Cut by an end of the input it is a bad request; cut by a failure nothing is written.
-fn is_cut(rt: &(impl Abort + Alloc<A = Global>), bytes: &[u8]) {
+/// If the input ends, these bytes are a bad request. If the reader fails, nothing is written.
+fn is_cut(rt: &impl Runtime, bytes: &[u8]) {
     returns(rt, &mut Pieces::new(bytes, 7, false), &IS_BAD);
     let mut reader = Pieces::new(bytes, 7, true);
-    returns(rt, &mut reader, &ExchangeResult::NoRequest);
+    returns(rt, &mut reader, &NO_REQUEST);
     expect_eq(rt, &reader.failures, &1);
 }
 
-/// The booking, cut anywhere.
+/// The booking is cut after each of its bytes.
 #[test]
 fn cut_input(rt: HostRuntime) {
     let bytes = BOOKING.as_bytes();

@@ -1,63 +1,29 @@
-//! Commands that come while a client's request is awaited, over a stream that notes its calls, each
-//! with its time. No contract states how long a server waits, nor whose turn it is, nor that a
-//! stream is closed before the log has its line.
+//! Commands that come while the server waits for a client's request. A journal notes the calls of
+//! the server, with their times. No contract states how long a server waits, whether a command or a
+//! client goes first, or that a stream is closed before the log has its line.
 
-use super::doubles::Letter;
-use super::journal::{Call, Entries, HandSet, Journal, Recorded, Recorder, Step};
-use super::{REQUEST, noon};
-use crate::expect::expect_eq;
-use crate::rows::expect_row;
-use club_core::{Refusal, Reply};
-use club_http::Face;
-use desk_server::{Accepted, Arrival, Arrivals, serve_logged};
-use std::alloc::Global;
-use std::process::Abort;
-use std::time::Duration;
+use super::doubles::{Script, Step, Wire};
+use super::journal::{Call, Entries, Journal};
+use super::{REQUEST, always, desk_at_noon, new_face};
+use crate::desk::Desk;
+use crate::expect::{Runtime, expect_row, noon};
+use desk_server::serve_logged;
 
-/// One client, and then nobody.
-#[derive(Drop)]
-struct Once<'a> {
-    client: Option<Accepted<'a, Recorded<'a>, HandSet>>,
-    waited: u64,
-    failures: u64,
-}
-
-impl<'a> Arrivals for Once<'a> {
-    type Client = Accepted<'a, Recorded<'a>, HandSet>;
-
-    type Command = Letter<'a>;
-
-    ghost waited = { λ once. once.waited };
-
-    ghost failures = { λ once. once.failures };
-
-    fn next(&mut self) -> Arrival<Accepted<'a, Recorded<'a>, HandSet>, Letter<'a>> {
-        self.waited = self.waited.saturating_add(1);
-        match self.client.take() {
-            Some(client) => Arrival::Client(client),
-            None => {
-                self.failures = self.failures.saturating_add(1);
-                Arrival::Nobody
-            }
-        }
-    }
-}
-
-/// What comes to a server that has a patience of ten seconds, the milliseconds that a command
-/// takes, and the calls.
+/// The steps of a client and of the office, the milliseconds of a command, and the calls of a
+/// server that has a patience of ten seconds.
 struct Row {
     steps: &'static [Step<'static>],
     command_takes: u64,
     calls: &'static [(u64, Call)],
 }
 
-/// The request, but for its first letter.
+/// The request without its first letter.
 const REST: &[u8] = b"ET /account HTTP/1.1\r\nAuthorization: Bearer AgEJ\r\n\r\n";
 
 static ROWS: [Row; 6] = [
-    // Its request is there: no command goes before it.
+    // The request has come when the command comes, so the request goes first.
     Row {
-        steps: &[Step::Bytes(0, REQUEST), Step::Command(0, b"an order")],
+        steps: &[Step::Bytes(0, REQUEST), Step::Command(0, Some(b"an order"))],
         command_takes: 0,
         calls: &[
             (0, Call::Began),
@@ -69,11 +35,11 @@ static ROWS: [Row; 6] = [
             (0, Call::NotedClient),
         ],
     },
-    // A command between two pieces is done before the desk is asked. It takes the client's time.
+    // A command between two pieces of the request goes first. It uses up some of the client's time.
     Row {
         steps: &[
             Step::Bytes(1_000, b"G"),
-            Step::Command(500, b"an order"),
+            Step::Command(500, Some(b"an order")),
             Step::Bytes(2_000, REST),
         ],
         command_takes: 100,
@@ -93,12 +59,12 @@ static ROWS: [Row; 6] = [
             (3_600, Call::NotedClient),
         ],
     },
-    // A silent client holds up no command, and is cut off in its time.
+    // A silent client delays no command, and is cut off after ten seconds.
     Row {
         steps: &[
-            Step::Command(3_000, b"an order"),
+            Step::Command(3_000, Some(b"an order")),
             Step::Gone(1_000),
-            Step::Command(2_000, b"another order"),
+            Step::Command(2_000, Some(b"another order")),
         ],
         command_takes: 0,
         calls: &[
@@ -118,9 +84,10 @@ static ROWS: [Row; 6] = [
             (10_000, Call::NotedClient),
         ],
     },
-    // A command that takes all its time cuts a client off, unless its request is there by then.
+    // A command uses up all of the client's time. The client is cut off unless its request has
+    // come.
     Row {
-        steps: &[Step::Command(1_000, b"an order")],
+        steps: &[Step::Command(1_000, Some(b"an order"))],
         command_takes: 20_000,
         calls: &[
             (0, Call::Began),
@@ -134,7 +101,10 @@ static ROWS: [Row; 6] = [
         ],
     },
     Row {
-        steps: &[Step::Command(1_000, b"an order"), Step::Bytes(0, REQUEST)],
+        steps: &[
+            Step::Command(1_000, Some(b"an order")),
+            Step::Bytes(0, REQUEST),
+        ],
         command_takes: 20_000,
         calls: &[
             (0, Call::Began),
@@ -149,11 +119,11 @@ static ROWS: [Row; 6] = [
             (21_000, Call::NotedClient),
         ],
     },
-    // A request that is no request: the rest is read before the stream is closed.
+    // After a bad request the server reads the rest of the bytes before it closes the stream.
     Row {
         steps: &[
             Step::Bytes(0, b"x"),
-            Step::Command(0, b"an order"),
+            Step::Command(0, Some(b"an order")),
             Step::End(0),
         ],
         command_takes: 0,
@@ -176,40 +146,22 @@ static ROWS: [Row; 6] = [
     },
 ];
 
-/// The server of one client, with what comes.
-fn serve_steps<'a>(
-    rt: &(impl Abort + Alloc<A = Global>),
-    journal: &'a Journal,
-    steps: &'a [Step<'a>],
-    command_takes: u64,
-) {
-    let stream = Recorded::new(journal, steps);
-    let client = Accepted::new(stream, &journal.clock, Duration::from_secs(10));
-    let mut arrivals = Once {
-        client: Some(client),
-        waited: 0,
-        failures: 0,
-    };
-    let reply = Reply::Refused(Refusal::Unavailable);
-    let mut desk = Recorder::new(journal, rt.alloc(), reply).that_takes(0, command_takes);
-    let mut face = Face::new(rt.alloc()).expect(rt, "a face");
-    let mut log = Entries(journal);
-    let served = serve_logged(
-        &mut arrivals,
-        1,
-        &mut noon(rt),
-        &mut face,
-        &mut desk,
-        &mut log,
-    );
-    expect_eq(rt, &served.is_ok(), &true);
-}
-
-fn plays(rt: &(impl Abort + Alloc<A = Global>), row: &Row) {
+fn plays(rt: &impl Runtime, row: &Row) {
     let journal = Journal::new(rt.alloc());
-    serve_steps(rt, &journal, row.steps, row.command_takes);
+    let wires = [Wire::Client(row.steps)];
+    let mut arrivals = Script::new(&journal, &wires);
+    let mut desk = Desk {
+        journal: Some(&journal),
+        command_takes: row.command_takes,
+        ..desk_at_noon(rt)
+    };
+    let mut moments = always(noon(rt));
+    let mut face = new_face(rt);
+    let log = &mut Entries(&journal);
+    let served = serve_logged(&mut arrivals, 1, &mut moments, &mut face, &mut desk, log);
     let calls = journal.calls(rt.alloc());
     expect_row(rt, &calls.as_slice(), &row.calls, &row.calls);
+    expect_row(rt, &served, &Ok(()), &row.calls);
 }
 
 #[test]

@@ -1,136 +1,203 @@
-//! The moments of clocks, read as the program reads them. No contract states which instant the
-//! machine's clock shows, so only these tests refuse one that is late or doesn't advance. A program
-//! in another language computed the expected moments, from the zone database.
+//! The moments that clocks show in zones. No contract states which instant the machine's clock
+//! shows, so only these tests refuse a clock that is late or stops. A program in another language
+//! computed the expected moments from the zone database.
 
-use super::doubles::{Stopped, Ticking};
-use super::noon;
-use super::years::{
-    BEFORE_SUMMER, BEFORE_WINTER, SUMMER_BEGINS, SUMMERS, Seen, WINTER_BEGINS, WINTERS,
-};
-use super::zones::BERLIN;
-use crate::expect::expect_eq;
-use crate::rows::{expect_row, moment};
+use super::always;
+use super::doubles::{HandSet, Stopped};
+use crate::expect::{Runtime, expect_eq, expect_row, moment, noon};
 use club_clock::{Clock, Moments, MomentsOf, Zone};
 use club_values::Moment;
-use std::process::Abort;
+use jiff_core::Timestamp;
 use std::time::{self, Duration};
-use test_kit::moments::NOON;
 
-/// The rule of a zone, the seconds after 1970 began of a clock that can be read, and the moment
-/// that it shows there.
-type Shown = (&'static str, Option<u64>, Option<&'static str>);
+const BERLIN: &str = "CET-1CEST,M3.5.0,M10.5.0/3";
 
-/// The first and the last minutes of the years 2000 to 2099, those beyond them, and others.
-static SHOWN: [Shown; 15] = [
-    ("UTC0", Some(1_777_658_459), Some("2026-05-01T18:00")),
-    (BERLIN, Some(1_777_651_200), Some("2026-05-01T18:00")),
-    (BERLIN, Some(1_777_651_199), Some("2026-05-01T17:59")),
-    ("UTC0", Some(1_777_651_200), Some("2026-05-01T16:00")),
-    ("UTC0", Some(946_684_799), None),
-    ("UTC0", Some(946_684_800), Some("2000-01-01T00:00")),
-    (BERLIN, Some(946_681_199), None),
-    (BERLIN, Some(946_681_200), Some("2000-01-01T00:00")),
-    ("UTC0", Some(4_102_444_799), Some("2099-12-31T23:59")),
-    ("UTC0", Some(4_102_444_800), None),
-    (BERLIN, Some(4_102_441_199), Some("2099-12-31T23:59")),
-    (BERLIN, Some(4_102_441_200), None),
-    ("UTC0", Some(0), None),
-    ("UTC0", Some(253_402_300_800), None),
-    ("UTC0", None, None),
+/// The rule of a zone, the seconds since 1970 began, and the moment that a clock shows in the zone.
+type Shown = (&'static str, i64, Option<&'static str>);
+
+/// The rows have the first and the last minute of the years 2000 to 2099, seconds just outside
+/// these years, and others.
+static SHOWN: [Shown; 23] = [
+    ("UTC0", 1_777_658_459, Some("2026-05-01T18:00")),
+    (BERLIN, 1_777_651_200, Some("2026-05-01T18:00")),
+    (BERLIN, 1_777_651_199, Some("2026-05-01T17:59")),
+    ("UTC0", 1_777_651_200, Some("2026-05-01T16:00")),
+    (BERLIN, 1_761_440_399, Some("2025-10-26T02:59")),
+    (BERLIN, 1_761_440_400, Some("2025-10-26T02:00")),
+    (BERLIN, 1_774_745_999, Some("2026-03-29T01:59")),
+    (BERLIN, 1_774_746_000, Some("2026-03-29T03:00")),
+    (
+        "EST5EDT,M3.2.0,M11.1.0",
+        1_777_651_259,
+        Some("2026-05-01T12:00"),
+    ),
+    ("IST-5:30", 1_777_651_200, Some("2026-05-01T21:30")),
+    ("UTC0", 946_684_799, None),
+    ("UTC0", 946_684_800, Some("2000-01-01T00:00")),
+    (BERLIN, 946_681_199, None),
+    (BERLIN, 946_681_200, Some("2000-01-01T00:00")),
+    ("EST5", 946_684_800, None),
+    ("EST5", 946_702_800, Some("2000-01-01T00:00")),
+    ("UTC0", 4_102_444_799, Some("2099-12-31T23:59")),
+    ("UTC0", 4_102_444_800, None),
+    (BERLIN, 4_102_441_199, Some("2099-12-31T23:59")),
+    (BERLIN, 4_102_441_200, None),
+    ("UTC0", 0, None),
+    ("UTC0", -1, None),
+    ("UTC0", 253_402_300_800, None),
 ];
 
-/// A clock in the zone of a rule.
-fn clock_in<'c, C: time::Clock>(
-    rt: &impl Abort,
+fn zone_of(rt: &impl Runtime, rule: &'static str) -> Zone<'static> {
+    Zone::from_rule(rule).expect(rt, "a zone")
+}
+
+/// Returns a clock in the zone of a rule.
+pub fn clock_in<'c, C: time::Clock>(
+    rt: &impl Runtime,
     rule: &'static str,
     machine: &'c C,
 ) -> MomentsOf<'static, 'c, C> {
-    let zone = Zone::from_rule(rule).expect(rt, "a zone");
     MomentsOf {
-        clock: Clock::InZone(zone),
+        clock: Clock::InZone(zone_of(rt, rule)),
         machine,
     }
 }
 
-/// The moment of a clock that shows this second, or can't be read.
-fn moment_of(rt: &impl Abort, rule: &'static str, second: Option<u64>) -> Option<Moment> {
+/// Returns a clock that shows noon in UTC, and can be read `times` times.
+pub fn noons(times: u64) -> HandSet {
+    let clock = HandSet::new(1_776_686_400_000_000, 0);
+    clock.readable.set(times);
+    clock
+}
+
+/// Returns the moment of a clock that shows this second. `None` is a clock that can't be read.
+fn moment_of(rt: &impl Runtime, rule: &'static str, second: Option<u64>) -> Option<Moment> {
     let clock = Stopped(second.map(Duration::from_secs));
     clock_in(rt, rule, &clock).now()
 }
 
-fn shows(rt: &impl Abort, row: &Shown) {
+/// Returns the moment of this second in the zone, without a clock.
+fn moment_in_zone(rt: &impl Runtime, rule: &'static str, second: i64) -> Option<Moment> {
+    let nanosecond = i128::from(second) * 1_000_000_000;
+    let instant = Timestamp::from_nanosecond(nanosecond).ok()?;
+    zone_of(rt, rule).moment_at(instant)
+}
+
+fn shows_row(rt: &impl Runtime, row: &Shown) {
     let (rule, second, text) = row;
     let wanted = text.map(|text| moment(rt, text));
-    expect_row(rt, &moment_of(rt, rule, *second), &wanted, row);
+    expect_row(rt, &moment_in_zone(rt, rule, *second), &wanted, row);
+    if let Ok(second) = u64::try_from(*second) {
+        expect_row(rt, &moment_of(rt, rule, Some(second)), &wanted, row);
+    }
 }
 
 #[test]
 fn shows_the_minute_of_a_clock(rt: HostRuntime) {
     for row in &SHOWN {
-        shows(&rt, row);
+        shows_row(&rt, row);
+    }
+    expect_eq(&rt, &moment_of(&rt, "UTC0", None), &None);
+}
+
+static NO_ZONES: [&str; 6] = [
+    "",
+    "UTC",
+    "Europe/Berlin",
+    "UTC0 ",
+    "CET-1CEST,M3.5.0",
+    "X0",
+];
+
+#[test]
+fn rules_of_no_zone(rt: HostRuntime) {
+    for rule in &NO_ZONES {
+        expect_row(&rt, &Zone::from_rule(rule).is_none(), &true, rule);
     }
 }
 
-fn shows_in_berlin(rt: &impl Abort, seen: &[Seen]) {
-    for (second, text) in seen {
-        shows(rt, &(BERLIN, Some(*second), Some(*text)));
-    }
+/// The days of March and of October on which summer time begins and ends in Berlin, from 2000 to
+/// 2099. It begins and ends at one o'clock in UTC.
+static MARCH: [u8; 100] = [
+    26, 25, 31, 30, 28, 27, 26, 25, 30, 29, 28, 27, 25, 31, 30, 29, 27, 26, 25, 31, 29, 28, 27, 26,
+    31, 30, 29, 28, 26, 25, 31, 30, 28, 27, 26, 25, 30, 29, 28, 27, 25, 31, 30, 29, 27, 26, 25, 31,
+    29, 28, 27, 26, 31, 30, 29, 28, 26, 25, 31, 30, 28, 27, 26, 25, 30, 29, 28, 27, 25, 31, 30, 29,
+    27, 26, 25, 31, 29, 28, 27, 26, 31, 30, 29, 28, 26, 25, 31, 30, 28, 27, 26, 25, 30, 29, 28, 27,
+    25, 31, 30, 29,
+];
+
+static OCTOBER: [u8; 100] = [
+    29, 28, 27, 26, 31, 30, 29, 28, 26, 25, 31, 30, 28, 27, 26, 25, 30, 29, 28, 27, 25, 31, 30, 29,
+    27, 26, 25, 31, 29, 28, 27, 26, 31, 30, 29, 28, 26, 25, 31, 30, 28, 27, 26, 25, 30, 29, 28, 27,
+    25, 31, 30, 29, 27, 26, 25, 31, 29, 28, 27, 26, 31, 30, 29, 28, 26, 25, 31, 30, 28, 27, 26, 25,
+    30, 29, 28, 27, 25, 31, 30, 29, 27, 26, 25, 31, 29, 28, 27, 26, 31, 30, 29, 28, 26, 25, 31, 30,
+    28, 27, 26, 25,
+];
+
+/// Ends the test unless a clock in Berlin shows this time, `seconds` after the day began in UTC.
+fn shows(rt: &impl Runtime, (year, month, day): (u16, &str, u8), seconds: u16, time: &str) {
+    let text = format!(in rt.alloc(); "{year}-{month}-{day}T{time}").expect(rt, "memory");
+    let wanted = moment(rt, text.as_str());
+    let second = u64::from(wanted.day().number()) * 86_400 + u64::from(seconds);
+    let shown = moment_of(rt, BERLIN, Some(second));
+    expect_row(rt, &shown, &Some(wanted), &text);
 }
 
 #[test]
 fn shows_the_night_of_each_winter_and_summer(rt: HostRuntime) {
-    shows_in_berlin(&rt, &WINTERS);
-    shows_in_berlin(&rt, &SUMMERS);
+    for year in 2000..2100 {
+        shows(&rt, (year, "01", 15), 7_380, "03:03");
+        shows(&rt, (year, "07", 15), 3_780, "03:03");
+    }
 }
 
 #[test]
 fn shows_the_beginning_of_each_summer_time(rt: HostRuntime) {
-    shows_in_berlin(&rt, &BEFORE_SUMMER);
-    shows_in_berlin(&rt, &SUMMER_BEGINS);
+    for (year, day) in (2000..2100).zip(&MARCH) {
+        shows(&rt, (year, "03", *day), 3_599, "01:59");
+        shows(&rt, (year, "03", *day), 3_600, "03:00");
+    }
 }
 
 #[test]
 fn shows_the_end_of_each_summer_time(rt: HostRuntime) {
-    shows_in_berlin(&rt, &BEFORE_WINTER);
-    shows_in_berlin(&rt, &WINTER_BEGINS);
-}
-
-/// The second at which 2030 begins, and its moment.
-const BEGINNING_OF_2030: (u64, &str) = (1_893_456_000, "2030-01-01T00:00");
-
-// Of a day each minute is shown, for all of its seconds.
-#[test]
-fn shows_each_minute_of_a_day(rt: HostRuntime) {
-    let (begins, text) = BEGINNING_OF_2030;
-    let first = moment(&rt, text).number();
-    for minute in 0..1_440 {
-        let wanted = Moment::from_number(first.saturating_add(minute));
-        let second = begins + u64::from(minute) * 60;
-        expect_row(&rt, &moment_of(&rt, "UTC0", Some(second)), &wanted, &minute);
-        expect_row(
-            &rt,
-            &moment_of(&rt, "UTC0", Some(second + 59)),
-            &wanted,
-            &minute,
-        );
+    for (year, day) in (2000..2100).zip(&OCTOBER) {
+        shows(&rt, (year, "10", *day), 3_599, "02:59");
+        shows(&rt, (year, "10", *day), 3_600, "02:00");
     }
 }
 
-// The clock is read for each moment: it advances by a minute each time.
+/// The second at which 2030 begins.
+const BEGINNING_OF_2030: u64 = 1_893_456_000;
+
+// The clock shows each minute of a day from its first second to its last.
+#[test]
+fn shows_each_minute_of_a_day(rt: HostRuntime) {
+    let first = moment(&rt, "2030-01-01T00:00").number();
+    for minute in 0..1_440 {
+        let wanted = Moment::from_number(first.saturating_add(minute));
+        let second = BEGINNING_OF_2030 + u64::from(minute) * 60;
+        for second in [second, second + 59] {
+            expect_row(&rt, &moment_of(&rt, "UTC0", Some(second)), &wanted, &minute);
+        }
+    }
+}
+
+// The server reads the clock for each moment. The clock advances by a minute at each reading.
 #[test]
 fn shows_a_clock_that_advances(rt: HostRuntime) {
-    let clock = Ticking::new(946_684_740_000_000, 60_000_000);
+    let clock = HandSet::new(946_684_740_000_000, 60_000_000);
     let mut moments = clock_in(&rt, "UTC0", &clock);
     expect_eq(&rt, &moments.now(), &Some(moment(&rt, "2000-01-01T00:00")));
     expect_eq(&rt, &moments.now(), &Some(moment(&rt, "2000-01-01T00:01")));
 }
 
-/// The minute that the machine's clock shows, counted from 1970-01-01T00:00.
-fn minute_of(rt: &(impl Abort + time::Clock)) -> u64 {
+/// Returns the minutes of the machine's clock since 1970 began.
+fn minute_of(rt: &impl Runtime) -> u64 {
     rt.since_1970().expect(rt, "a time").as_secs() / 60
 }
 
-// The minute of the machine's clock, or the next one if it began meanwhile.
+// The minute may change between the three readings.
 #[test]
 fn shows_the_machines_clock(rt: HostRuntime) {
     let before = minute_of(&rt);
@@ -141,8 +208,7 @@ fn shows_the_machines_clock(rt: HostRuntime) {
 
 #[test]
 fn gives_one_moment(rt: HostRuntime) {
-    let mut fixed = noon(&rt);
-    let wanted = Some(moment(&rt, NOON));
-    expect_eq(&rt, &fixed.now(), &wanted);
-    expect_eq(&rt, &fixed.now(), &wanted);
+    let mut fixed = always(noon(&rt));
+    expect_eq(&rt, &fixed.now(), &Some(noon(&rt)));
+    expect_eq(&rt, &fixed.now(), &Some(noon(&rt)));
 }

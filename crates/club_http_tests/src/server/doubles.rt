@@ -1,68 +1,52 @@
-//! Connections, moments, clocks and a responder over memory.
+//! Connections over memory, and clocks.
 
 ghost use Rattle.std.specs.Prelude.{◌≤◌, length, IfSome};
 ghost use Rattle.desk_server.specs.Limits.{moved};
 
-use club_clock::Moments;
-use club_core::{Refusal, Reply};
-use club_http::Responder;
-use club_values::Moment;
+use super::journal::{Call, Journal};
 use desk_server::{
-    Accepted, Answer, Arrival, Arrivals, Carried, ClientStream, Handover, Office, RequestLine,
-    TimedStream, Waited, Woken,
+    Accepted, Answer, Arrival, Arrivals, Carried, ClientStream, Handover, Office, TimedStream,
+    Waited, Woken,
 };
-use http_request::Words;
-use std::alloc::Global;
 use std::cell::Cell;
 use std::io::{self, ErrorKind, Read, Write};
 use std::time::{Clock, Duration};
 
-/// What comes of waiting for an arrival.
+/// The next event for a server that waits for a client, and the milliseconds until it comes.
+#[derive(Clone, Copy, Drop)]
+pub enum Step<'a> {
+    /// Bytes of the client.
+    Bytes(u64, &'a [u8]),
+    /// A command with these bytes; `None` if it is incomplete.
+    Command(u64, Option<&'a [u8]>),
+    /// A command whose sender closed its connection before the server accepted it.
+    Gone(u64),
+    /// The end of the client's bytes.
+    End(u64),
+    /// The client's reader fails.
+    Fails(u64),
+}
+
+/// The result of a wait for an arrival.
 #[derive(Clone, Copy, Drop)]
 pub enum Wire<'a> {
-    /// Nobody: waiting failed.
+    /// The wait failed.
     Absent,
-    /// A connection of the office with these bytes.
-    Command(&'a [u8]),
-    /// One whose command doesn't come whole.
-    Cut,
-    /// A client whose reader fails.
-    Broken,
-    /// One that sends these bytes, and then ends.
-    Whole(&'a [u8]),
-    /// One that sends these bytes, and whose writer fails.
-    Deaf(&'a [u8]),
-    /// One that sends its bytes in pieces, with commands between them, and then ends.
-    Pieces(&'a [Piece<'a>]),
+    /// A command of the office with these bytes; `None` if it is incomplete.
+    Command(Option<&'a [u8]>),
+    /// A client.
+    Client(&'a [Step<'a>]),
+    /// A client to which each write fails.
+    Deaf(&'a [Step<'a>]),
 }
 
-/// What comes next of a client, or beside it.
-#[derive(Clone, Copy, Drop)]
-pub enum Piece<'a> {
-    /// Some of its bytes.
-    Bytes(&'a [u8]),
-    /// A connection of the office with these bytes.
-    Command(&'a [u8]),
-    /// One whose command doesn't come whole.
-    Cut,
-    /// One that was gone before it was accepted.
-    Gone,
-    /// Its reader fails.
-    Broken,
-}
-
-/// Takes what is written, or fails at each write.
+/// A writer that fails at each write.
 #[derive(Drop)]
-pub struct Taken {
-    pub fails: bool,
-}
+pub struct Broken;
 
-impl Write for Taken {
-    fn write(&mut self, bytes: &[u8]) -> io::Result<usize> {
-        if self.fails {
-            return Err(io::Error::from(ErrorKind::BrokenPipe));
-        }
-        Ok(bytes.len())
+impl Write for Broken {
+    fn write(&mut self, _bytes: &[u8]) -> io::Result<usize> {
+        Err(io::Error::from(ErrorKind::BrokenPipe))
     }
 
     fn flush(&mut self) -> io::Result<()> {
@@ -70,36 +54,37 @@ impl Write for Taken {
     }
 }
 
-/// The stream of a client over memory.
-#[derive(Drop)]
+/// The stream of a client over memory. It notes its calls in a journal.
 pub struct Played<'a> {
-    wire: Wire<'a>,
-    // how many of its pieces have come
+    journal: &'a Journal,
+    steps: &'a [Step<'a>],
+    deaf: bool,
+    // the number of steps that have come
     came: usize,
 }
 
+fn milliseconds(limit: Duration) -> u64 {
+    u64::try_from(limit.as_millis()).unwrap_or(u64::MAX)
+}
+
 impl<'a> Played<'a> {
-    fn new(wire: Wire<'a>) -> Played<'a> {
-        Played { wire, came: 0 }
-    }
-
-    // The next piece; `None` at its end.
-    fn next(&self) -> Option<Piece<'a>> {
-        match self.wire {
-            Wire::Pieces(pieces) => pieces.get(self.came).copied(),
-            Wire::Whole(bytes) | Wire::Deaf(bytes) if self.came == 0 => Some(Piece::Bytes(bytes)),
-            Wire::Broken => Some(Piece::Broken),
-            _ => None,
-        }
-    }
-
-    fn take(&mut self) {
-        self.came = self.came.saturating_add(1);
+    // Returns the next step if it comes within the limit. Otherwise the clock advances by the
+    // limit.
+    fn next_within(&self, limit: Duration) -> Option<Step<'a>> {
+        let most = milliseconds(limit);
+        let next = self.steps.get(self.came).copied();
+        let after = match next {
+            Some(Step::Bytes(after, _) | Step::Command(after, _)) => after,
+            Some(Step::Gone(after) | Step::End(after) | Step::Fails(after)) => after,
+            None => u64::MAX,
+        };
+        self.journal.clock.advance(after.min(most));
+        if after <= most { next } else { None }
     }
 }
 
-/// How a read of all that comes at once ends.
-pub fn read_from(bytes: &[u8], room: &mut [u8]) -> Waited
+/// Reads bytes that have come.
+fn read_from(bytes: &[u8], room: &mut [u8]) -> Waited
     ensures { IfSome (moved result) (λ n. n ≤ length room.new) }
 {
     let mut left = bytes;
@@ -120,45 +105,67 @@ impl TimedStream for Played<'_> {
 
     ghost writes = { λ _ _ _ _. Unit {0} };
 
-    fn read_within(&mut self, _limit: Duration, room: &mut [u8]) -> Waited {
-        match self.next() {
-            Some(Piece::Bytes(bytes)) => {
-                self.take();
+    // The wait before this call has advanced the clock to the next step.
+    fn read_within(&mut self, limit: Duration, room: &mut [u8]) -> Waited {
+        self.journal.note(Call::Read(milliseconds(limit)));
+        match self.steps.get(self.came) {
+            Some(Step::Bytes(_, bytes)) => {
+                self.came = self.came.saturating_add(1);
                 read_from(bytes, room)
             }
-            Some(_) => Waited::Failed,
-            None => Waited::Moved(0),
+            Some(Step::End(_)) => Waited::Moved(0),
+            _ => Waited::Failed,
         }
     }
 
-    fn write_within(&mut self, _limit: Duration, bytes: &[u8]) -> Waited {
-        match self.wire {
-            Wire::Deaf(_) => Waited::Failed,
-            _ => Waited::Moved(bytes.len()),
+    fn write_within(&mut self, limit: Duration, bytes: &[u8]) -> Waited {
+        if self.deaf {
+            return Waited::Failed;
         }
+        self.journal
+            .note(Call::Wrote(milliseconds(limit), bytes.len()));
+        Waited::Moved(bytes.len())
     }
 }
 
 impl<'a> ClientStream for Played<'a> {
     type Command = Letter<'a>;
 
-    fn wait_within(&mut self, _limit: Duration, _command_first: bool) -> Woken<Letter<'a>> {
-        let woken = match self.next() {
-            Some(Piece::Command(bytes)) => Woken::Command(Letter(Some(bytes))),
-            Some(Piece::Cut) => Woken::Command(Letter(None)),
-            Some(Piece::Gone) => Woken::Nobody,
+    fn wait_within(&mut self, limit: Duration, command_first: bool) -> Woken<Letter<'a>> {
+        let left = milliseconds(limit);
+        self.journal.note(if command_first {
+            Call::WaitedCommandFirst(left)
+        } else {
+            Call::WaitedBytesFirst(left)
+        });
+        let woken = match self.next_within(limit) {
+            Some(Step::Command(_, bytes)) => Woken::Command(Letter(bytes)),
+            Some(Step::Gone(_)) => Woken::Nobody,
             _ => return Woken::Client,
         };
-        self.take();
+        self.came = self.came.saturating_add(1);
         woken
     }
 
     fn end_writing(&mut self) -> bool {
-        false
+        self.journal.note(Call::EndedWriting);
+        true
     }
 }
 
-/// A connection of the office over memory; `None` if its command doesn't come whole.
+impl Drop for Played<'_> {
+    fn drop(self) {
+        let Played {
+            journal,
+            steps: _,
+            deaf: _,
+            came: _,
+        } = self;
+        journal.note(Call::Closed);
+    }
+}
+
+/// A command of the office over memory; `None` if it is incomplete.
 #[derive(Drop)]
 pub struct Letter<'a>(pub Option<&'a [u8]>);
 
@@ -174,29 +181,38 @@ impl Handover for Letter<'_> {
     }
 }
 
-/// The clock of clients over memory.
-pub static STOPPED: Stopped = Stopped(Some(Duration::ZERO));
-
-/// Arrivals in turn.
+/// Arrivals, one after the other, with the journal's clock and a patience of ten seconds.
 #[derive(Drop)]
 pub struct Script<'a> {
+    journal: &'a Journal,
     wires: &'a [Wire<'a>],
     pub waited: u64,
     failures: u64,
 }
 
 impl<'a> Script<'a> {
-    pub fn new(wires: &'a [Wire<'a>]) -> Script<'a> {
+    pub fn new(journal: &'a Journal, wires: &'a [Wire<'a>]) -> Script<'a> {
         Script {
+            journal,
             wires,
             waited: 0,
             failures: 0,
         }
     }
+
+    fn client(&self, steps: &'a [Step<'a>], deaf: bool) -> Accepted<'a, Played<'a>, HandSet> {
+        let stream = Played {
+            journal: self.journal,
+            steps,
+            deaf,
+            came: 0,
+        };
+        Accepted::new(stream, &self.journal.clock, Duration::from_secs(10))
+    }
 }
 
 impl<'a> Arrivals for Script<'a> {
-    type Client = Accepted<'a, Played<'a>, Stopped>;
+    type Client = Accepted<'a, Played<'a>, HandSet>;
 
     type Command = Letter<'a>;
 
@@ -204,7 +220,7 @@ impl<'a> Arrivals for Script<'a> {
 
     ghost failures = { λ script. script.failures };
 
-    fn next(&mut self) -> Arrival<Accepted<'a, Played<'a>, Stopped>, Letter<'a>> {
+    fn next(&mut self) -> Arrival<Accepted<'a, Played<'a>, HandSet>, Letter<'a>> {
         let place = self.waited as usize;
         self.waited = self.waited.saturating_add(1);
         match self.wires.get(place) {
@@ -212,42 +228,14 @@ impl<'a> Arrivals for Script<'a> {
                 self.failures = self.failures.saturating_add(1);
                 Arrival::Nobody
             }
-            Some(Wire::Command(bytes)) => Arrival::Command(Letter(Some(bytes))),
-            Some(Wire::Cut) => Arrival::Command(Letter(None)),
-            Some(wire) => {
-                let stream = Played::new(*wire);
-                Arrival::Client(Accepted::new(stream, &STOPPED, Duration::from_secs(10)))
-            }
+            Some(Wire::Command(bytes)) => Arrival::Command(Letter(*bytes)),
+            Some(Wire::Client(steps)) => Arrival::Client(self.client(steps, false)),
+            Some(Wire::Deaf(steps)) => Arrival::Client(self.client(steps, true)),
         }
     }
 }
 
-/// Gives a moment so many times, and then none.
-#[derive(Drop)]
-pub struct Countdown {
-    moment: Moment,
-    left: u32,
-}
-
-impl Countdown {
-    pub fn new(moment: Moment, left: u32) -> Countdown {
-        Countdown { moment, left }
-    }
-}
-
-impl Moments for Countdown {
-    ghost gives = { λ _ _ _. Unit {0} };
-
-    fn now(&mut self) -> Option<Moment> {
-        if self.left == 0 {
-            return None;
-        }
-        self.left -= 1;
-        Some(self.moment)
-    }
-}
-
-/// Shows one time, counted from the beginning of 1970, or can't be read.
+/// A clock that shows one time since 1970 began; `None` if it can't be read.
 #[derive(Drop)]
 pub struct Stopped(pub Option<Duration>);
 
@@ -261,96 +249,49 @@ impl Clock for Stopped {
     }
 }
 
-/// Shows so many microseconds more each time.
+/// A clock that a test sets. It advances by a step at each reading, and while the server sleeps.
 #[derive(Drop)]
-pub struct Ticking {
-    shown: Cell<u64>,
+pub struct HandSet {
+    microseconds: Cell<u64>,
     step: u64,
+    /// The number of times that it can still be read.
+    pub readable: Cell<u64>,
 }
 
-impl Ticking {
-    /// Shows these microseconds, and one step more, at first.
-    pub fn new(from: u64, step: u64) -> Ticking {
-        Ticking {
-            shown: Cell::new(from),
+impl HandSet {
+    /// Makes a clock whose first reading is `from` plus one step, in microseconds.
+    pub fn new(from: u64, step: u64) -> HandSet {
+        HandSet {
+            microseconds: Cell::new(from),
             step,
+            readable: Cell::new(u64::MAX),
         }
     }
 
-    fn tick(&self) -> Duration {
-        let now = self.shown.get().saturating_add(self.step);
-        self.shown.set(now);
-        Duration::from_micros(now)
-    }
-}
-
-impl Clock for Ticking {
-    fn monotonic(&self) -> io::Result<Duration> {
-        Ok(self.tick())
-    }
-
-    fn since_1970(&self) -> io::Result<Duration> {
-        Ok(self.tick())
-    }
-}
-
-/// A clock that advances by milliseconds while the server waits for a client, and while it sleeps.
-/// It can be read so many times. It counts how often clients were waited for.
-#[derive(Drop)]
-pub struct Running {
-    shown: Cell<u64>,
-    readable: Cell<u64>,
-    reads: Cell<u64>,
-    writes: Cell<u64>,
-}
-
-impl Running {
-    pub fn new(readable: u64) -> Running {
-        Running {
-            shown: Cell::new(0),
-            readable: Cell::new(readable),
-            reads: Cell::new(0),
-            writes: Cell::new(0),
-        }
-    }
-
-    /// The milliseconds that have passed.
+    /// The milliseconds that it shows.
     pub fn elapsed(&self) -> u64 {
-        self.shown.get()
+        self.microseconds.get() / 1_000
     }
 
-    /// How often the clock can be read still.
-    pub fn readable(&self) -> u64 {
-        self.readable.get()
+    pub fn advance(&self, milliseconds: u64) {
+        self.add(milliseconds.saturating_mul(1_000));
     }
 
-    /// How often a client was read.
-    pub fn reads(&self) -> u64 {
-        self.reads.get()
-    }
-
-    /// How often a client was written to.
-    pub fn writes(&self) -> u64 {
-        self.writes.get()
-    }
-
-    // Waits so long, or until the limit, and returns whether that was long enough.
-    fn waits(&self, pause: u64, limit: Duration) -> bool {
-        let most = u64::try_from(limit.as_millis()).unwrap_or(u64::MAX);
-        let shown = self.elapsed().saturating_add(pause.min(most));
-        self.shown.set(shown);
-        pause <= most
+    fn add(&self, microseconds: u64) {
+        let shown = self.microseconds.get().saturating_add(microseconds);
+        self.microseconds.set(shown);
     }
 }
 
-impl Clock for Running {
+impl Clock for HandSet {
     fn monotonic(&self) -> io::Result<Duration> {
         let readable = self.readable.get();
         self.readable.set(readable.saturating_sub(1));
         if readable == 0 {
             return Err(io::Error::from(ErrorKind::Unsupported));
         }
-        Ok(Duration::from_millis(self.elapsed()))
+        self.add(self.step);
+        Ok(Duration::from_micros(self.microseconds.get()))
     }
 
     fn since_1970(&self) -> io::Result<Duration> {
@@ -358,42 +299,38 @@ impl Clock for Running {
     }
 
     fn sleep(&self, duration: Duration) {
-        let _ = self.waits(u64::MAX, duration);
+        self.advance(milliseconds(duration));
     }
 }
 
-/// A client that sends its bytes, and takes those of its reply, one after the other, each after a
-/// pause. Signals interrupt so many of the waits for it, each at its half. It ends after the last.
+/// A client that sends a byte, or takes a byte of its reply, after each pause. Signals interrupt
+/// the first `interruptions` waits for it, halfway through the pause. It ends after its last byte.
 #[derive(Drop)]
 pub struct Slow<'a> {
-    clock: &'a Running,
-    pause: u64,
-    bytes: &'a [u8],
+    pub clock: &'a HandSet,
+    /// The milliseconds before each byte.
+    pub pause: u64,
+    pub bytes: &'a [u8],
     pub interruptions: u32,
+    /// The number of reads or writes.
+    pub calls: u64,
 }
 
-impl<'a> Slow<'a> {
-    /// A client with these bytes, and so many milliseconds before each.
-    pub fn new(clock: &'a Running, pause: u64, bytes: &'a [u8]) -> Slow<'a> {
-        Slow {
-            clock,
-            pause,
-            bytes,
-            interruptions: 0,
-        }
-    }
-
-    // Waits for the pause, and returns whether it is over; `None` if a signal interrupted it.
+impl Slow<'_> {
+    // Waits for the pause, at most until the limit. Returns whether the pause is over; `None` if a
+    // signal interrupted the wait.
     fn wait(&mut self, limit: Duration) -> Option<bool> {
+        let most = milliseconds(limit);
         if self.interruptions > 0 {
             self.interruptions -= 1;
-            let _ = self.clock.waits(self.pause / 2, limit);
+            self.clock.advance(most.min(self.pause / 2));
             return None;
         }
-        Some(self.clock.waits(self.pause, limit))
+        self.clock.advance(most.min(self.pause));
+        Some(self.pause <= most)
     }
 
-    // Sends its next byte, if there is one.
+    // Sends the next byte, if any. Returns the number of bytes sent.
     fn send(&mut self, room: &mut [u8]) -> usize
         ensures { result ≤ length room.new }
     {
@@ -420,7 +357,7 @@ impl TimedStream for Slow<'_> {
     ghost writes = { λ _ _ _ _. Unit {0} };
 
     fn read_within(&mut self, limit: Duration, room: &mut [u8]) -> Waited {
-        self.clock.reads.set(self.clock.reads().saturating_add(1));
+        self.calls = self.calls.saturating_add(1);
         if self.bytes.is_empty() {
             return Waited::Moved(0);
         }
@@ -432,61 +369,11 @@ impl TimedStream for Slow<'_> {
     }
 
     fn write_within(&mut self, limit: Duration, bytes: &[u8]) -> Waited {
-        self.clock.writes.set(self.clock.writes().saturating_add(1));
+        self.calls = self.calls.saturating_add(1);
         match self.wait(limit) {
             None => Waited::Interrupted,
             Some(true) => Waited::Moved(bytes.len().min(1)),
             Some(false) => Waited::Failed,
-        }
-    }
-}
-
-/// Answers all requests as out of memory, and counts those at its moment, and the commands and
-/// their bytes.
-#[derive(Drop)]
-pub struct Noting {
-    alloc: Global,
-    moment: Moment,
-    pub asked: u64,
-    pub commanded: u64,
-    pub bytes: usize,
-}
-
-impl Noting {
-    pub fn new(alloc: Global, moment: Moment) -> Noting {
-        Noting {
-            alloc,
-            moment,
-            asked: 0,
-            commanded: 0,
-            bytes: 0,
-        }
-    }
-}
-
-impl Responder for Noting {
-    ghost answers = { λ _ _ _ _ _ _. Unit {0} };
-
-    fn ask(&mut self, moment: Moment, _words: &Words<'_>) -> Reply {
-        if moment == self.moment {
-            self.asked = self.asked.saturating_add(1);
-        }
-        Reply::Refused(Refusal::Unavailable)
-    }
-}
-
-impl Office for Noting {
-    ghost commands = { λ _ _ _ _. Unit {0} };
-
-    fn command(&mut self, bytes: &[u8]) -> Answer {
-        self.commanded = self.commanded.saturating_add(1);
-        self.bytes = self.bytes.saturating_add(bytes.len());
-        Answer {
-            carried: Carried {
-                line: RequestLine::of(b"office credit "),
-                status: 1,
-            },
-            text: String::new(self.alloc),
         }
     }
 }

@@ -1,30 +1,22 @@
-//! Limits of time, by a clock that advances while the server waits for a client.
+//! Time limits, by a clock that advances while the server waits for a client.
 
-use super::REQUEST;
-use super::doubles::{Noting, Running, Slow};
-use crate::expect::expect_eq;
-use crate::rows::{expect_row, moment};
+use super::doubles::{HandSet, Slow};
+use super::{REQUEST, desk_at_noon, new_face, patience};
+use crate::expect::{Runtime, expect_eq, expect_row};
 use crate::sockets::loopback_listener;
-use club_http::{AnswerFault, Face, answer};
+use club_http::{AnswerFault, answer};
 use desk_server::{Accepted, Arrival, Arrivals, Listening};
 use libc::net as c;
-use std::alloc::Global;
 use std::os::fd::AsRawFd;
-use std::process::Abort;
 use std::time::Duration;
-use test_kit::moments::NOON;
 
-/// Longer than a limit of these tests, in milliseconds.
+/// Milliseconds beyond each limit of these tests.
 const NEVER: u64 = 1_000_000_000;
 
-/// More often than a clock is read in these tests.
-const ALWAYS: u64 = 1_000;
+/// A number of readings beyond those of each test.
+const ALWAYS: u64 = u64::MAX;
 
-/// The milliseconds before each byte of the request that a client sends, and before each of the
-/// reply that it takes; and how often the clock can be read.
-type Client = (u64, u64, u64);
-
-/// The fault of an exchange, if any; how often was read, and written; and the milliseconds that
+/// The fault of an exchange, if any, the numbers of reads and of writes, and the milliseconds that
 /// passed.
 type Outcome = (Option<AnswerFault>, u64, u64, u64);
 
@@ -32,10 +24,13 @@ const CUT: Option<AnswerFault> = Some(AnswerFault::Read);
 
 const UNWRITTEN: Option<AnswerFault> = Some(AnswerFault::Write(0));
 
-/// The request has 53 bytes and its reply 140, and the patience is ten seconds for each. A client
-/// that keeps within both is served, and is cut off else once the limit is over. A last read or
-/// write then doesn't wait. So it is with all of them if the clock can't be read.
-static OUTCOMES: [(Client, Outcome); 12] = [
+/// The milliseconds before each byte that a client sends, the milliseconds before each byte that it
+/// takes, and the number of times that the clock can be read.
+///
+/// The request has 53 bytes and its reply 140. The patience is ten seconds for each. After that
+/// limit one more read or write doesn't wait, and the client is cut off. If the clock can't be
+/// read, no read or write waits.
+static OUTCOMES: [((u64, u64, u64), Outcome); 12] = [
     ((0, 0, ALWAYS), (None, 53, 140, 0)),
     ((100, 50, ALWAYS), (None, 53, 140, 12_300)),
     ((1_000, 0, ALWAYS), (CUT, 11, 0, 10_000)),
@@ -53,84 +48,68 @@ static OUTCOMES: [(Client, Outcome); 12] = [
     ((0, 0, 55), (None, 53, 140, 0)),
 ];
 
-/// What comes of an exchange with a client.
-fn outcome_of(rt: &(impl Abort + Alloc<A = Global>), client: &Client) -> Outcome {
-    let (sends, takes, readable) = *client;
-    let patience = Duration::from_secs(10);
-    let clock = Running::new(readable);
-    let mut face = Face::new(rt.alloc()).expect(rt, "a face");
-    let noon = moment(rt, NOON);
-    let mut desk = Noting::new(rt.alloc(), noon);
-    let mut inlet = Accepted::new(Slow::new(&clock, sends, REQUEST), &clock, patience);
-    let mut outlet = Accepted::new(Slow::new(&clock, takes, b""), &clock, patience);
-    let outcome = answer(&mut face, &mut desk, noon, &mut inlet, &mut outlet);
-    (
-        outcome.err(),
-        clock.reads(),
-        clock.writes(),
-        clock.elapsed(),
-    )
+/// Returns a client that pauses these milliseconds before each of its bytes.
+fn slow<'a>(clock: &'a HandSet, pause: u64, bytes: &'a [u8]) -> Slow<'a> {
+    Slow {
+        clock,
+        pause,
+        bytes,
+        interruptions: 0,
+        calls: 0,
+    }
+}
+
+/// Runs an exchange. `sends` has the client's request, and `takes` gets the reply.
+fn outcome_of(rt: &impl Runtime, sends: Slow<'_>, takes: Slow<'_>, patience: Duration) -> Outcome {
+    let clock = sends.clock;
+    let mut inlet = Accepted::new(sends, clock, patience);
+    let mut outlet = Accepted::new(takes, clock, patience);
+    let mut desk = desk_at_noon(rt);
+    let at = desk.moment;
+    let outcome = answer(&mut new_face(rt), &mut desk, at, &mut inlet, &mut outlet);
+    let reads = inlet.into_stream().calls;
+    let writes = outlet.into_stream().calls;
+    (outcome.err(), reads, writes, clock.elapsed())
 }
 
 #[test]
 fn a_client_that_dawdles_is_cut_off(rt: HostRuntime) {
     for (client, outcome) in &OUTCOMES {
-        expect_row(&rt, &outcome_of(&rt, client), outcome, client);
+        let (sends, takes, readable) = *client;
+        let clock = HandSet::new(0, 0);
+        clock.readable.set(readable);
+        let sends = slow(&clock, sends, REQUEST);
+        let takes = slow(&clock, takes, b"");
+        let returned = outcome_of(&rt, sends, takes, patience());
+        expect_row(&rt, &returned, outcome, client);
     }
 }
 
-/// The signals that interrupt the first waits for a client, each half a second into a pause of a
-/// second; how often was read, and written, and the milliseconds that passed. The request has 53
-/// bytes, and the patience is a minute, and not two for a request of 53 seconds and 14 half ones.
-type Interrupted = (u32, Option<AnswerFault>, u64, u64, u64);
-
-static INTERRUPTED: [Interrupted; 4] = [
-    (1, None, 54, 140, 53_500),
-    (10, None, 63, 140, 58_000),
-    (14, None, 67, 140, 60_000),
-    (15, CUT, 68, 0, 60_000),
+/// The number of signals that interrupt the first waits for a client. Each comes half a second into
+/// a pause of a second. The patience is a minute: 53 pauses and 14 interrupted halves.
+static INTERRUPTED: [(u32, Outcome); 4] = [
+    (1, (None, 54, 140, 53_500)),
+    (10, (None, 63, 140, 58_000)),
+    (14, (None, 67, 140, 60_000)),
+    (15, (CUT, 68, 0, 60_000)),
 ];
 
-/// What comes of an exchange with a client for which so many waits are interrupted.
-fn outcome_interrupted(
-    rt: &(impl Abort + Alloc<A = Global>),
-    interruptions: u32,
-) -> (Option<AnswerFault>, u64, u64, u64) {
-    let patience = Duration::from_secs(60);
-    let clock = Running::new(ALWAYS);
-    let mut face = Face::new(rt.alloc()).expect(rt, "a face");
-    let noon = moment(rt, NOON);
-    let mut client = Slow::new(&clock, 1_000, REQUEST);
-    client.interruptions = interruptions;
-    let mut inlet = Accepted::new(client, &clock, patience);
-    let mut outlet = Accepted::new(Slow::new(&clock, 0, b""), &clock, patience);
-    let outcome = answer(
-        &mut face,
-        &mut Noting::new(rt.alloc(), noon),
-        noon,
-        &mut inlet,
-        &mut outlet,
-    );
-    (
-        outcome.err(),
-        clock.reads(),
-        clock.writes(),
-        clock.elapsed(),
-    )
-}
-
-// A signal ends neither a read nor its limit.
+// A signal doesn't end a read, and the read's limit stays.
 #[test]
 fn goes_on_after_a_signal(rt: HostRuntime) {
-    for (signals, fault, reads, writes, passed) in &INTERRUPTED {
-        let returned = outcome_interrupted(&rt, *signals);
-        expect_row(&rt, &returned, &(*fault, *reads, *writes, *passed), signals);
+    for (signals, outcome) in &INTERRUPTED {
+        let clock = HandSet::new(0, 0);
+        let mut sends = slow(&clock, 1_000, REQUEST);
+        sends.interruptions = *signals;
+        let takes = slow(&clock, 0, b"");
+        let returned = outcome_of(&rt, sends, takes, Duration::from_secs(60));
+        expect_row(&rt, &returned, outcome, signals);
     }
 }
 
-/// The milliseconds before each of the bytes that follow a request; how often was read for them,
-/// and the milliseconds that passed. The patience is ten seconds, no wait is longer than 200
-/// milliseconds, and the read once all are over doesn't wait.
+/// The milliseconds before each byte after a request, the number of reads, and the milliseconds
+/// that passed. The patience is ten seconds, and each wait has at most 200 milliseconds. The read
+/// after the patience is over doesn't wait.
 static RESTS: [(u64, u64, u64); 5] = [
     (0, 54, 0),
     (100, 54, 5_300),
@@ -139,28 +118,24 @@ static RESTS: [(u64, u64, u64); 5] = [
     (NEVER, 1, 200),
 ];
 
-/// How often was read for the rest, and the milliseconds that passed.
-fn rest_of(pause: u64) -> (u64, u64) {
-    let clock = Running::new(ALWAYS);
-    let slow = Slow::new(&clock, pause, REQUEST);
-    Accepted::new(slow, &clock, Duration::from_secs(10)).take_rest();
-    (clock.reads(), clock.elapsed())
-}
-
 #[test]
 fn what_still_comes_is_taken(rt: HostRuntime) {
     for (pause, reads, passed) in &RESTS {
-        expect_row(&rt, &rest_of(*pause), &(*reads, *passed), pause);
+        let clock = HandSet::new(0, 0);
+        let mut client = Accepted::new(slow(&clock, *pause, REQUEST), &clock, patience());
+        client.take_rest();
+        let returned = (client.into_stream().calls, clock.elapsed());
+        expect_row(&rt, &returned, &(*reads, *passed), pause);
     }
 }
 
-// A listener that is shut down fails at once, and the server rests each time.
+// A listener that was shut down fails at once. The server rests after each failure.
 #[test]
 fn rests_after_a_wait_that_failed(rt: HostRuntime) {
     let listener = loopback_listener(&rt);
     let _ = c::shutdown(listener.as_raw_fd(), c::SHUT_RDWR);
-    let clock = Running::new(ALWAYS);
-    let mut arrivals = Listening::new(&listener, None, &clock, Duration::from_secs(10));
+    let clock = HandSet::new(0, 0);
+    let mut arrivals = Listening::new(&listener, None, &clock, patience());
     for _ in 0..3 {
         expect_eq(&rt, &matches!(arrivals.next(), Arrival::Nobody), &true);
     }

@@ -1,37 +1,47 @@
-//! Logs of connections.
+//! The server's log of connections.
 
-use super::doubles::{Noting, Piece, Script, Taken, Ticking, Wire};
-use super::{REQUEST, noon, noons};
-use crate::expect::{expect_bytes, expect_eq};
-use crate::rows::moment;
-use club_clock::Moments;
-use club_http::{Face, WriteOutlet};
-use desk_server::{ClockOutOfRange, Log, LogLines, serve_logged};
-use std::alloc::Global;
+use super::clocks::{clock_in, noons};
+use super::doubles::{Broken, HandSet, Script, Step, Wire};
+use super::journal::Journal;
+use super::{WHOLE, desk_at_noon, new_face};
+use crate::expect::{Runtime, expect_bytes, expect_eq};
+use club_http::WriteOutlet;
+use desk_server::{ClockOutOfRange, LogLines, serve_logged};
 use std::io::Write;
-use std::process::Abort;
-use test_kit::moments::NOON;
 
-/// One of the requests comes in two pieces, with commands before them and between.
+/// One of the requests comes in two pieces, with commands before and between the pieces.
 static SCRIPT: [Wire<'static>; 11] = [
-    Wire::Command(b"an order"),
-    Wire::Whole(REQUEST),
-    Wire::Cut,
+    Wire::Command(Some(b"an order")),
+    Wire::Client(WHOLE),
+    Wire::Command(None),
     Wire::Absent,
-    Wire::Pieces(&[
-        Piece::Command(b"an order"),
-        Piece::Bytes(b"GET /account HTTP/1.1\r\nAuthorization:"),
-        Piece::Cut,
-        Piece::Gone,
-        Piece::Command(b"an order"),
-        Piece::Bytes(b" Bearer AgEJ\r\n\r\n"),
+    Wire::Client(&[
+        Step::Command(0, Some(b"an order")),
+        Step::Bytes(0, b"GET /account HTTP/1.1\r\nAuthorization:"),
+        Step::Command(0, None),
+        Step::Gone(0),
+        Step::Command(0, Some(b"an order")),
+        Step::Bytes(0, b" Bearer AgEJ\r\n\r\n"),
+        Step::End(0),
     ]),
-    Wire::Broken,
-    Wire::Deaf(REQUEST),
-    Wire::Whole(b"x"),
-    Wire::Whole(b"PUT /slots/court-1/2026-05-01/18/bookings/7 HTTP/1.1\r\n\r\n"),
-    Wire::Whole(b"GET /AgEJY2x1Yi1kZXNr HTTP/1.1\r\n\r\n"),
-    Wire::Whole(b"AgEJY2x1Yi1kZXNr /account HTTP/1.1\r\n\r\n"),
+    Wire::Client(&[Step::Fails(0)]),
+    Wire::Deaf(WHOLE),
+    Wire::Client(&[Step::Bytes(0, b"x"), Step::End(0)]),
+    Wire::Client(&[
+        Step::Bytes(
+            0,
+            b"PUT /slots/court-1/2026-05-01/18/bookings/7 HTTP/1.1\r\n\r\n",
+        ),
+        Step::End(0),
+    ]),
+    Wire::Client(&[
+        Step::Bytes(0, b"GET /AgEJY2x1Yi1kZXNr HTTP/1.1\r\n\r\n"),
+        Step::End(0),
+    ]),
+    Wire::Client(&[
+        Step::Bytes(0, b"AgEJY2x1Yi1kZXNr /account HTTP/1.1\r\n\r\n"),
+        Step::End(0),
+    ]),
 ];
 
 const LINES: &str = "2026-04-20T12:00 office credit 1 1533
@@ -50,44 +60,33 @@ const LINES: &str = "2026-04-20T12:00 office credit 1 1533
 2026-04-20T12:00 - /account 405 1533
 ";
 
-/// What comes of serving with a log: the outcome, how many arrivals were waited for, and how
-/// many requests the desk was asked at noon.
+/// The outcome of a server, the number of waits for an arrival, and the number of requests at noon.
 type Served = (Result<(), ClockOutOfRange>, u64, u64);
 
-/// The script's connections are served, with this log.
-fn serve_script<M: Moments, G: Log>(
-    rt: &(impl Abort + Alloc<A = Global>),
-    moments: &mut M,
-    log: &mut G,
-) -> Served {
-    let mut arrivals = Script::new(&SCRIPT);
-    let mut face = Face::new(rt.alloc()).expect(rt, "a face");
-    let mut desk = Noting::new(rt.alloc(), moment(rt, NOON));
-    let outcome = serve_logged(&mut arrivals, 9, moments, &mut face, &mut desk, log);
+/// Serves the script's connections, and writes their lines. The clock can be read `left` times.
+fn log_script<W: Write>(rt: &impl Runtime, left: u64, writer: &mut W) -> Served {
+    let journal = Journal::new(rt.alloc());
+    let mut arrivals = Script::new(&journal, &SCRIPT);
+    let noons = noons(left);
+    let mut moments = clock_in(rt, "UTC0", &noons);
+    let mut face = new_face(rt);
+    let mut desk = desk_at_noon(rt);
+    let clock = HandSet::new(0, 1_533);
+    let log = &mut LogLines::new(WriteOutlet::new(writer), &clock);
+    let outcome = serve_logged(&mut arrivals, 9, &mut moments, &mut face, &mut desk, log);
     (outcome, arrivals.waited, desk.asked)
 }
 
-/// The same, with the lines written here.
-fn log_script<M: Moments, W: Write>(
-    rt: &(impl Abort + Alloc<A = Global>),
-    moments: &mut M,
-    writer: &mut W,
-) -> Served {
-    let clock = Ticking::new(0, 1_533);
-    let mut log = LogLines::new(WriteOutlet::new(writer), &clock);
-    serve_script(rt, moments, &mut log)
-}
-
-// By this law the lines of a log are those of the connections that it noted.
+// This law says that a log has the lines of the connections that it noted.
 #[test]
 fn a_log_has_its_lines() {
-    desk_server::laws::a_log_has_its_lines::<WriteOutlet<Taken>, Ticking>();
+    desk_server::laws::a_log_has_its_lines::<WriteOutlet<Broken>, HandSet>();
 }
 
 #[test]
 fn a_line_for_each_connection(rt: HostRuntime) {
     let mut written = Vec::new(rt.alloc());
-    let returned = log_script(&rt, &mut noon(&rt), &mut written);
+    let returned = log_script(&rt, u64::MAX, &mut written);
     expect_eq(&rt, &returned, &(Ok(()), 11, 3));
     expect_bytes(&rt, &written, LINES.as_bytes(), "the script");
 }
@@ -95,15 +94,15 @@ fn a_line_for_each_connection(rt: HostRuntime) {
 #[test]
 fn a_line_for_a_connection_without_a_moment(rt: HostRuntime) {
     let mut written = Vec::new(rt.alloc());
-    let returned = log_script(&rt, &mut noons(&rt, 0), &mut written);
+    let returned = log_script(&rt, 0, &mut written);
     expect_eq(&rt, &returned, &(Err(ClockOutOfRange), 2, 0));
     let lines = b"- office credit 1 1533\n- - - - 1533\n";
     expect_bytes(&rt, &written, lines, "no moment");
 }
 
-// What is served is the same.
+// A log that fails changes nothing for the clients.
 #[test]
 fn a_log_that_fails(rt: HostRuntime) {
-    let returned = log_script(&rt, &mut noon(&rt), &mut Taken { fails: true });
+    let returned = log_script(&rt, u64::MAX, &mut Broken);
     expect_eq(&rt, &returned, &(Ok(()), 11, 3));
 }

@@ -1,83 +1,45 @@
-//! Exchanges of the server over a stream that tells its bytes, both those to come and those that it
-//! took, so that the contract of an exchange speaks of each of them.
+//! Exchanges of the server over a stream with ghost values of the bytes to come and of the bytes
+//! that it took. So the contract of an exchange speaks of each byte.
 
-ghost use Rattle.std.specs.Prelude.{◌≤◌};
-
-use super::doubles::{Letter, Noting, STOPPED};
-use super::{REPLY, REQUEST, always};
-use crate::expect::expect_bytes;
-use crate::rows::{expect_row, moment};
-use club_http::{AnswerFault, Face};
-use desk_server::{Accepted, ClientStream, Connection, TimedStream, Unlogged, Waited, Woken};
-use std::alloc::Global;
-use std::process::Abort;
+use super::doubles::{Letter, Stopped};
+use super::{REPLY, REQUEST, desk_at_noon, exchange, new_face, patience};
+use crate::counted::doubles::{Narrow, Pieces, ROOM};
+use crate::expect::{expect_bytes, expect_row};
+use club_http::{AnswerFault, Inlet, Outlet};
+use desk_server::{Accepted, ClientStream, TimedStream, Waited, Woken};
 use std::time::Duration;
-use test_kit::moments::NOON;
 
-/// The most bytes that it takes.
-const ROOM: usize = 512;
-
-/// Sends its bytes, a few a call, and takes a few a call; after so many it fails.
+/// A client that sends a few bytes a call, and takes a few bytes a call. A write beyond its limit
+/// fails.
 #[derive(Drop)]
 struct Told<'a> {
-    left: &'a [u8],
-    taken: [u8; ROOM],
-    len: usize,
-    // the most bytes of a call, less one
-    behind_first: usize,
-    limit: usize,
-    reads: u64,
-    ghost within: { len ≤ 512 },
-}
-
-impl<'a> Told<'a> {
-    fn new(bytes: &'a [u8], step: usize, limit: usize) -> Told<'a> {
-        Told {
-            left: bytes,
-            taken: [0; ROOM],
-            len: 0,
-            behind_first: step.saturating_sub(1),
-            limit,
-            reads: 0,
-        }
-    }
-
-    fn taken(&self) -> &[u8] {
-        &self.taken[..self.len]
-    }
+    reader: Pieces<'a>,
+    writer: Narrow,
 }
 
 impl TimedStream for Told<'_> {
     ghost use Rattle.std.specs.Prelude.{Some, take};
 
-    ghost to_come = { λ told. Some told.left.now };
+    ghost to_come = { λ told. Some told.reader.left.now };
 
-    ghost taken = { λ told. Some (take told.len told.taken) };
+    ghost taken = { λ told. Some (take told.writer.len told.writer.bytes) };
 
     ghost reads = { λ _ _ _ _. Unit {0} };
 
     ghost writes = { λ _ _ _ _. Unit {0} };
 
     fn read_within(&mut self, _limit: Duration, room: &mut [u8]) -> Waited {
-        self.reads = self.reads.saturating_add(1);
-        let step = self.behind_first.saturating_add(1);
-        let n = step.min(room.len()).min(self.left.len());
-        let (front, rest) = self.left.split_at(n);
-        room[..n].copy_from_slice(front);
-        self.left = rest;
-        Waited::Moved(n)
+        match self.reader.fill(room) {
+            Some(came) => Waited::Moved(came),
+            None => Waited::Failed,
+        }
     }
 
     fn write_within(&mut self, _limit: Duration, bytes: &[u8]) -> Waited {
-        let room = self.limit.min(ROOM).saturating_sub(self.len);
-        let step = self.behind_first.saturating_add(1);
-        let n = step.min(room).min(bytes.len());
-        if n == 0 && !bytes.is_empty() {
-            return Waited::Failed;
+        match self.writer.put(bytes) {
+            Some(taken) => Waited::Moved(taken),
+            None => Waited::Failed,
         }
-        self.taken[self.len..self.len + n].copy_from_slice(&bytes[..n]);
-        self.len += n;
-        Waited::Moved(n)
     }
 }
 
@@ -93,12 +55,12 @@ impl<'a> ClientStream for Told<'a> {
     }
 }
 
-/// How an exchange ended, how often was read, how many of the bytes were left, and how many bytes
-/// of the reply were taken.
+/// The fault of an exchange, if any, the number of reads, the number of bytes that weren't read,
+/// and the number of bytes of the reply that the client took.
 type Outcome = (Option<AnswerFault>, u64, usize, usize);
 
-/// The bytes of a call, how many of the reply a client takes, and what comes of it. The request has
-/// 53 bytes and its reply 140.
+/// The most bytes of a call, the number of bytes that the client takes, and the outcome. The
+/// request has 53 bytes and its reply 140.
 static OUTCOMES: [((usize, usize), Outcome); 6] = [
     ((ROOM, ROOM), (None, 1, 0, 140)),
     ((1, ROOM), (None, 53, 0, 140)),
@@ -108,26 +70,23 @@ static OUTCOMES: [((usize, usize), Outcome); 6] = [
     ((ROOM, 0), (Some(AnswerFault::Write(0)), 1, 0, 0)),
 ];
 
-/// What comes of an exchange with this client, and the client after it.
-fn outcome_of<'a>(rt: &(impl Abort + Alloc<A = Global>), told: Told<'a>) -> (Outcome, Told<'a>) {
-    let mut connection = Accepted::new(told, &STOPPED, Duration::from_secs(10));
-    let mut face = Face::new(rt.alloc()).expect(rt, "a face");
-    let at = moment(rt, NOON);
-    let mut moments = always(at);
-    let mut desk = Noting::new(rt.alloc(), at);
-    let outcome = connection.exchange(&mut face, &mut moments, &mut desk, &mut Unlogged, at);
-    let told = connection.into_stream();
-    ((outcome.err(), told.reads, told.left.len(), told.len), told)
-}
-
-// What it took is the reply's text, or the first bytes of it that the fault tells; and it is read
-// no more once its request is whole.
+// The client took the reply's text, or the prefix of it that the fault states. The server reads no
+// more after the request.
 #[test]
 fn takes_the_reply_and_nothing_else(rt: HostRuntime) {
     for ((step, limit), want) in &OUTCOMES {
-        let (outcome, told) = outcome_of(&rt, Told::new(REQUEST, *step, *limit));
-        expect_row(&rt, &outcome, want, &(*step, *limit));
-        let most = told.len.min(REPLY.len());
-        expect_bytes(&rt, told.taken(), &REPLY[..most], "the reply");
+        let told = Told {
+            reader: Pieces::new(REQUEST, *step, false),
+            writer: Narrow::new(*step, *limit),
+        };
+        let clock = Stopped(Some(Duration::ZERO));
+        let mut connection = Accepted::new(told, &clock, patience());
+        let outcome = exchange(&mut new_face(&rt), &mut connection, &mut desk_at_noon(&rt));
+        let Told { reader, writer } = connection.into_stream();
+        let taken = writer.written_bytes();
+        let returned = (outcome.err(), reader.calls, reader.left.len(), taken.len());
+        expect_row(&rt, &returned, want, &(*step, *limit));
+        let prefix = REPLY.as_bytes().get(..taken.len());
+        expect_bytes(&rt, taken, prefix.expect(&rt, "a prefix"), "the reply");
     }
 }
