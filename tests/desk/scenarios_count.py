@@ -32,7 +32,7 @@ READERS = {
     "club_gate_tests/long": {"TEXTS": lambda value: [rows.of_spaced(rows.join(it).decode()) for it in value]},
     "club_http_tests/bodies": {"LONGEST": lambda value: [rows.decodes(rows.join(value), ("book", ("court-1", 20574, 18), 7, 2))]},
     "end_to_end_tests/tasks": dict.fromkeys(("REQUESTS", "COMMANDS", "COMMANDS_OF_SLOTS", "OPENINGS"), rows.of_crashes),
-    "clubdesk_tests/commands": dict.fromkeys(("MEMBERS", "FACILITIES", "SLOTS_AND_SHEETS", "LOOKS", "KEYS", "PASSES_OF_KEYS"), rows.of_runs),
+    "clubdesk_tests/commands": {"PASSES_OF_KEYS": rows.of_runs},
 }
 
 # Reasons why a module's rows stay where they are, also for the unread rows of a module above.

@@ -4,6 +4,7 @@
 ghost use Rattle.std.specs.Prelude.{◌≤◌, length, IfSome};
 ghost use Rattle.desk_server.specs.Limits.{moved};
 
+use crate::callers::Machine;
 use club_clock::Moments;
 use club_http::WriteOutlet;
 use club_values::Moment;
@@ -14,14 +15,13 @@ use desk_server::{
 use std::alloc::Global;
 use std::cell::RefCell;
 use std::io::{self, Read, Write};
-use std::time::{Clock, Duration};
+use std::time::Duration;
 
 /// What a server wrote, to clients and to the office, one after the other.
 #[derive(Drop)]
 pub struct Written(RefCell<Vec<u8>>);
 
 impl Written {
-    /// Nothing.
     pub fn new(alloc: Global) -> Written {
         Written(RefCell::new(Vec::new(alloc)))
     }
@@ -33,7 +33,6 @@ impl Written {
         }
     }
 
-    /// The bytes.
     pub fn bytes(&self, alloc: Global) -> Vec<u8> {
         self.0
             .try_replace(Vec::new(alloc))
@@ -52,13 +51,12 @@ impl Write for &Written {
     }
 }
 
-/// An arrival.
+/// A client's request, and the command that comes after the first half of it, if any. With no
+/// request the office comes with the command.
 #[derive(Drop)]
-pub enum Arriving {
-    /// A client with its request, and the command that comes after the first half of it, if any.
-    Client(Vec<u8>, Option<Vec<u8>>),
-    /// The office with a command.
-    Office(Vec<u8>),
+pub struct Arriving {
+    pub request: Vec<u8>,
+    pub command: Vec<u8>,
 }
 
 /// A connection of the office that brings a command.
@@ -75,24 +73,24 @@ impl Handover for Letter<'_> {
     }
 }
 
-/// The stream of a client.
+/// The stream of a client: what is read next and after that, and a command that hasn't come.
 #[derive(Drop)]
 pub struct Sender<'a> {
-    halves: (&'a [u8], &'a [u8]),
-    command: Option<&'a [u8]>,
-    // how often it was read, and whether the command has come
-    reads: u64,
-    commanded: bool,
+    half: &'a [u8],
+    rest: &'a [u8],
+    command: &'a [u8],
+    was_read: bool,
     written: &'a Written,
 }
 
 impl<'a> Sender<'a> {
-    fn new(request: &'a [u8], command: Option<&'a [u8]>, written: &'a Written) -> Sender<'a> {
+    fn new(request: &'a [u8], command: &'a [u8], written: &'a Written) -> Sender<'a> {
+        let (half, rest) = request.split_at(request.len() / 2);
         Sender {
-            halves: request.split_at(request.len() / 2),
+            half,
+            rest,
             command,
-            reads: 0,
-            commanded: false,
+            was_read: false,
             written,
         }
     }
@@ -121,13 +119,11 @@ impl TimedStream for Sender<'_> {
     ghost writes = { λ _ _ _ _. Unit {0} };
 
     fn read_within(&mut self, _limit: Duration, room: &mut [u8]) -> Waited {
-        let reads = self.reads;
-        self.reads = reads.saturating_add(1);
-        match reads {
-            0 => read_from(self.halves.0, room),
-            1 => read_from(self.halves.1, room),
-            _ => Waited::Moved(0),
-        }
+        let half = self.half;
+        self.half = self.rest;
+        self.rest = b"";
+        self.was_read = true;
+        read_from(half, room)
     }
 
     fn write_within(&mut self, _limit: Duration, bytes: &[u8]) -> Waited {
@@ -140,14 +136,13 @@ impl<'a> ClientStream for Sender<'a> {
     type Command = Letter<'a>;
 
     fn wait_within(&mut self, _limit: Duration, _command_first: bool) -> Woken<Letter<'a>> {
+        let command = self.command;
         let written = self.written;
-        match self.command {
-            Some(command) if self.reads > 0 && !self.commanded => {
-                self.commanded = true;
-                Woken::Command(Letter { command, written })
-            }
-            _ => Woken::Client,
+        if command.is_empty() || !self.was_read {
+            return Woken::Client;
         }
+        self.command = b"";
+        Woken::Command(Letter { command, written })
     }
 
     fn end_writing(&mut self) -> bool {
@@ -155,26 +150,11 @@ impl<'a> ClientStream for Sender<'a> {
     }
 }
 
-/// A clock that stands still.
-#[derive(Drop)]
-pub struct Standing;
-
-impl Clock for Standing {
-    fn monotonic(&self) -> io::Result<Duration> {
-        Ok(Duration::ZERO)
-    }
-
-    fn since_1970(&self) -> io::Result<Duration> {
-        Ok(Duration::ZERO)
-    }
-}
-
-static STANDING: Standing = Standing;
-
-/// Arrivals in turn.
+/// Arrivals in turn, at a machine whose clock stands still.
 #[derive(Drop)]
 pub struct Queue<'a> {
     arriving: &'a [Arriving],
+    machine: &'a Machine,
     written: &'a Written,
     waited: u64,
     failures: u64,
@@ -182,9 +162,10 @@ pub struct Queue<'a> {
 
 impl<'a> Queue<'a> {
     /// These. What is written to them is added to `written`.
-    pub fn new(arriving: &'a [Arriving], written: &'a Written) -> Queue<'a> {
+    pub fn new(arriving: &'a [Arriving], machine: &'a Machine, written: &'a Written) -> Queue<'a> {
         Queue {
             arriving,
+            machine,
             written,
             waited: 0,
             failures: 0,
@@ -193,7 +174,7 @@ impl<'a> Queue<'a> {
 }
 
 impl<'a> Arrivals for Queue<'a> {
-    type Client = Accepted<'a, Sender<'a>, Standing>;
+    type Client = Accepted<'a, Sender<'a>, Machine>;
 
     type Command = Letter<'a>;
 
@@ -201,50 +182,33 @@ impl<'a> Arrivals for Queue<'a> {
 
     ghost failures = { λ queue. queue.failures };
 
-    fn next(&mut self) -> Arrival<Accepted<'a, Sender<'a>, Standing>, Letter<'a>> {
+    fn next(&mut self) -> Arrival<Accepted<'a, Sender<'a>, Machine>, Letter<'a>> {
         let place = self.waited as usize;
         self.waited = self.waited.saturating_add(1);
         let written = self.written;
-        match self.arriving.get(place) {
-            None => {
-                self.failures = self.failures.saturating_add(1);
-                Arrival::Nobody
-            }
-            Some(Arriving::Office(command)) => Arrival::Command(Letter {
-                command: command.as_slice(),
-                written,
-            }),
-            Some(Arriving::Client(request, command)) => {
-                let command = match command {
-                    Some(command) => Some(command.as_slice()),
-                    None => None,
-                };
-                let sender = Sender::new(request.as_slice(), command, written);
-                Arrival::Client(Accepted::new(sender, &STANDING, Duration::from_secs(10)))
-            }
+        let Some(Arriving { request, command }) = self.arriving.get(place) else {
+            self.failures = self.failures.saturating_add(1);
+            return Arrival::Nobody;
+        };
+        let command = command.as_slice();
+        if request.is_empty() {
+            return Arrival::Command(Letter { command, written });
         }
+        let sender = Sender::new(request.as_slice(), command, written);
+        Arrival::Client(Accepted::new(sender, self.machine, Duration::from_secs(10)))
     }
 }
 
 /// Gives these moments in turn, and then none.
 #[derive(Drop)]
-pub struct Given<'a> {
-    moments: &'a [Moment],
-    given: usize,
-}
-
-impl<'a> Given<'a> {
-    pub fn new(moments: &'a [Moment]) -> Given<'a> {
-        Given { moments, given: 0 }
-    }
-}
+pub struct Given<'a>(pub &'a [Moment]);
 
 impl Moments for Given<'_> {
     ghost gives = { λ _ _ _. Unit {0} };
 
     fn now(&mut self) -> Option<Moment> {
-        let place = self.given;
-        self.given = self.given.saturating_add(1);
-        self.moments.get(place).copied()
+        let (moment, rest) = self.0.split_first()?;
+        self.0 = rest;
+        Some(*moment)
     }
 }

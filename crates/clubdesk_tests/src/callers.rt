@@ -1,18 +1,52 @@
-//! The writer of a run, with clients that come by the line of its server, and the clock of its
-//! machine.
+//! The input and the writer of a run, the clients of its server, and the clock of its machine.
 
-use crate::runs::Run;
-use crate::terminal::Full;
+use crate::runs::Scene;
 use std::cell::Cell;
+use std::fs;
 use std::io::{self, ErrorKind, Read, Write};
 use std::net::TcpStream;
 use std::time::{Clock, Duration};
 
-/// Where a server listens, before the port.
-const LOOPBACK: &str = "127.0.0.1:";
+/// The input of a run.
+#[derive(Clone, Copy)]
+pub enum Input<'a> {
+    Bytes(&'a [u8]),
+    /// Each read of it fails.
+    Broken,
+}
 
-/// Another address of the machine, where it doesn't.
-const BESIDE: &str = "127.0.0.2";
+impl Read for Input<'_> {
+    fn read(&mut self, room: &mut [u8]) -> io::Result<usize> {
+        match self {
+            Input::Bytes(left) => left.read(room),
+            Input::Broken => Err(io::Error::from(ErrorKind::ConnectionReset)),
+        }
+    }
+}
+
+/// Counts of what happens at a database in memory.
+#[derive(Drop)]
+pub struct Notes {
+    pub opened: Cell<u64>,
+    pub closed: Cell<u64>,
+    /// The closings before the run wrote first, and before a server's door was removed.
+    pub written: Cell<Option<u64>>,
+    pub removed: Cell<Option<u64>>,
+    /// The bytes of the command that was handed over last.
+    pub handed: Cell<usize>,
+}
+
+impl Notes {
+    pub fn new() -> Notes {
+        Notes {
+            opened: Cell::new(0),
+            closed: Cell::new(0),
+            written: Cell::new(None),
+            removed: Cell::new(None),
+            handed: Cell::new(0),
+        }
+    }
+}
 
 /// Takes what a run writes, as far as there is room. Once the line of a server is there and is
 /// flushed, a client for each request connects to where it says, and sends it, and the requests
@@ -20,42 +54,39 @@ const BESIDE: &str = "127.0.0.2";
 #[derive(Drop)]
 pub struct Caller<'a> {
     rt: &'a HostRuntime,
-    requests: &'a [&'a str],
-    output: Full,
+    scene: Scene<'a>,
+    notes: &'a Notes,
+    written: Vec<u8>,
     clients: Vec<TcpStream>,
 }
 
 impl<'a> Caller<'a> {
-    /// The writer and the clients of a run.
-    pub fn new(rt: &'a HostRuntime, asked: &Run<'a>) -> Caller<'a> {
+    pub fn new(rt: &'a HostRuntime, scene: &Scene<'a>, notes: &'a Notes) -> Caller<'a> {
         Caller {
             rt,
-            requests: asked.requests,
-            output: Full {
-                room: asked.room,
-                flushes: asked.flushes,
-                taken: Vec::new(rt.alloc()),
-            },
+            scene: *scene,
+            notes,
+            written: Vec::new(rt.alloc()),
             clients: Vec::new(rt.alloc()),
         }
     }
 
     /// What was written, but for the line by which clients came.
     pub fn written_bytes(&self) -> &[u8] {
-        self.output.taken.as_slice()
+        self.written.as_slice()
     }
 
-    // The port of the line.
+    // The port of a server's line.
     fn port(&self) -> Option<u16> {
         let line = str::from_utf8(self.written_bytes()).ok()?;
-        let address = line.strip_prefix("listening on ")?.strip_suffix("\n")?;
-        address.strip_prefix(LOOPBACK)?.parse().ok()
+        let port = line.strip_prefix("listening on 127.0.0.1:")?;
+        port.strip_suffix("\n")?.parse().ok()
     }
 
     // A client that has sent a request to this port. At another address of the machine nobody
     // listens.
     fn send(&self, port: u16, request: &str) -> io::Result<TcpStream> {
-        if TcpStream::connect(self.rt, (BESIDE, port)).is_ok() {
+        if TcpStream::connect(self.rt, ("127.0.0.2", port)).is_ok() {
             return Err(io::Error::from(ErrorKind::AddrInUse));
         }
         let mut client = TcpStream::connect(self.rt, ("127.0.0.1", port))?;
@@ -63,24 +94,10 @@ impl<'a> Caller<'a> {
         Ok(client)
     }
 
-    // A client for each request.
-    fn call(&mut self, port: u16) -> io::Result<()> {
-        for request in self.requests {
-            let client = self.send(port, request)?;
-            self.clients.push(client)?;
-        }
-        Ok(())
-    }
-
-    /// What came back to each in turn; nothing if no client was there. A connection that is closed
-    /// with its request unread may end with an error.
+    /// The replies to the clients in turn. A connection that is closed with its request unread may
+    /// end with an error.
     pub fn reply(self) -> Vec<u8> {
-        let Caller {
-            rt,
-            requests: _,
-            output: _,
-            clients,
-        } = self;
+        let Caller { rt, clients, .. } = self;
         let mut reply = Vec::new(rt.alloc());
         for mut client in clients {
             let _ = client.read_to_end(&mut reply);
@@ -91,27 +108,50 @@ impl<'a> Caller<'a> {
 
 impl Write for Caller<'_> {
     fn write(&mut self, bytes: &[u8]) -> io::Result<usize> {
-        self.output.write(bytes)
+        if self.notes.written.get().is_none() {
+            self.notes.written.set(Some(self.notes.closed.get()));
+        }
+        let room = self.scene.room.saturating_sub(self.written.len());
+        if room == 0 {
+            return Err(io::Error::from(ErrorKind::StorageFull));
+        }
+        let count = bytes.len().min(room);
+        let (front, _) = bytes.split_at(count);
+        match self.written.extend_from_slice(front) {
+            Ok(()) => Ok(count),
+            Err(_) => Err(io::Error::from(ErrorKind::OutOfMemory)),
+        }
     }
 
     fn flush(&mut self) -> io::Result<()> {
-        self.output.flush()?;
-        if let Some(port) = self.port() {
-            self.call(port)?;
-            self.output.taken.clear();
+        if !self.scene.flushes {
+            return Err(io::Error::from(ErrorKind::BrokenPipe));
         }
+        let Some(port) = self.port() else {
+            return Ok(());
+        };
+        if let Some(path) = self.scene.removed {
+            fs::remove_file(self.rt, path)?;
+        }
+        for request in self.scene.requests {
+            let client = self.send(port, request)?;
+            self.clients.push(client)?;
+        }
+        self.written.clear();
         Ok(())
     }
 }
 
 /// The clock of a machine. It shows one second, counted since 1970 began, or it can't be read. The
-/// time since its start is none when it is read for the first two times, as a connection's limit
-/// and its span in the log begin, and so many microseconds from then on.
+/// first two readings of the time since its start are 0, as a connection's limit and its span in
+/// the log begin. Later ones are `later` microseconds. Sleeps add to each.
 #[derive(Drop)]
 pub struct Machine {
     second: Option<u64>,
     later: u64,
     read: Cell<u64>,
+    /// The milliseconds that were slept by it.
+    pub slept: Cell<u64>,
 }
 
 impl Machine {
@@ -120,24 +160,30 @@ impl Machine {
             second,
             later,
             read: Cell::new(0),
+            slept: Cell::new(0),
         }
-    }
-
-    // The second that it shows.
-    fn second(&self) -> io::Result<u64> {
-        self.second.ok_or(io::Error::from(ErrorKind::Unsupported))
     }
 }
 
 impl Clock for Machine {
     fn monotonic(&self) -> io::Result<Duration> {
-        let _ = self.second()?;
+        let _ = self.since_1970()?;
         let read = self.read.get();
         self.read.set(read.saturating_add(1));
-        Ok(Duration::from_micros(if read < 2 { 0 } else { self.later }))
+        let slept = self.slept.get().saturating_mul(1_000);
+        let later = if read < 2 { 0 } else { self.later };
+        Ok(Duration::from_micros(slept.saturating_add(later)))
     }
 
     fn since_1970(&self) -> io::Result<Duration> {
-        Ok(Duration::from_secs(self.second()?))
+        match self.second {
+            Some(second) => Ok(Duration::from_secs(second)),
+            None => Err(io::Error::from(ErrorKind::Unsupported)),
+        }
+    }
+
+    fn sleep(&self, duration: Duration) {
+        let millis = u64::try_from(duration.as_millis()).unwrap_or(u64::MAX);
+        self.slept.set(self.slept.get().saturating_add(millis));
     }
 }

@@ -1,207 +1,133 @@
 //! Runs of the program over files, one after the other, and a server between them.
 
-use crate::expect::expect_eq;
-use crate::runs::{Row, expect_rows, log_of, new_path, remove};
-use crate::served::{reply_before_a_kill, reply_to, reply_without_a_file};
-use crate::servers::OFFICE;
+use crate::runs::{ClubFile, Scene, expect_eq};
+use crate::servers::{BOOKED, OFFICE};
+use std::os::unix::fs::MetadataExt;
 use std::test::Fail;
 use std::{env, fs};
 use test_kit::exchanges::{BOOK_7, BOOKED_7, UNAVAILABLE};
 
-// Bob with as many points as amy, a room, and a key of bob's. Its pass was computed by a program of
-// another language.
-static BESIDE_AMY: [Row; 4] = [
-    Row("add-member", "bob 5", "0 done\n"),
-    Row("credit", "bob 10000", "0 done\n"),
-    Row("add-facility", "room-1 room 1 601 8 22", "0 done\n"),
-    Row(
-        "add-key",
-        "bob-1 bob ffeeddccbbaa99887766554433221100",
-        "0 AgEJY2x1Yi1kZXNrAglrZXk6Ym9iLTEAAAYg2v03bJ3dkpTK_55Gekd3fd1QAXdMJSSXQKup64pSALs\n",
-    ),
-];
+pub(crate) static AMY: [&str; 1] = ["add-member amy 5 => 0 done\n"];
 
-// Bookings of amy and bob at court-1 on 2026-05-01 at 18, each with the whole reply.
-static BOOKINGS: [(&str, &str); 2] = [
-    (BOOK_7, BOOKED_7),
-    (
-        "PUT /slots/court-1/2026-05-01/18/bookings/2 HTTP/1.1\r\nContent-Length: 12\r\n\
-        Authorization: Bearer \
-        AgEJY2x1Yi1kZXNrAglrZXk6Ym9iLTEAAAYg2v03bJ3dkpTK_55Gekd3fd1QAXdMJSSXQKup64pSALs\r\n\r\n\
-        {\"guests\":0}",
-        "HTTP/1.1 200 OK\r\nContent-Type: application/json\r\nContent-Length: 43\r\n\
-        Connection: close\r\n\r\n{\"booking\":\"bob-1/2\",\"charge\":200,\"left\":0}",
-    ),
-];
-
-static SHEETS: [Row; 3] = [
-    Row(
-        "sheet",
-        "2026-05-01",
-        "0 Day sheet 2026-05-01\n\
-        court-1                  18:00 amy-1                            7  3    600\n\
-        court-1                  18:00 bob-1                            2  1    200\n\
-        Total bookings 2, persons 4, charge 800\n",
-    ),
-    Row(
-        "sheet",
-        "2026-05-02",
-        "0 Day sheet 2026-05-02\nNo bookings.\n",
-    ),
-    Row(
-        "close-slot",
-        "court-1 2026-05-01 18",
-        "1 refused: slot in use",
-    ),
-];
-
-fn expect_reply(rt: &HostRuntime, path: &str, request: &str, wanted: &str) -> Result<(), Fail> {
-    let reply = reply_to(rt, path, request)?;
-    let text = str::from_utf8(&reply).unwrap_or("no text");
-    if text == wanted {
-        return Ok(());
-    }
-    Err(format!(in rt.alloc(); "{text}")?.into())
+/// A new file with the rows of a club.
+pub fn new_club<'a>(rt: &'a HostRuntime, name: &str, rows: &[&str]) -> Result<ClubFile<'a>, Fail> {
+    let club = ClubFile::new(rt, name)?;
+    club.play(rows)?;
+    Ok(club)
 }
 
-fn expect_replies(rt: &HostRuntime, path: &str, rows: &[(&str, &str)]) -> Result<(), Fail> {
-    for (request, wanted) in rows {
-        expect_reply(rt, path, request, wanted)?;
-    }
+// Ends the test unless amy's booking gets this reply from a server over the file.
+fn expect_reply(
+    rt: &HostRuntime,
+    club: &ClubFile<'_>,
+    scene: Scene<'_>,
+    want: &str,
+) -> Result<(), Fail> {
+    let scene = Scene {
+        requests: &[BOOK_7],
+        ..scene
+    };
+    let output = club.run(&scene, "serve --port 0 --count 1 --at 2026-04-20T12:00")?;
+    expect_eq(rt, &str::from_utf8(&output.reply), &Ok(want))?;
     Ok(())
 }
 
-// A new file of the office's, in which each later command finds what earlier ones did.
-fn new_club(rt: &HostRuntime, name: &str) -> Result<String, Fail> {
-    let path = new_path(rt, name)?;
-    expect_rows(rt, path.as_str(), &OFFICE)?;
-    expect_rows(rt, path.as_str(), &BESIDE_AMY)?;
-    Ok(path)
-}
-
-// A file of the office's, two bookings over a socket, a file that is closed, and the day's sheet.
+// Bookings over a socket, which the runs after a server find in its file. The second server finds
+// the first one's booking, too.
 #[test]
 fn a_day_in_a_file(rt: HostRuntime) -> Result<(), Fail> {
-    let path = new_club(&rt, "day")?;
-    expect_replies(&rt, path.as_str(), &BOOKINGS)?;
-    expect_rows(&rt, path.as_str(), &SHEETS)?;
-    remove(&rt, path.as_str());
-    Ok(())
-}
-
-static AMYS_SHEET: [Row; 1] = [Row(
-    "sheet",
-    "2026-05-01",
-    "0 Day sheet 2026-05-01\n\
-    court-1                  18:00 amy-1                            7  3    600\n\
-    Total bookings 1, persons 3, charge 600\n",
-)];
-
-// Fails unless the file still has these bytes.
-fn expect_file(rt: &HostRuntime, path: &str, bytes: &[u8]) -> Result<(), Fail> {
-    if fs::read(rt, path)?.as_slice() != bytes {
-        return Err("the file has changed".into());
-    }
-    Ok(())
+    let club = new_club(&rt, "day", &OFFICE)?;
+    expect_reply(&rt, &club, Scene::after(&[]), BOOKED_7)?;
+    expect_reply(&rt, &club, Scene::after(&[]), BOOKED_7)?;
+    club.play(&BOOKED)?;
+    club.play(&["close-slot court-1 2026-05-01 18 => 1 refused: slot in use"])
 }
 
 // A server that drops its database leaves a booking in the log alone: the file is unchanged. The
 // run that prints the day's sheet finds it there.
 #[test]
 fn a_booking_in_the_log_alone(rt: HostRuntime) -> Result<(), Fail> {
-    let path = new_club(&rt, "left")?;
-    let before = fs::read(&rt, path.as_str())?;
-    let (request, wanted) = BOOKINGS[0];
-    let reply = reply_before_a_kill(&rt, path.as_str(), request)?;
-    if reply.as_slice() != wanted.as_bytes() {
-        return Err("amy's booking is refused".into());
-    }
-    expect_file(&rt, path.as_str(), before.as_slice())?;
-    expect_rows(&rt, path.as_str(), &AMYS_SHEET)?;
-    remove(&rt, path.as_str());
-    Ok(())
+    let club = new_club(&rt, "left", &OFFICE)?;
+    let before = fs::read(&rt, club.path())?;
+    let scene = Scene {
+        is_killed: true,
+        ..Scene::after(&[])
+    };
+    expect_reply(&rt, &club, scene, BOOKED_7)?;
+    let after = fs::read(&rt, club.path())?;
+    expect_eq(&rt, &(after.as_slice() == before.as_slice()), &true)?;
+    club.play(&BOOKED)
 }
 
 // Nobody would find a booking in a file that has no name any more: it is refused.
 #[test]
 fn a_file_that_was_removed(rt: HostRuntime) -> Result<(), Fail> {
-    let path = new_club(&rt, "gone")?;
-    let reply = reply_without_a_file(&rt, path.as_str(), BOOK_7)?;
-    remove(&rt, path.as_str());
-    if reply.as_slice() != UNAVAILABLE.as_bytes() {
-        return Err("a booking in a file that is gone".into());
-    }
-    Ok(())
+    let club = new_club(&rt, "gone", &OFFICE)?;
+    let scene = Scene {
+        removed: Some(club.path()),
+        ..Scene::after(&[])
+    };
+    expect_reply(&rt, &club, scene, UNAVAILABLE)
 }
-
-static AMY_ADDED: [Row; 1] = [Row("add-member", "amy 5", "0 done\n")];
-
-static AMY_EXISTS: [Row; 1] = [Row("add-member", "amy 5", "1 refused: exists")];
 
 // After a command has ended, the file has all committed changes: its log may be removed.
 #[test]
 fn the_log_may_go(rt: HostRuntime) -> Result<(), Fail> {
-    let path = new_path(&rt, "log")?;
-    expect_rows(&rt, path.as_str(), &AMY_ADDED)?;
-    let log = log_of(&rt, path.as_str())?;
-    fs::remove_file(&rt, log.as_str())?;
-    expect_rows(&rt, path.as_str(), &AMY_EXISTS)?;
-    remove(&rt, path.as_str());
-    Ok(())
+    let club = new_club(&rt, "log", &AMY)?;
+    fs::remove_file(&rt, club.path_with("-wal")?.as_str())?;
+    club.play(&["add-member amy 5 => 1 refused: exists"])
 }
 
-static NO_CLUB: [Row; 2] = [
-    Row("sheet", "2026-05-01", "5 storage failed"),
-    Row("add-member", "amy 5", "5 storage failed"),
+static STORAGE_FAILED: [&str; 3] = [
+    "sheet 2026-05-01 => 5 storage failed",
+    "add-member amy 5 => 5 storage failed",
+    "serve --port 0 --count 1 => 5 storage failed",
 ];
 
 #[test]
 fn files_of_something_else(rt: HostRuntime) -> Result<(), Fail> {
-    let path = new_path(&rt, "x")?;
-    fs::write(&rt, path.as_str(), [b'x'; 100])?;
-    expect_rows(&rt, path.as_str(), &NO_CLUB)?;
-    let left = fs::read(&rt, path.as_str())?;
-    expect_eq(&rt, &left.as_slice(), &[b'x'; 100].as_slice());
-    remove(&rt, path.as_str());
-    Ok(())
+    let club = ClubFile::new(&rt, "x")?;
+    fs::write(&rt, club.path(), [b'x'; 100])?;
+    club.play(&STORAGE_FAILED)?;
+    let left = fs::read(&rt, club.path())?;
+    expect_eq(&rt, &left.as_slice(), &[b'x'; 100].as_slice())
 }
 
 /// Where a new file holds its version: that table is on the second page, with its one row at the
 /// end.
 const VERSION_AT: usize = 8_191;
 
-// Puts version 9 into a file of version 2.
-fn make_another_version(rt: &HostRuntime, path: &str) -> Result<(), Fail> {
-    let mut club = fs::read(rt, path)?;
-    if club.len() <= VERSION_AT || club[VERSION_AT] != 2 {
-        return Err("the version lies elsewhere".into());
-    }
-    club[VERSION_AT] = 9;
-    fs::write(rt, path, club.as_slice())?;
-    Ok(())
-}
-
-static OTHER_VERSION: [Row; 2] = [
-    Row("sheet", "2026-05-01", "5 storage failed"),
-    Row("serve", "--port 0 --count 1", "5 storage failed"),
-];
-
+// A file of version 2 gets version 9.
 #[test]
 fn files_of_another_version(rt: HostRuntime) -> Result<(), Fail> {
-    let path = new_path(&rt, "version")?;
-    expect_rows(&rt, path.as_str(), &AMY_ADDED)?;
-    make_another_version(&rt, path.as_str())?;
-    expect_rows(&rt, path.as_str(), &OTHER_VERSION)?;
-    remove(&rt, path.as_str());
-    Ok(())
+    let club = new_club(&rt, "version", &AMY)?;
+    let mut bytes = fs::read(&rt, club.path())?;
+    match bytes.get_mut(VERSION_AT) {
+        Some(version) if *version == 2 => *version = 9,
+        _ => return Err("the version lies elsewhere".into()),
+    }
+    fs::write(&rt, club.path(), bytes.as_slice())?;
+    club.play(&STORAGE_FAILED)
 }
-
-static NO_FILE: [Row; 1] = [Row("sheet", "2026-05-01", "5 storage failed")];
 
 #[test]
 fn files_that_cannot_be(rt: HostRuntime) -> Result<(), Fail> {
     let folder = env::temp_dir(&rt)?;
-    expect_rows(&rt, folder.as_str(), &NO_FILE)?;
-    expect_rows(&rt, "/nowhere/club", &NO_FILE)?;
-    expect_rows(&rt, ":memory:", &NO_FILE)
+    for path in [folder.as_str(), "/nowhere/club", ":memory:"] {
+        let path = format!(in rt.alloc(); "{path}")?;
+        ClubFile::at(&rt, path).play(&STORAGE_FAILED)?;
+    }
+    expect_eq(&rt, &fs::metadata(&rt, ":memory:").is_err(), &true)?;
+    Ok(())
+}
+
+// A new file and its log are its owner's alone.
+#[test]
+fn modes(rt: HostRuntime) -> Result<(), Fail> {
+    let club = new_club(&rt, "modes", &AMY)?;
+    for end in ["", "-wal"] {
+        let found = fs::metadata(&rt, club.path_with(end)?.as_str())?;
+        expect_eq(&rt, &(found.mode() & 0o777), &0o600)?;
+    }
+    Ok(())
 }

@@ -1,102 +1,100 @@
-//! Runs whose commands are handed to a server, and what they print of its answers.
+//! Commands that are handed to a server: what a run prints of its answers, and bytes that are no
+//! command of the office.
 
-use crate::memory::{Scene, ServerAnswer, expect_openings, play_row};
-use crate::runs::Row;
-use crate::terminal::Input;
+use crate::callers::Input;
+use crate::memory::play;
+use crate::runs::{Scene, ServerAnswer, expect_eq, parts_of};
+use club_core::ClubStore;
+use club_store::Store;
+use clubdesk_commands::OfficeDesk;
+use desk_server::Office;
 use std::test::Fail;
 
-const SHEET: &str = "Day sheet 2026-05-02\nNo bookings.\n";
-
-/// A command, the answer of the server, and how many bytes it is handed. A command of n arguments
-/// has its count, a root, and its arguments, each with a byte after it.
-type Handed = (Row<'static>, ServerAnswer<'static>, usize);
-
-static HANDED: [Handed; 10] = [
+/// The number of bytes that a server gets, and a row whose end is the server's answer. A command of
+/// n arguments has its count, a root, and its arguments, each with a byte after it.
+static HANDED: [(usize, &str); 11] = [
     // 5, no root, clubdesk, add-member, club, amy, 5.
-    (
-        Row("add-member", "amy 5", "0 done\n"),
-        Some((0, "done\n")),
-        34,
-    ),
-    (
-        Row("add-member", "amy 5", "1 refused: exists"),
-        Some((1, "refused: exists")),
-        34,
-    ),
-    (Row("debit", "amy 5", "0 done\n"), Some((0, "done\n")), 29),
-    (
-        Row("set-quota", "amy 5", "0 done\n"),
-        Some((0, "done\n")),
-        33,
-    ),
+    (34, "add-member amy 5 => 0 done\n"),
+    (34, "add-member amy 5 => 1 refused: exists"),
+    (29, "debit amy 5 => 0 done\n"),
+    (33, "set-quota amy 5 => 0 done\n"),
     // 6, no root, clubdesk, open-slot, club, court-1, 2026-05-01, 18.
+    (49, "open-slot court-1 2026-05-01 18 => 0 done\n"),
     (
-        Row("open-slot", "court-1 2026-05-01 18", "0 done\n"),
-        Some((0, "done\n")),
-        49,
-    ),
-    (
-        Row(
-            "sheet",
-            "2026-05-02",
-            "0 Day sheet 2026-05-02\nNo bookings.\n",
-        ),
-        Some((0, SHEET)),
         34,
+        "sheet 2026-05-02 => 0 Day sheet 2026-05-02\nNo bookings.\n",
     ),
-    (
-        Row("sheet", "2026-05-02", "4 out of memory"),
-        Some((4, "out of memory")),
-        34,
-    ),
-    (
-        Row("sheet", "2026-05-02", "6 clock out of range"),
-        Some((6, "clock out of range")),
-        34,
-    ),
-    (Row("revoke-key", "amy-1", "8 no answer"), None, 34),
+    (34, "sheet 2026-05-02 => 4 out of memory"),
+    (34, "sheet 2026-05-02 => 6 clock out of range"),
+    (34, "revoke-key amy-1 => 8 no answer"),
     // Arguments that are refused are handed to nobody.
-    (
-        Row("credit", "amy none", "3 bad value"),
-        Some((0, "done\n")),
-        0,
-    ),
+    (0, "credit amy none => 3 bad value"),
+    // A root from the input goes with the arguments: 32 bytes in place of none.
+    (80, "add-key amy-1 amy --root-stdin => 0 done\n"),
 ];
 
-fn hands_over(rt: &HostRuntime, (row, answer, bytes): &Handed) -> Result<(), Fail> {
-    let scene = Scene {
-        server: Some(*answer),
-        ..Scene::after(&[])
-    };
-    let played = play_row(rt, &scene, row)?;
-    if played.handed != *bytes {
-        return Err("handed over more or less".into());
+// The answer of the server: none for status 8.
+fn answer_of(row: &str) -> Result<ServerAnswer<'_>, Fail> {
+    let (status, text) = parts_of(row)?.1.split_once(' ').ok_or("an end")?;
+    match status.parse().ok() {
+        Some(8) => Ok(None),
+        Some(status) => Ok(Some((status, text))),
+        None => Err("a status".into()),
     }
-    expect_openings(&played, 0, 0)
 }
 
 #[test]
 fn hands_commands_over(rt: HostRuntime) -> Result<(), Fail> {
-    for handed in &HANDED {
-        hands_over(&rt, handed)?;
+    for (bytes, row) in &HANDED {
+        let scene = Scene {
+            server: Some(answer_of(row)?),
+            input: Input::Bytes(b"00112233445566778899aabbccddeeff\n"),
+            ..Scene::after(&[])
+        };
+        let played = play(&rt, &scene, row)?;
+        expect_eq(&rt, &played.notes.handed.get(), bytes)?;
+        played.expect_openings(0, 0)?;
     }
     Ok(())
 }
 
-const ROOT: &[u8] = b"00112233445566778899aabbccddeeff\n";
+/// Whole: the count of its arguments, no root, and its arguments, each with a byte after it.
+const WHOLE: &[u8] = b"5\0\0clubdesk\0add-member\0club\0amy\05\0";
 
-// A root from the input goes with the arguments: 32 bytes in place of none.
-#[test]
-fn hands_a_root_over(rt: HostRuntime) -> Result<(), Fail> {
-    let scene = Scene {
-        server: Some(Some((0, "done\n"))),
-        input: Input::Bytes(ROOT),
-        ..Scene::after(&[])
-    };
-    let row = Row("add-key", "amy-1 amy --root-stdin", "0 done\n");
-    let played = play_row(&rt, &scene, &row)?;
-    if played.handed != 80 {
-        return Err("handed over more or less".into());
+/// Bytes and their status: 2 for no command, 3 for a value that can't be one. The whole command is
+/// carried out, and once.
+static COMMANDS: [(&[u8], u8); 16] = [
+    (b"4\0\0clubdesk\0add-member\0club\0amy\05\0", 2),
+    (b"6\0\0clubdesk\0add-member\0club\0amy\05\0", 2),
+    (b"05\0\0clubdesk\0add-member\0club\0amy\05\0", 2),
+    (b"five\0\0clubdesk\0add-member\0club\0amy\05\0", 2),
+    (b"5\0\0clubdesk\0add-member\0club\0am\xff\05\0", 2),
+    (b"5\0\0clubdesk\0add-member\0club\0amy\05\0\0", 2),
+    (b"0\0\0", 2),
+    (b"1\0\0clubdesk\0", 2),
+    (b"2\0\0clubdesk\0fly\0", 2),
+    (b"2\0\0clubdesk\0--help\0", 2),
+    (b"2\0\0clubdesk\0--version\0", 2),
+    (b"5\0\0clubdesk\0serve\0club\0--port\x000\0", 2),
+    (b"5\0\0clubdesk\0add-member\0club\0amy\0none\0", 3),
+    (b"5\0\0clubdesk\0add-member\0club\0\xc3\x84\05\0", 3),
+    (WHOLE, 0),
+    (WHOLE, 1),
+];
+
+// Hands over a command that is cut at each byte, and then those of the table.
+fn hand_over<S: ClubStore + Drop>(rt: &HostRuntime, store: S) -> Result<(), Fail> {
+    let mut desk = OfficeDesk::new(rt.alloc(), rt, store);
+    for length in 0..WHOLE.len() {
+        expect_eq(rt, &desk.command(&WHOLE[..length]).carried.status, &2)?;
+    }
+    for (bytes, want) in &COMMANDS {
+        expect_eq(rt, &desk.command(bytes).carried.status, want)?;
     }
     Ok(())
+}
+
+#[test]
+fn refuses_bytes_that_are_no_command(rt: HostRuntime) -> Result<(), Fail> {
+    hand_over(&rt, Store::open_in_memory(rt.alloc())?)
 }

@@ -1,12 +1,14 @@
 //! Commands that are handed over to a server, over sockets: what the server is sent, and what is
-//! made of its answer.
+//! made of its answer. Attempts, and the sleep between them.
 
-use crate::beside::Sleeper;
-use crate::runs::{Row, expect_rows, new_path, remove};
-use clubdesk_files::{FileDoor, FileVisit, Servers, connect, hand_over_to, hand_over_until_done};
+use crate::callers::Machine;
+use crate::files::{AMY, new_club};
+use crate::runs::{ClubFile, expect_eq};
+use clubdesk_files::{
+    Attempts, FileDoor, FileVisit, Servers, connect, gain, hand_over_to, hand_over_until_done,
+};
 use desk_server::{Door, Visit};
 use std::alloc::Global;
-use std::fs;
 use std::io::{Read, Write};
 use std::net::Shutdown;
 use std::os::unix::fs::symlink;
@@ -19,10 +21,11 @@ const COMMAND: &[u8] = b"5\0\0clubdesk\0add-member\0club\0amy\05\0";
 /// The name of a database that has no server.
 const NO_FILE: &str = "none";
 
-/// What a server sends, and the status and the text that are read of it.
-type Answered = (&'static [u8], Option<(u8, &'static str)>);
+/// A status and a text.
+type Answer = Option<(u8, &'static str)>;
 
-static ANSWERED: [Answered; 8] = [
+/// The bytes that a server sends, and the status and the text that are read of them.
+static ANSWERED: [(&[u8], Answer); 8] = [
     (b"!\0done\n\0", Some((0, "done\n"))),
     (b"!\x01refused: exists\0", Some((1, "refused: exists"))),
     (b"!\x04\0", Some((4, ""))),
@@ -38,45 +41,44 @@ static ANSWERED: [Answered; 8] = [
 ];
 
 // Sends what a server sends, up to its end.
-fn send(stream: &mut UnixStream, bytes: &[u8]) -> Result<(), Fail> {
-    stream.write_all(bytes)?;
-    stream.shutdown(Shutdown::Write)?;
+fn send(server: &mut UnixStream, bytes: &[u8]) -> Result<(), Fail> {
+    server.write_all(bytes)?;
+    server.shutdown(Shutdown::Write)?;
     Ok(())
 }
 
-// Fails unless the command is all that a server got, and its answer is this.
-fn expect_handed(
-    rt: &HostRuntime,
-    visit: FileVisit<'_>,
-    server: &mut UnixStream,
-    want: &Option<(u8, &str)>,
-) -> Result<(), Fail> {
-    let answer = visit.give(COMMAND);
-    let mut sent = Vec::new(rt.alloc());
-    server.read_to_end(&mut sent)?;
-    if sent.as_slice() != COMMAND {
-        return Err("the server got other bytes".into());
-    }
-    let answer = match &answer {
-        Some((status, text)) => Some((*status, text.as_str())),
-        None => None,
-    };
-    if answer != *want {
-        return Err("another answer".into());
-    }
-    Ok(())
-}
-
-fn hands_over(rt: &HostRuntime, (bytes, want): &Answered) -> Result<(), Fail> {
+// A connection to a server that sends these bytes, and the server.
+fn server_of(rt: &HostRuntime, bytes: &[u8]) -> Result<(UnixStream, UnixStream), Fail> {
     let (client, mut server) = UnixStream::pair(rt)?;
     send(&mut server, bytes)?;
-    expect_handed(rt, FileVisit::over(rt, NO_FILE, client)?, &mut server, want)
+    Ok((client, server))
+}
+
+// Fails unless these bytes are all that a server got.
+fn expect_sent(rt: &HostRuntime, server: &mut UnixStream, bytes: &[u8]) -> Result<(), Fail> {
+    let mut sent = Vec::new(rt.alloc());
+    server.read_to_end(&mut sent)?;
+    expect_eq(rt, &sent.as_slice(), &bytes)
+}
+
+fn expect_answer(
+    rt: &HostRuntime,
+    answer: &Option<(u8, String)>,
+    want: &Answer,
+) -> Result<(), Fail> {
+    match answer {
+        Some((status, text)) => expect_eq(rt, &Some((*status, text.as_str())), want),
+        None => expect_eq(rt, &None, want),
+    }
 }
 
 #[test]
 fn hands_a_command_over(rt: HostRuntime) -> Result<(), Fail> {
-    for row in &ANSWERED {
-        hands_over(&rt, row)?;
+    for (bytes, want) in &ANSWERED {
+        let (client, mut server) = server_of(&rt, bytes)?;
+        let answer = FileVisit::over(&rt, NO_FILE, client)?.give(COMMAND);
+        expect_sent(&rt, &mut server, COMMAND)?;
+        expect_answer(&rt, &answer, want)?;
     }
     Ok(())
 }
@@ -95,12 +97,7 @@ impl Servers for Greeted {
 
 /// A command that is tried again: the answers of the servers in order, the command's own answer,
 /// the number of servers that get it, and the milliseconds slept.
-struct Retried(
-    &'static [&'static [u8]],
-    Option<(u8, &'static str)>,
-    usize,
-    u64,
-);
+struct Retried(&'static [&'static [u8]], Answer, usize, u64);
 
 const NOTHING: &[u8] = b"\x09nothing was done\0";
 
@@ -125,46 +122,28 @@ static RETRIED: [Retried; 6] = [
     ),
 ];
 
-// Fails unless each of the first `got` servers got the command, once.
-fn expect_got(rt: &HostRuntime, servers: &mut Vec<UnixStream>, got: usize) -> Result<(), Fail> {
-    for (n, server) in servers.iter_mut().enumerate() {
-        if n < got {
-            let mut sent = Vec::new(rt.alloc());
-            server.read_to_end(&mut sent)?;
-            if sent.as_slice() != COMMAND {
-                return Err("a server got other bytes".into());
-            }
-        }
-    }
-    Ok(())
-}
-
 fn tries_again(rt: &HostRuntime, retried: &Retried) -> Result<(), Fail> {
     let Retried(replies, want, got, millis) = retried;
     let mut servers = Vec::new(rt.alloc());
     let mut clients = Vec::new(rt.alloc());
     for bytes in *replies {
-        let (client, mut server) = UnixStream::pair(rt)?;
-        send(&mut server, bytes)?;
+        let (client, server) = server_of(rt, bytes)?;
         servers.push(server)?;
         clients.push(client)?;
     }
     clients.reverse();
-    let clock = Sleeper::new();
+    let clock = Machine::new(Some(0), 0);
     let mut greeted = Greeted(rt.alloc(), clients);
     let answer = hand_over_until_done(&clock, &mut greeted, COMMAND);
-    if replies.len().checked_sub(greeted.1.len()) != Some(*got) {
-        return Err("another number of servers was asked".into());
+    if replies.len().checked_sub(greeted.1.len()) != Some(*got) || clock.slept.get() != *millis {
+        return Err("another number of servers was asked, or another time slept".into());
     }
-    expect_got(rt, &mut servers, *got)?;
-    let answer = match &answer {
-        Some((status, text)) => Some((*status, text.as_str())),
-        None => None,
-    };
-    if answer != *want || clock.slept() != *millis {
-        return Err("another answer, or another time".into());
+    for (n, server) in servers.iter_mut().enumerate() {
+        if n < *got {
+            expect_sent(rt, server, COMMAND)?;
+        }
     }
-    Ok(())
+    expect_answer(rt, &answer, want)
 }
 
 // A command that no server got whole is tried again for ten seconds, and no other command is.
@@ -182,16 +161,14 @@ fn tries_again_until_done(rt: HostRuntime) -> Result<(), Fail> {
 fn nothing_was_done_by_a_server_that_is_gone(rt: HostRuntime) -> Result<(), Fail> {
     let (gone, server) = UnixStream::pair(&rt)?;
     drop(server);
-    let (client, mut server) = UnixStream::pair(&rt)?;
-    send(&mut server, b"\0done\n\0")?;
+    let (client, _server) = server_of(&rt, b"\0done\n\0")?;
     let mut clients = Vec::new(rt.alloc());
     clients.push(client)?;
     clients.push(gone)?;
     let mut greeted = Greeted(rt.alloc(), clients);
-    match hand_over_until_done(&Sleeper::new(), &mut greeted, COMMAND) {
-        Some((0, line)) if line.as_str() == "done\n" => Ok(()),
-        _ => Err("something else was told".into()),
-    }
+    let clock = Machine::new(Some(0), 0);
+    let answer = hand_over_until_done(&clock, &mut greeted, COMMAND);
+    expect_answer(&rt, &answer, &Some((0, "done\n")))
 }
 
 /// What is no greeting. The system resets a connection that is closed while bytes of it are unread,
@@ -199,47 +176,64 @@ fn nothing_was_done_by_a_server_that_is_gone(rt: HostRuntime) -> Result<(), Fail
 static NO_GREETINGS: [&[u8]; 3] = [b"", b"?", b"\0"];
 
 // A server that greets otherwise, or is gone, is handed nothing.
-fn hands_nothing(rt: &HostRuntime, bytes: &[u8]) -> Result<(), Fail> {
-    let (client, mut server) = UnixStream::pair(rt)?;
-    send(&mut server, bytes)?;
-    if FileVisit::over(rt, NO_FILE, client).is_ok() {
-        return Err("this is no greeting".into());
-    }
-    let mut sent = Vec::new(rt.alloc());
-    server.read_to_end(&mut sent)?;
-    if !sent.is_empty() {
-        return Err("the server got bytes".into());
-    }
-    Ok(())
-}
-
 #[test]
 fn hands_nothing_without_a_greeting(rt: HostRuntime) -> Result<(), Fail> {
     for bytes in &NO_GREETINGS {
-        hands_nothing(&rt, bytes)?;
+        let (client, mut server) = server_of(&rt, bytes)?;
+        expect_eq(&rt, &FileVisit::over(&rt, NO_FILE, client).is_err(), &true)?;
+        expect_sent(&rt, &mut server, b"")?;
     }
     Ok(())
 }
-
-static AMY: [Row; 1] = [Row("add-member", "amy 5", "0 done\n")];
 
 // A server is found by a link to its database, too.
 #[test]
 fn hands_over_by_a_door_behind_a_link(rt: HostRuntime) -> Result<(), Fail> {
-    let path = new_path(&rt, "linked")?;
-    expect_rows(&rt, path.as_str(), &AMY)?;
-    let link = new_path(&rt, "link")?;
-    symlink(&rt, path.as_str(), link.as_str())?;
-    let door = FileDoor::make(&rt, path.as_str())?;
-    let client = connect(&rt, link.as_str())?;
-    let listener = door.listener().ok_or("a door")?;
-    let (mut server, _) = listener.accept()?;
+    let club = new_club(&rt, "linked", &AMY)?;
+    let link = ClubFile::new(&rt, "link")?;
+    symlink(&rt, club.path(), link.path())?;
+    let door = FileDoor::make(&rt, club.path())?;
+    let client = connect(&rt, link.path())?;
+    let (mut server, _) = door.listener().ok_or("a door")?.accept()?;
     server.set_nonblocking(false)?;
     send(&mut server, b"!\0done\n\0")?;
-    let want = Some((0, "done\n"));
-    let visit = FileVisit::over(&rt, link.as_str(), client)?;
-    expect_handed(&rt, visit, &mut server, &want)?;
-    fs::remove_file(&rt, link.as_str())?;
-    remove(&rt, path.as_str());
+    let answer = FileVisit::over(&rt, link.path(), client)?.give(COMMAND);
+    expect_sent(&rt, &mut server, COMMAND)?;
+    expect_answer(&rt, &answer, &Some((0, "done\n")))
+}
+
+/// Attempts, and the number of those that are in vain.
+#[derive(Drop)]
+struct Trier(u32);
+
+impl Attempts for Trier {
+    type Gain = ();
+
+    ghost gains = { λ _ _ _. Unit {0} };
+
+    fn attempt(&mut self) -> Option<()> {
+        if self.0 == 0 {
+            return Some(());
+        }
+        self.0 -= 1;
+        None
+    }
+}
+
+/// The number of attempts in vain, of at most five, whether there is a gain, and the milliseconds
+/// slept.
+static TRIED: [(u32, bool, u64); 4] = [(0, true, 0), (1, true, 10), (4, true, 40), (5, false, 50)];
+
+#[test]
+fn sleeps_between_attempts(rt: HostRuntime) -> Result<(), Fail> {
+    for (vain, gains, millis) in &TRIED {
+        let clock = Machine::new(Some(0), 0);
+        let gained = gain(&mut Trier(*vain), &clock, 5);
+        expect_eq(
+            &rt,
+            &(gained.is_some(), clock.slept.get()),
+            &(*gains, *millis),
+        )?;
+    }
     Ok(())
 }

@@ -2,43 +2,31 @@
 //! reference machine replies and answers.
 
 use crate::arriving::{Arriving, Given, Queue, Written};
-use crate::expect::expect_eq;
-use club_core::{ClubStore, Command, OfficeAnswer, Reply, Request};
+use crate::callers::Machine;
+use crate::runs::{expect_eq, line_of};
+use club_core::{ClubStore, OfficeAnswer, Reply};
 use club_gate::{key_signature, minted};
 use club_http::Face;
 use club_reference::{Club, Words};
 use club_rows::Root;
 use club_store::Store;
-use club_values::{Moment, Name, Slot};
+use club_values::{Moment, Name};
 use clubdesk_commands::{OfficeDesk, command_bytes};
-use desk_server::{Unlogged, serve_logged};
+use desk_server::serve_on;
 use http_response::{MAX_REPLY_LEN, reply_bytes};
 use pass_forms::{Form, Pass, narrow};
 use pass_json::write_any;
-use std::alloc::{AllocError, Global};
-use std::process::Abort;
+use std::alloc::AllocError;
 use std::test::*;
 use std::time::Clock;
 use test_kit::drawn::{AUDIT_AMY, AUDITORS, Asking, BEGINNING, Event, Numbers, SLOTS, audit};
 use test_kit::roots::ROOT;
-use test_kit::{PlainCommand, PlainRequest, signed_pass};
+use test_kit::{PlainCommand, PlainRequest, PlainSlot, signed_pass};
 
 /// How many lists a test plays over one club, and how many events each has.
 const LISTS: u32 = 10;
 
 const EVENTS: u32 = 60;
-
-fn name(rt: &impl Abort, text: &str) -> Name {
-    Name::read(text.as_bytes()).expect(rt, "a name")
-}
-
-fn root(rt: &impl Abort, bytes: &[u8]) -> Root {
-    Root::new(bytes).expect(rt, "a root")
-}
-
-fn at(rt: &impl Abort, moment: u32) -> Moment {
-    Moment::from_number(moment).expect(rt, "a moment")
-}
 
 // One of the two drawn roots in hexadecimal.
 fn root_text(bytes: &[u8]) -> &'static str {
@@ -50,378 +38,284 @@ fn root_text(bytes: &[u8]) -> &'static str {
 }
 
 // The office's pass of a key under a root.
-fn pass_of(rt: &(impl Abort + Alloc<A = Global>), key: &str, root_bytes: &[u8]) -> Pass {
-    let name = name(rt, key);
-    let signature = key_signature(&name, &root(rt, root_bytes));
-    minted(rt.alloc(), &name, signature).expect(rt, "memory")
+fn pass_of(rt: &HostRuntime, key: &Name, root: &Root) -> Result<Pass, AllocError> {
+    minted(rt.alloc(), key, key_signature(key, root))
 }
 
 // The text of the pass of a request.
-fn pass_text(rt: &(impl Abort + Alloc<A = Global>), asking: &Asking) -> String {
-    let mut pass = pass_of(rt, asking.key, asking.root);
+fn pass_text(rt: &HostRuntime, asking: &Asking) -> Result<String, Fail> {
+    let key = Name::read(asking.key.as_bytes()).ok_or("a name")?;
+    let root = Root::new(asking.root).ok_or("a root")?;
+    let mut pass = pass_of(rt, &key, &root)?;
     for caveat in asking.caveats {
-        narrow(rt.alloc(), &mut pass, caveat.as_bytes()).expect(rt, "a narrower pass");
+        narrow(rt.alloc(), &mut pass, caveat.as_bytes())?;
     }
-    write_any(rt.alloc(), asking.form, &pass).expect(rt, "the text of a pass")
+    Ok(write_any(rt.alloc(), asking.form, &pass)?)
 }
 
-// The path of a slot.
-fn slot_path(alloc: Global, slot: &Slot) -> Result<String, AllocError> {
-    format!(in alloc; "/slots/{}/{}/{}", slot.facility, slot.day, slot.hour)
+// The facility, the day and the hour of a slot, with this text between them.
+fn slot_text(rt: &HostRuntime, slot: &PlainSlot, between: &str) -> Result<String, Fail> {
+    let slot = slot.slot().ok_or("a slot")?;
+    let (facility, day, hour) = (slot.facility, slot.day, slot.hour);
+    Ok(format!(in rt.alloc(); "{facility}{between}{day}{between}{hour}")?)
 }
 
-// The method and the path of a request.
-fn line_of(alloc: Global, request: &Request) -> Result<String, AllocError> {
-    match request {
-        Request::View { slot } => {
-            let path = slot_path(alloc, slot)?;
-            format!(in alloc; "GET {path}")
-        }
-        Request::Book { slot, number, .. } => {
-            let path = slot_path(alloc, slot)?;
-            let number = number.get();
-            format!(in alloc; "PUT {path}/bookings/{number}")
-        }
-        Request::Cancel { slot, number } => {
-            let path = slot_path(alloc, slot)?;
-            let number = number.get();
-            format!(in alloc; "DELETE {path}/bookings/{number}")
-        }
-        Request::Account => format!(in alloc; "GET /account"),
-    }
-}
-
-// The body of a request.
-fn body_of(alloc: Global, asked: &PlainRequest) -> Result<String, AllocError> {
+// The method, the path and the body of a request, with a space after each of the first two.
+fn request_words(rt: &HostRuntime, asked: &PlainRequest) -> Result<String, Fail> {
     match asked {
-        PlainRequest::Book(_, _, guests) => format!(in alloc; "{{\"guests\":{guests}}}"),
-        _ => Ok(String::new(alloc)),
+        PlainRequest::View(slot) => {
+            let slot = slot_text(rt, slot, "/")?;
+            Ok(format!(in rt.alloc(); "GET /slots/{slot} ")?)
+        }
+        PlainRequest::Book(slot, number, guests) => {
+            let slot = slot_text(rt, slot, "/")?;
+            let body = format!(in rt.alloc(); "{{\"guests\":{guests}}}")?;
+            Ok(format!(in rt.alloc(); "PUT /slots/{slot}/bookings/{number} {body}")?)
+        }
+        PlainRequest::Cancel(slot, number) => {
+            let slot = slot_text(rt, slot, "/")?;
+            Ok(format!(in rt.alloc(); "DELETE /slots/{slot}/bookings/{number} ")?)
+        }
+        PlainRequest::Account => Ok(format!(in rt.alloc(); "GET /account ")?),
     }
-}
-
-// The bytes of a request, with the text of its pass.
-fn request_bytes(
-    alloc: Global,
-    request: &Request,
-    pass: &str,
-    body: &str,
-) -> Result<Vec<u8>, AllocError> {
-    let line = line_of(alloc, request)?;
-    let len = body.len();
-    let text = format!(in alloc;
-        "{line} HTTP/1.1\r\nHost: club\r\nAuthorization: Bearer {pass}\r\n\
-        Content-Length: {len}\r\n\r\n{body}"
-    )?;
-    text.as_str().as_bytes().to_vec(alloc)
 }
 
 // The bytes of a drawn request.
-fn asking_bytes(rt: &(impl Abort + Alloc<A = Global>), asking: &Asking) -> Vec<u8> {
-    let request = asking.asked.request().expect(rt, "a request");
-    let pass = pass_text(rt, asking);
-    let body = body_of(rt.alloc(), &asking.asked).expect(rt, "memory");
-    let bytes = request_bytes(rt.alloc(), &request, pass.as_str(), body.as_str());
-    bytes.expect(rt, "memory")
+fn request_bytes(rt: &HostRuntime, asking: &Asking) -> Result<Vec<u8>, Fail> {
+    let words = request_words(rt, &asking.asked)?;
+    let (line, body) = words.as_str().rsplit_once(' ').ok_or("a body")?;
+    let (pass, len) = (pass_text(rt, asking)?, body.len());
+    let text = format!(in rt.alloc();
+        "{line} HTTP/1.1\r\nHost: club\r\nAuthorization: Bearer {pass}\r\n\
+        Content-Length: {len}\r\n\r\n{body}"
+    )?;
+    Ok(text.as_bytes().to_vec(rt.alloc())?)
 }
 
-// The command line of a command about a slot.
-fn slot_line(alloc: Global, name: &str, slot: &Slot) -> Result<String, AllocError> {
-    let (facility, day, hour) = (slot.facility, slot.day, slot.hour);
-    format!(in alloc; "clubdesk {name} club {facility} {day} {hour}")
+// The command and the arguments of a command of a slot.
+fn slot_words(rt: &HostRuntime, command: &str, slot: &PlainSlot) -> Result<String, Fail> {
+    let slot = slot_text(rt, slot, " ")?;
+    Ok(format!(in rt.alloc(); "{command} {slot}")?)
 }
 
-// The command line of a command. A new key's root is read from standard input.
-fn command_line(
-    alloc: Global,
-    plain: &PlainCommand,
-    command: &Command,
-) -> Result<String, AllocError> {
-    match (plain, command) {
-        (PlainCommand::AddMember(member, quota), _) => {
-            format!(in alloc; "clubdesk add-member club {member} {quota}")
-        }
-        (PlainCommand::Credit(member, points), _) => {
-            format!(in alloc; "clubdesk credit club {member} {points}")
-        }
-        (PlainCommand::Debit(member, points), _) => {
-            format!(in alloc; "clubdesk debit club {member} {points}")
-        }
-        (PlainCommand::SetQuota(member, quota), _) => {
-            format!(in alloc; "clubdesk set-quota club {member} {quota}")
-        }
-        (PlainCommand::AddFacility(facility, kind, places, price, opens, shuts), _) =>
-            format!(in alloc;
-                "clubdesk add-facility club {facility} {kind} {places} {price} {opens} {shuts}"
-            ),
-        (PlainCommand::SetFacility(facility, places, price, opens, shuts), _) => format!(in alloc;
-            "clubdesk set-facility club {facility} {places} {price} {opens} {shuts}"
+// The command and the arguments of a command. A new key's root is read from standard input.
+fn command_words(rt: &HostRuntime, plain: &PlainCommand) -> Result<String, Fail> {
+    let alloc = rt.alloc();
+    let words = match plain {
+        PlainCommand::AddMember(member, quota) => format!(in alloc; "add-member {member} {quota}"),
+        PlainCommand::Credit(member, points) => format!(in alloc; "credit {member} {points}"),
+        PlainCommand::Debit(member, points) => format!(in alloc; "debit {member} {points}"),
+        PlainCommand::SetQuota(member, quota) => format!(in alloc; "set-quota {member} {quota}"),
+        PlainCommand::AddFacility(name, kind, places, price, opens, shuts) => format!(in alloc;
+            "add-facility {name} {kind} {places} {price} {opens} {shuts}"
         ),
-        (PlainCommand::AddKey(key, member, _), _) => {
-            format!(in alloc; "clubdesk add-key club {key} {member} --root-stdin")
-        }
-        (PlainCommand::RevokeKey(key), _) => format!(in alloc; "clubdesk revoke-key club {key}"),
-        (PlainCommand::RotateKey(key, root, _), Command::RotateKey { until, .. }) => {
+        PlainCommand::SetFacility(name, places, price, opens, shuts) => format!(in alloc;
+            "set-facility {name} {places} {price} {opens} {shuts}"
+        ),
+        PlainCommand::AddKey(key, member, _) => format!(in alloc;
+            "add-key {key} {member} --root-stdin"
+        ),
+        PlainCommand::RevokeKey(key) => format!(in alloc; "revoke-key {key}"),
+        PlainCommand::RotateKey(key, root, until) => {
+            let until = Moment::from_number(*until).ok_or("a moment")?;
             let root = root_text(root);
-            format!(in alloc; "clubdesk rotate-key club {key} {root} {until}")
+            format!(in alloc; "rotate-key {key} {root} {until}")
         }
-        (PlainCommand::CancelBooking(key, number), _) => {
-            format!(in alloc; "clubdesk cancel-booking club {key} {number}")
-        }
-        (_, Command::CloseSlot(slot)) => slot_line(alloc, "close-slot", slot),
-        (_, Command::OpenSlot(slot)) => slot_line(alloc, "open-slot", slot),
-        _ => Ok(String::new(alloc)),
-    }
-}
-
-// The root that a command reads from standard input; empty if it reads none.
-fn root_read(plain: &PlainCommand) -> &'static str {
-    match plain {
-        PlainCommand::AddKey(_, _, root) => root_text(root),
-        _ => "",
-    }
+        PlainCommand::CancelBooking(key, number) => format!(in alloc;
+            "cancel-booking {key} {number}"
+        ),
+        PlainCommand::CloseSlot(slot) => return slot_words(rt, "close-slot", slot),
+        PlainCommand::OpenSlot(slot) => return slot_words(rt, "open-slot", slot),
+    };
+    Ok(words?)
 }
 
 // The bytes of a command.
-fn bytes_of_command(
-    alloc: Global,
-    plain: &PlainCommand,
-    command: &Command,
-) -> Result<Vec<u8>, AllocError> {
-    let line = command_line(alloc, plain, command)?;
-    let arguments: Vec<&str> = line.as_str().split(' ').collect(alloc)?;
-    command_bytes(alloc, root_read(plain), arguments.as_slice())
+fn bytes_of_command(rt: &HostRuntime, plain: &PlainCommand) -> Result<Vec<u8>, Fail> {
+    let root = match plain {
+        PlainCommand::AddKey(_, _, root) => root_text(root),
+        _ => "",
+    };
+    let words = command_words(rt, plain)?;
+    let line = line_of(rt, "club", words.as_str())?;
+    let arguments: Vec<&str> = line.as_str().split(' ').collect(rt.alloc())?;
+    Ok(command_bytes(rt.alloc(), root, arguments.as_slice())?)
+}
+
+// The status of a command, what it prints, and a zero byte.
+fn answer_text(rt: &HostRuntime, answer: &OfficeAnswer) -> Result<String, Fail> {
+    match answer {
+        OfficeAnswer::Done => Ok(format!(in rt.alloc(); "\0done\n\0")?),
+        OfficeAnswer::NewKey { name, root } => {
+            let pass = pass_of(rt, name, root)?;
+            let text = write_any(rt.alloc(), Form::V2, &pass)?;
+            Ok(format!(in rt.alloc(); "\0{text}\n\0")?)
+        }
+        OfficeAnswer::NotDone(fault) => Ok(format!(in rt.alloc(); "\x01refused: {fault}\0")?),
+    }
 }
 
 /// What comes to the server, in its order, and what it writes by the reference machine.
 #[derive(Drop)]
-struct Plan {
+struct Plan<'a> {
+    rt: &'a HostRuntime,
+    reference: Club,
     arriving: Vec<Arriving>,
     moments: Vec<Moment>,
     clients: u32,
     want: Vec<u8>,
 }
 
-impl Plan {
-    fn new(alloc: Global) -> Plan {
+impl<'a> Plan<'a> {
+    fn new(rt: &'a HostRuntime) -> Plan<'a> {
         Plan {
-            arriving: Vec::new(alloc),
-            moments: Vec::new(alloc),
+            rt,
+            reference: Club::new(rt.alloc()),
+            arriving: Vec::new(rt.alloc()),
+            moments: Vec::new(rt.alloc()),
             clients: 0,
-            want: Vec::new(alloc),
+            want: Vec::new(rt.alloc()),
         }
-    }
-
-    fn wants(&mut self, rt: &impl Abort, bytes: &[u8]) {
-        self.want.extend_from_slice(bytes).expect(rt, "memory");
     }
 
     // Gives a command to the reference machine, and returns its bytes.
-    fn give(
-        &mut self,
-        rt: &(impl Abort + Alloc<A = Global>),
-        reference: &mut Club,
-        plain: &PlainCommand,
-    ) -> Vec<u8> {
-        let command = plain.command().expect(rt, "a command");
-        let answer = reference.office(&command).expect(rt, "memory");
-        self.wants_answer(rt, &answer);
-        bytes_of_command(rt.alloc(), plain, &command).expect(rt, "memory")
+    fn give(&mut self, plain: &PlainCommand, moment: Moment) -> Result<Vec<u8>, Fail> {
+        let command = plain.command().ok_or("a command")?;
+        let answer = self.reference.office(&command)?;
+        let text = answer_text(self.rt, &answer)?;
+        self.want.extend_from_slice(text.as_bytes())?;
+        self.moments.push(moment)?;
+        bytes_of_command(self.rt, plain)
     }
 
-    // The status of a command, what it prints, and a zero byte.
-    fn wants_answer(&mut self, rt: &(impl Abort + Alloc<A = Global>), answer: &OfficeAnswer) {
-        match answer {
-            OfficeAnswer::Done => self.wants(rt, b"\0done\n"),
-            OfficeAnswer::NewKey { name, root } => {
-                let signature = key_signature(name, root);
-                let pass = minted(rt.alloc(), name, signature).expect(rt, "memory");
-                let text = write_any(rt.alloc(), Form::V2, &pass).expect(rt, "a text");
-                self.wants(rt, b"\0");
-                self.wants(rt, text.as_str().as_bytes());
-                self.wants(rt, b"\n");
-            }
-            OfficeAnswer::NotDone(fault) => {
-                let line: Result<String, _> = format!(in rt.alloc(); "refused: {fault}");
-                self.wants(rt, b"\x01");
-                self.wants(rt, line.expect(rt, "memory").as_str().as_bytes());
-            }
-        }
-        self.wants(rt, b"\0");
-    }
-
-    // The office comes with a command.
-    fn office(
-        &mut self,
-        rt: &(impl Abort + Alloc<A = Global>),
-        reference: &mut Club,
-        plain: &PlainCommand,
-    ) {
-        let bytes = self.give(rt, reference, plain);
-        self.arriving
-            .push(Arriving::Office(bytes))
-            .expect(rt, "memory");
-        self.moments
-            .push(at(rt, audit("").moment))
-            .expect(rt, "memory");
-    }
-
-    // A client comes with a request, and the office meanwhile with a command, if there is one.
-    fn client(
-        &mut self,
-        rt: &(impl Abort + Alloc<A = Global>),
-        reference: &mut Club,
-        asking: &Asking,
-        between: Option<&PlainCommand>,
-    ) {
-        let moment = at(rt, asking.moment);
-        self.moments.push(moment).expect(rt, "memory");
-        let given = match between {
-            Some(plain) => {
-                self.moments.push(moment).expect(rt, "memory");
-                Some(self.give(rt, reference, plain))
-            }
-            None => None,
+    // The reference machine's reply.
+    fn reply(&mut self, asking: &Asking, moment: Moment) -> Result<Reply, Fail> {
+        let key = Name::read(asking.key.as_bytes());
+        let pass = signed_pass(self.rt.alloc(), key, asking.root, asking.caveats);
+        let words = Words {
+            pass: Ok(pass.ok_or("a pass")?),
+            request: asking.asked.request().ok_or("a request")?,
         };
-        let reply = reference_reply(rt, reference, asking, moment);
+        Ok(self.reference.ask(&words, moment)?)
+    }
+
+    // Asks the reference machine, and returns the bytes of the request.
+    fn ask(&mut self, asking: &Asking, moment: Moment) -> Result<Vec<u8>, Fail> {
+        let reply = self.reply(asking, moment)?;
         let mut room = [0; MAX_REPLY_LEN];
         let len = reply_bytes(&reply, &mut room);
-        self.wants(rt, &room[..len]);
-        let request = asking_bytes(rt, asking);
-        self.arriving
-            .push(Arriving::Client(request, given))
-            .expect(rt, "memory");
+        self.want.extend_from_slice(&room[..len])?;
+        self.moments.push(moment)?;
         self.clients = self.clients.saturating_add(1);
+        request_bytes(self.rt, asking)
     }
 
-    // Events in their order. A command that is drawn after a request comes between its halves.
-    fn events(
-        &mut self,
-        rt: &(impl Abort + Alloc<A = Global>),
-        reference: &mut Club,
-        events: &[Event],
-    ) {
-        let mut waiting: Option<Asking> = None;
+    // Adds a client with a request, if there is one, and the office with a command, if there is
+    // one, which is carried out first.
+    fn add(&mut self, asking: Option<Asking>, plain: Option<&PlainCommand>) -> Result<(), Fail> {
+        let moment = asking.unwrap_or(audit(AUDIT_AMY)).moment;
+        let moment = Moment::from_number(moment).ok_or("a moment")?;
+        let command = match plain {
+            Some(plain) => self.give(plain, moment)?,
+            None => Vec::new(self.rt.alloc()),
+        };
+        let request = match asking {
+            Some(asking) => self.ask(&asking, moment)?,
+            None => Vec::new(self.rt.alloc()),
+        };
+        self.arriving.push(Arriving { request, command })?;
+        Ok(())
+    }
+
+    // Adds events in their order. A command that is drawn after a request comes between its halves.
+    fn add_each(&mut self, events: &[Event]) -> Result<(), Fail> {
+        let mut waiting = None;
         for event in events {
-            match (waiting, event) {
-                (None, Event::Commanded(plain)) => self.office(rt, reference, plain),
-                (Some(asking), Event::Commanded(plain)) => {
-                    self.client(rt, reference, &asking, Some(plain));
-                    waiting = None;
-                }
-                (None, Event::Asked(next)) => waiting = Some(*next),
-                (Some(asking), Event::Asked(next)) => {
-                    self.client(rt, reference, &asking, None);
-                    waiting = Some(*next);
-                }
+            match event {
+                Event::Commanded(plain) => self.add(waiting, Some(plain))?,
+                Event::Asked(_) if waiting.is_some() => self.add(waiting, None)?,
+                Event::Asked(_) => {}
             }
-        }
-        if let Some(asking) = waiting {
-            self.client(rt, reference, &asking, None);
-        }
-    }
-
-    // The accounts of all members, and all slots.
-    fn audit(&mut self, rt: &(impl Abort + Alloc<A = Global>), reference: &mut Club) {
-        for key in &AUDITORS {
-            self.client(rt, reference, &audit(key), None);
-        }
-        for slot in &SLOTS {
-            let asking = Asking {
-                asked: PlainRequest::View(*slot),
-                ..audit(AUDIT_AMY)
+            waiting = match event {
+                Event::Commanded(_) => None,
+                Event::Asked(next) => Some(*next),
             };
-            self.client(rt, reference, &asking, None);
         }
-    }
-}
-
-// The reference machine's reply.
-fn reference_reply(
-    rt: &(impl Abort + Alloc<A = Global>),
-    reference: &mut Club,
-    asking: &Asking,
-    moment: Moment,
-) -> Reply {
-    let key = name(rt, asking.key);
-    let pass = signed_pass(rt.alloc(), Some(key), asking.root, asking.caveats);
-    let words = Words {
-        pass: Ok(pass.expect(rt, "a pass")),
-        request: asking.asked.request().expect(rt, "a request"),
-    };
-    reference.ask(&words, moment).expect(rt, "memory")
-}
-
-// Serves what a plan has, and ends the test unless the server writes what the plan wants.
-fn serve_plan<S: ClubStore, C: Clock>(
-    rt: &(impl Abort + Alloc<A = Global>),
-    desk: &mut OfficeDesk<'_, S, C>,
-    plan: &Plan,
-) {
-    let written = Written::new(rt.alloc());
-    let mut queue = Queue::new(plan.arriving.as_slice(), &written);
-    let mut moments = Given::new(plan.moments.as_slice());
-    let mut face = Face::new(rt.alloc()).expect(rt, "a face");
-    let log = &mut Unlogged;
-    let served = serve_logged(&mut queue, plan.clients, &mut moments, &mut face, desk, log);
-    expect_eq(rt, &served.is_ok(), &true);
-    let written = written.bytes(rt.alloc());
-    let written = str::from_utf8(written.as_slice());
-    expect_eq(rt, &written, &str::from_utf8(plan.want.as_slice()));
-}
-
-// Plays lists of a row of numbers, one after the other, over one club.
-fn play_lists<S: ClubStore, C: Clock>(
-    rt: &(impl Abort + Alloc<A = Global>),
-    desk: &mut OfficeDesk<'_, S, C>,
-    first: u64,
-) {
-    let mut reference = Club::new(rt.alloc());
-    let mut numbers = Numbers::new(first);
-    let mut plan = Plan::new(rt.alloc());
-    for plain in &BEGINNING {
-        plan.office(rt, &mut reference, plain);
-    }
-    plan.audit(rt, &mut reference);
-    serve_plan(rt, desk, &plan);
-    for _ in 0..LISTS {
-        let mut events = Vec::new(rt.alloc());
-        for _ in 0..EVENTS {
-            events.push(numbers.event()).expect(rt, "memory");
+        if waiting.is_some() {
+            self.add(waiting, None)?;
         }
-        let mut plan = Plan::new(rt.alloc());
-        plan.events(rt, &mut reference, events.as_slice());
-        plan.audit(rt, &mut reference);
-        serve_plan(rt, desk, &plan);
+        Ok(())
+    }
+
+    // Serves what was added, and fails unless the server writes what the reference machine does.
+    fn serve<S: ClubStore, C: Clock>(
+        &mut self,
+        desk: &mut OfficeDesk<'_, S, C>,
+    ) -> Result<(), Fail> {
+        let machine = Machine::new(Some(0), 0);
+        let written = Written::new(self.rt.alloc());
+        let mut queue = Queue::new(self.arriving.as_slice(), &machine, &written);
+        let mut moments = Given(self.moments.as_slice());
+        let mut face = Face::new(self.rt.alloc())?;
+        serve_on(&mut queue, self.clients, &mut moments, &mut face, desk)?;
+        let written = written.bytes(self.rt.alloc());
+        let want = str::from_utf8(self.want.as_slice());
+        expect_eq(self.rt, &str::from_utf8(written.as_slice()), &want)?;
+        self.arriving.clear();
+        self.moments.clear();
+        self.clients = 0;
+        self.want.clear();
+        Ok(())
     }
 }
 
-// Plays lists over a new store.
-fn play_over<S: ClubStore + Drop>(
-    rt: &(impl Abort + Alloc<A = Global> + Clock),
-    store: S,
-    first: u64,
-) {
+// Adds requests for the accounts of all members, and for all slots.
+fn add_audit(events: &mut Vec<Event>) -> Result<(), AllocError> {
+    for key in &AUDITORS {
+        events.push(Event::Asked(audit(key)))?;
+    }
+    for slot in &SLOTS {
+        let asked = PlainRequest::View(*slot);
+        events.push(Event::Asked(Asking {
+            asked,
+            ..audit(AUDIT_AMY)
+        }))?;
+    }
+    Ok(())
+}
+
+// Plays lists of a row of numbers, one after the other, over one club, which is made first.
+fn play_lists<S: ClubStore + Drop>(rt: &HostRuntime, store: S, first: u64) -> Result<(), Fail> {
     let mut desk = OfficeDesk::new(rt.alloc(), rt, store);
-    play_lists(rt, &mut desk, first);
-}
-
-// Plays lists over new tables in memory.
-fn play(rt: &(impl Abort + Alloc<A = Global> + Clock), first: u64) -> Result<(), Fail> {
-    play_over(rt, Store::open_in_memory(rt.alloc())?, first);
+    let mut plan = Plan::new(rt);
+    let mut numbers = Numbers::new(first);
+    let mut events = Vec::new(rt.alloc());
+    for plain in &BEGINNING {
+        events.push(Event::Commanded(*plain))?;
+    }
+    for _ in 0..=LISTS {
+        add_audit(&mut events)?;
+        plan.add_each(events.as_slice())?;
+        plan.serve(&mut desk)?;
+        events.clear();
+        for _ in 0..EVENTS {
+            events.push(numbers.event())?;
+        }
+    }
     Ok(())
 }
 
 #[test]
 fn serves_as_the_reference(rt: HostRuntime) -> Result<(), Fail> {
-    play(&rt, 2_026)
+    play_lists(&rt, Store::open_in_memory(rt.alloc())?, 2_026)
 }
 
 #[test]
 fn serves_a_second_row_of_lists(rt: HostRuntime) -> Result<(), Fail> {
-    play(&rt, 2_027)
+    play_lists(&rt, Store::open_in_memory(rt.alloc())?, 2_027)
 }
 
 #[test]
 fn serves_a_third_row_of_lists(rt: HostRuntime) -> Result<(), Fail> {
-    play(&rt, 2_028)
+    play_lists(&rt, Store::open_in_memory(rt.alloc())?, 2_028)
 }

@@ -1,49 +1,64 @@
-//! Runs of the program, as texts.
+//! Runs of the program, the rows that say how they end, and clubs in files.
+//!
+//! A row is a command with its arguments but for the database, and how it ends: its status, with
+//! what it writes or the line of its fault.
 
-use crate::callers::Caller;
-use crate::served::{serve_and_drop, serve_removed};
-use crate::terminal::{Input, NO_INPUT};
+use crate::callers::{Caller, Input, Machine, Notes};
 use club_core::StoreFault;
 use club_http::WriteOutlet;
 use clubdesk_commands::run_process;
 use clubdesk_files::{DatabasesUser, run_over_files};
-use desk_server::{Databases, Log, LogLines, Reached};
+use desk_server::{Databases, LogLines, Reached};
 use std::alloc::AllocError;
-use std::io::Write;
-use std::net::TcpListener;
+use std::fmt::Debug;
 use std::test::Fail;
 use std::time::Clock;
 use std::{env, fs, process};
 use test_kit::Process;
 
-/// A command and its arguments without the path, which is its second one, and how it ends: its
-/// status, and what it wrote or the line of its fault.
-#[derive(Clone, Copy)]
-pub struct Row<'a>(pub &'a str, pub &'a str, pub &'a str);
+/// What a server answers to a command: the status and the text, or nothing.
+pub type ServerAnswer<'a> = Option<(u8, &'a str)>;
 
-/// Room for all that a command writes.
-pub const ROOM: usize = 65_536;
-
-/// A run of the program: its line of arguments, its input, how much it may write, whether that can
-/// be flushed, and the requests of the clients of its server.
+/// What there is beside a run of the program.
 #[derive(Clone, Copy)]
-pub struct Run<'a> {
-    pub line: &'a str,
+pub struct Scene<'a> {
+    /// The rows that are played before the run and after it.
+    pub before: &'a [&'a str],
+    pub after: &'a [&'a str],
+    /// The input of the run, how much it may write, whether that can be flushed, and the requests
+    /// of the clients of its server.
     pub input: Input<'a>,
     pub room: usize,
     pub flushes: bool,
     pub requests: &'a [&'a str],
+    /// Over memory, the clock of the machine, as `Machine` has it; the fault of each opening; and
+    /// the answer of the server that has the database, if one has.
+    pub second: Option<u64>,
+    pub later: u64,
+    pub fault: Option<StoreFault>,
+    pub server: Option<ServerAnswer<'a>>,
+    /// Over a file, whether the database is dropped in place of being closed, as by a run that is
+    /// killed, and a file that is removed once the server listens.
+    pub is_killed: bool,
+    pub removed: Option<&'a str>,
 }
 
-impl<'a> Run<'a> {
-    /// A run on this line, with no input and no clients.
-    pub fn of(line: &'a str) -> Run<'a> {
-        Run {
-            line,
-            input: NO_INPUT,
-            room: ROOM,
+impl<'a> Scene<'a> {
+    /// A run after these rows and with nothing else.
+    pub fn after(before: &'a [&'a str]) -> Scene<'a> {
+        Scene {
+            before,
+            after: &[],
+            input: Input::Bytes(b""),
+            room: 65_536,
             flushes: true,
             requests: &[],
+            second: Some(0),
+            later: 0,
+            fault: None,
+            server: None,
+            is_killed: false,
+            removed: None,
         }
     }
 }
@@ -58,159 +73,126 @@ pub struct Output {
     pub log: Vec<u8>,
 }
 
-impl Output {
-    /// Nothing.
-    fn none(rt: &HostRuntime) -> Output {
-        Output {
-            returned: String::new(rt.alloc()),
-            taken: 0,
-            reply: Vec::new(rt.alloc()),
-            log: Vec::new(rt.alloc()),
-        }
-    }
-
-    // The result of a run that ended so.
-    fn of(
-        rt: &HostRuntime,
-        ended: &Ended,
-        caller: Caller<'_>,
-        log: Vec<u8>,
-    ) -> Result<Output, AllocError> {
-        Ok(Output {
-            returned: output_text(rt, ended, caller.written_bytes())?,
-            taken: caller.written_bytes().len(),
-            reply: caller.reply(),
-            log,
-        })
+// The status of a run, with what it wrote or the line of its fault.
+fn text_of(
+    rt: &HostRuntime,
+    status: u8,
+    printed: &str,
+    written: &[u8],
+) -> Result<String, AllocError> {
+    if status == 0 {
+        let text = str::from_utf8(written).unwrap_or("no text");
+        format!(in rt.alloc(); "{status} {text}")
+    } else {
+        let line = printed.strip_suffix('\n').unwrap_or("no line");
+        format!(in rt.alloc(); "{status} {line}")
     }
 }
 
-/// How a run ended, and how often it opened and closed a database.
-#[derive(Drop)]
-pub struct RunOutcome {
-    pub output: Output,
-    pub opened: u64,
-    pub closed: u64,
-}
-
-/// A path of this process alone, for a file that isn't there yet.
-pub fn new_path(rt: &HostRuntime, name: &str) -> Result<String, Fail> {
-    let folder = env::temp_dir(rt)?;
-    let folder = folder.as_str();
-    let id = process::id(rt.process());
-    Ok(format!(in rt.alloc(); "{folder}/clubdesk-{name}-{id}")?)
-}
-
-/// The path of a database's log.
-pub fn log_of(rt: &HostRuntime, path: &str) -> Result<String, AllocError> {
-    format!(in rt.alloc(); "{path}-wal")
-}
-
-/// Removes a database, of which the file or its log may be gone already.
-pub fn remove(rt: &HostRuntime, path: &str) {
-    let _ = fs::remove_file(rt, path);
-    if let Ok(log) = log_of(rt, path) {
-        let _ = fs::remove_file(rt, log.as_str());
-    }
-}
-
-/// The status of a run, with what it wrote or the line of its fault.
-fn output_text(rt: &HostRuntime, ended: &Ended, written: &[u8]) -> Result<String, AllocError> {
-    let status = ended.status;
-    let printed = ended.printed.as_str();
-    match status {
-        0 => match str::from_utf8(written) {
-            Ok(text) => format!(in rt.alloc(); "{status} {text}"),
-            Err(_) => format!(in rt.alloc(); "{status} no text"),
-        },
-        2 => format!(in rt.alloc(); "{status} {printed}"),
-        _ => match printed.strip_suffix('\n') {
-            Some(line) => format!(in rt.alloc(); "{status} {line}"),
-            None => format!(in rt.alloc(); "{status} no line"),
-        },
-    }
-}
-
-/// How a process of the program ended: its status, and what it printed on standard error.
-#[derive(Drop)]
-pub struct Ended {
-    pub status: u8,
-    pub printed: String,
-}
-
-/// How a run of the program ends, with this writer and this log.
-pub fn run_on<C: Clock, D: Databases, W: Write, G: Log>(
+// Runs the program on this line, by this clock of the machine.
+fn run_over<C: Clock, D: Databases>(
     rt: &HostRuntime,
     machine: &C,
+    notes: &Notes,
     databases: &mut D,
-    asked: &Run<'_>,
-    writer: &mut W,
-    log: &mut G,
-) -> Result<Ended, AllocError> {
-    let words = asked.line.split(' ').map(|word| word.as_bytes());
+    scene: &Scene<'_>,
+    line: &str,
+) -> Result<Output, AllocError> {
+    let words = line.split(' ').map(|word| word.as_bytes());
     let arguments: Vec<&[u8]> = words.collect(rt.alloc())?;
     let process = Process::new(rt.alloc(), arguments.as_slice());
-    let mut input = asked.input;
-    let status = run_process(rt, &process, machine, databases, &mut input, writer, log);
-    Ok(Ended {
-        status,
-        printed: process.into_printed(),
+    let mut input = scene.input;
+    let mut caller = Caller::new(rt, scene, notes);
+    let mut log = Vec::new(rt.alloc());
+    let mut lines = LogLines::new(WriteOutlet::new(&mut log), machine);
+    let reader = &mut input;
+    let writer = &mut caller;
+    let status = run_process(rt, &process, machine, databases, reader, writer, &mut lines);
+    let printed = process.into_printed();
+    Ok(Output {
+        returned: text_of(rt, status, printed.as_str(), caller.written_bytes())?,
+        taken: caller.written_bytes().len(),
+        reply: caller.reply(),
+        log,
     })
 }
 
-/// Runs the program by this clock of the machine.
-pub fn run_over<C: Clock, D: Databases>(
-    rt: &HostRuntime,
-    machine: &C,
-    databases: &mut D,
-    asked: Run<'_>,
-) -> Result<Output, AllocError> {
-    let mut caller = Caller::new(rt, &asked);
-    let mut log = Vec::new(rt.alloc());
-    let mut lines = LogLines::new(WriteOutlet::new(&mut log), machine);
-    let ended = run_on(rt, machine, databases, &asked, &mut caller, &mut lines)?;
-    Output::of(rt, &ended, caller, log)
-}
-
-/// What is done over databases in files.
-#[derive(Clone, Copy)]
-pub enum Work<'a> {
-    /// The program runs.
-    Run(Run<'a>),
-    /// A server answers one request, over the database at a path, and drops that.
-    Serve(&'a str, &'a TcpListener),
-    /// The same, but the file is removed once it is open.
-    ServeRemoved(&'a str, &'a TcpListener),
-}
-
-// A server that drops its database writes nothing of its own.
-fn work_over<D: Databases>(
-    rt: &HostRuntime,
-    databases: &mut D,
-    work: Work<'_>,
-) -> Result<Output, Fail> {
-    match work {
-        Work::Run(asked) => Ok(run_over(rt, rt, databases, asked)?),
-        Work::Serve(path, listener) => {
-            serve_and_drop(rt, databases, path, listener)?;
-            Ok(Output::none(rt))
-        }
-        Work::ServeRemoved(path, listener) => {
-            serve_removed(rt, databases, path, listener)?;
-            Ok(Output::none(rt))
-        }
+/// The line of a command over the database of a name. The words `--version` need none.
+pub fn line_of(rt: &HostRuntime, name: &str, words: &str) -> Result<String, AllocError> {
+    match words.split_once(' ') {
+        Some((command, rest)) => format!(in rt.alloc(); "clubdesk {command} {name} {rest}"),
+        None => format!(in rt.alloc(); "clubdesk {words}"),
     }
 }
 
-/// Databases whose openings and closings are counted.
-#[derive(Drop)]
-struct Counted<'d, D> {
-    databases: &'d mut D,
-    opened: u64,
-    closed: u64,
+/// Fails unless the values are equal.
+pub fn expect_eq<T: PartialEq + Debug>(
+    rt: &HostRuntime,
+    returned: &T,
+    want: &T,
+) -> Result<(), Fail> {
+    if returned == want {
+        return Ok(());
+    }
+    Err(format!(in rt.alloc(); "{returned:?} in place of {want:?}")?.into())
 }
 
-impl<D: Databases> Databases for Counted<'_, D> {
+/// The words of a row's command, and how it ends.
+pub fn parts_of(row: &str) -> Result<(&str, &str), Fail> {
+    Ok(row.split_once(" => ").ok_or("a row")?)
+}
+
+/// Fails unless a run ended as its row says.
+pub fn expect_end(rt: &HostRuntime, row: &str, returned: &str) -> Result<(), Fail> {
+    if returned == parts_of(row)?.1 {
+        return Ok(());
+    }
+    Err(format!(in rt.alloc(); "{row}: {returned}")?.into())
+}
+
+// Runs commands over the database of a name, one after the other. Each ends as its row says.
+fn play_rows<D: Databases>(
+    rt: &HostRuntime,
+    databases: &mut D,
+    name: &str,
+    rows: &[&str],
+) -> Result<(), Fail> {
+    for row in rows {
+        let line = line_of(rt, name, parts_of(row)?.0)?;
+        let machine = Machine::new(Some(0), 0);
+        let notes = Notes::new();
+        let scene = Scene::after(&[]);
+        let output = run_over(rt, &machine, &notes, databases, &scene, line.as_str())?;
+        expect_end(rt, row, output.returned.as_str())?;
+    }
+    Ok(())
+}
+
+/// Plays a scene at the database of a name: what comes of its run on these words.
+pub fn play_over<C: Clock, D: Databases>(
+    rt: &HostRuntime,
+    machine: &C,
+    notes: &Notes,
+    databases: &mut D,
+    name: &str,
+    scene: &Scene<'_>,
+    words: &str,
+) -> Result<Output, Fail> {
+    play_rows(rt, databases, name, scene.before)?;
+    let line = line_of(rt, name, words)?;
+    let output = run_over(rt, machine, notes, databases, scene, line.as_str())?;
+    play_rows(rt, databases, name, scene.after)?;
+    Ok(output)
+}
+
+/// Databases of a run that may be killed, which drops them in place of closing them.
+#[derive(Drop)]
+struct Fragile<'d, D> {
+    databases: &'d mut D,
+    is_killed: bool,
+}
+
+impl<D: Databases> Databases for Fragile<'_, D> {
     type Store = D::Store;
 
     type Door = D::Door;
@@ -224,18 +206,19 @@ impl<D: Databases> Databases for Counted<'_, D> {
     ghost closes = { λ _ _ _. Unit {0} };
 
     fn open(&mut self, name: &str) -> Result<D::Store, StoreFault> {
-        self.opened = self.opened.saturating_add(1);
         self.databases.open(name)
     }
 
     fn reach(&mut self, name: &str) -> Result<Reached<D::Store, D::Visit>, StoreFault> {
-        self.opened = self.opened.saturating_add(1);
         self.databases.reach(name)
     }
 
     fn close(&mut self, store: D::Store) {
-        self.closed = self.closed.saturating_add(1);
-        self.databases.close(store);
+        if self.is_killed {
+            drop(store);
+        } else {
+            self.databases.close(store);
+        }
     }
 
     fn make_door(&self, name: &str) -> Result<D::Door, StoreFault> {
@@ -243,74 +226,90 @@ impl<D: Databases> Databases for Counted<'_, D> {
     }
 }
 
-/// What is done, over whichever databases.
+/// A scene at the file of a path, and the words of its run.
 #[derive(Drop)]
-struct Worker<'x> {
+struct AtFile<'x> {
     rt: &'x HostRuntime,
-    work: Work<'x>,
+    path: &'x str,
+    scene: Scene<'x>,
+    words: &'x str,
 }
 
-impl DatabasesUser for Worker<'_> {
-    type Outcome = Result<RunOutcome, Fail>;
+impl DatabasesUser for AtFile<'_> {
+    type Outcome = Result<Output, Fail>;
 
     ghost outcomes = { λ _ _. Unit {0} };
 
-    fn run_over<D: Databases>(self, databases: &mut D) -> Result<RunOutcome, Fail> {
-        let mut counted = Counted {
+    fn run_over<D: Databases>(self, databases: &mut D) -> Result<Output, Fail> {
+        let rt = self.rt;
+        let notes = Notes::new();
+        let is_killed = self.scene.is_killed;
+        let mut fragile = Fragile {
             databases,
-            opened: 0,
-            closed: 0,
+            is_killed,
         };
-        let output = work_over(self.rt, &mut counted, self.work)?;
-        Ok(RunOutcome {
-            output,
-            opened: counted.opened,
-            closed: counted.closed,
-        })
+        let scene = &self.scene;
+        play_over(rt, rt, &notes, &mut fragile, self.path, scene, self.words)
     }
 }
 
-/// Does this over databases in files.
-pub fn do_work<'x>(rt: &'x HostRuntime, work: Work<'x>) -> Result<RunOutcome, Fail> {
-    run_over_files(rt, Worker { rt, work })
+/// The file of a club. It is removed in the end, if it is there.
+pub struct ClubFile<'a> {
+    rt: &'a HostRuntime,
+    path: String,
 }
 
-/// Runs the program on a line of arguments over databases in files, to a writer with this much
-/// room.
-pub fn run_line(rt: &HostRuntime, line: &str, room: usize) -> Result<RunOutcome, Fail> {
-    let asked = Run {
-        room,
-        ..Run::of(line)
-    };
-    do_work(rt, Work::Run(asked))
-}
-
-/// Runs a command over the database in a file.
-pub fn run_command(
-    rt: &HostRuntime,
-    path: &str,
-    command: &str,
-    arguments: &str,
-    room: usize,
-) -> Result<RunOutcome, Fail> {
-    let line = format!(in rt.alloc(); "clubdesk {command} {path} {arguments}")?;
-    run_line(rt, line.as_str(), room)
-}
-
-/// Fails unless a run ended as its row expects.
-pub fn expect_output(rt: &HostRuntime, row: &Row<'_>, returned: &str) -> Result<(), Fail> {
-    let Row(command, arguments, wanted) = row;
-    if returned == *wanted {
-        return Ok(());
+impl<'a> ClubFile<'a> {
+    /// The file at a path.
+    pub fn at(rt: &'a HostRuntime, path: String) -> ClubFile<'a> {
+        ClubFile { rt, path }
     }
-    Err(format!(in rt.alloc(); "{command} {arguments}: {returned}")?.into())
+
+    /// A file of this process alone, which isn't there yet.
+    pub fn new(rt: &'a HostRuntime, name: &str) -> Result<ClubFile<'a>, Fail> {
+        let folder = env::temp_dir(rt)?;
+        let folder = folder.as_str();
+        let id = process::id(rt.process());
+        let path = format!(in rt.alloc(); "{folder}/clubdesk-{name}-{id}")?;
+        Ok(ClubFile { rt, path })
+    }
+
+    pub fn path(&self) -> &str {
+        self.path.as_str()
+    }
+
+    /// A path that begins with the file's.
+    pub fn path_with(&self, end: &str) -> Result<String, AllocError> {
+        format!(in self.rt.alloc(); "{}{end}", self.path)
+    }
+
+    /// Plays a scene with a run on these words over the file.
+    pub fn run(&self, scene: &Scene<'_>, words: &str) -> Result<Output, Fail> {
+        let at_file = AtFile {
+            rt: self.rt,
+            path: self.path(),
+            scene: *scene,
+            words,
+        };
+        run_over_files(self.rt, at_file)
+    }
+
+    /// Runs commands over the file one after the other. Each ends as its row says.
+    pub fn play(&self, rows: &[&str]) -> Result<(), Fail> {
+        for row in rows {
+            let output = self.run(&Scene::after(&[]), parts_of(row)?.0)?;
+            expect_end(self.rt, row, output.returned.as_str())?;
+        }
+        Ok(())
+    }
 }
 
-/// Runs commands over a file one after the other. Each ends as its row expects.
-pub fn expect_rows(rt: &HostRuntime, path: &str, rows: &[Row<'_>]) -> Result<(), Fail> {
-    for row in rows {
-        let ended = run_command(rt, path, row.0, row.1, ROOM)?;
-        expect_output(rt, row, ended.output.returned.as_str())?;
+impl Drop for ClubFile<'_> {
+    fn drop(self) {
+        let ClubFile { rt, path } = self;
+        let _ = fs::remove_file(rt, path.as_str());
+        if let Ok(log) = format!(in rt.alloc(); "{path}-wal") {
+            let _ = fs::remove_file(rt, log.as_str());
+        }
     }
-    Ok(())
 }

@@ -1,0 +1,150 @@
+//! Long paths, roots and credits of each length, and the sheet of a day with many bookings.
+
+use crate::callers::Input;
+use crate::memory::play;
+use crate::runs::{ClubFile, Scene, expect_end, parts_of};
+use crate::servers::OFFICE;
+use std::test::Fail;
+
+// A rotated key's account, and a slot in the last hour. The pass was computed by a program of
+// another language.
+static EDGES: [&str; 4] = [
+    "rotate-key amy-1 ffeeddccbbaa99887766554433221100 2099-12-31T23:59 => \
+        0 AgEJY2x1Yi1kZXNrAglrZXk6YW15LTEAAAYgKCFX6Yuml46qONOaXLd8NdScMHF3Rhger2bpvDhpHo8\n",
+    "show-account amy-1 --at 2026-04-20T12:00 => 0 member amy\nbalance 10000\nquota 5\nopen 0\n\
+        spent 0\nrevoked no\nolder root until 2099-12-31T23:59\n",
+    "add-facility hall room 50 9999 0 24 => 0 done\n",
+    "show-slot hall 2026-05-01 23 => 0 facility hall\nday 2026-05-01\nhour 23\nkind room\n\
+        price 9999\nplaces 50\ntaken 0\nclosed no\n",
+];
+
+// The path leads to the file of a short one.
+#[test]
+fn at_a_path_of_4000_letters(rt: HostRuntime) -> Result<(), Fail> {
+    let short = ClubFile::new(&rt, "long")?;
+    let dots = "/.".repeat(
+        rt.alloc(),
+        4_000usize.saturating_sub(short.path().len()) / 2,
+    )?;
+    let club = ClubFile::at(&rt, format!(in rt.alloc(); "{dots}{}", short.path())?);
+    club.play(&OFFICE)?;
+    club.play(&EDGES)
+}
+
+// The least and the greatest of each decimal length.
+static CREDITS: [u32; 13] = [
+    1, 9, 10, 99, 100, 999, 1_000, 9_999, 10_000, 99_999, 100_000, 999_999, 1_000_000,
+];
+
+#[test]
+fn takes_credits_of_each_length(rt: HostRuntime) -> Result<(), Fail> {
+    for points in &CREDITS {
+        let row = format!(in rt.alloc(); "credit amy {points} => 0 done\n")?;
+        play(&rt, &Scene::after(&OFFICE), row.as_str())?;
+    }
+    Ok(())
+}
+
+// The key gets the root, and its pass is printed: the scenarios have passes under roots of each
+// length. By the input the root comes again, and is refused since it is there.
+fn takes_a_root(rt: &HostRuntime, club: &ClubFile<'_>, hex: &str) -> Result<(), Fail> {
+    let words = format!(in rt.alloc(); "rotate-key amy-1 {hex} 2099-12-31T23:59")?;
+    let output = club.run(&Scene::after(&[]), words.as_str())?;
+    let returned = output.returned.as_str();
+    if !returned.starts_with("0 AgEJY2x1Yi1kZXNrAglrZXk6YW15LTEAAAYg") || returned.len() != 82 {
+        return Err(format!(in rt.alloc(); "{hex}: {returned}")?.into());
+    }
+    let scene = Scene {
+        input: Input::Bytes(hex.as_bytes()),
+        ..Scene::after(&[])
+    };
+    let row = "rotate-key amy-1 2099-12-31T23:59 --root-stdin => 1 refused: exists";
+    let output = club.run(&scene, "rotate-key amy-1 2099-12-31T23:59 --root-stdin")?;
+    expect_end(rt, row, output.returned.as_str())
+}
+
+#[test]
+fn takes_roots_of_each_length(rt: HostRuntime) -> Result<(), Fail> {
+    let club = ClubFile::new(&rt, "roots")?;
+    club.play(&OFFICE)?;
+    for len in 16..=64usize {
+        let hex = "a7".repeat(rt.alloc(), len)?;
+        takes_a_root(&rt, &club, hex.as_str())?;
+    }
+    Ok(())
+}
+
+/// Keys with names of 24 letters, in the order of the sheet. Their passes were computed by a
+/// program of another language.
+static KEYS: [&str; 5] = [
+    "add-member a 99 => 0 done\n",
+    "add-key a-key-name-of-24-letters a 00112233445566778899aabbccddeeff => \
+        0 AgEJY2x1Yi1kZXNrAhxrZXk6YS1rZXktbmFtZS1vZi0yNC1sZXR0ZXJzAAAGIKVPaDEFATLWBr5KnJZ9PU27\
+        uF1SIXD-BQjX7PXqxZ8Q\n",
+    "add-member b 99 => 0 done\n",
+    "add-key key-2-name-of-24-letters b 00112233445566778899aabbccddeeff => \
+        0 AgEJY2x1Yi1kZXNrAhxrZXk6a2V5LTItbmFtZS1vZi0yNC1sZXR0ZXJzAAAGIHIjQL9EAt2PzilVsGCgsQoC\
+        u6cbp0EcpdQRU-7cLvQX\n",
+    "add-facility a-facility-of-24-letters room 50 0 0 24 => 0 done\n",
+];
+
+/// The number of hours with bookings, and of the bookings of each key in an hour.
+const HOURS: u32 = 20;
+
+const EACH: u32 = 3;
+
+/// The requests in an hour of the key that a row adds, and their rows of the sheet.
+fn book_hour(
+    rt: &HostRuntime,
+    row: &str,
+    hour: u32,
+    requests: &mut Vec<String>,
+    sheet: &mut String,
+) -> Result<(), Fail> {
+    let (words, end) = parts_of(row)?;
+    let (_, words) = words.split_once(' ').ok_or("a key")?;
+    let (key, _) = words.split_once(' ').ok_or("a member")?;
+    let (_, pass) = end.trim_end().split_once(' ').ok_or("a pass")?;
+    for place in 0..EACH {
+        let number = 999_999_000 + hour.saturating_mul(EACH).saturating_add(place) % 1_000;
+        requests.push(format!(in rt.alloc();
+            "PUT /slots/a-facility-of-24-letters/2026-05-01/{hour:02}/bookings/{number} \
+            HTTP/1.1\r\nHost: club\r\nAuthorization: Bearer {pass}\r\n\
+            Content-Length: 12\r\n\r\n{{\"guests\":0}}"
+        )?)?;
+        let row = format!(in rt.alloc();
+            "a-facility-of-24-letters {hour:02}:00 {key} {number}  1      0\n"
+        )?;
+        sheet.push_str(row.as_str())?;
+    }
+    Ok(())
+}
+
+/// The requests of a day, and the row of its sheet: lines of 76 bytes between a head of 21 bytes
+/// and a last line of 42.
+fn book_day(rt: &HostRuntime) -> Result<(Vec<String>, String), Fail> {
+    let mut requests = Vec::new(rt.alloc());
+    let mut sheet = format!(in rt.alloc(); "sheet 2026-05-01 => 0 Day sheet 2026-05-01\n")?;
+    for hour in 0..HOURS {
+        for key in [KEYS[1], KEYS[3]] {
+            book_hour(rt, key, hour, &mut requests, &mut sheet)?;
+        }
+    }
+    sheet.push_str("Total bookings 120, persons 120, charge 0\n")?;
+    Ok((requests, sheet))
+}
+
+/// It has 9,183 bytes.
+#[test]
+fn prints_a_long_sheet(rt: HostRuntime) -> Result<(), Fail> {
+    let (texts, sheet) = book_day(&rt)?;
+    let requests: Vec<&str> = texts.iter().map(|text| text.as_str()).collect(rt.alloc())?;
+    let scene = Scene {
+        requests: requests.as_slice(),
+        after: &[sheet.as_str()],
+        ..Scene::after(&KEYS)
+    };
+    let row = "serve --port 0 --count 120 --at 2026-04-20T12:00 => 0 ";
+    play(&rt, &scene, row)?;
+    Ok(())
+}
