@@ -43,7 +43,6 @@ fn cut_off(len: usize) -> Ended {
     (Err(AnswerFault::Write(len)), BOOK_7.request(), BOOKED_7)
 }
 
-/// A desk that replies to the booking.
 fn booking_desk(rt: &impl Runtime) -> Desk<'static> {
     Desk {
         reply: booked_reply(rt),

@@ -41,7 +41,6 @@ pub(crate) fn expect_shown<T: Display>(rt: &impl Runtime, value: &T, want: &str)
     expect_bytes(rt, text.as_bytes(), want.as_bytes(), want);
 }
 
-/// Returns the pieces joined together.
 pub(crate) fn join(rt: &impl Runtime, pieces: &[Piece]) -> String {
     test_kit::join(rt.alloc(), pieces).expect(rt, "memory")
 }

@@ -5,14 +5,12 @@ mod at_the_door;
 mod between;
 mod by_the_door;
 mod clocks;
-mod closed;
 mod doubles;
 mod journal;
 mod lengths;
 mod limits;
 mod logs;
 mod over_sockets;
-mod request_lines;
 mod told;
 
 use crate::desk::Desk;
@@ -48,7 +46,6 @@ fn always(moment: Moment) -> MomentsOf<'static, 'static, Stopped> {
     }
 }
 
-/// Returns a face without a request.
 fn new_face(rt: &impl Runtime) -> Face {
     Face::new(rt.alloc()).expect(rt, "a face")
 }

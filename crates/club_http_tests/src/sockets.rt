@@ -10,22 +10,14 @@ pub(crate) fn loopback_listener(
     TcpListener::bind(rt, "127.0.0.1:0").expect(rt, "a listener")
 }
 
-/// Returns a client of this listener.
-pub(crate) fn connect(
-    rt: &(impl Runtime + Net<Listener = TcpListener, Stream = TcpStream>),
-    listener: &TcpListener,
-) -> TcpStream {
-    let address = listener.local_addr().expect(rt, "an address");
-    TcpStream::connect(rt, address).expect(rt, "a client")
-}
-
 /// Returns a client of this listener that has sent these bytes.
 pub(crate) fn client_of(
     rt: &(impl Runtime + Net<Listener = TcpListener, Stream = TcpStream>),
     listener: &TcpListener,
     bytes: &[u8],
 ) -> TcpStream {
-    let mut client = connect(rt, listener);
+    let address = listener.local_addr().expect(rt, "an address");
+    let mut client = TcpStream::connect(rt, address).expect(rt, "a client");
     client.write_all(bytes).expect(rt, "a request that is sent");
     client
 }

@@ -2,17 +2,14 @@
 //! with limits of time. A test sets their clock. Only these tests refuse an exchange that reads or
 //! writes less over its socket, or has other limits.
 
-use super::{Call, Journal, client_at, exchange, new_face, patience, slot_shown};
+use super::{Journal, client_at, exchange, new_face, patience, slot_shown};
 use crate::desk::Desk;
 use crate::expect::{Runtime, expect_row, moment, noon};
 use crate::sockets::{client_of, expect_reply, loopback_listener};
 use club_core::{Reply, Request};
 use club_http::AnswerFault;
 use std::net::TcpListener;
-use test_kit::moments::{BEGUN, NOON};
-use test_kit::replies::{ACCOUNT_AFTER, BOOKED_7, CANCELLED_7};
-use test_kit::requests::{ACCOUNT, BOOK_7, CANCEL_7};
-use test_kit::{PlainReply, PlainRequest, PlainSlot, exchanges};
+use test_kit::{PlainReply, PlainRequest, PlainSlot, exchanges, moments, replies, requests};
 
 /// Slots in the first hour that the desk knows, and in the last.
 const FIRST_HOUR: PlainSlot = PlainSlot {
@@ -32,23 +29,23 @@ const LAST_HOUR: PlainSlot = PlainSlot {
 static ROWS: [(&str, &str, PlainRequest, Option<PlainReply>, &str); 5] = [
     (
         exchanges::BOOK_7,
-        NOON,
-        BOOK_7,
-        Some(BOOKED_7),
+        moments::NOON,
+        requests::BOOK_7,
+        Some(replies::BOOKED_7),
         exchanges::BOOKED_7,
     ),
     (
         exchanges::CANCEL_7,
-        BEGUN,
-        CANCEL_7,
-        Some(CANCELLED_7),
+        moments::BEGUN,
+        requests::CANCEL_7,
+        Some(replies::CANCELLED_7),
         exchanges::CANCELLED_7,
     ),
     (
         exchanges::ACCOUNT,
         "2000-01-01T00:00",
-        ACCOUNT,
-        Some(ACCOUNT_AFTER),
+        requests::ACCOUNT,
+        Some(replies::ACCOUNT_AFTER),
         exchanges::BALANCE_9400,
     ),
     (
@@ -113,14 +110,12 @@ fn exchanges_of_each_day(rt: HostRuntime) {
         expect_row(&rt, &outcome, &Ok(desk.reply), request);
         let last = asked.request();
         expect_row(&rt, &(desk.asked, desk.last), &(1, last), request);
-        let calls = journal.calls(rt.alloc());
-        let wanted = [(1_007, Call::Asked)];
-        expect_row(&rt, &calls.as_slice(), &wanted.as_slice(), request);
+        let calls = journal.calls(&rt);
+        expect_row(&rt, &calls.as_str(), &"[(1007, Asked)]", request);
         expect_reply(&rt, &mut client, reply);
     }
 }
 
-/// The length of the request.
 const WHOLE: usize = exchanges::BOOK_7.len();
 
 /// The number of bytes that a client sends, the milliseconds from its connection to its exchange,

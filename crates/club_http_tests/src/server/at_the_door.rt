@@ -6,7 +6,7 @@ use super::doubles::HandSet;
 use super::{desk_at_noon, patience};
 use crate::desk::Desk;
 use crate::expect::{expect_bytes, expect_eq, expect_row};
-use crate::sockets::{connect, loopback_listener};
+use crate::sockets::{client_of, loopback_listener};
 use desk_server::{Arrival, Arrivals, Handover, Listening};
 use libc::net as c;
 use std::fs;
@@ -169,7 +169,8 @@ fn a_door_that_fails_is_no_client(rt: HostRuntime) -> Result<(), Fail> {
     let door = UnixListener::bind(&rt, path.as_str())?;
     let _ = c::shutdown(door.as_raw_fd(), c::SHUT_RDWR);
     let listener = loopback_listener(&rt);
-    let _clients = (connect(&rt, &listener), connect(&rt, &listener));
+    let _first = client_of(&rt, &listener, b"");
+    let _second = client_of(&rt, &listener, b"");
     let clock = HandSet::new(0, 0);
     let mut arrivals = Listening::new(&listener, Some(&door), &clock, patience());
     for rested in &[10, 20] {
@@ -206,12 +207,11 @@ fn commands_and_clients_take_turns(rt: HostRuntime) -> Result<(), Fail> {
     let path = new_path(&rt, "turns")?;
     let door = door_at(&rt, path.as_str())?;
     let listener = loopback_listener(&rt);
-    let _clients = (connect(&rt, &listener), connect(&rt, &listener));
-    let _last_client = connect(&rt, &listener);
-    let _offices = (
-        UnixStream::connect(&rt, path.as_str())?,
-        UnixStream::connect(&rt, path.as_str())?,
-    );
+    let _first = client_of(&rt, &listener, b"");
+    let _second = client_of(&rt, &listener, b"");
+    let _third = client_of(&rt, &listener, b"");
+    let _office = UnixStream::connect(&rt, path.as_str())?;
+    let _other = UnixStream::connect(&rt, path.as_str())?;
     let mut arrivals = Listening::new(&listener, Some(&door), &rt, patience());
     for turn in &TURNS {
         expect_eq(&rt, &is_command(&mut arrivals), &Some(*turn));

@@ -3,18 +3,18 @@
 //! client goes first, or that a stream is closed before the log has its line.
 
 use super::doubles::{Script, Step, Wire};
-use super::journal::{Call, Entries, Journal};
+use super::journal::{Entries, Journal};
 use super::{REQUEST, always, desk_at_noon, new_face};
 use crate::desk::Desk;
-use crate::expect::{Runtime, expect_row, noon};
+use crate::expect::{Runtime, expect_eq, expect_row, noon};
 use desk_server::serve_logged;
 
-/// The steps of a client and of the office, the milliseconds of a command, and the calls of a
-/// server that has a patience of ten seconds.
+/// The steps of a client and of the office, and the milliseconds of a command. Then the calls of a
+/// server that has a patience of ten seconds, and their times.
 struct Row {
     steps: &'static [Step<'static>],
     command_takes: u64,
-    calls: &'static [(u64, Call)],
+    calls: &'static str,
 }
 
 /// The request without its first letter.
@@ -25,15 +25,8 @@ static ROWS: [Row; 6] = [
     Row {
         steps: &[Step::Bytes(0, REQUEST), Step::Command(0, Some(b"an order"))],
         command_takes: 0,
-        calls: &[
-            (0, Call::Began),
-            (0, Call::WaitedBytesFirst(10_000)),
-            (0, Call::Read(10_000)),
-            (0, Call::Asked),
-            (0, Call::Wrote(10_000, 140)),
-            (0, Call::Closed),
-            (0, Call::NotedClient),
-        ],
+        calls: "[(0, Began), (0, WaitedBytesFirst(10000)), (0, Read(10000)), (0, Asked), \
+            (0, Wrote(10000, 140)), (0, Closed), (0, NotedClient)]",
     },
     // A command between two pieces of the request goes first. It uses up some of the client's time.
     Row {
@@ -43,21 +36,10 @@ static ROWS: [Row; 6] = [
             Step::Bytes(2_000, REST),
         ],
         command_takes: 100,
-        calls: &[
-            (0, Call::Began),
-            (0, Call::WaitedBytesFirst(10_000)),
-            (1_000, Call::Read(9_000)),
-            (1_000, Call::WaitedCommandFirst(9_000)),
-            (1_500, Call::Began),
-            (1_500, Call::Commanded(8)),
-            (1_600, Call::NotedCommand),
-            (1_600, Call::WaitedBytesFirst(8_400)),
-            (3_600, Call::Read(6_400)),
-            (3_600, Call::Asked),
-            (3_600, Call::Wrote(10_000, 140)),
-            (3_600, Call::Closed),
-            (3_600, Call::NotedClient),
-        ],
+        calls: "[(0, Began), (0, WaitedBytesFirst(10000)), (1000, Read(9000)), \
+            (1000, WaitedCommandFirst(9000)), (1500, Began), (1500, Commanded(8)), \
+            (1600, NotedCommand), (1600, WaitedBytesFirst(8400)), (3600, Read(6400)), \
+            (3600, Asked), (3600, Wrote(10000, 140)), (3600, Closed), (3600, NotedClient)]",
     },
     // A silent client delays no command, and is cut off after ten seconds.
     Row {
@@ -67,38 +49,19 @@ static ROWS: [Row; 6] = [
             Step::Command(2_000, Some(b"another order")),
         ],
         command_takes: 0,
-        calls: &[
-            (0, Call::Began),
-            (0, Call::WaitedBytesFirst(10_000)),
-            (3_000, Call::Began),
-            (3_000, Call::Commanded(8)),
-            (3_000, Call::NotedCommand),
-            (3_000, Call::WaitedBytesFirst(7_000)),
-            (4_000, Call::WaitedBytesFirst(6_000)),
-            (6_000, Call::Began),
-            (6_000, Call::Commanded(13)),
-            (6_000, Call::NotedCommand),
-            (6_000, Call::WaitedBytesFirst(4_000)),
-            (10_000, Call::Read(0)),
-            (10_000, Call::Closed),
-            (10_000, Call::NotedClient),
-        ],
+        calls: "[(0, Began), (0, WaitedBytesFirst(10000)), (3000, Began), (3000, Commanded(8)), \
+            (3000, NotedCommand), (3000, WaitedBytesFirst(7000)), (4000, WaitedBytesFirst(6000)), \
+            (6000, Began), (6000, Commanded(13)), (6000, NotedCommand), \
+            (6000, WaitedBytesFirst(4000)), (10000, Read(0)), (10000, Closed), \
+            (10000, NotedClient)]",
     },
     // A command uses up all of the client's time. The client is cut off unless its request has
     // come.
     Row {
         steps: &[Step::Command(1_000, Some(b"an order"))],
         command_takes: 20_000,
-        calls: &[
-            (0, Call::Began),
-            (0, Call::WaitedBytesFirst(10_000)),
-            (1_000, Call::Began),
-            (1_000, Call::Commanded(8)),
-            (21_000, Call::NotedCommand),
-            (21_000, Call::Read(0)),
-            (21_000, Call::Closed),
-            (21_000, Call::NotedClient),
-        ],
+        calls: "[(0, Began), (0, WaitedBytesFirst(10000)), (1000, Began), (1000, Commanded(8)), \
+            (21000, NotedCommand), (21000, Read(0)), (21000, Closed), (21000, NotedClient)]",
     },
     Row {
         steps: &[
@@ -106,18 +69,9 @@ static ROWS: [Row; 6] = [
             Step::Bytes(0, REQUEST),
         ],
         command_takes: 20_000,
-        calls: &[
-            (0, Call::Began),
-            (0, Call::WaitedBytesFirst(10_000)),
-            (1_000, Call::Began),
-            (1_000, Call::Commanded(8)),
-            (21_000, Call::NotedCommand),
-            (21_000, Call::Read(0)),
-            (21_000, Call::Asked),
-            (21_000, Call::Wrote(10_000, 140)),
-            (21_000, Call::Closed),
-            (21_000, Call::NotedClient),
-        ],
+        calls: "[(0, Began), (0, WaitedBytesFirst(10000)), (1000, Began), (1000, Commanded(8)), \
+            (21000, NotedCommand), (21000, Read(0)), (21000, Asked), (21000, Wrote(10000, 140)), \
+            (21000, Closed), (21000, NotedClient)]",
     },
     // After a bad request the server reads the rest of the bytes before it closes the stream.
     Row {
@@ -127,22 +81,10 @@ static ROWS: [Row; 6] = [
             Step::End(0),
         ],
         command_takes: 0,
-        calls: &[
-            (0, Call::Began),
-            (0, Call::WaitedBytesFirst(10_000)),
-            (0, Call::Read(10_000)),
-            (0, Call::WaitedCommandFirst(10_000)),
-            (0, Call::Began),
-            (0, Call::Commanded(8)),
-            (0, Call::NotedCommand),
-            (0, Call::WaitedBytesFirst(10_000)),
-            (0, Call::Read(10_000)),
-            (0, Call::Wrote(10_000, 131)),
-            (0, Call::EndedWriting),
-            (0, Call::Read(200)),
-            (0, Call::Closed),
-            (0, Call::NotedClient),
-        ],
+        calls: "[(0, Began), (0, WaitedBytesFirst(10000)), (0, Read(10000)), \
+            (0, WaitedCommandFirst(10000)), (0, Began), (0, Commanded(8)), (0, NotedCommand), \
+            (0, WaitedBytesFirst(10000)), (0, Read(10000)), (0, Wrote(10000, 131)), \
+            (0, EndedWriting), (0, Read(200)), (0, Closed), (0, NotedClient)]",
     },
 ];
 
@@ -159,9 +101,9 @@ fn plays(rt: &impl Runtime, row: &Row) {
     let mut face = new_face(rt);
     let log = &mut Entries(&journal);
     let served = serve_logged(&mut arrivals, 1, &mut moments, &mut face, &mut desk, log);
-    let calls = journal.calls(rt.alloc());
-    expect_row(rt, &calls.as_slice(), &row.calls, &row.calls);
     expect_row(rt, &served, &Ok(()), &row.calls);
+    let calls = journal.calls(rt);
+    expect_eq(rt, &calls.as_str(), &row.calls);
 }
 
 #[test]

@@ -25,7 +25,6 @@ pub fn new_path(rt: &HostRuntime, name: &str) -> Result<String, Fail> {
     Ok(format!(in rt.alloc(); "{folder}/{name}-{id}")?)
 }
 
-/// Returns a door at this path.
 pub fn door_at(rt: &(impl Files + Net), path: &str) -> Result<UnixListener, Fail> {
     let door = UnixListener::bind(rt, path)?;
     door.set_nonblocking(true)?;

@@ -51,7 +51,6 @@ fn zone_of(rt: &impl Runtime, rule: &'static str) -> Zone<'static> {
     Zone::from_rule(rule).expect(rt, "a zone")
 }
 
-/// Returns a clock in the zone of a rule.
 pub fn clock_in<'c, C: time::Clock>(
     rt: &impl Runtime,
     rule: &'static str,

@@ -235,7 +235,7 @@ impl<'a> Arrivals for Script<'a> {
     }
 }
 
-/// A clock that shows one time since 1970 began; `None` if it can't be read.
+/// A clock that always shows one time; `None` if it can't be read.
 #[derive(Drop)]
 pub struct Stopped(pub Option<Duration>);
 

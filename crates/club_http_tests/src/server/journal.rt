@@ -2,12 +2,13 @@
 //! each call by a clock that the test sets.
 
 use super::doubles::HandSet;
+use crate::expect::Runtime;
 use desk_server::{Fate, Log};
 use std::alloc::Global;
 use std::cell::RefCell;
 
 /// A call, with the milliseconds of its limit, and the number of bytes of a write or a command.
-#[derive(Clone, Copy, Debug, PartialEq, Eq)]
+#[derive(Clone, Copy, Debug)]
 pub enum Call {
     /// A wait for a client and for the office. A command goes first, or the client's bytes do.
     WaitedCommandFirst(u64),
@@ -47,10 +48,11 @@ impl Journal {
         }
     }
 
-    /// Takes the calls out of the journal; none while it notes a call.
-    pub fn calls(&self, alloc: Global) -> Vec<(u64, Call)> {
-        let calls = self.calls.try_replace(Vec::new(alloc));
-        calls.unwrap_or(Vec::new(alloc))
+    /// Takes the calls and their times out of the journal, and returns their text.
+    pub fn calls(&self, rt: &impl Runtime) -> String {
+        let calls = self.calls.try_replace(Vec::new(rt.alloc()));
+        let calls = calls.unwrap_or(Vec::new(rt.alloc()));
+        format!(in rt.alloc(); "{calls:?}").expect(rt, "memory")
     }
 }
 

@@ -6,16 +6,13 @@ use super::by_the_door::{door_at, new_path, office_at};
 use super::{REQUEST, client_at, desk_at_noon, exchange, new_face, patience, slot_shown};
 use crate::desk::{Desk, Sender};
 use crate::expect::{Runtime, expect_eq, expect_row};
-use crate::sockets::{connect, expect_reply, loopback_listener};
+use crate::sockets::{client_of, expect_reply, loopback_listener};
 use club_core::{Reply, Request};
 use club_values::{Name, Slot};
 use std::fs::{self, Files};
 use std::net::{Net, TcpListener, TcpStream};
 use std::test::Fail;
-use test_kit::COURT_AT_18;
-use test_kit::exchanges::BOOKED_7 as BOOKED_TEXT;
-use test_kit::replies::BOOKED_7;
-use test_kit::requests::BOOK_7;
+use test_kit::{COURT_AT_18, exchanges, replies, requests};
 
 /// Runs an exchange with a client that sends this request in pieces of `step` bytes, with a command
 /// between each two pieces. Returns the last request of the desk. Ends the test unless the client
@@ -30,7 +27,7 @@ fn asked_in_pieces(
 ) -> Result<Option<Request>, Fail> {
     let door = door_at(rt, path)?;
     let listener = loopback_listener(rt);
-    let mut client = connect(rt, &listener);
+    let mut client = client_of(rt, &listener, b"");
     let peer = client.try_clone()?;
     let mut sender = Sender {
         client: &peer,
@@ -88,13 +85,13 @@ static BOOKINGS: [(usize, usize, usize); 9] = [
 fn requests_of_each_length(rt: HostRuntime) -> Result<(), Fail> {
     let path = new_path(&rt, "requests-of-each-length")?;
     let path = path.as_str();
-    let reply = BOOKED_7.reply().ok_or("a reply")?;
+    let reply = replies::BOOKED_7.reply().ok_or("a reply")?;
     for row in &BOOKINGS {
         let (head, body, step) = *row;
         let request = booking_of(&rt, head, body)?;
         expect_row(&rt, &request.len(), &head.saturating_add(body), row);
-        let last = asked_in_pieces(&rt, path, &request, step, reply, BOOKED_TEXT)?;
-        expect_row(&rt, &last, &BOOK_7.request(), row);
+        let last = asked_in_pieces(&rt, path, &request, step, reply, exchanges::BOOKED_7)?;
+        expect_row(&rt, &last, &requests::BOOK_7.request(), row);
     }
     Ok(())
 }

@@ -1,13 +1,16 @@
-//! The server's log of connections.
+//! The server's log of connections: its lines, and when the server writes them.
 
 use super::clocks::{clock_in, noons};
 use super::doubles::{Broken, HandSet, Script, Step, Wire};
 use super::journal::Journal;
-use super::{WHOLE, desk_at_noon, new_face};
-use crate::expect::{Runtime, expect_bytes, expect_eq};
+use super::{WHOLE, always, desk_at_noon, new_face};
+use crate::expect::{Runtime, expect_bytes, expect_eq, noon};
+use crate::sockets::{client_of, loopback_listener};
 use club_http::WriteOutlet;
-use desk_server::{ClockOutOfRange, LogLines, serve_logged};
-use std::io::Write;
+use desk_server::{ClockOutOfRange, Fate, Listening, Log, LogLines, RequestLine, serve_logged};
+use std::io::{ErrorKind, Read, Write};
+use std::net::{TcpListener, TcpStream};
+use std::time::Duration;
 
 /// One of the requests comes in two pieces, with commands before and between the pieces.
 static SCRIPT: [Wire<'static>; 11] = [
@@ -105,4 +108,122 @@ fn a_line_for_a_connection_without_a_moment(rt: HostRuntime) {
 fn a_log_that_fails(rt: HostRuntime) {
     let returned = log_script(&rt, u64::MAX, &mut Broken);
     expect_eq(&rt, &returned, &(Ok(()), 11, 3));
+}
+
+/// The first bytes of a request, and the method and the path that the log shows, if any. The log
+/// looks at the first 96 bytes, which are enough for the desk's longest request line.
+static REQUEST_LINES: [(&str, Option<&str>, Option<&str>); 12] = [
+    ("GET /account HTTP/1.1\r\n", Some("GET"), Some("/account")),
+    (
+        "DELETE /a/2026-05-01 ",
+        Some("DELETE"),
+        Some("/a/2026-05-01"),
+    ),
+    ("OPTIONS * HTTP/1.1", Some("OPTIONS"), None),
+    ("PROPFIND / HTTP/1.1", None, Some("/")),
+    ("GET /account", None, None),
+    ("GET  HTTP/1.1", Some("GET"), None),
+    (" / HTTP/1.1", None, Some("/")),
+    ("get /a?b HTTP/1.1", None, None),
+    ("", None, None),
+    (
+        "DELETE /slots/abcdefghijklmnopqrstuvwx/2026-05-01/18/bookings/999999999 HTTP/1.1\r\n\
+        Host: a-host-whose-name-is-long.example\r\n",
+        Some("DELETE"),
+        Some("/slots/abcdefghijklmnopqrstuvwx/2026-05-01/18/bookings/999999999"),
+    ),
+    (
+        "GET /aaaaaaaaaaaaaaaaaaaaaaaaaaaaaaaaaaaaaaaaaaaaaaaaaaaaaaaaaaaaaaaaaaaaaaaaaaaaaaaaaaaaaaaaaa \
+        HTTP/1.1",
+        Some("GET"),
+        Some(
+            "/aaaaaaaaaaaaaaaaaaaaaaaaaaaaaaaaaaaaaaaaaaaaaaaaaaaaaaaaaaaaaaaaaaaaaaaaaaaaaaaaaaaaaaaaaa",
+        ),
+    ),
+    (
+        "GET /aaaaaaaaaaaaaaaaaaaaaaaaaaaaaaaaaaaaaaaaaaaaaaaaaaaaaaaaaaaaaaaaaaaaaaaaaaaaaaaaaaaaaaaaaaa \
+        HTTP/1.1",
+        None,
+        None,
+    ),
+];
+
+fn expect_word(rt: &impl Runtime, word: Option<&[u8]>, want: &Option<&str>) {
+    expect_eq(rt, &word.is_some(), &want.is_some());
+    let wanted = want.unwrap_or("").as_bytes();
+    expect_bytes(rt, word.unwrap_or(b""), wanted, "a word");
+}
+
+#[test]
+fn request_lines(rt: HostRuntime) {
+    for (request, method, path) in &REQUEST_LINES {
+        let line = RequestLine::of(request.as_bytes());
+        expect_word(&rt, line.method(), method);
+        expect_word(&rt, line.path(), path);
+    }
+}
+
+/// A log that checks at each line whether the client's connection is closed.
+#[derive(Drop)]
+struct Closings {
+    client: TcpStream,
+    lines: u64,
+    closed: u64,
+}
+
+impl Closings {
+    // Returns whether the connection ended or was reset within half a second.
+    fn is_closed(&mut self) -> bool {
+        let patience = Duration::from_millis(500);
+        if self.client.set_read_timeout(Some(patience)).is_err() {
+            return false;
+        }
+        match self.client.read(&mut [0]) {
+            Ok(came) => came == 0,
+            Err(error) => error.kind() == ErrorKind::ConnectionReset,
+        }
+    }
+}
+
+impl Log for Closings {
+    ghost begins = { λ _ _. Unit {0} };
+
+    ghost notes = { λ _ _ _. Unit {0} };
+
+    fn begin(&mut self) {}
+
+    fn note(&mut self, _fate: &Fate) {
+        self.lines = self.lines.saturating_add(1);
+        if self.is_closed() {
+            self.closed = self.closed.saturating_add(1);
+        }
+    }
+}
+
+/// The bytes of clients that are cut off. They get no reply, since a reply ends the server's side
+/// of the connection before the connection is closed.
+static CUT: [&[u8]; 3] = [b"", b"G", b"GET /account HTTP/1.1\r\nHost: club\r\n"];
+
+fn closes_before_its_line<'x>(rt: &'x impl Runtime, listener: &'x TcpListener, client: TcpStream) {
+    let log = &mut Closings {
+        client,
+        lines: 0,
+        closed: 0,
+    };
+    let mut arrivals = Listening::new(listener, None, rt, Duration::from_millis(20));
+    let mut moments = always(noon(rt));
+    let mut face = new_face(rt);
+    let mut desk = desk_at_noon(rt);
+    let served = serve_logged(&mut arrivals, 1, &mut moments, &mut face, &mut desk, log);
+    expect_eq(rt, &(served, log.lines, log.closed), &(Ok(()), 1, 1));
+}
+
+// The server closes a connection before it writes the connection's line.
+#[test]
+fn closed_before_its_line(rt: HostRuntime) {
+    for sent in &CUT {
+        let listener = loopback_listener(&rt);
+        let client = client_of(&rt, &listener, sent);
+        closes_before_its_line(&rt, &listener, client);
+    }
 }

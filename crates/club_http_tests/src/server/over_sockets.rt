@@ -5,7 +5,7 @@
 use super::doubles::HandSet;
 use super::{REPLY, REQUEST, client_at, desk_at_noon, exchange, new_face, patience, serves};
 use crate::expect::{Runtime, expect_bytes, expect_eq};
-use crate::sockets::{client_of, connect, expect_reply, loopback_listener};
+use crate::sockets::{client_of, expect_reply, loopback_listener};
 use club_http::Face;
 use desk_server::Listening;
 use std::cell::Cell;
@@ -34,7 +34,7 @@ fn serve<'x>(
 #[test]
 fn serves_over_a_socket(rt: HostRuntime) {
     let listener = loopback_listener(&rt);
-    drop(connect(&rt, &listener));
+    drop(client_of(&rt, &listener, b""));
     let mut client = client_of(&rt, &listener, REQUEST);
     expect_eq(&rt, &serve(&rt, &listener, 2, patience()), &1);
     expect_reply(&rt, &mut client, REPLY);
@@ -43,7 +43,7 @@ fn serves_over_a_socket(rt: HostRuntime) {
 #[test]
 fn accepts_a_client(rt: HostRuntime) {
     let listener = loopback_listener(&rt);
-    let _client = connect(&rt, &listener);
+    let _client = client_of(&rt, &listener, b"");
     drop(client_at(&rt, &listener, None, &rt, patience()));
 }
 
@@ -110,7 +110,7 @@ fn closes_at_once_after_a_request(rt: HostRuntime) {
 #[test]
 fn cuts_a_silent_client_off(rt: HostRuntime) {
     let listener = loopback_listener(&rt);
-    let _silent = connect(&rt, &listener);
+    let _silent = client_of(&rt, &listener, b"");
     let _slow = client_of(&rt, &listener, b"GET /acc");
     let brief = Duration::from_millis(50);
     expect_eq(&rt, &serve(&rt, &listener, 2, brief), &0);
@@ -120,7 +120,7 @@ fn cuts_a_silent_client_off(rt: HostRuntime) {
 #[test]
 fn waits_as_long_as_its_patience(rt: HostRuntime) {
     let listener = loopback_listener(&rt);
-    let _silent = connect(&rt, &listener);
+    let _silent = client_of(&rt, &listener, b"");
     let patience = Duration::from_millis(1_200);
     let before = rt.monotonic().expect(&rt, "a clock");
     expect_eq(&rt, &serve(&rt, &listener, 1, patience), &0);
