@@ -41,6 +41,27 @@ pub fn office_at(rt: &impl Net, path: &str, command: &[u8]) -> Result<UnixStream
     Ok(office)
 }
 
+/// Returns a desk whose client sends the rest of its request with a command. At a request the desk
+/// reads the office's connection.
+fn tied_desk<'x>(
+    rt: &impl Runtime,
+    client: &'x TcpStream,
+    rest: &'x [u8],
+    office: &'x UnixStream,
+) -> Desk<'x> {
+    let sender = Sender {
+        client,
+        left: rest,
+        step: rest.len(),
+    };
+    Desk {
+        status: 7,
+        sender: Some(sender),
+        office: Some(office),
+        ..desk_at_noon(rt)
+    }
+}
+
 /// Runs an exchange with a client that sends the rest of its request after a command. Returns the
 /// fault, the bytes of the commands, and the number of requests of the desk. When the desk is
 /// asked, the office must have got the whole answer.
@@ -50,16 +71,12 @@ fn ends_beside_a_command<'x>(
     listener: &'x TcpListener,
     door: &'x UnixListener,
     patience: Duration,
-    sender: Sender<'_>,
+    client: &TcpStream,
+    rest: &[u8],
 ) -> Result<(Option<AnswerFault>, usize, u64), Fail> {
     let mut connection = client_at(rt, listener, Some(door), rt, patience);
     let office = office_at(rt, path, b"an order")?;
-    let mut desk = Desk {
-        status: 7,
-        sender: Some(sender),
-        office: Some(&office),
-        ..desk_at_noon(rt)
-    };
+    let mut desk = tied_desk(rt, client, rest, &office);
     let outcome = exchange(&mut new_face(rt), &mut connection, &mut desk);
     if desk.asked > 0 {
         expect_bytes(rt, &desk.got, b"!\x07\0", "what the office got");
@@ -75,14 +92,8 @@ fn a_command_between_two_pieces(rt: HostRuntime) -> Result<(), Fail> {
     let door = door_at(&rt, path)?;
     let listener = loopback_listener(&rt);
     let mut client = client_of(&rt, &listener, b"G");
-    let peer = client.try_clone()?;
-    let sender = Sender {
-        client: &peer,
-        left: &REQUEST[1..],
-        step: REQUEST.len(),
-    };
-    let patience = patience();
-    let returned = ends_beside_a_command(&rt, path, &listener, &door, patience, sender)?;
+    let (patience, rest) = (patience(), &REQUEST[1..]);
+    let returned = ends_beside_a_command(&rt, path, &listener, &door, patience, &client, rest)?;
     fs::remove_file(&rt, path)?;
     expect_eq(&rt, &returned, &(None, 8, 1));
     expect_reply(&rt, &mut client, REPLY);
@@ -97,13 +108,8 @@ fn a_command_beside_a_silent_client(rt: HostRuntime) -> Result<(), Fail> {
     let door = door_at(&rt, path)?;
     let listener = loopback_listener(&rt);
     let client = client_of(&rt, &listener, b"");
-    let sender = Sender {
-        client: &client,
-        left: b"",
-        step: 0,
-    };
     let brief = Duration::from_millis(50);
-    let returned = ends_beside_a_command(&rt, path, &listener, &door, brief, sender)?;
+    let returned = ends_beside_a_command(&rt, path, &listener, &door, brief, &client, b"")?;
     fs::remove_file(&rt, path)?;
     expect_eq(&rt, &returned, &(Some(AnswerFault::Read), 8, 0));
     Ok(())

@@ -85,9 +85,9 @@ static BOOKINGS: [(usize, usize, usize); 9] = [
 fn requests_of_each_length(rt: HostRuntime) -> Result<(), Fail> {
     let path = new_path(&rt, "requests-of-each-length")?;
     let path = path.as_str();
-    let reply = replies::BOOKED_7.reply().ok_or("a reply")?;
     for row in &BOOKINGS {
         let (head, body, step) = *row;
+        let reply = replies::BOOKED_7.reply().ok_or("a reply")?;
         let request = booking_of(&rt, head, body)?;
         expect_row(&rt, &request.len(), &head.saturating_add(body), row);
         let last = asked_in_pieces(&rt, path, &request, step, reply, exchanges::BOOKED_7)?;
