@@ -27,14 +27,13 @@ sys.path[:0] = [str(Path(__file__).resolve().parents[1] / it) for it in ("lib", 
 import desk
 from more_edits import crates_below
 
-OPENINGS = """store_in_memory empty_database tables_of_version_1 tables_without_the_index tables_of_version_2
-              new_file file_of_version_1 file_without_the_index file_of_version_2"""
+OPENINGS = "store_in_memory databases_in_memory new_file files_of_each_version"
 # The tests of each crate; those without a module are in `refused_memory`.
 TESTS = {
-    "pass_forms_tests": "known_pass known_pass_without_its_caveat example",
-    "club_gate_tests": " ".join(["commands ask_in_v1 ask_in_v2 ask_in_json run_in_v1 run_in_v2 run_in_json",
+    "pass_forms_tests": "known_passes",
+    "club_gate_tests": " ".join(["commands ask_in_each_form run_in_each_form",
                                  *(f"store::refused_memory::{it}" for it in OPENINGS.split())]),
-    "end_to_end_tests": "exchange_in_v1 exchange_in_v2 exchange_in_json faults_of_bytes",
+    "end_to_end_tests": "exchange_in_each_form faults_of_bytes",
     "club_http_tests": "bodies::refused_memory counted::refused_memory",
 }
 FAULT = r"([A-Za-z]+\()*((OutOf)?Memory|AllocError|AllocFailed \{ \.\. \}|Os \{ code: 12, kind: OutOfMemory, .*\})\)*"

@@ -117,11 +117,8 @@ fn signs_for_the_longest_name(rt: HostRuntime) {
     expect_eq(&rt, &key_signature(&name, &root), &LONGEST);
 }
 
-static FAULTS: [(Fault, &str); 6] = [
-    (Fault::Refused(OfficeFault::Exists), "exists"),
-    (Fault::Refused(OfficeFault::Unknown), "unknown"),
-    (Fault::Refused(OfficeFault::OutOfRange), "out of range"),
-    (Fault::Refused(OfficeFault::SlotInUse), "slot in use"),
+/// Scenarios have the other faults.
+static FAULTS: [(Fault, &str); 2] = [
     (Fault::Store(StoreFault::Memory), "out of memory"),
     (Fault::Store(StoreFault::Storage), "storage failed"),
 ];

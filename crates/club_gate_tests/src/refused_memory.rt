@@ -189,32 +189,18 @@ fn commands(rt: HostRuntime) {
     perform(&rt, &Task::Commands);
 }
 
+static PASSES: [&str; 3] = [AMY_V1, AMY_V2, AMY_JSON];
+
 #[test]
-fn ask_in_v1(rt: HostRuntime) {
-    perform(&rt, &Task::Ask(AMY_V1));
+fn ask_in_each_form(rt: HostRuntime) {
+    for pass in &PASSES {
+        perform(&rt, &Task::Ask(*pass));
+    }
 }
 
 #[test]
-fn ask_in_v2(rt: HostRuntime) {
-    perform(&rt, &Task::Ask(AMY_V2));
-}
-
-#[test]
-fn ask_in_json(rt: HostRuntime) {
-    perform(&rt, &Task::Ask(AMY_JSON));
-}
-
-#[test]
-fn run_in_v1(rt: HostRuntime) {
-    perform(&rt, &Task::Run(AMY_V1));
-}
-
-#[test]
-fn run_in_v2(rt: HostRuntime) {
-    perform(&rt, &Task::Run(AMY_V2));
-}
-
-#[test]
-fn run_in_json(rt: HostRuntime) {
-    perform(&rt, &Task::Run(AMY_JSON));
+fn run_in_each_form(rt: HostRuntime) {
+    for pass in &PASSES {
+        perform(&rt, &Task::Run(*pass));
+    }
 }

@@ -34,18 +34,10 @@ impl Scene for Exchange {
 }
 
 #[test]
-fn exchange_in_v1(rt: HostRuntime) {
-    play(&rt, &Exchange(AMY_V1));
-}
-
-#[test]
-fn exchange_in_v2(rt: HostRuntime) {
-    play(&rt, &Exchange(AMY_V2));
-}
-
-#[test]
-fn exchange_in_json(rt: HostRuntime) {
-    play(&rt, &Exchange(AMY_JSON));
+fn exchange_in_each_form(rt: HostRuntime) {
+    for pass in [AMY_V1, AMY_V2, AMY_JSON] {
+        play(&rt, &Exchange(pass));
+    }
 }
 
 const PASS_MALFORMED: &str =

@@ -42,16 +42,8 @@ pub(crate) fn convert(rt: &impl Host, texts: &[&str; 3]) {
 }
 
 #[test]
-fn known_pass(rt: HostRuntime) {
-    convert(&rt, &KNOWN);
-}
-
-#[test]
-fn known_pass_without_its_caveat(rt: HostRuntime) {
-    convert(&rt, &BARE);
-}
-
-#[test]
-fn example(rt: HostRuntime) {
-    convert(&rt, &EXAMPLE);
+fn known_passes(rt: HostRuntime) {
+    for texts in [&KNOWN, &BARE, &EXAMPLE] {
+        convert(&rt, texts);
+    }
 }

@@ -30,24 +30,14 @@ fn opens_in_memory(rt: &impl Host, contents: Contents) {
     shows(rt, &mut store, contents);
 }
 
+static VERSIONS: [Contents; 3] = [Contents::First, Contents::Unindexed, Contents::Second];
+
 #[test]
-fn empty_database(rt: HostRuntime) {
+fn databases_in_memory(rt: HostRuntime) {
     opens_in_memory(&rt, Contents::Nothing);
-}
-
-#[test]
-fn tables_of_version_1(rt: HostRuntime) {
-    opens_in_memory(&rt, Contents::First);
-}
-
-#[test]
-fn tables_without_the_index(rt: HostRuntime) {
-    opens_in_memory(&rt, Contents::Unindexed);
-}
-
-#[test]
-fn tables_of_version_2(rt: HostRuntime) {
-    opens_in_memory(&rt, Contents::Second);
+    for contents in &VERSIONS {
+        opens_in_memory(&rt, *contents);
+    }
 }
 
 fn new_store(rt: &impl Host) -> Store<MemStore> {
@@ -91,16 +81,9 @@ fn opens_file(host: &HostRuntime, rt: &impl Host, contents: Contents) -> Result<
 }
 
 #[test]
-fn file_of_version_1(rt: HostRuntime) -> Result<(), Fail> {
-    opens_file(&rt, &rt, Contents::First)
-}
-
-#[test]
-fn file_without_the_index(rt: HostRuntime) -> Result<(), Fail> {
-    opens_file(&rt, &rt, Contents::Unindexed)
-}
-
-#[test]
-fn file_of_version_2(rt: HostRuntime) -> Result<(), Fail> {
-    opens_file(&rt, &rt, Contents::Second)
+fn files_of_each_version(rt: HostRuntime) -> Result<(), Fail> {
+    for contents in &VERSIONS {
+        opens_file(&rt, &rt, *contents)?;
+    }
+    Ok(())
 }
