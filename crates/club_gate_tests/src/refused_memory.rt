@@ -154,6 +154,7 @@ fn reply_of_a_run<S: ClubStore>(rt: &impl Host, desk: &mut Desk<S>, pass: &str) 
 }
 
 /// What is done from the fixture on.
+#[derive(Clone, Copy)]
 enum Task {
     Commands,
     /// The booking under this pass, by `Desk::ask`.

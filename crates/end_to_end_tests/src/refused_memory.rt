@@ -10,6 +10,7 @@ use test_kit::passes::{AMY_JSON, AMY_V1, AMY_V2};
 
 /// The booking by an exchange, under a pass. It gets its reply, and then the booking is kept. Or it
 /// gets unavailable, nothing changed, and the booking is served when it comes again.
+#[derive(Clone, Copy)]
 struct Exchange(&'static str);
 
 impl Scene for Exchange {
