@@ -1,4 +1,5 @@
-//! A task over two files, of which one fails at each of its calls in turn, and the club after it.
+//! Tasks over two files. One file fails at each of its calls in turn, and the club must be whole
+//! afterwards.
 
 use crate::desk::{Event, FIXTURE};
 use crate::disk::{Bytes, NEVER, Part, Stop, Stops};
@@ -18,7 +19,7 @@ pub(crate) enum Beginning {
     Made(&'static [Event]),
     /// Statements have made tables of version 1 with such a club in them.
     First(&'static [Event]),
-    /// The same, then changed to version 2 without the index of the bookings.
+    /// As `First`, then changed to version 2 without the index of the bookings.
     Unindexed(&'static [Event]),
 }
 
@@ -70,12 +71,12 @@ impl Beginning {
     }
 }
 
-/// What is in files of these bytes after this, which doesn't fail.
+/// The bytes of the files after a task that doesn't fail.
 fn after(rt: &impl Host, bytes: &Bytes, work: Work) -> Bytes {
     Bytes::of_files(rt, &do_over(rt, bytes, NEVER, work).files)
 }
 
-/// The number of replies before the first that is another than wanted.
+/// The number of replies before the first that differs from the wanted one.
 fn alike(replies: &[String], wanted: &[String]) -> usize {
     let mut alike = 0;
     for (reply, text) in replies.iter().zip(wanted) {

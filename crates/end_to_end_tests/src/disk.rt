@@ -1,11 +1,11 @@
-//! Two files in memory, of which one may fail after so many calls.
+//! Two files in memory. One of them may fail after a number of calls.
 
 use crate::expect::Host;
 use crate::recorded::Recorded;
 use sqlite::Files;
 use sqlite_disk::{Disk, Fuse};
 
-/// A file that fails from some call on.
+/// A file that fails after a number of calls.
 pub(crate) type Stops = Fuse<Recorded>;
 
 #[derive(Clone, Copy)]
@@ -14,7 +14,7 @@ pub(crate) enum Part {
     Database,
 }
 
-/// The file that fails, and after how many calls.
+/// The file that fails, and the number of calls before it does.
 #[derive(Clone, Copy)]
 pub(crate) struct Stop {
     pub part: Part,
@@ -48,7 +48,7 @@ impl Bytes {
         }
     }
 
-    /// Files of which one stops there.
+    /// Files with these bytes. One of them fails at `stop`.
     pub fn files(&self, rt: &impl Host, stop: Stop) -> Files<Stops> {
         let (log_calls, db_calls) = match stop.part {
             Part::Log => (stop.calls, u64::MAX),
@@ -63,7 +63,7 @@ impl Bytes {
     }
 }
 
-/// Whether that one of the files would have taken a call more.
+/// Whether this file can still be called.
 pub(crate) fn has_calls_left(files: &mut Files<Stops>, part: Part) -> bool {
     let file = match part {
         Part::Log => &mut files.log,

@@ -1,4 +1,4 @@
-//! A reader that gives a request, and a writer that takes a reply, which may fail.
+//! A reader that gives a request and a writer that takes a reply. Both may fail.
 
 ghost use Rattle.std.specs.Prelude.{◌≤◌, length};
 
@@ -8,7 +8,7 @@ use std::io::{self, ErrorKind, Read, Write};
 /// More bytes than any request has.
 pub(crate) const WHOLE: usize = 65_536;
 
-/// Gives a request, at most so many bytes a call. After its end it gives none, or fails.
+/// Gives a request, at most `step` bytes a call. After its end it gives none, or fails.
 #[derive(Drop)]
 pub(crate) struct Giver<'a> {
     pub left: &'a [u8],
@@ -28,7 +28,7 @@ impl<'a> Giver<'a> {
         }
     }
 
-    /// Fails if more is wanted than these bytes.
+    /// These bytes, at most `step` a call, and then each read fails.
     pub fn failing(bytes: &'a [u8], step: usize) -> Giver<'a> {
         Giver {
             left: bytes,
@@ -53,7 +53,7 @@ impl Read for Giver<'_> {
     }
 }
 
-/// Takes a reply, at most so many bytes a call. If its limit is reached it fails, or takes none.
+/// Takes a reply, at most `step` bytes a call. At its limit it fails or, if it stalls, takes none.
 #[derive(Drop)]
 pub(crate) struct Taker {
     bytes: [u8; MAX_REPLY_LEN],
@@ -82,7 +82,7 @@ impl Taker {
         Taker::new(MAX_REPLY_LEN, MAX_REPLY_LEN, false)
     }
 
-    /// Takes the first of these bytes that have room, and answers how many.
+    /// Takes the first of these bytes for which there is room. Returns their number.
     pub fn take(&mut self, bytes: &[u8]) -> usize
         ensures { result ≤ length bytes.now }
     {

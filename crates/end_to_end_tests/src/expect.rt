@@ -15,7 +15,7 @@ pub(crate) fn expect_eq<T: PartialEq + Debug>(rt: &impl Abort, returned: &T, wan
     assert_eq!(rt; returned, want);
 }
 
-/// The same of a case, which the message names.
+/// Like `expect_eq`, for a case that the message names.
 pub(crate) fn expect_case<T: PartialEq + Debug>(
     rt: &impl Abort,
     case: &str,
@@ -33,7 +33,7 @@ pub(crate) fn append(rt: &impl Abort, lines: &mut Vec<String>, mut more: Vec<Str
     lines.append(&mut more).expect(rt, "memory");
 }
 
-/// A text for which there was memory.
+/// Returns the text, or ends the test if memory ran out.
 pub(crate) fn text(rt: &impl Abort, text: Result<String, AllocError>) -> String {
     text.expect(rt, "memory")
 }

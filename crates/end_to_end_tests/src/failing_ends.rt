@@ -1,4 +1,4 @@
-//! Requests that are cut, and writers that fail.
+//! Cut requests and failing writers.
 
 use crate::ends::{Giver, Taker, WHOLE};
 use crate::expect::{Host, expect_case, expect_eq};
@@ -14,14 +14,14 @@ const REPLY_LEN: usize = 133;
 
 const _: () = prove!(BOOKED_7.len() == REPLY_LEN);
 
-/// The booking with a number of bytes behind it, and the bytes that a call gives and takes. Then
-/// the bytes that stay with the reader, and the calls of the reader and of the writer.
+/// The booking with a number of bytes after it, and the bytes that each call gives and takes. Then
+/// the number of bytes that aren't read, and of the calls of the reader and of the writer.
 #[derive(Clone, Copy)]
 struct Whole(usize, usize, usize, usize, u64, u64);
 
-/// However few bytes a call gives of the 203, the request is read to its last byte, and no call
-/// comes after: the reader would fail. Bytes after a request are taken with it, up to the buffer's
-/// end, and change nothing. A writer that takes a byte a call gets the whole reply.
+/// The 203 bytes of the request are read to the last one, however few a call gives. The reader
+/// fails at any later call. Bytes after a request are read with it, up to the buffer's end, and
+/// change nothing. A writer that takes a byte a call gets the whole reply.
 static WHOLE_ONES: [Whole; 8] = [
     Whole(0, 1, MAX_REPLY_LEN, 0, 203, 1),
     Whole(0, 2, MAX_REPLY_LEN, 0, 102, 1),
@@ -53,8 +53,8 @@ fn whole_exchanges(rt: HostRuntime) {
     }
 }
 
-/// The booking, cut anywhere: by an end of the input it is a bad request, and by a failure of the
-/// reader nothing is written. The desk is as it was.
+/// The booking, cut at each byte. If the input ends there it is a bad request. If the reader fails
+/// nothing is written. The desk is unchanged.
 struct CutInput;
 
 impl Scene for CutInput {

@@ -56,8 +56,8 @@ pub(crate) trait Scene {
     fn play<S: ClubStore>(&self, rt: &impl Host, front: &mut Front<S>);
 }
 
-/// Plays a scene over a new fixture in memory. It is the one function here that names the type of
-/// the tables: the proof of each takes some ten seconds.
+/// Plays a scene over a new fixture in memory. Only this function names the type of the tables,
+/// because the proof of each that does takes some ten seconds.
 pub(crate) fn play(rt: &impl Host, scene: &impl Scene) {
     let store = Store::open_in_memory(rt.alloc()).expect(rt, "a store");
     let mut front = Front {
@@ -80,7 +80,7 @@ impl<S: ClubStore> Front<S> {
         }
     }
 
-    /// One exchange at noon, and why it fails; `None` where it doesn't.
+    /// Makes one exchange at noon. Returns its fault, if it fails.
     pub fn exchange(
         &mut self,
         rt: &impl Host,
@@ -93,7 +93,7 @@ impl<S: ClubStore> Front<S> {
         answer(face, desk, moment(rt, NOON), &mut reader, &mut writer).err()
     }
 
-    /// The output for these bytes, after which the input ends.
+    /// The output for these bytes. The input ends after them.
     pub fn written_to(&mut self, rt: &impl Host, bytes: &[u8]) -> Taker {
         let mut taker = Taker::whole();
         let fault = self.exchange(rt, &mut Giver::ending(bytes), &mut taker);
@@ -101,7 +101,7 @@ impl<S: ClubStore> Front<S> {
         taker
     }
 
-    /// Plays steps under a pass; fails the test at the first that gets another reply.
+    /// Plays steps under a pass. Fails the test at the first that gets another reply.
     pub fn plays(&mut self, rt: &impl Host, pass: &str, steps: &[Step]) {
         for Step(asked, want) in steps {
             let request = with_pass(rt, asked, pass);

@@ -22,8 +22,9 @@ fn remove(rt: &HostRuntime, path: &str) {
     }
 }
 
-/// Calls each law at stores over the files at two paths, which may not be there, and at one in
-/// memory. It is the one function here that names their types: the proof of each takes a minute.
+/// Calls each law at stores over the files at two paths, which are made if missing, and at one in
+/// memory. Only this function names the stores' types, because the proof of each function that does
+/// takes a minute.
 fn call_laws(rt: &HostRuntime, test: &impl Abort, first: &str, second: &str) {
     let Ok(before) = Store::open_file(rt, first, Unknown) else {
         panic!(test; "no store opens at {first}");

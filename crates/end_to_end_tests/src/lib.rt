@@ -1,6 +1,6 @@
-//! Tests from end to end: whole exchanges, from the bytes of a request to the bytes of the reply,
-//! with a desk over tables in memory; and crashes: a task at a desk over two files, of which one
-//! fails at each of its calls in turn, and the club that a reopened store finds.
+//! End-to-end tests. Exchanges go from a request's bytes to the reply's, at a desk over tables in
+//! memory. In crashes a task runs at a desk over two files, and one file fails at each of its calls
+//! in turn. A store reopens the files and must find the club.
 #![tactic(auto)]
 
 #[cfg(test)]

@@ -99,7 +99,7 @@ fn place(rt: &impl Host, slot: &Slot) -> String {
     text(rt, format!(in rt.alloc(); "{facility} {day} {hour}"))
 }
 
-/// Adds a booking; and, unless it is cancelled, its slot.
+/// Adds a booking, and its slot unless the booking is cancelled.
 fn add_booking(rt: &impl Host, lines: &mut Vec<String>, club: &Club, booking: &Booking) {
     let (key, number, guests) = (&booking.key, booking.number.get(), booking.guests.get());
     let (charge, left, refund) = (booking.charge, booking.left, booking.refund);
@@ -113,8 +113,8 @@ fn add_booking(rt: &impl Host, lines: &mut Vec<String>, club: &Club, booking: &B
     }
 }
 
-/// Adds what is taken of a slot by all members, and whether it is closed, unless that is there.
-/// Nobody is a member's name.
+/// Adds a slot's taken places and whether it is closed, unless its line is there. No member is
+/// called `nobody`, so the count covers all members.
 fn add_slot(rt: &impl Host, lines: &mut Vec<String>, club: &Club, slot: &Slot) {
     let all = club.outside(&name(rt, "nobody"), Some(*slot));
     let (place, closed, taken) = (place(rt, slot), u8::from(all.closed), all.taken);
@@ -142,8 +142,7 @@ fn add_rows(rt: &impl Host, lines: &mut Vec<String>, club: &Club) {
     }
 }
 
-/// The lines of the tables of this version that hold a club, sorted. Tables of version 1 have no
-/// older roots.
+/// The sorted lines of a club's tables in this version. Tables of version 1 have no older roots.
 pub(crate) fn lines_of(rt: &impl Host, club: &Club, version: Version) -> Vec<String> {
     let mut lines = Vec::new(rt.alloc());
     match version {

@@ -1,6 +1,6 @@
 //! Exchanges in which an allocation is refused. `tests/desk/refused_memory_tests.py` refuses each
-//! in turn, those of the fixture too. A test ends with out of memory if the refusal fell before or
-//! after what it is about.
+//! in turn, those of the fixture too. A test ends with out of memory if the refused allocation was
+//! before or after the tested exchange.
 
 use crate::expect::{Host, expect_case};
 use crate::front::{Front, KEPT, NOT_YET, Scene, Step, play, with_pass};
@@ -8,8 +8,8 @@ use club_core::ClubStore;
 use test_kit::exchanges::{ACCOUNT, BOOK_7, BOOKED_7, UNAVAILABLE};
 use test_kit::passes::{AMY_JSON, AMY_V1, AMY_V2};
 
-/// The booking by an exchange, under a pass. It gets its reply, and then the booking is kept. Or it
-/// gets unavailable, nothing changed, and the booking is served when it comes again.
+/// The booking by an exchange, under a pass. If it gets its reply, the booking is kept. If it gets
+/// unavailable, nothing has changed, and the booking is served when it is sent again.
 #[derive(Clone, Copy)]
 struct Exchange(&'static str);
 

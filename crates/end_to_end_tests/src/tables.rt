@@ -3,8 +3,8 @@
 use crate::expect::{Host, push, text};
 use sqlite::{Alter, Connection, Row};
 
-/// The tables: the name of each, and the statement that makes a line of each row. The row of a slot
-/// that is open and that nobody has booked is left out.
+/// The name of each table, and the statement that returns a line for each row. It leaves out slots
+/// that are open and that nobody has booked.
 static TABLES: [(&str, &str); 7] = [
     ("desk", "SELECT 'desk ' || version FROM desk"),
     (
@@ -37,7 +37,7 @@ static TABLES: [(&str, &str); 7] = [
     ),
 ];
 
-/// The line of a table that isn't there.
+/// The line for a missing table.
 pub(crate) fn none_of(rt: &impl Host, table: &str) -> String {
     text(rt, format!(in rt.alloc(); "no {table}"))
 }

@@ -1,4 +1,4 @@
-//! The tasks in which a disk fails. What is answered is in scenarios.
+//! The tasks during which a file fails. Scenarios have their replies.
 
 use crate::crash::Beginning::{self, First, Made, Nothing, Unindexed};
 use crate::crash::Trial;
@@ -32,8 +32,7 @@ static REQUESTS: [Trial; 4] = [
     Trial(FRESH, &[BOOK], &[SHOW], [54, 66]),
     Trial(FRESH, &[EXCHANGE], &[Exchanges(NOON, ACCOUNT)], [54, 66]),
     Trial(BOOKED, &[CANCEL], &[BOOK, SHOW], [50, 64]),
-    // The second commit of an opened database, over what the first one has made room for, so that
-    // one sync has to do.
+    // The second commit writes where the first one made room, so one sync must do.
     Trial(FRESH, &[BOOK, CANCEL], &[SHOW], [58, 66]),
 ];
 
@@ -41,10 +40,10 @@ const ADD_KEY: Event = Gives(AddKey("amy-2", "amy", ROOT));
 
 const ROTATE: Event = Gives(RotateKey("amy-1", SECOND_ROOT, minutes::UNTIL));
 
-/// Of all that the booking leaves, so that a second debit is refused.
+/// It takes all that the booking leaves, so that a second debit is refused.
 const DEBIT: Event = Gives(Debit("amy", 9_400));
 
-/// Below the open bookings, which stay.
+/// Below the number of open bookings, which stay.
 const SET_QUOTA: Event = Gives(SetQuota("amy", 1));
 
 static COMMANDS: [Trial; 4] = [
@@ -62,10 +61,10 @@ const CLOSED: Beginning = Made(&[CLOSE_AT_18, CLOSE_AT_19]);
 
 const OPEN_AT_19: Event = Gives(OpenSlot(COURT_AT_19));
 
-/// As many places as persons in a slot.
+/// It leaves as many places as the slot has persons.
 const SET_FACILITY: Event = Gives(SetFacility("court-1", 3, 100, 9, 20));
 
-/// A second one finds nothing to do, and the member's own gets the whole charge.
+/// A second one changes nothing, and the member's own cancellation gets the whole charge.
 const CANCEL_BOOKING: Event = Gives(CancelBooking("amy-1", 7));
 
 static COMMANDS_OF_SLOTS: [Trial; 4] = [
@@ -86,7 +85,7 @@ static OPENINGS: [Trial; 3] = [
     Trial(Unindexed(TWICE), &[], &[BOOK, BOOK_ROOM, SHOW], [46, 59]),
 ];
 
-/// Each of the tasks is done whole or not at all.
+/// Fails the test unless each task is done whole or not at all.
 fn hold(rt: &impl Host, trials: &[Trial]) {
     for trial in trials {
         trial.holds(rt);

@@ -1,5 +1,4 @@
-//! What a machine that stops may leave of two files: each change since the last sync is kept, lost,
-//! or kept in part.
+//! What a crash may leave of two files: each change since the last sync is kept, lost or torn.
 
 use crate::disk::{Bytes, Stops};
 use crate::expect::{Host, push};
@@ -11,19 +10,19 @@ use sqlite_disk::digest_of;
 pub(crate) enum Fate {
     Kept,
     Lost,
-    /// Of a write, the first half of its bytes.
+    /// The first half of a write's bytes is kept.
     FirstHalf,
-    /// All of its bytes but the last one.
+    /// All of a write's bytes but the last one are kept.
     AllButOne,
     LastHalf,
     EverySecond,
 }
 
-/// The fates of the changes: of those before one of them, its own, and of those after it.
+/// The fates of the changes before one of them, of that one, and of those after it.
 #[derive(Clone, Copy)]
 pub(crate) struct Fates(Fate, Fate, Fate);
 
-/// What is tried of the newest change of a file.
+/// The fates that are tried for the newest change of a file.
 static TRIED: [Fates; 9] = [
     Fates(Fate::Kept, Fate::Lost, Fate::Kept),
     Fates(Fate::Kept, Fate::FirstHalf, Fate::Kept),
@@ -36,10 +35,11 @@ static TRIED: [Fates; 9] = [
     Fates(Fate::EverySecond, Fate::EverySecond, Fate::EverySecond),
 ];
 
-/// The number of these rows of which one is tried of each other change.
+/// Each other change is tried with one of this many first rows, by turns.
 const BY_TURNS: usize = 6;
 
-/// Fates of the changes of two files, those of the log first, of which this one is numbered.
+/// Fates of the changes of two files, around the change of this number. The log's changes come
+/// first.
 #[derive(Clone, Copy)]
 pub(crate) struct Case {
     pub number: usize,
@@ -56,11 +56,11 @@ pub(crate) const LOST: Case = Case {
     fates: Fates(Fate::Lost, Fate::Lost, Fate::Lost),
 };
 
-/// What lies past the end of a file, where nothing was written: any byte.
+/// Any byte: it fills the gap before a write past the end of a file.
 const GARBAGE: u8 = 0xA5;
 
 impl Fate {
-    /// Whether that byte of a write of this length is kept.
+    /// Whether the byte at `place` in a write of this length is kept.
     fn keeps(self, place: usize, len: usize) -> bool {
         match self {
             Fate::Kept => true,
@@ -72,7 +72,7 @@ impl Fate {
         }
     }
 
-    /// That of a change of this length: a single byte is kept or lost.
+    /// The fate of a change of this length: a single byte is kept or lost, not torn.
     fn of_len(self, len: usize) -> Fate {
         if len != 1 {
             self
@@ -109,7 +109,7 @@ impl Case {
     }
 }
 
-/// Writes a byte there, whatever is before it.
+/// Writes a byte at an index, and fills a gap before it.
 fn put(rt: &impl Host, file: &mut Vec<u8>, index: usize, byte: u8) {
     match file.get_mut(index) {
         Some(place) => *place = byte,
@@ -128,7 +128,7 @@ fn write_part(rt: &impl Host, file: &mut Vec<u8>, at: usize, bytes: &[u8], fate:
     }
 }
 
-/// The length of a file whose length was being changed.
+/// The length of a file after a change of length that may be torn.
 fn torn_len(old: usize, new: usize, fate: Fate) -> usize {
     match fate {
         Fate::Kept => new,
@@ -137,7 +137,7 @@ fn torn_len(old: usize, new: usize, fate: Fate) -> usize {
     }
 }
 
-/// Does to a file what comes of a change.
+/// Applies to a file what is left of a change.
 fn make(rt: &impl Host, file: &mut Vec<u8>, change: &Change, fate: Fate) {
     match (change.at, fate) {
         (_, Fate::Lost) => {}
@@ -174,7 +174,7 @@ pub(crate) fn changes_in(files: &Files<Stops>) -> usize {
     log.changes().len().saturating_add(db.changes().len())
 }
 
-/// What is tried of a change: all of it if it is the newest of its file, else one row, by turns.
+/// The fates that are tried for a change: all for the newest of its file, else one, by turns.
 pub(crate) fn tried_of(files: &Files<Stops>, number: usize, turn: usize) -> &'static [Fates] {
     let next = number.saturating_add(1);
     if next == files.log.inner().changes().len() || next == changes_in(files) {
@@ -184,7 +184,7 @@ pub(crate) fn tried_of(files: &Files<Stops>, number: usize, turn: usize) -> &'st
     &TRIED[row..row + 1]
 }
 
-/// A digest that has, beside this one, what is left of a file whose first change has this number.
+/// Extends a digest by what is left of a file whose first change has this number.
 fn digest_with(digest: u64, file: &Recorded, first: usize, case: &Case) -> u64 {
     let mut digest = digest_of(digest ^ file.synced_digest(), &[]);
     for (place, change) in file.changes().iter().enumerate() {
@@ -196,7 +196,7 @@ fn digest_with(digest: u64, file: &Recorded, first: usize, case: &Case) -> u64 {
     digest
 }
 
-/// A digest of what is left of the files, without making it.
+/// A digest of what is left of the files. It doesn't build their bytes.
 pub(crate) fn digest_of_left(key: u64, files: &Files<Stops>, case: &Case) -> u64 {
     let (log, db) = (files.log.inner(), files.db.inner());
     let digest = digest_with(key, log, 0, case);

@@ -17,7 +17,7 @@ pub(crate) enum Work {
     Inspects(&'static [Event], &'static [Event]),
 }
 
-/// The replies of a desk over the database; `None` if no store adopts it.
+/// The replies of a desk over the database, or `None` if no store adopts it.
 fn replies_of_desk<S: Alter + Drop>(
     rt: &impl Host,
     connection: Connection<S>,
@@ -33,7 +33,7 @@ fn replies_of_desk<S: Alter + Drop>(
     }
 }
 
-/// Does this over a database: the lines of output, `None` if no store adopts it.
+/// Does a task over a database. Returns its lines of output, or `None` if no store adopts it.
 fn do_work<S: Alter + Drop>(
     rt: &impl Host,
     mut connection: Connection<S>,
@@ -57,9 +57,9 @@ fn do_work<S: Alter + Drop>(
     }
 }
 
-/// Does this over the database in these files: the lines of output, `None` if it wasn't opened; and
-/// the files after it. It is the one function here that names their type: the proof of each takes
-/// half a minute.
+/// Does a task over the database in these files. Returns its lines of output, or `None` if the
+/// database wasn't opened, and the files. Only this function names the files' type, because the
+/// proof of each function that does takes half a minute.
 fn over_files(
     rt: &impl Host,
     files: Files<Stops>,
@@ -80,17 +80,17 @@ fn over_files(
     }
 }
 
-/// What comes of a task over two files.
+/// The result of a task over two files.
 #[derive(Drop)]
 pub(crate) struct Done {
-    /// The lines of output; `None` if the database wasn't opened.
+    /// The lines of output, or `None` if the database wasn't opened.
     pub lines: Option<Vec<String>>,
-    /// Whether the file that stops had calls left: then it didn't stop.
+    /// Whether the file that may fail didn't.
     pub has_calls_left: bool,
     pub files: Files<Stops>,
 }
 
-/// Does this over the database in files of these bytes, of which one stops there.
+/// Does a task over the database in files of these bytes. One of them fails at `stop`.
 pub(crate) fn do_over(rt: &impl Host, bytes: &Bytes, stop: Stop, work: Work) -> Done {
     let (lines, mut files) = over_files(rt, bytes.files(rt, stop), work);
     Done {
