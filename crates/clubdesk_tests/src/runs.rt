@@ -253,6 +253,21 @@ impl DatabasesUser for AtFile<'_> {
     }
 }
 
+fn play_at_file<'x>(
+    rt: &'x HostRuntime,
+    path: &'x str,
+    scene: Scene<'x>,
+    words: &'x str,
+) -> Result<Output, Fail> {
+    let at_file = AtFile {
+        rt,
+        path,
+        scene,
+        words,
+    };
+    run_over_files(rt, at_file)
+}
+
 /// The file of a club. It is removed in the end, if it is there.
 pub struct ClubFile<'a> {
     rt: &'a HostRuntime,
@@ -285,13 +300,7 @@ impl<'a> ClubFile<'a> {
 
     /// Plays a scene with a run on these words over the file.
     pub fn run(&self, scene: &Scene<'_>, words: &str) -> Result<Output, Fail> {
-        let at_file = AtFile {
-            rt: self.rt,
-            path: self.path(),
-            scene: *scene,
-            words,
-        };
-        run_over_files(self.rt, at_file)
+        play_at_file(self.rt, self.path(), *scene, words)
     }
 
     /// Runs commands over the file one after the other. Each ends as its row says.
