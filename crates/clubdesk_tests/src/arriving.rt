@@ -1,5 +1,5 @@
-//! What comes to a server, over memory: clients whose requests come in two halves, and commands of
-//! the office, which may come between them.
+//! Test doubles of a server's arrivals: clients whose requests come in two halves, and commands of
+//! the office, which may come between the halves.
 
 ghost use Rattle.std.specs.Prelude.{◌≤◌, length, IfSome};
 ghost use Rattle.desk_server.specs.Limits.{moved};
@@ -17,7 +17,7 @@ use std::cell::RefCell;
 use std::io::{self, Read, Write};
 use std::time::Duration;
 
-/// What a server wrote, to clients and to the office, one after the other.
+/// The bytes that a server wrote to its clients and to the office, in their order.
 #[derive(Drop)]
 pub struct Written(RefCell<Vec<u8>>);
 
@@ -26,7 +26,7 @@ impl Written {
         Written(RefCell::new(Vec::new(alloc)))
     }
 
-    /// Adds bytes. What finds no memory is missing in the end.
+    /// Adds bytes. If memory is refused, the bytes are missing in the end.
     fn add(&self, bytes: &[u8]) {
         if let Ok(mut written) = self.0.try_borrow_mut() {
             let _ = written.extend_from_slice(bytes);
@@ -51,8 +51,8 @@ impl Write for &Written {
     }
 }
 
-/// A client's request, and the command that comes after the first half of it, if any. With no
-/// request the office comes with the command.
+/// A client's request, and the command that comes after the first half of it. The command may be
+/// empty. If the request is empty, the office comes with the command.
 #[derive(Drop)]
 pub struct Arriving {
     pub request: Vec<u8>,
@@ -73,7 +73,7 @@ impl Handover for Letter<'_> {
     }
 }
 
-/// The stream of a client: what is read next and after that, and a command that hasn't come.
+/// The stream of a client: the bytes of the next two reads, and a command that hasn't come yet.
 #[derive(Drop)]
 pub struct Sender<'a> {
     half: &'a [u8],
@@ -96,7 +96,7 @@ impl<'a> Sender<'a> {
     }
 }
 
-// How a read of a half ends.
+// Reads a half.
 fn read_from(bytes: &[u8], room: &mut [u8]) -> Waited
     ensures { IfSome (moved result) (λ n. n ≤ length room.new) }
 {
@@ -161,7 +161,7 @@ pub struct Queue<'a> {
 }
 
 impl<'a> Queue<'a> {
-    /// These. What is written to them is added to `written`.
+    /// Returns these arrivals. The server's bytes for them are added to `written`.
     pub fn new(arriving: &'a [Arriving], machine: &'a Machine, written: &'a Written) -> Queue<'a> {
         Queue {
             arriving,

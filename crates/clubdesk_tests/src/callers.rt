@@ -24,12 +24,12 @@ impl Read for Input<'_> {
     }
 }
 
-/// Counts of what happens at a database in memory.
+/// Counts of the calls at a database in memory.
 #[derive(Drop)]
 pub struct Notes {
     pub opened: Cell<u64>,
     pub closed: Cell<u64>,
-    /// The closings before the run wrote first, and before a server's door was removed.
+    /// The closings before the run's first write, and before a server's door was removed.
     pub written: Cell<Option<u64>>,
     pub removed: Cell<Option<u64>>,
     /// The bytes of the command that was handed over last.
@@ -48,9 +48,9 @@ impl Notes {
     }
 }
 
-/// Takes what a run writes, as far as there is room. Once the line of a server is there and is
-/// flushed, a client for each request connects to where it says, and sends it, and the requests
-/// wait there for the server. So a server and its clients need one thread.
+/// A writer with limited room. Once a server's line is flushed, a client for each request connects
+/// to the port of the line, and sends the request, which waits there for the server. So a server
+/// and its clients need one thread.
 #[derive(Drop)]
 pub struct Caller<'a> {
     rt: &'a HostRuntime,
@@ -71,7 +71,7 @@ impl<'a> Caller<'a> {
         }
     }
 
-    /// What was written, but for the line by which clients came.
+    /// Returns the written bytes, without a server's line to which clients came.
     pub fn written_bytes(&self) -> &[u8] {
         self.written.as_slice()
     }
@@ -83,8 +83,8 @@ impl<'a> Caller<'a> {
         port.strip_suffix("\n")?.parse().ok()
     }
 
-    // A client that has sent a request to this port. At another address of the machine nobody
-    // listens.
+    // Returns a client that has sent a request to this port. Nobody may listen at another address
+    // of the machine.
     fn send(&self, port: u16, request: &str) -> io::Result<TcpStream> {
         if TcpStream::connect(self.rt, ("127.0.0.2", port)).is_ok() {
             return Err(io::Error::from(ErrorKind::AddrInUse));
@@ -94,8 +94,8 @@ impl<'a> Caller<'a> {
         Ok(client)
     }
 
-    /// The replies to the clients in turn. A connection that is closed with its request unread may
-    /// end with an error.
+    /// Returns the replies to the clients in turn. A connection that the server closed before it
+    /// read the request may end with an error.
     pub fn reply(self) -> Vec<u8> {
         let Caller { rt, clients, .. } = self;
         let mut reply = Vec::new(rt.alloc());
@@ -142,15 +142,15 @@ impl Write for Caller<'_> {
     }
 }
 
-/// The clock of a machine. It shows one second, counted since 1970 began, or it can't be read. The
-/// first two readings of the time since its start are 0, as a connection's limit and its span in
-/// the log begin. Later ones are `later` microseconds. Sleeps add to each.
+/// The clock of a machine. It shows one second, counted from the start of 1970, or can't be read.
+/// The first two readings of the time since its start are 0: a connection's limit and its time in
+/// the log begin then. Later ones are `later` microseconds. Sleeps add to each.
 #[derive(Drop)]
 pub struct Machine {
     second: Option<u64>,
     later: u64,
     read: Cell<u64>,
-    /// The milliseconds that were slept by it.
+    /// The milliseconds of all sleeps.
     pub slept: Cell<u64>,
 }
 

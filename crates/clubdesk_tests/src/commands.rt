@@ -28,7 +28,7 @@ fn passes_of_keys(rt: HostRuntime) -> Result<(), Fail> {
     Ok(())
 }
 
-// Arguments are checked before a club is opened, and the version opens none.
+// The arguments are checked before a club is opened. The version opens none.
 static WORDS: [&str; 4] = [
     "sheet 2026-02-29 => 3 bad value",
     "serve --port 65536 --count 1 => 3 bad value",
@@ -59,7 +59,7 @@ static ROOTS: [&str; 4] = [
 static NO_ROOTS: [&[u8]; 8] = [
     b"",
     b"\n",
-    // 15 bytes, and 16 with half a byte.
+    // 15 bytes, and 16 and a half.
     b"00112233445566778899aabbccddee\n",
     b"00112233445566778899aabbccddeeff1\n",
     b"00112233445566778899aabbccddeefg\n",
@@ -89,7 +89,7 @@ fn roots(rt: HostRuntime) -> Result<(), Fail> {
     Ok(())
 }
 
-// An input that is no root opens nothing.
+// The input is read before a club is opened.
 #[test]
 fn no_roots(rt: HostRuntime) -> Result<(), Fail> {
     for input in &NO_ROOTS {
@@ -105,7 +105,7 @@ fn no_roots(rt: HostRuntime) -> Result<(), Fail> {
 const LONGEST: &str = "add-key amy-2 amy --root-stdin => \
     0 AgEJY2x1Yi1kZXNrAglrZXk6YW15LTIAAAYgDX-5zX6dlNErx-MuAUoVk9vN8GThsorPx80b0Maeqt4\n";
 
-// Text after a root of 64 zero bytes, and whether it is taken.
+// A text after a root of 64 zero bytes, and whether the whole is a root.
 static BEHIND_THE_LONGEST: [(&str, bool); 5] = [
     ("", true),
     ("\n", true),

@@ -8,7 +8,7 @@ use std::fs;
 use std::os::unix::fs::{FileTypeExt, MetadataExt, symlink};
 use std::test::Fail;
 
-// The mode of a socket; `None` if there is none.
+// Returns the mode of a socket, or `None` if there is none.
 fn socket_mode(rt: &HostRuntime, path: &str) -> Option<u32> {
     let found = fs::symlink_metadata(rt, path).ok()?;
     if found.file_type().is_socket() {
@@ -18,11 +18,11 @@ fn socket_mode(rt: &HostRuntime, path: &str) -> Option<u32> {
     }
 }
 
-/// The mode of a file that is its owner's alone.
+/// The mode of a file that only its owner may use.
 const OWN: Option<u32> = Some(0o600);
 
-// A door is its owner's alone, takes the place of one that is there, and is removed when it is
-// dropped: by itself, and not by the one that was there before.
+// Only its owner may use a door. A door takes the place of an earlier one. It is removed when it is
+// dropped, but not when the earlier one is.
 fn expect_door(rt: &HostRuntime, club: &ClubFile<'_>) -> Result<(), Fail> {
     let place = club.path_with("-office")?;
     let door = FileDoor::make(rt, club.path())?;
@@ -41,8 +41,8 @@ fn a_door_beside_its_file(rt: HostRuntime) -> Result<(), Fail> {
     expect_door(&rt, &new_club(&rt, "door", &AMY)?)
 }
 
-// A door stands beside its file however long their folder's path is: the folder's name alone has
-// more bytes than a socket's address may.
+// A door is next to its file, however long the path of their folder is. This folder's name alone
+// has more bytes than a socket's address may have.
 #[test]
 fn a_door_in_a_folder_of_a_long_name(rt: HostRuntime) -> Result<(), Fail> {
     let beside = ClubFile::new(&rt, "deep")?;
@@ -56,7 +56,7 @@ fn a_door_in_a_folder_of_a_long_name(rt: HostRuntime) -> Result<(), Fail> {
     Ok(())
 }
 
-// A file or a folder at the door's name stays, and there is no door.
+// A file or a folder with the door's name stays, and no door is made.
 #[test]
 fn no_door_over_a_file(rt: HostRuntime) -> Result<(), Fail> {
     let club = new_club(&rt, "no-door", &AMY)?;
@@ -71,7 +71,7 @@ fn no_door_over_a_file(rt: HostRuntime) -> Result<(), Fail> {
     Ok(())
 }
 
-// A link at the door's name stays, also one to a socket: no door is made, and none is used.
+// A link with the door's name stays, even one to a socket. No door is made, and none is used.
 #[test]
 fn no_door_over_a_link(rt: HostRuntime) -> Result<(), Fail> {
     let club = new_club(&rt, "linked-door", &AMY)?;
@@ -88,7 +88,7 @@ fn no_door_over_a_link(rt: HostRuntime) -> Result<(), Fail> {
     Ok(())
 }
 
-/// Users, the owner of the file, the user of the command; and whether the user may make the door.
+/// A user, the owner of the file, the user of the command, and whether the first may make the door.
 static MAKERS: [(u32, u32, u32, bool); 6] = [
     (1000, 1000, 2000, true),
     (2000, 1000, 2000, true),
@@ -106,7 +106,7 @@ fn who_may_make_a_door(rt: HostRuntime) -> Result<(), Fail> {
     Ok(())
 }
 
-// A file may have a name that is too long for a door: then it has no server, and commands open it.
+// A file whose name is too long for a door has no server, and commands open it.
 #[test]
 fn a_file_of_a_long_name(rt: HostRuntime) -> Result<(), Fail> {
     let name = format!(in rt.alloc(); "long-{:0>90}", 0)?;

@@ -5,11 +5,11 @@ use crate::runs::{ClubFile, Scene, expect_eq};
 use std::net::TcpListener;
 use std::test::Fail;
 
-/// How a run ends whose writer fails.
+/// The end of a run with a failing writer.
 const FULL: &str = "7 input or output failed";
 
-// Ends the test unless a run over a file fails with its writer once that has taken this much, which
-// is less than it writes, and logs nothing.
+// Fails unless a run over a file fails with its writer, which takes this many bytes, and logs
+// nothing. The run would write more.
 fn expect_full(
     rt: &HostRuntime,
     club: &ClubFile<'_>,
@@ -26,8 +26,7 @@ fn expect_full(
     Ok(())
 }
 
-// A key whose pass couldn't be printed is kept, and its pass can be minted. A server whose first
-// line can't be written serves nobody.
+// A key whose pass can't be printed is kept. A server whose line can't be written serves nobody.
 #[test]
 fn a_failing_writer(rt: HostRuntime) -> Result<(), Fail> {
     let club = ClubFile::new(&rt, "full")?;
@@ -38,8 +37,8 @@ fn a_failing_writer(rt: HostRuntime) -> Result<(), Fail> {
     expect_full(&rt, &club, "serve --port 0 --count 1 --log", 5)
 }
 
-// How many bytes a run on these words writes, over a club in memory. It fails with its writer,
-// which takes them all and can't flush them, and logs nothing.
+// Returns the number of bytes that a run writes over a club in memory. Fails unless the run fails
+// with its writer, which takes them all and can't flush them, and logs nothing.
 fn unflushed(rt: &HostRuntime, words: &str, after: &[&str]) -> Result<usize, Fail> {
     let scene = Scene {
         flushes: false,
@@ -52,7 +51,7 @@ fn unflushed(rt: &HostRuntime, words: &str, after: &[&str]) -> Result<usize, Fai
     Ok(output.taken)
 }
 
-// What was written may not have come through. A change that was made stays.
+// The written bytes may be lost. A committed change stays.
 #[test]
 fn a_writer_that_fails_to_flush(rt: HostRuntime) -> Result<(), Fail> {
     expect_eq(&rt, &unflushed(&rt, "--version", &[])?, &15)?;
@@ -62,7 +61,7 @@ fn a_writer_that_fails_to_flush(rt: HostRuntime) -> Result<(), Fail> {
     Ok(())
 }
 
-// If the line that says where it listens may not have come through, nobody is served.
+// If the line with the server's address may be lost, nobody is served.
 #[test]
 fn a_server_that_fails_to_flush(rt: HostRuntime) -> Result<(), Fail> {
     let taken = unflushed(&rt, "serve --port 0 --count 1 --log", &[])?;

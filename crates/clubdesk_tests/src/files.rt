@@ -9,14 +9,14 @@ use test_kit::exchanges::{BOOK_7, BOOKED_7, UNAVAILABLE};
 
 pub(crate) static AMY: [&str; 1] = ["add-member amy 5 => 0 done\n"];
 
-/// A new file with the rows of a club.
+/// Returns a new file after these rows.
 pub fn new_club<'a>(rt: &'a HostRuntime, name: &str, rows: &[&str]) -> Result<ClubFile<'a>, Fail> {
     let club = ClubFile::new(rt, name)?;
     club.play(rows)?;
     Ok(club)
 }
 
-// Ends the test unless amy's booking gets this reply from a server over the file.
+// Fails unless amy's booking gets this reply from a server over the file.
 fn expect_reply(
     rt: &HostRuntime,
     club: &ClubFile<'_>,
@@ -32,8 +32,7 @@ fn expect_reply(
     Ok(())
 }
 
-// Bookings over a socket, which the runs after a server find in its file. The second server finds
-// the first one's booking, too.
+// The booking is made over a socket. Later runs find it in the file, and so does a second server.
 #[test]
 fn a_day_in_a_file(rt: HostRuntime) -> Result<(), Fail> {
     let club = new_club(&rt, "day", &OFFICE)?;
@@ -59,7 +58,7 @@ fn a_booking_in_the_log_alone(rt: HostRuntime) -> Result<(), Fail> {
     club.play(&BOOKED)
 }
 
-// Nobody would find a booking in a file that has no name any more: it is refused.
+// Nobody would find a booking in a file that has lost its name. So the booking is refused.
 #[test]
 fn a_file_that_was_removed(rt: HostRuntime) -> Result<(), Fail> {
     let club = new_club(&rt, "gone", &OFFICE)?;
@@ -93,8 +92,7 @@ fn files_of_something_else(rt: HostRuntime) -> Result<(), Fail> {
     expect_eq(&rt, &left.as_slice(), &[b'x'; 100].as_slice())
 }
 
-/// Where a new file holds its version: that table is on the second page, with its one row at the
-/// end.
+/// The place of the version in a new file: its table is on the second page, with its row at the end.
 const VERSION_AT: usize = 8_191;
 
 // A file of version 2 gets version 9.
@@ -121,7 +119,7 @@ fn files_that_cannot_be(rt: HostRuntime) -> Result<(), Fail> {
     Ok(())
 }
 
-// A new file and its log are its owner's alone.
+// Only its owner may use a new file and its log.
 #[test]
 fn modes(rt: HostRuntime) -> Result<(), Fail> {
     let club = new_club(&rt, "modes", &AMY)?;

@@ -1,5 +1,4 @@
-//! Commands that are handed to a server: what a run prints of its answers, and bytes that are no
-//! command of the office.
+//! Commands that are handed to a server: the output of the run, and bytes that encode no command.
 
 use crate::callers::Input;
 use crate::memory::play;
@@ -10,8 +9,8 @@ use clubdesk_commands::OfficeDesk;
 use desk_server::Office;
 use std::test::Fail;
 
-/// The number of bytes that a server gets, and a row whose end is the server's answer. A command of
-/// n arguments has its count, a root, and its arguments, each with a byte after it.
+/// The number of bytes that a server gets, and a row whose end is the server's answer. The bytes of
+/// a command have the count of its arguments, a root, and the arguments, each with a byte after it.
 static HANDED: [(usize, &str); 11] = [
     // 5, no root, clubdesk, add-member, club, amy, 5.
     (34, "add-member amy 5 => 0 done\n"),
@@ -27,13 +26,13 @@ static HANDED: [(usize, &str); 11] = [
     (34, "sheet 2026-05-02 => 4 out of memory"),
     (34, "sheet 2026-05-02 => 6 clock out of range"),
     (34, "revoke-key amy-1 => 8 no answer"),
-    // Arguments that are refused are handed to nobody.
+    // Nobody is handed wrong arguments.
     (0, "credit amy none => 3 bad value"),
-    // A root from the input goes with the arguments: 32 bytes in place of none.
+    // A root from the input is handed over with the arguments: 32 bytes in place of none.
     (80, "add-key amy-1 amy --root-stdin => 0 done\n"),
 ];
 
-// The answer of the server: none for status 8.
+// Returns the server's answer, which is none for status 8.
 fn answer_of(row: &str) -> Result<ServerAnswer<'_>, Fail> {
     let (status, text) = parts_of(row)?.1.split_once(' ').ok_or("an end")?;
     match status.parse().ok() {
@@ -58,11 +57,11 @@ fn hands_commands_over(rt: HostRuntime) -> Result<(), Fail> {
     Ok(())
 }
 
-/// Whole: the count of its arguments, no root, and its arguments, each with a byte after it.
+/// A command: the count of its arguments, no root, and its arguments, each with a byte after it.
 const WHOLE: &[u8] = b"5\0\0clubdesk\0add-member\0club\0amy\05\0";
 
-/// Bytes and their status: 2 for no command, 3 for a value that can't be one. The whole command is
-/// carried out, and once.
+/// Bytes and their status: 2 for no command, 3 for a bad value. The whole command is carried out
+/// the first time, and refused the second time.
 static COMMANDS: [(&[u8], u8); 16] = [
     (b"4\0\0clubdesk\0add-member\0club\0amy\05\0", 2),
     (b"6\0\0clubdesk\0add-member\0club\0amy\05\0", 2),
@@ -82,7 +81,7 @@ static COMMANDS: [(&[u8], u8); 16] = [
     (WHOLE, 1),
 ];
 
-// Hands over a command that is cut at each byte, and then those of the table.
+// Hands over each prefix of a command, and then the commands of the table.
 fn hand_over<S: ClubStore + Drop>(rt: &HostRuntime, store: S) -> Result<(), Fail> {
     let mut desk = OfficeDesk::new(rt.alloc(), rt, store);
     for length in 0..WHOLE.len() {

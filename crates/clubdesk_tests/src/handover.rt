@@ -1,5 +1,5 @@
-//! Commands that are handed over to a server, over sockets: what the server is sent, and what is
-//! made of its answer. Attempts, and the sleep between them.
+//! Commands that are handed over to a server, over sockets: the bytes that the server gets, and the
+//! reading of its answer. Attempts, and the sleep between them.
 
 use crate::callers::Machine;
 use crate::files::{AMY, new_club};
@@ -15,7 +15,7 @@ use std::os::unix::fs::symlink;
 use std::os::unix::net::UnixStream;
 use std::test::Fail;
 
-/// The bytes of a command: those that come by the door, whole.
+/// The bytes of a command.
 const COMMAND: &[u8] = b"5\0\0clubdesk\0add-member\0club\0amy\05\0";
 
 /// The name of a database that has no server.
@@ -24,7 +24,7 @@ const NO_FILE: &str = "none";
 /// A status and a text.
 type Answer = Option<(u8, &'static str)>;
 
-/// The bytes that a server sends, and the status and the text that are read of them.
+/// The bytes that a server sends, and the answer that they encode.
 static ANSWERED: [(&[u8], Answer); 8] = [
     (b"!\0done\n\0", Some((0, "done\n"))),
     (b"!\x01refused: exists\0", Some((1, "refused: exists"))),
@@ -33,21 +33,21 @@ static ANSWERED: [(&[u8], Answer); 8] = [
         b"!\x03\xc3\x84 is no name\0",
         Some((3, "\u{c4} is no name")),
     ),
-    // It took the command, and then it was gone, or its answer was cut.
+    // The server took the command, but its answer is missing or cut.
     (b"!", None),
     (b"!\0", None),
     (b"!\0done\n", None),
     (b"!\0done\n!", None),
 ];
 
-// Sends what a server sends, up to its end.
+// Sends all bytes of a server.
 fn send(server: &mut UnixStream, bytes: &[u8]) -> Result<(), Fail> {
     server.write_all(bytes)?;
     server.shutdown(Shutdown::Write)?;
     Ok(())
 }
 
-// A connection to a server that sends these bytes, and the server.
+// Returns a connection to a server that sends these bytes, and the server.
 fn server_of(rt: &HostRuntime, bytes: &[u8]) -> Result<(UnixStream, UnixStream), Fail> {
     let (client, mut server) = UnixStream::pair(rt)?;
     send(&mut server, bytes)?;
@@ -110,7 +110,7 @@ static RETRIED: [Retried; 6] = [
         3,
         20,
     ),
-    // It may have been carried out, so it isn't sent again.
+    // The command may have been carried out, so it isn't sent again.
     Retried(&[b"", b"\0done\n\0"], None, 1, 0),
     Retried(&[NOTHING, b"\0done\n", b"\0done\n\0"], None, 2, 10),
     // Ten seconds are over.
@@ -146,7 +146,7 @@ fn tries_again(rt: &HostRuntime, retried: &Retried) -> Result<(), Fail> {
     expect_answer(rt, &answer, want)
 }
 
-// A command that no server got whole is tried again for ten seconds, and no other command is.
+// Only a command that no server got whole is tried again, for ten seconds.
 #[test]
 fn tries_again_until_done(rt: HostRuntime) -> Result<(), Fail> {
     for retried in &RETRIED {
@@ -155,8 +155,8 @@ fn tries_again_until_done(rt: HostRuntime) -> Result<(), Fail> {
     Ok(())
 }
 
-// A server that is gone once it has greeted wasn't given the command, and can't carry it out: the
-// next one does.
+// A server that ends after its greeting doesn't get the command, and can't carry it out. The next
+// server does.
 #[test]
 fn nothing_was_done_by_a_server_that_is_gone(rt: HostRuntime) -> Result<(), Fail> {
     let (gone, server) = UnixStream::pair(&rt)?;
@@ -171,11 +171,11 @@ fn nothing_was_done_by_a_server_that_is_gone(rt: HostRuntime) -> Result<(), Fail
     expect_answer(&rt, &answer, &Some((0, "done\n")))
 }
 
-/// What is no greeting. The system resets a connection that is closed while bytes of it are unread,
-/// so each is one byte or none.
+/// Bytes that are no greeting. The system resets a connection that is closed with unread bytes, so
+/// each is one byte or none.
 static NO_GREETINGS: [&[u8]; 3] = [b"", b"?", b"\0"];
 
-// A server that greets otherwise, or is gone, is handed nothing.
+// A server with another greeting, or with none, is handed nothing.
 #[test]
 fn hands_nothing_without_a_greeting(rt: HostRuntime) -> Result<(), Fail> {
     for bytes in &NO_GREETINGS {
@@ -186,7 +186,7 @@ fn hands_nothing_without_a_greeting(rt: HostRuntime) -> Result<(), Fail> {
     Ok(())
 }
 
-// A server is found by a link to its database, too.
+// A server is also found by a link to its database.
 #[test]
 fn hands_over_by_a_door_behind_a_link(rt: HostRuntime) -> Result<(), Fail> {
     let club = new_club(&rt, "linked", &AMY)?;
@@ -202,7 +202,7 @@ fn hands_over_by_a_door_behind_a_link(rt: HostRuntime) -> Result<(), Fail> {
     expect_answer(&rt, &answer, &Some((0, "done\n")))
 }
 
-/// Attempts, and the number of those that are in vain.
+/// Attempts: this many fail, and the next one succeeds.
 #[derive(Drop)]
 struct Trier(u32);
 
@@ -220,8 +220,7 @@ impl Attempts for Trier {
     }
 }
 
-/// The number of attempts in vain, of at most five, whether there is a gain, and the milliseconds
-/// slept.
+/// The number of failing attempts, whether one of five succeeds, and the milliseconds slept.
 static TRIED: [(u32, bool, u64); 4] = [(0, true, 0), (1, true, 10), (4, true, 40), (5, false, 50)];
 
 #[test]

@@ -1,5 +1,5 @@
-//! Random lists of requests and commands, as bytes, through the server: it writes what the
-//! reference machine replies and answers.
+//! Random lists of requests and commands, as bytes, through the server. It writes the replies and
+//! the answers of the reference machine.
 
 use crate::arriving::{Arriving, Given, Queue, Written};
 use crate::callers::Machine;
@@ -23,12 +23,12 @@ use test_kit::drawn::{AUDIT_AMY, AUDITORS, Asking, BEGINNING, Event, Numbers, SL
 use test_kit::roots::ROOT;
 use test_kit::{PlainCommand, PlainRequest, PlainSlot, signed_pass};
 
-/// How many lists a test plays over one club, and how many events each has.
+/// The number of lists that a test plays over one club, and of the events in each.
 const LISTS: u32 = 10;
 
 const EVENTS: u32 = 60;
 
-// One of the two drawn roots in hexadecimal.
+// Returns one of the two drawn roots in hexadecimal.
 fn root_text(bytes: &[u8]) -> &'static str {
     if bytes == ROOT {
         "00112233445566778899aabbccddeeff"
@@ -53,14 +53,14 @@ fn pass_text(rt: &HostRuntime, asking: &Asking) -> Result<String, Fail> {
     Ok(write_any(rt.alloc(), asking.form, &pass)?)
 }
 
-// The facility, the day and the hour of a slot, with this text between them.
+// The facility, the day and the hour of a slot, separated by this text.
 fn slot_text(rt: &HostRuntime, slot: &PlainSlot, between: &str) -> Result<String, Fail> {
     let slot = slot.slot().ok_or("a slot")?;
     let (facility, day, hour) = (slot.facility, slot.day, slot.hour);
     Ok(format!(in rt.alloc(); "{facility}{between}{day}{between}{hour}")?)
 }
 
-// The method, the path and the body of a request, with a space after each of the first two.
+// The method, the path and the body of a request, separated by spaces.
 fn request_words(rt: &HostRuntime, asked: &PlainRequest) -> Result<String, Fail> {
     match asked {
         PlainRequest::View(slot) => {
@@ -92,13 +92,13 @@ fn request_bytes(rt: &HostRuntime, asking: &Asking) -> Result<Vec<u8>, Fail> {
     Ok(text.as_bytes().to_vec(rt.alloc())?)
 }
 
-// The command and the arguments of a command of a slot.
+// The name and the arguments of a command about a slot.
 fn slot_words(rt: &HostRuntime, command: &str, slot: &PlainSlot) -> Result<String, Fail> {
     let slot = slot_text(rt, slot, " ")?;
     Ok(format!(in rt.alloc(); "{command} {slot}")?)
 }
 
-// The command and the arguments of a command. A new key's root is read from standard input.
+// The name and the arguments of a command. A new key's root is read from standard input.
 fn command_words(rt: &HostRuntime, plain: &PlainCommand) -> Result<String, Fail> {
     let alloc = rt.alloc();
     let words = match plain {
@@ -155,7 +155,7 @@ fn answer_text(rt: &HostRuntime, answer: &OfficeAnswer) -> Result<String, Fail> 
     }
 }
 
-/// What comes to the server, in its order, and what it writes by the reference machine.
+/// The arrivals at the server with their moments, and the bytes that the reference machine wants.
 #[derive(Drop)]
 struct Plan<'a> {
     rt: &'a HostRuntime,
@@ -210,8 +210,8 @@ impl<'a> Plan<'a> {
         request_bytes(self.rt, asking)
     }
 
-    // Adds a client with a request, if there is one, and the office with a command, if there is
-    // one, which is carried out first.
+    // Adds an arrival: a client with a request, the office with a command, or both. In the last
+    // case the command comes between the halves of the request, and is carried out first.
     fn add(&mut self, asking: Option<Asking>, plain: Option<&PlainCommand>) -> Result<(), Fail> {
         let moment = asking.unwrap_or(audit(AUDIT_AMY)).moment;
         let moment = Moment::from_number(moment).ok_or("a moment")?;
@@ -227,7 +227,7 @@ impl<'a> Plan<'a> {
         Ok(())
     }
 
-    // Adds events in their order. A command that is drawn after a request comes between its halves.
+    // Adds events in their order. A command after a request comes between the request's halves.
     fn add_each(&mut self, events: &[Event]) -> Result<(), Fail> {
         let mut waiting = None;
         for event in events {
@@ -247,7 +247,7 @@ impl<'a> Plan<'a> {
         Ok(())
     }
 
-    // Serves what was added, and fails unless the server writes what the reference machine does.
+    // Serves the arrivals, and fails unless the server writes the bytes that are wanted.
     fn serve<S: ClubStore, C: Clock>(
         &mut self,
         desk: &mut OfficeDesk<'_, S, C>,
@@ -269,7 +269,7 @@ impl<'a> Plan<'a> {
     }
 }
 
-// Adds requests for the accounts of all members, and for all slots.
+// Adds requests that show the accounts of all members, and all slots.
 fn add_audit(events: &mut Vec<Event>) -> Result<(), AllocError> {
     for key in &AUDITORS {
         events.push(Event::Asked(audit(key)))?;
@@ -284,7 +284,7 @@ fn add_audit(events: &mut Vec<Event>) -> Result<(), AllocError> {
     Ok(())
 }
 
-// Plays lists of a row of numbers, one after the other, over one club, which is made first.
+// Plays lists from a seed, one after the other, over one club, which is made first.
 fn play_lists<S: ClubStore + Drop>(rt: &HostRuntime, store: S, first: u64) -> Result<(), Fail> {
     let mut desk = OfficeDesk::new(rt.alloc(), rt, store);
     let mut plan = Plan::new(rt);

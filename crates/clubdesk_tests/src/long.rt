@@ -18,7 +18,7 @@ static EDGES: [&str; 4] = [
         price 9999\nplaces 50\ntaken 0\nclosed no\n",
 ];
 
-// The path leads to the file of a short one.
+// The long path leads to the file of a short path.
 #[test]
 fn at_a_path_of_4000_letters(rt: HostRuntime) -> Result<(), Fail> {
     let short = ClubFile::new(&rt, "long")?;
@@ -45,8 +45,8 @@ fn takes_credits_of_each_length(rt: HostRuntime) -> Result<(), Fail> {
     Ok(())
 }
 
-// The key gets the root, and its pass is printed: the scenarios have passes under roots of each
-// length. By the input the root comes again, and is refused since it is there.
+// The key gets the root, and its pass is printed. The scenarios have the passes under roots of each
+// length. The same root from standard input is refused.
 fn takes_a_root(rt: &HostRuntime, club: &ClubFile<'_>, hex: &str) -> Result<(), Fail> {
     let words = format!(in rt.alloc(); "rotate-key amy-1 {hex} 2099-12-31T23:59")?;
     let output = club.run(&Scene::after(&[]), words.as_str())?;
@@ -93,7 +93,7 @@ const HOURS: u32 = 20;
 
 const EACH: u32 = 3;
 
-/// The requests in an hour of the key that a row adds, and their rows of the sheet.
+/// Adds the requests in an hour of the key that a row adds, and their lines of the sheet.
 fn book_hour(
     rt: &HostRuntime,
     row: &str,
@@ -120,8 +120,8 @@ fn book_hour(
     Ok(())
 }
 
-/// The requests of a day, and the row of its sheet: lines of 76 bytes between a head of 21 bytes
-/// and a last line of 42.
+/// Returns the requests of a day, and the row of its sheet: lines of 76 bytes between a first line
+/// of 21 bytes and a last line of 42.
 fn book_day(rt: &HostRuntime) -> Result<(Vec<String>, String), Fail> {
     let mut requests = Vec::new(rt.alloc());
     let mut sheet = format!(in rt.alloc(); "sheet 2026-05-01 => 0 Day sheet 2026-05-01\n")?;
@@ -134,7 +134,7 @@ fn book_day(rt: &HostRuntime) -> Result<(Vec<String>, String), Fail> {
     Ok((requests, sheet))
 }
 
-/// It has 9,183 bytes.
+/// The sheet has 9,183 bytes.
 #[test]
 fn prints_a_long_sheet(rt: HostRuntime) -> Result<(), Fail> {
     let (texts, sheet) = book_day(&rt)?;

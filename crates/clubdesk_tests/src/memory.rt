@@ -51,8 +51,8 @@ impl Visit for Greeted<'_> {
     }
 }
 
-/// One database, which stays from one opening to the next; there is none of another name. Its
-/// opening may fail, and a server may have it.
+/// One database, which stays from one opening to the next, and none of another name. Its opening
+/// may fail, and a server may have it open.
 #[derive(Drop)]
 struct InMemory<'a, S: ClubStore + Drop> {
     rt: &'a HostRuntime,
@@ -93,7 +93,7 @@ impl<'a, S: ClubStore + Drop> Databases for InMemory<'a, S> {
 
     ghost closes = { λ _ _ _. Unit {0} };
 
-    // Nobody opens it while it is open.
+    // A database that is open can't be opened.
     fn open(&mut self, name: &str) -> Result<S, StoreFault> {
         count(&self.notes.opened);
         if name != NAME {
@@ -133,7 +133,7 @@ impl<'a, S: ClubStore + Drop> Databases for InMemory<'a, S> {
     }
 }
 
-/// The output of a run, and the counts of its database, with those of the rows before and after it.
+/// The output of a run, and the counts of its database, which include those of the other rows.
 #[derive(Drop)]
 pub struct Played {
     pub output: Output,
@@ -150,8 +150,7 @@ impl Played {
     }
 }
 
-// Plays a scene at a database in a store. All that is done with the store is in functions over any
-// store, which are proved sooner.
+// Plays a scene over a store. Functions over any store are proved faster than over a known one.
 fn play_in<S: ClubStore + Drop>(
     rt: &HostRuntime,
     store: S,
@@ -171,14 +170,14 @@ pub fn play_words(rt: &HostRuntime, scene: &Scene<'_>, words: &str) -> Result<Pl
     play_in(rt, Store::open_in_memory(rt.alloc())?, scene, words)
 }
 
-/// Plays a scene with the command of a row, which ends as that says.
+/// Plays a scene with a run on the words of a row. Fails unless it ends as the row says.
 pub fn play(rt: &HostRuntime, scene: &Scene<'_>, row: &str) -> Result<Played, Fail> {
     let played = play_words(rt, scene, parts_of(row)?.0)?;
     expect_end(rt, row, played.output.returned.as_str())?;
     Ok(played)
 }
 
-/// Runs whose opening fails.
+/// Runs over a database whose opening fails.
 static FAILING: [&str; 4] = [
     "sheet 2026-05-01 => 4 out of memory",
     "serve --port 0 --count 1 => 4 out of memory",
@@ -209,7 +208,7 @@ static ANSWERED: [&str; 2] = [
     "sheet 2026-05-01 => 0 Day sheet 2026-05-01\nNo bookings.\n",
 ];
 
-// A pager that isn't read on, or a terminal that is stopped, doesn't keep the database.
+// A stopped pager or terminal doesn't keep the database open.
 #[test]
 fn closed_before_the_answer_is_written(rt: HostRuntime) -> Result<(), Fail> {
     for row in &ANSWERED {
@@ -221,7 +220,7 @@ fn closed_before_the_answer_is_written(rt: HostRuntime) -> Result<(), Fail> {
     Ok(())
 }
 
-// Whoever opens the database next may make a door: that of the server before is removed by then.
+// The next program that opens the database may make a door. The earlier door is removed by then.
 #[test]
 fn a_door_is_removed_before_the_database_is_closed(rt: HostRuntime) -> Result<(), Fail> {
     let scene = Scene {

@@ -1,7 +1,7 @@
-//! Runs of the program, the rows that say how they end, and clubs in files.
+//! Runs of the program, rows with their expected ends, and clubs in files.
 //!
-//! A row is a command with its arguments but for the database, and how it ends: its status, with
-//! what it writes or the line of its fault.
+//! A row has the words of a run, which are its command and its arguments without the database, and
+//! its end. The end is the status, and the output or the line of the fault.
 
 use crate::callers::{Caller, Input, Machine, Notes};
 use club_core::StoreFault;
@@ -16,35 +16,35 @@ use std::time::Clock;
 use std::{env, fs, process};
 use test_kit::Process;
 
-/// What a server answers to a command: the status and the text, or nothing.
+/// A server's answer to a command: the status and the text, or nothing.
 pub type ServerAnswer<'a> = Option<(u8, &'a str)>;
 
-/// What there is beside a run of the program.
+/// The circumstances of a run of the program.
 #[derive(Clone, Copy)]
 pub struct Scene<'a> {
-    /// The rows that are played before the run and after it.
+    /// The rows to play before the run and after it.
     pub before: &'a [&'a str],
     pub after: &'a [&'a str],
-    /// The input of the run, how much it may write, whether that can be flushed, and the requests
-    /// of the clients of its server.
+    /// The input of the run, the number of bytes that it can write, whether these can be flushed,
+    /// and the requests of the clients of its server.
     pub input: Input<'a>,
     pub room: usize,
     pub flushes: bool,
     pub requests: &'a [&'a str],
-    /// Over memory, the clock of the machine, as `Machine` has it; the fault of each opening; and
-    /// the answer of the server that has the database, if one has.
+    /// Over memory: the time of `Machine`, the fault of each opening, and the answer of the server
+    /// that has the database open, if there is one.
     pub second: Option<u64>,
     pub later: u64,
     pub fault: Option<StoreFault>,
     pub server: Option<ServerAnswer<'a>>,
-    /// Over a file, whether the database is dropped in place of being closed, as by a run that is
-    /// killed, and a file that is removed once the server listens.
+    /// Over a file: whether the database is dropped and not closed, as by a killed server, and the
+    /// path of a file that is removed once the server listens.
     pub is_killed: bool,
     pub removed: Option<&'a str>,
 }
 
 impl<'a> Scene<'a> {
-    /// A run after these rows and with nothing else.
+    /// Returns the circumstances of a run after these rows, with nothing special.
     pub fn after(before: &'a [&'a str]) -> Scene<'a> {
         Scene {
             before,
@@ -63,8 +63,8 @@ impl<'a> Scene<'a> {
     }
 }
 
-/// The result of a run: its status, with what it wrote or the line of its fault; how many bytes it
-/// wrote; what came back to the clients of its server; and its log.
+/// The result of a run: its end, the number of bytes that it wrote, the replies to the clients of
+/// its server, and its log.
 #[derive(Drop)]
 pub struct Output {
     pub returned: String,
@@ -73,7 +73,7 @@ pub struct Output {
     pub log: Vec<u8>,
 }
 
-// The status of a run, with what it wrote or the line of its fault.
+// The end of a run with this status, by the text on standard error and the written bytes.
 fn text_of(
     rt: &HostRuntime,
     status: u8,
@@ -117,7 +117,7 @@ fn run_over<C: Clock, D: Databases>(
     })
 }
 
-/// The line of a command over the database of a name. The words `--version` need none.
+/// Returns the command line with these words and the name of a database. `--version` needs none.
 pub fn line_of(rt: &HostRuntime, name: &str, words: &str) -> Result<String, AllocError> {
     match words.split_once(' ') {
         Some((command, rest)) => format!(in rt.alloc(); "clubdesk {command} {name} {rest}"),
@@ -137,12 +137,12 @@ pub fn expect_eq<T: PartialEq + Debug>(
     Err(format!(in rt.alloc(); "{returned:?} in place of {want:?}")?.into())
 }
 
-/// The words of a row's command, and how it ends.
+/// Returns the words and the end of a row.
 pub fn parts_of(row: &str) -> Result<(&str, &str), Fail> {
     Ok(row.split_once(" => ").ok_or("a row")?)
 }
 
-/// Fails unless a run ended as its row says.
+/// Fails unless the end of a run is that of its row.
 pub fn expect_end(rt: &HostRuntime, row: &str, returned: &str) -> Result<(), Fail> {
     if returned == parts_of(row)?.1 {
         return Ok(());
@@ -150,7 +150,7 @@ pub fn expect_end(rt: &HostRuntime, row: &str, returned: &str) -> Result<(), Fai
     Err(format!(in rt.alloc(); "{row}: {returned}")?.into())
 }
 
-// Runs commands over the database of a name, one after the other. Each ends as its row says.
+// Plays rows over the database of a name, one after the other.
 fn play_rows<D: Databases>(
     rt: &HostRuntime,
     databases: &mut D,
@@ -168,7 +168,7 @@ fn play_rows<D: Databases>(
     Ok(())
 }
 
-/// Plays a scene at the database of a name: what comes of its run on these words.
+/// Plays a scene with a run on these words over the database of a name.
 pub fn play_over<C: Clock, D: Databases>(
     rt: &HostRuntime,
     machine: &C,
@@ -185,7 +185,7 @@ pub fn play_over<C: Clock, D: Databases>(
     Ok(output)
 }
 
-/// Databases of a run that may be killed, which drops them in place of closing them.
+/// Databases of a run that may be killed. Then they are dropped and not closed.
 #[derive(Drop)]
 struct Fragile<'d, D> {
     databases: &'d mut D,
@@ -268,19 +268,19 @@ fn play_at_file<'x>(
     run_over_files(rt, at_file)
 }
 
-/// The file of a club. It is removed in the end, if it is there.
+/// The file of a club, which is removed in the end.
 pub struct ClubFile<'a> {
     rt: &'a HostRuntime,
     path: String,
 }
 
 impl<'a> ClubFile<'a> {
-    /// The file at a path.
+    /// Returns the file at a path.
     pub fn at(rt: &'a HostRuntime, path: String) -> ClubFile<'a> {
         ClubFile { rt, path }
     }
 
-    /// A file of this process alone, which isn't there yet.
+    /// Returns a file that only this process uses, and that doesn't exist yet.
     pub fn new(rt: &'a HostRuntime, name: &str) -> Result<ClubFile<'a>, Fail> {
         let folder = env::temp_dir(rt)?;
         let folder = folder.as_str();
@@ -293,7 +293,7 @@ impl<'a> ClubFile<'a> {
         self.path.as_str()
     }
 
-    /// A path that begins with the file's.
+    /// Returns the file's path with an end.
     pub fn path_with(&self, end: &str) -> Result<String, AllocError> {
         format!(in self.rt.alloc(); "{}{end}", self.path)
     }
@@ -303,7 +303,7 @@ impl<'a> ClubFile<'a> {
         play_at_file(self.rt, self.path(), *scene, words)
     }
 
-    /// Runs commands over the file one after the other. Each ends as its row says.
+    /// Plays rows over the file, one after the other.
     pub fn play(&self, rows: &[&str]) -> Result<(), Fail> {
         for row in rows {
             let output = self.run(&Scene::after(&[]), parts_of(row)?.0)?;

@@ -1,5 +1,5 @@
-//! Runs by a clock of the test's, over a club in memory: servers, and accounts that are shown. A
-//! program of another language computed the moments, from the zones' own database.
+//! Runs with a clock of the test, over a club in memory: servers, and accounts that are shown. A
+//! program in another language computed the moments from the database of the zones.
 
 use crate::memory::{play, play_words};
 use crate::runs::{Scene, expect_eq};
@@ -30,8 +30,8 @@ const NOT_BOOKABLE: &str =
     "HTTP/1.1 409 Conflict\r\nContent-Type: application/json\r\nContent-Length: 34\r\n\
     Connection: close\r\n\r\n{\"fault\":16,\"text\":\"not bookable\"}";
 
-// How a server of the booking ends, its reply, and the sheet of the day afterwards. The slot may
-// have begun, or the clock is out of range.
+// Returns the end of a server of the booking, its reply, and the sheet of the day afterwards. The
+// slot may have begun, or the clock is out of range.
 fn outcome_of(word: &str) -> (&'static str, &'static str, &'static [&'static str]) {
     match word {
         "served" => ("0 ", BOOKED_7, &BOOKED),
@@ -40,7 +40,7 @@ fn outcome_of(word: &str) -> (&'static str, &'static str, &'static [&'static str
     }
 }
 
-// The text of a log, whose line has `$` for the method and the path of the booking.
+// Returns the text of a log. Its line has `$` for the method and the path of the booking.
 fn log_of(rt: &HostRuntime, line: &str) -> Result<String, AllocError> {
     match line.split_once('$') {
         Some((moment, rest)) => format!(in rt.alloc();
@@ -51,9 +51,9 @@ fn log_of(rt: &HostRuntime, line: &str) -> Result<String, AllocError> {
     }
 }
 
-// Over a new club, the booking is served, or not, and then the sheet of the day is printed, in six
-// runs. A row has the second that the machine's clock shows, if it can be read; the options of the
-// server; the outcome; and the log, which ends with the microseconds that the connection takes.
+// Serves the booking over a new club, and prints the sheet of the day, in six runs. A row has the
+// second that the machine's clock shows, if it can be read; the options of the server; the outcome;
+// and the log. The log ends with the microseconds of the connection.
 fn serves(rt: &HostRuntime, row: &str) -> Result<(), Fail> {
     let (second, rest) = row.split_once("; ").ok_or("a second")?;
     let (options, rest) = rest.split_once("; ").ok_or("options")?;
@@ -78,7 +78,7 @@ fn serves(rt: &HostRuntime, row: &str) -> Result<(), Fail> {
 }
 
 static SERVED: [&str; 22] = [
-    // Whatever the machine's clock shows, if it can be read.
+    // The moment is fixed, so that the machine's clock doesn't count.
     "none; --at 2026-04-20T12:00; served; unlogged",
     "none; --at 2026-04-20T12:00 --log; served; 2026-04-20T12:00 $ 200 0",
     "1777658400; --log --at 2026-05-01T17:59 --zone CET-1CEST,M3.5.0,M10.5.0/3; served; \
@@ -86,8 +86,8 @@ static SERVED: [&str; 22] = [
     "1777658399; --at 2026-05-01T18:00; not bookable; unlogged",
     "1777658399; --at 2026-05-01T18:00 --log; not bookable; 2026-05-01T18:00 $ 409 1533",
     "946684799; --at 2026-04-20T12:00; served; unlogged",
-    // A request that is there whole is served, even once its time is over. It waits four seconds,
-    // with a patience of three, four and five, and an hour less a second, with one of an hour.
+    // A request that arrived whole is served, even after its time. It waits four seconds, with a
+    // patience of three, four and five, and an hour less a second, with a patience of an hour.
     "0; --at 2026-04-20T12:00 --log --patience 3; served; 2026-04-20T12:00 $ 200 4000000",
     "0; --at 2026-04-20T12:00 --log --patience 4; served; 2026-04-20T12:00 $ 200 4000000",
     "0; --patience 5 --at 2026-04-20T12:00 --log; served; 2026-04-20T12:00 $ 200 4000000",
@@ -101,7 +101,7 @@ static SERVED: [&str; 22] = [
         2026-05-01T18:00 $ 409 1533",
     "1777651200; --zone CET-1CEST,M3.5.0,M10.5.0/3; not bookable; unlogged",
     "1777672799; --zone EST5EDT,M3.2.0,M11.1.0 --log; served; 2026-05-01T17:59 $ 200 1533",
-    // Beside the years 2000 to 2099, and a clock that can't be read. No byte comes back.
+    // Outside the years 2000 to 2099, and a clock that can't be read. There is no reply.
     "946684799; --log; out of range; - - - - 1533",
     "4102444800; --zone UTC0; out of range; unlogged",
     "4102441200; --log --zone CET-1CEST,M3.5.0,M10.5.0/3; out of range; - - - - 1533",
@@ -120,12 +120,12 @@ fn serves_by_a_clock(rt: HostRuntime) -> Result<(), Fail> {
 /// The beginning of the booking's request. Its client sends no more.
 const BEGINNING: &str = "PUT /slots/court-1/2026-05-01/18/bookings/7 HTTP/1.1\r\n";
 
-/// A server's patience in seconds, and the microseconds of it that have passed once the beginning
-/// was read. A second is left.
+/// A server's patience in seconds, and the microseconds that have passed when it has read the
+/// beginning. A second is left.
 static A_SECOND_LEFT: [(u32, u64); 3] = [(1, 0), (2, 1_000_000), (3_600, 3_599_000_000)];
 
-// A client that doesn't send the rest of its request is waited for as long as is left of the
-// patience, and no longer. Then the next client is served.
+// The server waits for the rest of a request until its patience is over. Then it serves the next
+// client.
 fn waits(rt: &HostRuntime, patience: u32, later: u64) -> Result<(), Fail> {
     let words = format!(in rt.alloc();
         "serve --port 0 --count 2 --at 2026-04-20T12:00 --patience {patience}"
@@ -145,8 +145,7 @@ fn waits(rt: &HostRuntime, patience: u32, later: u64) -> Result<(), Fail> {
     Err(format!(in rt.alloc(); "patience {patience}: waited {waited} seconds")?.into())
 }
 
-// By sockets of the machine, and its time. A server that waits without end, or for an hour, is
-// stopped by the limit of a test.
+// These waits are real. A test's time limit stops a server that waits for an hour or for ever.
 #[test]
 fn waits_as_long_as_its_patience(rt: HostRuntime) -> Result<(), Fail> {
     for (patience, later) in &A_SECOND_LEFT {
@@ -155,8 +154,8 @@ fn waits_as_long_as_its_patience(rt: HostRuntime) -> Result<(), Fail> {
     Ok(())
 }
 
-/// The second that a machine shows, if it can be read, and an account that is shown by it. The zone
-/// is one hour before UTC in winter. A fixed moment wants no clock.
+/// The second that the machine's clock shows, if it can be read, and a row. The zone is one hour
+/// ahead of UTC in winter. A fixed moment needs no clock.
 static SHOWN: [&str; 5] = [
     "1777658399; show-account amy-1 => 0 member amy\nbalance 10000\nquota 5\nopen 0\nspent 0\n\
         revoked no\nolder root none\n",
@@ -166,7 +165,7 @@ static SHOWN: [&str; 5] = [
     "none; show-account amy-2 --at 2026-04-20T12:00 => 1 refused: unknown",
 ];
 
-// The club was made in four runs, and each run that shows an account opens it once.
+// Four runs made the club, and each run that shows an account opens it once.
 #[test]
 fn shows_accounts_by_a_clock(rt: HostRuntime) -> Result<(), Fail> {
     for row in &SHOWN {
@@ -180,10 +179,10 @@ fn shows_accounts_by_a_clock(rt: HostRuntime) -> Result<(), Fail> {
     Ok(())
 }
 
-/// Ports that are named: of each ten from here on, one is free.
+/// Each is the first of ten ports. At least one of the ten is free.
 static FIRST_OF_TEN: [u16; 6] = [1_025, 30_000, 60_001, 60_990, 61_001, 65_526];
 
-// The booking is served at one of ten ports. Other programs may listen at some of them.
+// Serves the booking at one of ten ports. Other programs may listen at the others.
 fn serves_in(rt: &HostRuntime, first: u16) -> Result<(), Fail> {
     let scene = Scene {
         requests: &[BOOK_7],
