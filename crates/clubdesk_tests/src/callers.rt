@@ -71,7 +71,7 @@ impl<'a> Caller<'a> {
         }
     }
 
-    /// Returns the written bytes, without a server's line to which clients came.
+    /// Returns the written bytes, without the line of a server that clients came to.
     pub fn written_bytes(&self) -> &[u8] {
         self.written.as_slice()
     }

@@ -92,7 +92,7 @@ fn files_of_something_else(rt: HostRuntime) -> Result<(), Fail> {
     expect_eq(&rt, &left.as_slice(), &[b'x'; 100].as_slice())
 }
 
-/// The place of the version in a new file: its table is on the second page, with its row at the end.
+/// The place of the version in a new file. Its table is on the second page, its row at the end.
 const VERSION_AT: usize = 8_191;
 
 // A file of version 2 gets version 9.
