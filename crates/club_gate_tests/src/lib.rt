@@ -6,6 +6,8 @@
 #[cfg(test)]
 mod expect;
 #[cfg(test)]
+mod fixture;
+#[cfg(test)]
 mod happens;
 #[cfg(test)]
 mod law;
@@ -25,8 +27,6 @@ mod refusals;
 mod refused_memory;
 #[cfg(test)]
 mod refusing;
-#[cfg(test)]
-mod scene;
 #[cfg(test)]
 mod store;
 #[cfg(test)]

@@ -37,7 +37,7 @@ impl Pair {
     }
 }
 
-impl Scene for Pair {
+impl Fixture for Pair {
     fn play<S: ClubStore + Drop>(&self, rt: &impl Host, desk: Desk<S>) {
         let trial = self.trial_after(rt, Trial::begin(rt, desk), self.first.as_slice());
         let _last = self.trial_after(rt, trial, self.second.as_slice());

@@ -1,7 +1,7 @@
 //! Long passes, runs of events and sheets: the desk has memory for each.
 
 use crate::happens::{Happens, events_and_replies};
-use crate::passes::Shown;
+use crate::passes::PresentedPass;
 use crate::prelude::*;
 use pass_forms::Form;
 
@@ -41,7 +41,7 @@ fn shows_account<S: ClubStore>(rt: &impl Host, desk: &mut Desk<S>, place: usize,
 
 struct LongTexts;
 
-impl Scene for LongTexts {
+impl Fixture for LongTexts {
     fn play<S: ClubStore + Drop>(&self, rt: &impl Host, desk: Desk<S>) {
         let mut desk = furnish(rt, desk);
         for (place, pieces) in TEXTS.iter().enumerate() {
@@ -62,7 +62,7 @@ struct LongRun {
     times: usize,
 }
 
-impl Scene for LongRun {
+impl Fixture for LongRun {
     fn play<S: ClubStore + Drop>(&self, rt: &impl Host, desk: Desk<S>) {
         let mut desk = furnish(rt, desk);
         let (events, replies) = events_and_replies(rt, self.rows);
@@ -157,13 +157,13 @@ fn prints_all<S: ClubStore>(rt: &impl Host, desk: &mut Desk<S>) {
 /// A sheet of more than 8,193 bytes.
 struct LongSheet;
 
-impl Scene for LongSheet {
+impl Fixture for LongSheet {
     fn play<S: ClubStore + Drop>(&self, rt: &impl Host, mut desk: Desk<S>) {
         for plain in &MEMBERS {
             carry_out(rt, &mut desk, plain);
         }
         for key in [KEY, OTHER_KEY] {
-            let text = Shown::Of(key, ROOT, &[]).text(rt, Form::V2);
+            let text = PresentedPass::Of(key, ROOT, &[]).text(rt, Form::V2);
             book_all(rt, &mut desk, text.as_str());
         }
         prints_all(rt, &mut desk);

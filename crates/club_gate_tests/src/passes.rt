@@ -10,7 +10,7 @@ pub(crate) static FORMS: [Form; 3] = [Form::V1, Form::V2, Form::Json];
 
 /// The pass of a request.
 #[derive(Clone, Copy)]
-pub(crate) enum Shown {
+pub(crate) enum PresentedPass {
     /// The office's pass of a key under a root, with caveats that were added without the root.
     Of(&'static str, &'static [u8], &'static [&'static str]),
     /// Amy's with its last byte changed.
@@ -41,12 +41,12 @@ fn unnamed_pass(rt: &impl Host) -> Pass {
     Pass::mint(rt.alloc(), root.as_bytes(), LOCATION, b"amy-1").expect(rt, "memory")
 }
 
-impl Shown {
+impl PresentedPass {
     fn pass(&self, rt: &impl Host) -> Pass {
         match *self {
-            Shown::Of(key, root, caveats) => narrowed_pass(rt, key, root, caveats),
-            Shown::Changed => changed_pass(rt),
-            Shown::Unnamed => unnamed_pass(rt),
+            PresentedPass::Of(key, root, caveats) => narrowed_pass(rt, key, root, caveats),
+            PresentedPass::Changed => changed_pass(rt),
+            PresentedPass::Unnamed => unnamed_pass(rt),
         }
     }
 
@@ -56,9 +56,9 @@ impl Shown {
 }
 
 pub(crate) fn text_of_asking(rt: &impl Host, asking: &Asking) -> String {
-    Shown::Of(asking.key, asking.root, asking.caveats).text(rt, asking.form)
+    PresentedPass::Of(asking.key, asking.root, asking.caveats).text(rt, asking.form)
 }
 
-pub(crate) const AMY: Shown = Shown::Of("amy-1", ROOT, &[]);
+pub(crate) const AMY: PresentedPass = PresentedPass::Of("amy-1", ROOT, &[]);
 
-pub(crate) const BOB: Shown = Shown::Of("bob-1", ROOT, &[]);
+pub(crate) const BOB: PresentedPass = PresentedPass::Of("bob-1", ROOT, &[]);

@@ -3,7 +3,7 @@
 //! current one doesn't sign. Then come the record under the number and the facility, then the sums
 //! for a limit of points, and at last the rows for the decision.
 
-use crate::passes::{AMY, BOB, FORMS, Shown};
+use crate::passes::{AMY, BOB, FORMS, PresentedPass};
 use crate::prelude::*;
 use crate::refusing::Call::{
     self, Account, Change, Facility, Key, MostTaken, OlderRoot, OpenCount, Record, Slot, Spent,
@@ -52,28 +52,36 @@ const BOOKING_BY_OLDER: &[Call] = &[
 ];
 
 /// A pass, a request under it, the reply, and the calls of the store.
-type Row = (Shown, PlainRequest, PlainReply, &'static [Call]);
+type Row = (PresentedPass, PlainRequest, PlainReply, &'static [Call]);
 
-const NOBODY: Shown = Shown::Of("nobody", ROOT, &[]);
+const NOBODY: PresentedPass = PresentedPass::Of("nobody", ROOT, &[]);
 
-const UNDER_SECOND: Shown = Shown::Of("amy-1", SECOND_ROOT, &[]);
+const UNDER_SECOND: PresentedPass = PresentedPass::Of("amy-1", SECOND_ROOT, &[]);
 
-const UNDER_SECOND_NARROWED: Shown = Shown::Of("amy-1", SECOND_ROOT, &["hours = 18-20"]);
+const UNDER_SECOND_NARROWED: PresentedPass = PresentedPass::Of(
+    "amy-1",
+    SECOND_ROOT,
+    &["hours = 18-20"],
+);
 
-const UNDER_THIRD: Shown = Shown::Of("amy-1", THIRD_ROOT, &[]);
+const UNDER_THIRD: PresentedPass = PresentedPass::Of("amy-1", THIRD_ROOT, &[]);
 
-const AT_18: Shown = Shown::Of("amy-1", ROOT, &["hours = 18-19"]);
+const AT_18: PresentedPass = PresentedPass::Of("amy-1", ROOT, &["hours = 18-19"]);
 
 /// A pass that allows no booking, whatever its key has spent.
-const VIEWS: Shown = Shown::Of("amy-1", ROOT, &["actions = view"]);
+const VIEWS: PresentedPass = PresentedPass::Of("amy-1", ROOT, &["actions = view"]);
 
-const VIEWS_THEN_SPENDS: Shown = Shown::Of("amy-1", ROOT, &["actions = view", "spend <= 700"]);
+const VIEWS_THEN_SPENDS: PresentedPass = PresentedPass::Of(
+    "amy-1",
+    ROOT,
+    &["actions = view", "spend <= 700"],
+);
 
-const SPENDS_700: Shown = Shown::Of("amy-1", ROOT, &["spend <= 700"]);
+const SPENDS_700: PresentedPass = PresentedPass::Of("amy-1", ROOT, &["spend <= 700"]);
 
-const COURTS: Shown = Shown::Of("amy-1", ROOT, &["hours = 18-20", "kind = court"]);
+const COURTS: PresentedPass = PresentedPass::Of("amy-1", ROOT, &["hours = 18-20", "kind = court"]);
 
-const BOATS: Shown = Shown::Of("amy-1", ROOT, &["kind = boat"]);
+const BOATS: PresentedPass = PresentedPass::Of("amy-1", ROOT, &["kind = boat"]);
 
 /// A facility that the club lacks.
 const NOWHERE: PlainSlot = PlainSlot {
@@ -87,9 +95,9 @@ const BOOK_NOWHERE: PlainRequest = PlainRequest::Book(NOWHERE, 7, 2);
 
 static REFUSED: [Row; 5] = [
     // The identifier is no key's.
-    (Shown::Unnamed, BOOK_7, NOT_VERIFIED, &[]),
+    (PresentedPass::Unnamed, BOOK_7, NOT_VERIFIED, &[]),
     (NOBODY, BOOK_7, NOT_VERIFIED, &[Key]),
-    (Shown::Changed, BOOK_7, NOT_VERIFIED, BOTH_ROOTS),
+    (PresentedPass::Changed, BOOK_7, NOT_VERIFIED, BOTH_ROOTS),
     (UNDER_SECOND_NARROWED, BOOK_7, NOT_VERIFIED, BOTH_ROOTS),
     (BOB, BOOK_7, KEY_REVOKED, &[Key]),
 ];
@@ -263,7 +271,7 @@ impl Before {
 #[derive(Clone, Copy)]
 enum Asked {
     /// A request under a pass in this form.
-    Request(Form, Shown, PlainRequest, PlainReply),
+    Request(Form, PresentedPass, PlainRequest, PlainReply),
     Command(PlainCommand, Option<OfficeFault>),
 }
 
@@ -296,7 +304,7 @@ struct Reading {
     calls: &'static [Call],
 }
 
-impl Scene for Reading {
+impl Fixture for Reading {
     fn play<S: ClubStore + Drop>(&self, rt: &impl Host, desk: Desk<S>) {
         let mut desk = furnish(rt, desk);
         self.before.happen(rt, &mut desk);
@@ -357,7 +365,7 @@ fn a_repeat_and_a_cancellation_read_no_sum(rt: HostRuntime) {
 #[test]
 fn a_sum_is_read_only_where_the_limit_lies_below_what_the_member_has_used(rt: HostRuntime) {
     for (place, (key, caveats, want, calls)) in LIMITS.iter().enumerate() {
-        let row = (Shown::Of(key, ROOT, caveats), BOOK_8, *want, *calls);
+        let row = (PresentedPass::Of(key, ROOT, caveats), BOOK_8, *want, *calls);
         reads(&rt, BOOKED, place, &row);
     }
 }

@@ -46,7 +46,7 @@ fn expect_untouched<S: ClubStore>(rt: &impl Host, store: &mut S) {
 }
 
 // Every request and command fails and nothing is changed.
-impl Scene for Failure {
+impl Fixture for Failure {
     fn play<S: ClubStore + Drop>(&self, rt: &impl Host, desk: Desk<S>) {
         let mut desk = failing_desk(rt, desk, self);
         expect_failures(rt, &mut desk, self.fault);
@@ -93,7 +93,7 @@ const ALWAYS: Failure = Failure {
 /// Texts that are no pass, at a desk whose store always fails.
 struct FaultsOfForm;
 
-impl Scene for FaultsOfForm {
+impl Fixture for FaultsOfForm {
     fn play<S: ClubStore + Drop>(&self, rt: &impl Host, desk: Desk<S>) {
         let mut desk = failing_desk(rt, desk, &ALWAYS);
         expect_refused(rt, &mut desk, b"AgEJ", Refusal::PassMalformed);

@@ -2,9 +2,9 @@
 //! `tests/desk/refused_memory_tests.py` refuses each in turn, and none after it: a call that is out
 //! of memory changes nothing, and a second call is answered.
 
+use crate::fixture::try_to_play;
 use crate::happens::SIGNED;
 use crate::prelude::*;
-use crate::scene::try_to_play;
 use club_gate::{Event, EventReply, Words};
 use test_kit::passes::AMY_1_SECOND_SIGNATURE;
 
@@ -163,7 +163,7 @@ enum Task {
     Run(&'static str),
 }
 
-impl Scene for Task {
+impl Fixture for Task {
     fn play<S: ClubStore + Drop>(&self, rt: &impl Host, mut desk: Desk<S>) {
         expect_answers(rt, &mut desk, &FIXTURE);
         match self {

@@ -1,6 +1,6 @@
 //! The input and the writer of a run, the clients of its server, and the clock of its machine.
 
-use crate::runs::Scene;
+use crate::runs::Fixture;
 use std::cell::Cell;
 use std::fs;
 use std::io::{self, ErrorKind, Read, Write};
@@ -54,14 +54,14 @@ impl Notes {
 #[derive(Drop)]
 pub struct Caller<'a> {
     rt: &'a HostRuntime,
-    scene: Scene<'a>,
+    scene: Fixture<'a>,
     notes: &'a Notes,
     written: Vec<u8>,
     clients: Vec<TcpStream>,
 }
 
 impl<'a> Caller<'a> {
-    pub fn new(rt: &'a HostRuntime, scene: &Scene<'a>, notes: &'a Notes) -> Caller<'a> {
+    pub fn new(rt: &'a HostRuntime, scene: &Fixture<'a>, notes: &'a Notes) -> Caller<'a> {
         Caller {
             rt,
             scene: *scene,

@@ -3,7 +3,7 @@
 
 use crate::callers::Input;
 use crate::memory::play;
-use crate::runs::Scene;
+use crate::runs::Fixture;
 use crate::servers::OFFICE;
 use std::test::Fail;
 
@@ -23,7 +23,7 @@ static PASSES_OF_KEYS: [&str; 3] = [
 #[test]
 fn passes_of_keys(rt: HostRuntime) -> Result<(), Fail> {
     for row in &PASSES_OF_KEYS {
-        play(&rt, &Scene::after(&OFFICE), row)?.expect_openings(5, 5)?;
+        play(&rt, &Fixture::after(&OFFICE), row)?.expect_openings(5, 5)?;
     }
     Ok(())
 }
@@ -39,7 +39,7 @@ static WORDS: [&str; 4] = [
 #[test]
 fn arguments(rt: HostRuntime) -> Result<(), Fail> {
     for row in &WORDS {
-        play(&rt, &Scene::after(&[]), row)?.expect_openings(0, 0)?;
+        play(&rt, &Fixture::after(&[]), row)?.expect_openings(0, 0)?;
     }
     Ok(())
 }
@@ -72,9 +72,9 @@ const NO_ROOT: &str = "add-key amy-2 amy --root-stdin => 3 bad value";
 
 // Four runs made the club. The command opens it `openings` times more.
 fn ends_so(rt: &HostRuntime, row: &str, input: Input<'_>, openings: u64) -> Result<(), Fail> {
-    let scene = Scene {
+    let scene = Fixture {
         input,
-        ..Scene::after(&OFFICE)
+        ..Fixture::after(&OFFICE)
     };
     let openings = openings.saturating_add(4);
     play(rt, &scene, row)?.expect_openings(openings, openings)

@@ -1,7 +1,7 @@
 //! Ends that aren't the office's: a writer that fails, and a port in use.
 
 use crate::memory::{play, play_words};
-use crate::runs::{ClubFile, Scene, expect_eq};
+use crate::runs::{ClubFile, Fixture, expect_eq};
 use std::net::TcpListener;
 use std::test::Fail;
 
@@ -16,9 +16,9 @@ fn expect_full(
     words: &str,
     room: usize,
 ) -> Result<(), Fail> {
-    let scene = Scene {
+    let scene = Fixture {
         room,
-        ..Scene::after(&[])
+        ..Fixture::after(&[])
     };
     let output = club.run(&scene, words)?;
     expect_eq(rt, &output.returned.as_str(), &FULL)?;
@@ -40,10 +40,10 @@ fn a_failing_writer(rt: HostRuntime) -> Result<(), Fail> {
 // Returns the number of bytes that a run writes over a club in memory. Fails unless the run fails
 // with its writer, which takes them all and can't flush them, and logs nothing.
 fn unflushed(rt: &HostRuntime, words: &str, after: &[&str]) -> Result<usize, Fail> {
-    let scene = Scene {
+    let scene = Fixture {
         flushes: false,
         after,
-        ..Scene::after(&[])
+        ..Fixture::after(&[])
     };
     let output = play_words(rt, &scene, words)?.output;
     expect_eq(rt, &output.returned.as_str(), &FULL)?;
@@ -74,5 +74,5 @@ fn a_port_in_use(rt: HostRuntime) -> Result<(), Fail> {
     let listener = TcpListener::bind(&rt, "127.0.0.1:0")?;
     let port = listener.local_addr()?.port();
     let row = format!(in rt.alloc(); "serve --port {port} --count 1 => {FULL}")?;
-    play(&rt, &Scene::after(&[]), row.as_str())?.expect_openings(1, 1)
+    play(&rt, &Fixture::after(&[]), row.as_str())?.expect_openings(1, 1)
 }

@@ -1,6 +1,6 @@
 //! Runs of the program over files, one after the other, and a server between them.
 
-use crate::runs::{ClubFile, Scene, expect_eq};
+use crate::runs::{ClubFile, Fixture, expect_eq};
 use crate::servers::{BOOKED, OFFICE};
 use std::os::unix::fs::MetadataExt;
 use std::test::Fail;
@@ -20,10 +20,10 @@ pub fn new_club<'a>(rt: &'a HostRuntime, name: &str, rows: &[&str]) -> Result<Cl
 fn expect_reply(
     rt: &HostRuntime,
     club: &ClubFile<'_>,
-    scene: Scene<'_>,
+    scene: Fixture<'_>,
     want: &str,
 ) -> Result<(), Fail> {
-    let scene = Scene {
+    let scene = Fixture {
         requests: &[BOOK_7],
         ..scene
     };
@@ -36,8 +36,8 @@ fn expect_reply(
 #[test]
 fn a_day_in_a_file(rt: HostRuntime) -> Result<(), Fail> {
     let club = new_club(&rt, "day", &OFFICE)?;
-    expect_reply(&rt, &club, Scene::after(&[]), BOOKED_7)?;
-    expect_reply(&rt, &club, Scene::after(&[]), BOOKED_7)?;
+    expect_reply(&rt, &club, Fixture::after(&[]), BOOKED_7)?;
+    expect_reply(&rt, &club, Fixture::after(&[]), BOOKED_7)?;
     club.play(&BOOKED)?;
     club.play(&["close-slot court-1 2026-05-01 18 => 1 refused: slot in use"])
 }
@@ -48,9 +48,9 @@ fn a_day_in_a_file(rt: HostRuntime) -> Result<(), Fail> {
 fn a_booking_in_the_log_alone(rt: HostRuntime) -> Result<(), Fail> {
     let club = new_club(&rt, "left", &OFFICE)?;
     let before = fs::read(&rt, club.path())?;
-    let scene = Scene {
+    let scene = Fixture {
         is_killed: true,
-        ..Scene::after(&[])
+        ..Fixture::after(&[])
     };
     expect_reply(&rt, &club, scene, BOOKED_7)?;
     let after = fs::read(&rt, club.path())?;
@@ -62,9 +62,9 @@ fn a_booking_in_the_log_alone(rt: HostRuntime) -> Result<(), Fail> {
 #[test]
 fn a_file_that_was_removed(rt: HostRuntime) -> Result<(), Fail> {
     let club = new_club(&rt, "gone", &OFFICE)?;
-    let scene = Scene {
+    let scene = Fixture {
         removed: Some(club.path()),
-        ..Scene::after(&[])
+        ..Fixture::after(&[])
     };
     expect_reply(&rt, &club, scene, UNAVAILABLE)
 }

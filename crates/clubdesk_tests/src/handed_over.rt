@@ -2,7 +2,7 @@
 
 use crate::callers::Input;
 use crate::memory::play;
-use crate::runs::{Scene, ServerAnswer, expect_eq, parts_of};
+use crate::runs::{Fixture, ServerAnswer, expect_eq, parts_of};
 use club_core::ClubStore;
 use club_store::Store;
 use clubdesk_commands::OfficeDesk;
@@ -45,10 +45,10 @@ fn answer_of(row: &str) -> Result<ServerAnswer<'_>, Fail> {
 #[test]
 fn hands_commands_over(rt: HostRuntime) -> Result<(), Fail> {
     for (bytes, row) in &HANDED {
-        let scene = Scene {
+        let scene = Fixture {
             server: Some(answer_of(row)?),
             input: Input::Bytes(b"00112233445566778899aabbccddeeff\n"),
-            ..Scene::after(&[])
+            ..Fixture::after(&[])
         };
         let played = play(&rt, &scene, row)?;
         expect_eq(&rt, &played.notes.handed.get(), bytes)?;

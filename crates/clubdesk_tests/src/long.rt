@@ -2,7 +2,7 @@
 
 use crate::callers::Input;
 use crate::memory::play;
-use crate::runs::{ClubFile, Scene, expect_end, parts_of};
+use crate::runs::{ClubFile, Fixture, expect_end, parts_of};
 use crate::servers::OFFICE;
 use std::test::Fail;
 
@@ -40,7 +40,7 @@ static CREDITS: [u32; 13] = [
 fn takes_credits_of_each_length(rt: HostRuntime) -> Result<(), Fail> {
     for points in &CREDITS {
         let row = format!(in rt.alloc(); "credit amy {points} => 0 done\n")?;
-        play(&rt, &Scene::after(&OFFICE), row.as_str())?;
+        play(&rt, &Fixture::after(&OFFICE), row.as_str())?;
     }
     Ok(())
 }
@@ -49,14 +49,14 @@ fn takes_credits_of_each_length(rt: HostRuntime) -> Result<(), Fail> {
 // length. The same root from standard input is refused.
 fn takes_a_root(rt: &HostRuntime, club: &ClubFile<'_>, hex: &str) -> Result<(), Fail> {
     let words = format!(in rt.alloc(); "rotate-key amy-1 {hex} 2099-12-31T23:59")?;
-    let output = club.run(&Scene::after(&[]), words.as_str())?;
+    let output = club.run(&Fixture::after(&[]), words.as_str())?;
     let returned = output.returned.as_str();
     if !returned.starts_with("0 AgEJY2x1Yi1kZXNrAglrZXk6YW15LTEAAAYg") || returned.len() != 82 {
         return Err(format!(in rt.alloc(); "{hex}: {returned}")?.into());
     }
-    let scene = Scene {
+    let scene = Fixture {
         input: Input::Bytes(hex.as_bytes()),
-        ..Scene::after(&[])
+        ..Fixture::after(&[])
     };
     let row = "rotate-key amy-1 2099-12-31T23:59 --root-stdin => 1 refused: exists";
     let output = club.run(&scene, "rotate-key amy-1 2099-12-31T23:59 --root-stdin")?;
@@ -139,10 +139,10 @@ fn book_day(rt: &HostRuntime) -> Result<(Vec<String>, String), Fail> {
 fn prints_a_long_sheet(rt: HostRuntime) -> Result<(), Fail> {
     let (texts, sheet) = book_day(&rt)?;
     let requests: Vec<&str> = texts.iter().map(|text| text.as_str()).collect(rt.alloc())?;
-    let scene = Scene {
+    let scene = Fixture {
         requests: requests.as_slice(),
         after: &[sheet.as_str()],
-        ..Scene::after(&KEYS)
+        ..Fixture::after(&KEYS)
     };
     let row = "serve --port 0 --count 120 --at 2026-04-20T12:00 => 0 ";
     play(&rt, &scene, row)?;

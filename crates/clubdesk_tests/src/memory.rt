@@ -1,7 +1,7 @@
 //! A database in memory, and runs of the program over it.
 
 use crate::callers::{Machine, Notes};
-use crate::runs::{Output, Scene, ServerAnswer, expect_end, parts_of, play_over};
+use crate::runs::{Fixture, Output, ServerAnswer, expect_end, parts_of, play_over};
 use club_core::{ClubStore, StoreFault};
 use club_store::Store;
 use desk_server::{Databases, Door, Reached, Visit};
@@ -154,7 +154,7 @@ impl Played {
 fn play_in<S: ClubStore + Drop>(
     rt: &HostRuntime,
     store: S,
-    scene: &Scene<'_>,
+    scene: &Fixture<'_>,
     words: &str,
 ) -> Result<Played, Fail> {
     let notes = Notes::new();
@@ -166,12 +166,12 @@ fn play_in<S: ClubStore + Drop>(
 }
 
 /// Plays a scene with a run on these words.
-pub fn play_words(rt: &HostRuntime, scene: &Scene<'_>, words: &str) -> Result<Played, Fail> {
+pub fn play_words(rt: &HostRuntime, scene: &Fixture<'_>, words: &str) -> Result<Played, Fail> {
     play_in(rt, Store::open_in_memory(rt.alloc())?, scene, words)
 }
 
 /// Plays a scene with a run on the words of a row. Fails unless it ends as the row says.
-pub fn play(rt: &HostRuntime, scene: &Scene<'_>, row: &str) -> Result<Played, Fail> {
+pub fn play(rt: &HostRuntime, scene: &Fixture<'_>, row: &str) -> Result<Played, Fail> {
     let played = play_words(rt, scene, parts_of(row)?.0)?;
     expect_end(rt, row, played.output.returned.as_str())?;
     Ok(played)
@@ -193,9 +193,9 @@ fn openings_that_fail(rt: HostRuntime) -> Result<(), Fail> {
         } else {
             StoreFault::Storage
         };
-        let scene = Scene {
+        let scene = Fixture {
             fault: Some(fault),
-            ..Scene::after(&[])
+            ..Fixture::after(&[])
         };
         play(&rt, &scene, row)?.expect_openings(1, 0)?;
     }
@@ -212,7 +212,7 @@ static ANSWERED: [&str; 2] = [
 #[test]
 fn closed_before_the_answer_is_written(rt: HostRuntime) -> Result<(), Fail> {
     for row in &ANSWERED {
-        let played = play(&rt, &Scene::after(&[]), row)?;
+        let played = play(&rt, &Fixture::after(&[]), row)?;
         if played.notes.written.get() != Some(1) {
             return Err("written to while the database was open".into());
         }
@@ -223,9 +223,9 @@ fn closed_before_the_answer_is_written(rt: HostRuntime) -> Result<(), Fail> {
 // The next program that opens the database may make a door. The earlier door is removed by then.
 #[test]
 fn a_door_is_removed_before_the_database_is_closed(rt: HostRuntime) -> Result<(), Fail> {
-    let scene = Scene {
+    let scene = Fixture {
         requests: &[BOOK_7],
-        ..Scene::after(&["add-member amy 5 => 0 done\n"])
+        ..Fixture::after(&["add-member amy 5 => 0 done\n"])
     };
     let row = "serve --port 0 --count 1 --at 2026-04-20T12:00 => 0 ";
     let played = play(&rt, &scene, row)?;

@@ -21,7 +21,7 @@ pub type ServerAnswer<'a> = Option<(u8, &'a str)>;
 
 /// The circumstances of a run of the program.
 #[derive(Clone, Copy)]
-pub struct Scene<'a> {
+pub struct Fixture<'a> {
     /// The rows to play before the run and after it.
     pub before: &'a [&'a str],
     pub after: &'a [&'a str],
@@ -43,10 +43,10 @@ pub struct Scene<'a> {
     pub removed: Option<&'a str>,
 }
 
-impl<'a> Scene<'a> {
+impl<'a> Fixture<'a> {
     /// Returns the circumstances of a run after these rows, with nothing special.
-    pub fn after(before: &'a [&'a str]) -> Scene<'a> {
-        Scene {
+    pub fn after(before: &'a [&'a str]) -> Fixture<'a> {
+        Fixture {
             before,
             after: &[],
             input: Input::Bytes(b""),
@@ -95,7 +95,7 @@ fn run_over<C: Clock, D: Databases>(
     machine: &C,
     notes: &Notes,
     databases: &mut D,
-    scene: &Scene<'_>,
+    scene: &Fixture<'_>,
     line: &str,
 ) -> Result<Output, AllocError> {
     let words = line.split(' ').map(|word| word.as_bytes());
@@ -161,7 +161,7 @@ fn play_rows<D: Databases>(
         let line = line_of(rt, name, parts_of(row)?.0)?;
         let machine = Machine::new(Some(0), 0);
         let notes = Notes::new();
-        let scene = Scene::after(&[]);
+        let scene = Fixture::after(&[]);
         let output = run_over(rt, &machine, &notes, databases, &scene, line.as_str())?;
         expect_end(rt, row, output.returned.as_str())?;
     }
@@ -175,7 +175,7 @@ pub fn play_over<C: Clock, D: Databases>(
     notes: &Notes,
     databases: &mut D,
     name: &str,
-    scene: &Scene<'_>,
+    scene: &Fixture<'_>,
     words: &str,
 ) -> Result<Output, Fail> {
     play_rows(rt, databases, name, scene.before)?;
@@ -231,7 +231,7 @@ impl<D: Databases> Databases for Fragile<'_, D> {
 struct AtFile<'x> {
     rt: &'x HostRuntime,
     path: &'x str,
-    scene: Scene<'x>,
+    scene: Fixture<'x>,
     words: &'x str,
 }
 
@@ -256,7 +256,7 @@ impl DatabasesUser for AtFile<'_> {
 fn play_at_file<'x>(
     rt: &'x HostRuntime,
     path: &'x str,
-    scene: Scene<'x>,
+    scene: Fixture<'x>,
     words: &'x str,
 ) -> Result<Output, Fail> {
     let at_file = AtFile {
@@ -299,14 +299,14 @@ impl<'a> ClubFile<'a> {
     }
 
     /// Plays a scene with a run on these words over the file.
-    pub fn run(&self, scene: &Scene<'_>, words: &str) -> Result<Output, Fail> {
+    pub fn run(&self, scene: &Fixture<'_>, words: &str) -> Result<Output, Fail> {
         play_at_file(self.rt, self.path(), *scene, words)
     }
 
     /// Plays rows over the file, one after the other.
     pub fn play(&self, rows: &[&str]) -> Result<(), Fail> {
         for row in rows {
-            let output = self.run(&Scene::after(&[]), parts_of(row)?.0)?;
+            let output = self.run(&Fixture::after(&[]), parts_of(row)?.0)?;
             expect_end(self.rt, row, output.returned.as_str())?;
         }
         Ok(())

@@ -2,7 +2,7 @@
 //! program in another language computed the moments from the database of the zones.
 
 use crate::memory::{play, play_words};
-use crate::runs::{Scene, expect_eq};
+use crate::runs::{Fixture, expect_eq};
 use std::alloc::AllocError;
 use std::test::Fail;
 use std::time::Clock;
@@ -61,12 +61,12 @@ fn serves(rt: &HostRuntime, row: &str) -> Result<(), Fail> {
     let (_, later) = log.rsplit_once(' ').unwrap_or(("", "1533"));
     let (end, reply, sheet) = outcome_of(outcome);
     let words = format!(in rt.alloc(); "serve --port 0 --count 1 {options}")?;
-    let scene = Scene {
+    let scene = Fixture {
         second: second.parse().ok(),
         later: later.parse().unwrap_or(0),
         requests: &[BOOK_7],
         after: sheet,
-        ..Scene::after(&OFFICE)
+        ..Fixture::after(&OFFICE)
     };
     let played = play_words(rt, &scene, words.as_str())?;
     let output = &played.output;
@@ -130,11 +130,11 @@ fn waits(rt: &HostRuntime, patience: u32, later: u64) -> Result<(), Fail> {
     let words = format!(in rt.alloc();
         "serve --port 0 --count 2 --at 2026-04-20T12:00 --patience {patience}"
     )?;
-    let scene = Scene {
+    let scene = Fixture {
         later,
         requests: &[BEGINNING, BOOK_7],
         after: &BOOKED,
-        ..Scene::after(&OFFICE)
+        ..Fixture::after(&OFFICE)
     };
     let before = rt.monotonic()?;
     let output = play_words(rt, &scene, words.as_str())?.output;
@@ -170,9 +170,9 @@ static SHOWN: [&str; 5] = [
 fn shows_accounts_by_a_clock(rt: HostRuntime) -> Result<(), Fail> {
     for row in &SHOWN {
         let (second, row) = row.split_once("; ").ok_or("a second")?;
-        let scene = Scene {
+        let scene = Fixture {
             second: second.parse().ok(),
-            ..Scene::after(&OFFICE)
+            ..Fixture::after(&OFFICE)
         };
         play(&rt, &scene, row)?.expect_openings(5, 5)?;
     }
@@ -184,9 +184,9 @@ static FIRST_OF_TEN: [u16; 6] = [1_025, 30_000, 60_001, 60_990, 61_001, 65_526];
 
 // Serves the booking at one of ten ports. Other programs may listen at the others.
 fn serves_in(rt: &HostRuntime, first: u16) -> Result<(), Fail> {
-    let scene = Scene {
+    let scene = Fixture {
         requests: &[BOOK_7],
-        ..Scene::after(&OFFICE)
+        ..Fixture::after(&OFFICE)
     };
     for port in first..=first.saturating_add(9) {
         let words = format!(in rt.alloc(); "serve --port {port} --count 1 --at 2026-04-20T12:00")?;

@@ -225,10 +225,10 @@ impl Crashes<'_> {
         }
         self.expect_left(rt, done, files, &LOST);
         for number in 0..changes_in(files) {
-            for fates in tried_of(files, number, turn) {
+            for survivals in tried_of(files, number, turn) {
                 let case = Case {
                     number,
-                    fates: *fates,
+                    survivals: *survivals,
                 };
                 self.expect_left(rt, done, files, &case);
             }

@@ -2,7 +2,7 @@
 
 use crate::ends::{Giver, Taker, WHOLE};
 use crate::expect::{Host, expect_case, expect_eq};
-use crate::front::{Front, KEPT, NOT_YET, Scene, play};
+use crate::fixture::{Fixture, KEPT, NOT_YET, Served, play};
 use club_core::ClubStore;
 use club_http::{AnswerFault, MAX_REPLY_LEN};
 use test_kit::exchanges::{BAD_REQUEST, BOOK_7, BOOKED_7};
@@ -33,8 +33,8 @@ static WHOLE_ONES: [Whole; 8] = [
     Whole(0, WHOLE, 1, 0, 1, 133),
 ];
 
-impl Scene for Whole {
-    fn play<S: ClubStore>(&self, rt: &impl Host, front: &mut Front<S>) {
+impl Fixture for Whole {
+    fn play<S: ClubStore>(&self, rt: &impl Host, front: &mut Served<S>) {
         let Whole(behind, gives, takes, stay, reads, writes) = *self;
         let text = join(rt.alloc(), &[(1, BOOK_7), (behind, "x")]).expect(rt, "memory");
         let mut giver = Giver::failing(text.as_bytes(), gives);
@@ -57,8 +57,8 @@ fn whole_exchanges(rt: HostRuntime) {
 /// nothing is written. The desk is unchanged.
 struct CutInput;
 
-impl Scene for CutInput {
-    fn play<S: ClubStore>(&self, rt: &impl Host, front: &mut Front<S>) {
+impl Fixture for CutInput {
+    fn play<S: ClubStore>(&self, rt: &impl Host, front: &mut Served<S>) {
         let bytes = BOOK_7.as_bytes();
         for len in 0..bytes.len() {
             let taker = front.written_to(rt, &bytes[..len]);
@@ -68,7 +68,7 @@ impl Scene for CutInput {
             let fault = front.exchange(rt, &mut giver, &mut taker);
             expect_eq(rt, &(fault, taker.calls), &(Some(AnswerFault::Read), 0));
         }
-        front.plays(rt, AMY_V2, &NOT_YET);
+        front.asks_in_turn(rt, AMY_V2, &NOT_YET);
     }
 }
 
@@ -85,8 +85,8 @@ struct ShortWriter {
     stalls: bool,
 }
 
-impl Scene for ShortWriter {
-    fn play<S: ClubStore>(&self, rt: &impl Host, front: &mut Front<S>) {
+impl Fixture for ShortWriter {
+    fn play<S: ClubStore>(&self, rt: &impl Host, front: &mut Served<S>) {
         let mut giver = Giver::failing(BOOK_7.as_bytes(), WHOLE);
         let mut taker = Taker::new(MAX_REPLY_LEN, self.len, self.stalls);
         let fault = front.exchange(rt, &mut giver, &mut taker);
@@ -94,7 +94,7 @@ impl Scene for ShortWriter {
         expect_eq(rt, &taker.written_bytes().len(), &self.len);
         let is_first = BOOKED_7.as_bytes().starts_with(taker.written_bytes());
         expect_eq(rt, &is_first, &true);
-        front.plays(rt, AMY_V2, &KEPT);
+        front.asks_in_turn(rt, AMY_V2, &KEPT);
     }
 }
 

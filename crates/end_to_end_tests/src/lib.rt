@@ -16,7 +16,7 @@ mod expect;
 #[cfg(test)]
 mod failing_ends;
 #[cfg(test)]
-mod front;
+mod fixture;
 #[cfg(test)]
 mod laws;
 #[cfg(test)]

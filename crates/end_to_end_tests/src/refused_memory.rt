@@ -3,7 +3,7 @@
 //! before or after the tested exchange.
 
 use crate::expect::{Host, expect_case};
-use crate::front::{Front, KEPT, NOT_YET, Scene, Step, play, with_pass};
+use crate::fixture::{Fixture, KEPT, NOT_YET, Served, Step, play, with_pass};
 use club_core::ClubStore;
 use test_kit::exchanges::{ACCOUNT, BOOK_7, BOOKED_7, UNAVAILABLE};
 use test_kit::passes::{AMY_JSON, AMY_V1, AMY_V2};
@@ -13,12 +13,12 @@ use test_kit::passes::{AMY_JSON, AMY_V1, AMY_V2};
 #[derive(Clone, Copy)]
 struct Exchange(&'static str);
 
-impl Scene for Exchange {
-    fn play<S: ClubStore>(&self, rt: &impl Host, front: &mut Front<S>) {
+impl Fixture for Exchange {
+    fn play<S: ClubStore>(&self, rt: &impl Host, front: &mut Served<S>) {
         let request = with_pass(rt, BOOK_7, self.0);
         let taker = front.written_to(rt, request.as_bytes());
         if taker.written_bytes() == UNAVAILABLE.as_bytes() {
-            front.plays(rt, self.0, &NOT_YET);
+            front.asks_in_turn(rt, self.0, &NOT_YET);
             return;
         }
         expect_case(rt, BOOK_7, &taker.written_bytes(), &BOOKED_7.as_bytes());
@@ -74,8 +74,8 @@ static FAULTS: [(&str, &str); 4] = [
 
 struct Faults;
 
-impl Scene for Faults {
-    fn play<S: ClubStore>(&self, rt: &impl Host, front: &mut Front<S>) {
+impl Fixture for Faults {
+    fn play<S: ClubStore>(&self, rt: &impl Host, front: &mut Served<S>) {
         for (pass, want) in &FAULTS {
             let request = with_pass(rt, ACCOUNT, pass);
             let taker = front.written_to(rt, request.as_bytes());

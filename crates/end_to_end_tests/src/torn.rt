@@ -7,7 +7,7 @@ use sqlite::Files;
 use sqlite_disk::digest_of;
 
 #[derive(Clone, Copy)]
-pub(crate) enum Fate {
+pub(crate) enum Survival {
     Kept,
     Lost,
     /// The first half of a write's bytes is kept.
@@ -18,94 +18,98 @@ pub(crate) enum Fate {
     EverySecond,
 }
 
-/// The fates of the changes before one of them, of that one, and of those after it.
+/// The survivals of the changes before one of them, of that one, and of those after it.
 #[derive(Clone, Copy)]
-pub(crate) struct Fates(Fate, Fate, Fate);
+pub(crate) struct Survivals(Survival, Survival, Survival);
 
-/// The fates that are tried for the newest change of a file.
-static TRIED: [Fates; 9] = [
-    Fates(Fate::Kept, Fate::Lost, Fate::Kept),
-    Fates(Fate::Kept, Fate::FirstHalf, Fate::Kept),
-    Fates(Fate::Kept, Fate::AllButOne, Fate::Kept),
-    Fates(Fate::Kept, Fate::LastHalf, Fate::Kept),
-    Fates(Fate::Kept, Fate::EverySecond, Fate::Kept),
-    Fates(Fate::Lost, Fate::Kept, Fate::Kept),
-    Fates(Fate::Kept, Fate::Kept, Fate::Lost),
-    Fates(Fate::Lost, Fate::EverySecond, Fate::Lost),
-    Fates(Fate::EverySecond, Fate::EverySecond, Fate::EverySecond),
+/// The survivals that are tried for the newest change of a file.
+static TRIED: [Survivals; 9] = [
+    Survivals(Survival::Kept, Survival::Lost, Survival::Kept),
+    Survivals(Survival::Kept, Survival::FirstHalf, Survival::Kept),
+    Survivals(Survival::Kept, Survival::AllButOne, Survival::Kept),
+    Survivals(Survival::Kept, Survival::LastHalf, Survival::Kept),
+    Survivals(Survival::Kept, Survival::EverySecond, Survival::Kept),
+    Survivals(Survival::Lost, Survival::Kept, Survival::Kept),
+    Survivals(Survival::Kept, Survival::Kept, Survival::Lost),
+    Survivals(Survival::Lost, Survival::EverySecond, Survival::Lost),
+    Survivals(
+        Survival::EverySecond,
+        Survival::EverySecond,
+        Survival::EverySecond,
+    ),
 ];
 
 /// Each other change is tried with one of this many first rows, by turns.
 const BY_TURNS: usize = 6;
 
-/// Fates of the changes of two files, around the change of this number. The log's changes come
+/// Survivals of the changes of two files, around the change of this number. The log's changes come
 /// first.
 #[derive(Clone, Copy)]
 pub(crate) struct Case {
     pub number: usize,
-    pub fates: Fates,
+    pub survivals: Survivals,
 }
 
 pub(crate) const KEPT: Case = Case {
     number: 0,
-    fates: Fates(Fate::Kept, Fate::Kept, Fate::Kept),
+    survivals: Survivals(Survival::Kept, Survival::Kept, Survival::Kept),
 };
 
 pub(crate) const LOST: Case = Case {
     number: 0,
-    fates: Fates(Fate::Lost, Fate::Lost, Fate::Lost),
+    survivals: Survivals(Survival::Lost, Survival::Lost, Survival::Lost),
 };
 
 /// Any byte: it fills the gap before a write past the end of a file.
 const GARBAGE: u8 = 0xA5;
 
-impl Fate {
+impl Survival {
     /// Whether the byte at `place` in a write of this length is kept.
     fn keeps(self, place: usize, len: usize) -> bool {
         match self {
-            Fate::Kept => true,
-            Fate::Lost => false,
-            Fate::FirstHalf => place < len / 2,
-            Fate::AllButOne => place < len.saturating_sub(1),
-            Fate::LastHalf => place >= len / 2,
-            Fate::EverySecond => place % 2 == 1,
+            Survival::Kept => true,
+            Survival::Lost => false,
+            Survival::FirstHalf => place < len / 2,
+            Survival::AllButOne => place < len.saturating_sub(1),
+            Survival::LastHalf => place >= len / 2,
+            Survival::EverySecond => place % 2 == 1,
         }
     }
 
-    /// The fate of a change of this length: a single byte is kept or lost, not torn.
-    fn of_len(self, len: usize) -> Fate {
+    /// The survival of a change of this length: a single byte is kept or lost, not torn.
+    fn of_len(self, len: usize) -> Survival {
         if len != 1 {
             self
         } else if self.keeps(0, 1) {
-            Fate::Kept
+            Survival::Kept
         } else {
-            Fate::Lost
+            Survival::Lost
         }
     }
 
     fn number(self) -> u8 {
         match self {
-            Fate::Kept => 0,
-            Fate::Lost => 1,
-            Fate::FirstHalf => 2,
-            Fate::AllButOne => 3,
-            Fate::LastHalf => 4,
-            Fate::EverySecond => 5,
+            Survival::Kept => 0,
+            Survival::Lost => 1,
+            Survival::FirstHalf => 2,
+            Survival::AllButOne => 3,
+            Survival::LastHalf => 4,
+            Survival::EverySecond => 5,
         }
     }
 }
 
 impl Case {
-    /// The fate of the change of this number.
-    fn fate(&self, number: usize, change: &Change) -> Fate {
-        let fate = if number < self.number {
-            self.fates.0
+    /// The survival of the change of this number.
+    fn survival(&self, number: usize, change: &Change) -> Survival {
+        let survival = if number < self.number {
+            self.survivals.0
         } else if number == self.number {
-            self.fates.1
+            self.survivals.1
         } else {
-            self.fates.2
+            self.survivals.2
         };
-        fate.of_len(change.len)
+        survival.of_len(change.len)
     }
 }
 
@@ -120,33 +124,33 @@ fn put(rt: &impl Host, file: &mut Vec<u8>, index: usize, byte: u8) {
     }
 }
 
-fn write_part(rt: &impl Host, file: &mut Vec<u8>, at: usize, bytes: &[u8], fate: Fate) {
+fn write_part(rt: &impl Host, file: &mut Vec<u8>, at: usize, bytes: &[u8], survival: Survival) {
     for (place, byte) in bytes.iter().enumerate() {
-        if fate.keeps(place, bytes.len()) {
+        if survival.keeps(place, bytes.len()) {
             put(rt, file, at.saturating_add(place), *byte);
         }
     }
 }
 
 /// The length of a file after a change of length that may be torn.
-fn torn_len(old: usize, new: usize, fate: Fate) -> usize {
-    match fate {
-        Fate::Kept => new,
-        Fate::Lost => old,
+fn torn_len(old: usize, new: usize, survival: Survival) -> usize {
+    match survival {
+        Survival::Kept => new,
+        Survival::Lost => old,
         _ => (old / 2).saturating_add(new / 2),
     }
 }
 
 /// Applies to a file what is left of a change.
-fn make(rt: &impl Host, file: &mut Vec<u8>, change: &Change, fate: Fate) {
-    match (change.at, fate) {
-        (_, Fate::Lost) => {}
+fn make(rt: &impl Host, file: &mut Vec<u8>, change: &Change, survival: Survival) {
+    match (change.at, survival) {
+        (_, Survival::Lost) => {}
         (None, _) => {
-            let len = torn_len(file.len(), change.len, fate);
+            let len = torn_len(file.len(), change.len, survival);
             file.resize(len, 0).expect(rt, "memory");
         }
-        (Some(at), Fate::Kept) => overwrite(file, at, &change.bytes).expect(rt, "memory"),
-        (Some(at), _) => write_part(rt, file, at, &change.bytes, fate),
+        (Some(at), Survival::Kept) => overwrite(file, at, &change.bytes).expect(rt, "memory"),
+        (Some(at), _) => write_part(rt, file, at, &change.bytes, survival),
     }
 }
 
@@ -154,8 +158,8 @@ fn make(rt: &impl Host, file: &mut Vec<u8>, change: &Change, fate: Fate) {
 fn left_of(rt: &impl Host, file: &Recorded, first: usize, case: &Case) -> Vec<u8> {
     let mut bytes = Vec::from_slice(rt.alloc(), file.synced()).expect(rt, "memory");
     for (place, change) in file.changes().iter().enumerate() {
-        let fate = case.fate(first.saturating_add(place), change);
-        make(rt, &mut bytes, change, fate);
+        let survival = case.survival(first.saturating_add(place), change);
+        make(rt, &mut bytes, change, survival);
     }
     bytes
 }
@@ -174,8 +178,8 @@ pub(crate) fn changes_in(files: &Files<Stops>) -> usize {
     log.changes().len().saturating_add(db.changes().len())
 }
 
-/// The fates that are tried for a change: all for the newest of its file, else one, by turns.
-pub(crate) fn tried_of(files: &Files<Stops>, number: usize, turn: usize) -> &'static [Fates] {
+/// The survivals that are tried for a change: all for the newest of its file, else one, by turns.
+pub(crate) fn tried_of(files: &Files<Stops>, number: usize, turn: usize) -> &'static [Survivals] {
     let next = number.saturating_add(1);
     if next == files.log.inner().changes().len() || next == changes_in(files) {
         return &TRIED;
@@ -188,9 +192,9 @@ pub(crate) fn tried_of(files: &Files<Stops>, number: usize, turn: usize) -> &'st
 fn digest_with(digest: u64, file: &Recorded, first: usize, case: &Case) -> u64 {
     let mut digest = digest_of(digest ^ file.synced_digest(), &[]);
     for (place, change) in file.changes().iter().enumerate() {
-        match case.fate(first.saturating_add(place), change) {
-            Fate::Lost => {}
-            fate => digest = digest_of(digest ^ change.digest, &[fate.number()]),
+        match case.survival(first.saturating_add(place), change) {
+            Survival::Lost => {}
+            survival => digest = digest_of(digest ^ change.digest, &[survival.number()]),
         }
     }
     digest

@@ -330,7 +330,7 @@ struct Played<'a> {
     row: &'a Row,
 }
 
-impl Scene for Played<'_> {
+impl Fixture for Played<'_> {
     fn play<S: ClubStore + Drop>(&self, rt: &impl Host, desk: Desk<S>) {
         let (writes, seen, refused) = self.row;
         let mut store = desk.into_store();
@@ -342,7 +342,7 @@ impl Scene for Played<'_> {
     }
 }
 
-fn plays(rt: &impl Host, before: &[Write], rows: &[Row]) {
+fn plays_rows(rt: &impl Host, before: &[Write], rows: &[Row]) {
     for (number, row) in rows.iter().enumerate() {
         let played = Played {
             before,
@@ -357,10 +357,10 @@ static OF_NOBODY: [Row; 1] = [(&[], EMPTY, &[Credit("amy", 5), Revoke("amy-1")])
 
 #[test]
 fn of_an_empty_club(rt: HostRuntime) {
-    plays(&rt, &[], &OF_NOBODY);
+    plays_rows(&rt, &[], &OF_NOBODY);
 }
 
 #[test]
 fn of_a_filled_club(rt: HostRuntime) {
-    plays(&rt, &FILLS, &ROWS);
+    plays_rows(&rt, &FILLS, &ROWS);
 }

@@ -3,9 +3,9 @@
 //! each takes half a minute or more.
 
 use super::databases::{Contents, bookings, runs_all};
-use super::shown::shows;
+use super::listing::shows;
 use crate::prelude::*;
-use club_store::Remains;
+use club_store::FailedOpening;
 use sqlite::Unknown;
 use std::test::Fail;
 use std::{env, fs, process};
@@ -55,10 +55,10 @@ pub fn do_in_file(
             work.work(rt, &mut store);
             Ok(())
         }
-        Err((fault, Remains::Held)) => Err((fault, Left::Held)),
-        Err((fault, Remains::Files(None))) => Err((fault, Left::Nothing)),
-        Err((fault, Remains::Files(Some(_)))) => Err((fault, Left::Files)),
-        Err((fault, Remains::Connection(mut connection))) => {
+        Err((fault, FailedOpening::InUse)) => Err((fault, Left::Held)),
+        Err((fault, FailedOpening::Files(None))) => Err((fault, Left::Nothing)),
+        Err((fault, FailedOpening::Files(Some(_)))) => Err((fault, Left::Files)),
+        Err((fault, FailedOpening::Connection(mut connection))) => {
             Err((fault, Left::Open(bookings(&mut connection))))
         }
     }

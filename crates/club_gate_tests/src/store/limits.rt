@@ -1,7 +1,7 @@
 //! Rows out of their limits, in tables that take any row: each is a fault of storage if it is read.
 
 use super::databases::{database_after, runs};
-use super::shown::adopt;
+use super::listing::adopt;
 use crate::prelude::*;
 
 /// The tables of version 2 without their checks, and without references.

@@ -4,7 +4,7 @@
 
 use super::databases::{Contents, database, version};
 use super::files::{do_in_file, make_file, path_of, remove};
-use super::shown::shows;
+use super::listing::shows;
 use crate::prelude::*;
 use sqlite::MemStore;
 use std::test::Fail;

@@ -2,8 +2,8 @@
 
 use super::databases::Contents::{self, First, Nothing, Unindexed};
 use super::databases::{database, runs, version};
+use super::listing::{adopt, shows_key};
 use super::rows::{AMY_1, Kept, Older};
-use super::shown::{adopt, shows_key};
 use super::write::{Write, change};
 use crate::prelude::*;
 use test_kit::version_1::{DESK, WITHOUT_TOTALS};

@@ -3,7 +3,7 @@
 
 use super::doubles::HandSet;
 use crate::expect::Runtime;
-use desk_server::{Fate, Log};
+use desk_server::{Log, LogEvent};
 use std::alloc::Global;
 use std::cell::RefCell;
 
@@ -69,10 +69,10 @@ impl Log for Entries<'_> {
         self.0.note(Call::Began);
     }
 
-    fn note(&mut self, fate: &Fate) {
-        self.0.note(match fate {
-            Fate::Commanded { .. } => Call::NotedCommand,
-            Fate::Exchanged { .. } => Call::NotedClient,
+    fn note(&mut self, event: &LogEvent) {
+        self.0.note(match event {
+            LogEvent::Commanded { .. } => Call::NotedCommand,
+            LogEvent::Exchanged { .. } => Call::NotedClient,
             _ => Call::NotedOther,
         });
     }

@@ -7,7 +7,7 @@ use super::{WHOLE, always, desk_at_noon, new_face};
 use crate::expect::{Runtime, expect_bytes, expect_eq, noon};
 use crate::sockets::{client_of, loopback_listener};
 use club_http::WriteOutlet;
-use desk_server::{ClockOutOfRange, Fate, Listening, Log, LogLines, RequestLine, serve_logged};
+use desk_server::{ClockOutOfRange, Listening, Log, LogEvent, LogLines, RequestLine, serve_logged};
 use std::io::{ErrorKind, Read, Write};
 use std::net::{TcpListener, TcpStream};
 use std::time::Duration;
@@ -192,7 +192,7 @@ impl Log for Closings {
 
     fn begin(&mut self) {}
 
-    fn note(&mut self, _fate: &Fate) {
+    fn note(&mut self, _event: &LogEvent) {
         self.lines = self.lines.saturating_add(1);
         if self.is_closed() {
             self.closed = self.closed.saturating_add(1);

@@ -7,7 +7,7 @@ use club_gate::{Desk, OfficeReply, Words};
 use club_store::Store;
 use test_kit::{FIXTURE, PlainCommand, PlainRequest};
 
-pub(crate) trait Scene {
+pub(crate) trait Fixture {
     fn play<S: ClubStore + Drop>(&self, rt: &impl Host, desk: Desk<S>);
 }
 
@@ -17,13 +17,13 @@ pub(crate) trait Scene {
 /// # Errors
 ///
 /// The tables can't be made, and nothing happens.
-pub(crate) fn try_to_play(rt: &impl Host, scene: &impl Scene) -> Result<(), StoreFault> {
+pub(crate) fn try_to_play(rt: &impl Host, scene: &impl Fixture) -> Result<(), StoreFault> {
     let store = Store::open_in_memory(rt.alloc())?;
     scene.play(rt, Desk::new(rt.alloc(), store));
     Ok(())
 }
 
-pub(crate) fn play(rt: &impl Host, scene: &impl Scene) {
+pub(crate) fn play(rt: &impl Host, scene: &impl Fixture) {
     try_to_play(rt, scene).expect(rt, "empty tables");
 }
 

@@ -46,21 +46,21 @@ pub(crate) fn with_pass(rt: &impl Host, request: &str, pass: &str) -> String {
 }
 
 #[derive(Drop)]
-pub(crate) struct Front<S: ClubStore> {
+pub(crate) struct Served<S: ClubStore> {
     face: Face,
     desk: Desk<S>,
 }
 
 /// What is done at a desk behind its face, whose club is the fixture.
-pub(crate) trait Scene {
-    fn play<S: ClubStore>(&self, rt: &impl Host, front: &mut Front<S>);
+pub(crate) trait Fixture {
+    fn play<S: ClubStore>(&self, rt: &impl Host, front: &mut Served<S>);
 }
 
 /// Plays a scene over a new fixture in memory. Only this function names the type of the tables,
 /// because the proof of each that does takes some ten seconds.
-pub(crate) fn play(rt: &impl Host, scene: &impl Scene) {
+pub(crate) fn play(rt: &impl Host, scene: &impl Fixture) {
     let store = Store::open_in_memory(rt.alloc()).expect(rt, "a store");
-    let mut front = Front {
+    let mut front = Served {
         face: Face::new(rt.alloc()).expect(rt, "a face"),
         desk: Desk::new(rt.alloc(), store),
     };
@@ -68,7 +68,7 @@ pub(crate) fn play(rt: &impl Host, scene: &impl Scene) {
     scene.play(rt, &mut front);
 }
 
-impl<S: ClubStore> Front<S> {
+impl<S: ClubStore> Served<S> {
     fn makes_the_fixture(&mut self, rt: &impl Host) {
         for plain in &FIXTURE {
             let command = plain.command().expect(rt, "a command");
@@ -102,7 +102,7 @@ impl<S: ClubStore> Front<S> {
     }
 
     /// Plays steps under a pass. Fails the test at the first that gets another reply.
-    pub fn plays(&mut self, rt: &impl Host, pass: &str, steps: &[Step]) {
+    pub fn asks_in_turn(&mut self, rt: &impl Host, pass: &str, steps: &[Step]) {
         for Step(asked, want) in steps {
             let request = with_pass(rt, asked, pass);
             let taker = self.written_to(rt, request.as_bytes());
