@@ -52,7 +52,7 @@ STAYS = {
     "club_http_tests/counted": "counted calls of readers and writers", "club_http_tests/server": "sockets, clocks, logs and the door",
     "club_http_tests/replies": "room after a reply",
     "end_to_end_tests/failing_ends": "readers and writers that fail, and cut input", "end_to_end_tests/refused_memory": "refused memory",
-    "end_to_end_tests/front": "requests after a failure",
+    "end_to_end_tests/fixture": "requests after a failure",
     "end_to_end_tests/desk": "the club that the crashes begin with", "end_to_end_tests/tables": "the statements that read the tables",
     "end_to_end_tests/torn": "ways in which a write is torn",
     "clubdesk_tests": "runs of the program: the door, logs, clocks, odd files, input and refused output",
