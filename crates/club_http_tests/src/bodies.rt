@@ -1,4 +1,4 @@
-//! Requests for a booking: complete, cut short, in two pieces, and with bytes after them.
+//! Tests of requests for a booking: complete, cut short, in two pieces, and with bytes after them.
 
 ghost use Rattle.http_request.specs.Front.{Covers};
 
@@ -11,7 +11,7 @@ use test_kit::requests::BOOK_7;
 const BOOKING: &str = "PUT /slots/court-1/2026-05-01/18/bookings/7 HTTP/1.1\r\nHost: club\r\n\
     Authorization: Bearer AgEJ\r\nContent-Length: 12\r\n\r\n{\"guests\":2}";
 
-/// The request that bytes decode to, or the refusal of the bytes.
+/// The decoded request, or the refusal.
 type Asked = Result<Request, Refusal>;
 
 pub(crate) const BAD_REQUEST: Asked = Err(Refusal::BadRequest);
@@ -35,7 +35,7 @@ fn asks(rt: &impl Runtime, bytes: &[u8], want: &Asked) {
     expect_row(rt, &asked_by(&routes(rt), bytes), want, &bytes.len());
 }
 
-/// Scans the bytes in two pieces. The first piece has `first` bytes, or all of them.
+/// Scans the bytes in two pieces. The first piece has at most `first` bytes.
 fn scan_of(bytes: &[u8], first: usize) -> HeadScan
     ensures { Covers result bytes.now }
 {
@@ -85,7 +85,7 @@ fn is_cut(rt: &impl Runtime, bytes: &[u8]) {
     expect_row(rt, &is_whole(bytes, bytes.len() / 2), &false, &bytes.len());
 }
 
-/// Each proper prefix of the booking is a bad request, and incomplete.
+/// Each proper prefix of the booking is a bad request, and the scan finds it incomplete.
 #[test]
 fn cut(rt: HostRuntime) {
     let bytes = BOOKING.as_bytes();
@@ -94,7 +94,7 @@ fn cut(rt: HostRuntime) {
     }
 }
 
-/// The scan reads the same booking wherever it is cut in two.
+/// The scan finds the same booking wherever the bytes are split in two.
 #[test]
 fn in_two_pieces(rt: HostRuntime) {
     for first in 0..BOOKING.len() + 1 {
@@ -102,7 +102,7 @@ fn in_two_pieces(rt: HostRuntime) {
     }
 }
 
-/// The number of bytes after a booking.
+/// Numbers of bytes that follow a booking.
 static BEHIND: [usize; 3] = [1, 1_000, 100_000];
 
 #[test]
@@ -124,7 +124,7 @@ pub(crate) fn ask_with(rt: &impl Runtime, body: &str, want: &Asked) {
     asks(rt, text.expect(rt, "memory").as_bytes(), want);
 }
 
-/// A head of 16,384 bytes, and a body of 256.
+/// The longest request, with a head of 16,384 bytes and a body of 256.
 pub(crate) static LONGEST: [Piece; 6] = [
     (
         1,
@@ -140,7 +140,7 @@ pub(crate) static LONGEST: [Piece; 6] = [
     (1, "}"),
 ];
 
-// The desk takes this request, which has the most bytes. One byte short, it is incomplete.
+// The desk accepts the longest request. Without its last byte, the request is incomplete.
 #[test]
 fn longest(rt: HostRuntime) {
     let text = join(&rt, &LONGEST);
@@ -151,8 +151,8 @@ fn longest(rt: HostRuntime) {
     is_cut(&rt, &bytes[..bytes.len().saturating_sub(1)]);
 }
 
-/// `rt try --test --fail-alloc N` refuses the Nth allocation of this test. Then there are no
-/// routes, or the bytes decode to the booking or to `Unavailable`.
+/// `rt try --test --fail-alloc N` refuses the Nth allocation of this test. Then `Routes::new`
+/// fails, or the bytes decode to the booking or to `Unavailable`.
 #[test]
 fn refused_memory(rt: HostRuntime) {
     if let Ok(routes) = Routes::new(rt.alloc()) {

@@ -1,9 +1,9 @@
-//! Bodies of each length that a body may have.
+//! Tests with a body of each permitted length.
 
 use crate::bodies::{BAD_REQUEST, ask_with, booked};
 use crate::expect::join;
 
-// The spaces before the object give the bodies 12 to 256 bytes.
+// Spaces before the JSON object make bodies of 12 to 256 bytes.
 #[test]
 fn books_by_bodies_of_each_length(rt: HostRuntime) {
     for spaces in 0..245 {
@@ -12,7 +12,7 @@ fn books_by_bodies_of_each_length(rt: HostRuntime) {
     }
 }
 
-// A body of digits isn't an object. These bodies have 0 to 256 bytes.
+// A body of digits isn't a JSON object. These bodies have 0 to 256 bytes.
 #[test]
 fn refuses_digits_of_each_length(rt: HostRuntime) {
     for len in 0..257 {

@@ -14,14 +14,14 @@ use test_kit::exchanges::{BAD_REQUEST, BOOKED_7, UNAVAILABLE};
 use test_kit::replies;
 use test_kit::requests::BOOK_7;
 
-/// A head of 116 bytes and a body of 12.
+/// The request of a booking, with a head of 116 bytes and a body of 12.
 const BOOKING: &str = "PUT /slots/court-1/2026-05-01/18/bookings/7 HTTP/1.1\r\nHost: club\r\n\
     Authorization: Bearer AgEJ\r\nContent-Length: 12\r\n\r\n{\"guests\":2}";
 
 const _: () = prove!(BOOKING.len() == 128);
 
-/// The outcome of an exchange with a desk that replies to the booking, the last request of the
-/// desk, and a text. The bytes written are the text, or a prefix of it if the writer failed.
+/// The result of an exchange, the desk's last request, and the text of the reply. If the writer
+/// failed, the written bytes are a prefix of the text.
 type Ended = (Result<Reply, AnswerFault>, Option<Request>, &'static str);
 
 const IS_BAD: Ended = (Ok(Reply::Refused(Refusal::BadRequest)), None, BAD_REQUEST);
@@ -38,7 +38,7 @@ fn booked(rt: &impl Runtime) -> Ended {
     (Ok(booked_reply(rt)), BOOK_7.request(), BOOKED_7)
 }
 
-/// The writer failed after `len` bytes.
+/// Returns the outcome of an exchange whose writer failed after `len` bytes.
 fn cut_off(len: usize) -> Ended {
     (Err(AnswerFault::Write(len)), BOOK_7.request(), BOOKED_7)
 }
@@ -50,7 +50,7 @@ fn booking_desk(rt: &impl Runtime) -> Desk<'static> {
     }
 }
 
-/// Ends the test unless the exchange had this end.
+/// Ends the test unless the exchange had the wanted outcome.
 fn expect_ended(
     rt: &impl Runtime,
     outcome: &Result<Reply, AnswerFault>,
@@ -69,7 +69,7 @@ fn expect_ended(
     expect_bytes(rt, writer.written_bytes(), written, "the booking");
 }
 
-/// Runs an exchange, and ends the test unless it has this end.
+/// Runs an exchange, and ends the test unless it has the wanted outcome.
 fn ends(rt: &impl Runtime, reader: &mut Pieces<'_>, writer: &mut Narrow, want: &Ended) {
     let mut desk = booking_desk(rt);
     let mut face = Face::new(rt.alloc()).expect(rt, "a face");
@@ -77,18 +77,18 @@ fn ends(rt: &impl Runtime, reader: &mut Pieces<'_>, writer: &mut Narrow, want: &
     expect_ended(rt, &outcome, &desk, writer, want);
 }
 
-/// Runs an exchange with a writer that has room for a whole reply.
+/// Runs an exchange with a writer that has room for a complete reply.
 fn returns(rt: &impl Runtime, reader: &mut Pieces<'_>, want: &Ended) {
     ends(rt, reader, &mut Narrow::new(ROOM, ROOM), want);
 }
 
-/// Runs the exchange of the booking with this writer.
+/// Runs an exchange of the booking with this writer.
 fn gives(rt: &impl Runtime, writer: &mut Narrow, want: &Ended) {
     let mut reader = Pieces::new(BOOKING.as_bytes(), 600, false);
     ends(rt, &mut reader, writer, want);
 }
 
-/// The writer fails after each number of bytes.
+/// The writer fails after each possible number of bytes.
 #[test]
 fn failing_writers(rt: HostRuntime) {
     for len in 0..BOOKED_7.len() {
@@ -98,7 +98,7 @@ fn failing_writers(rt: HostRuntime) {
     }
 }
 
-/// One writer takes a byte a call, and one takes no byte.
+/// One writer accepts one byte per call, and another accepts none.
 #[test]
 fn short_writes(rt: HostRuntime) {
     let mut writer = Narrow::new(1, ROOM);
@@ -110,7 +110,7 @@ fn short_writes(rt: HostRuntime) {
 }
 
 /// `rt try --test --fail-alloc N` refuses the Nth allocation of this test. The client gets the
-/// booking's reply, or `Unavailable`. The desk isn't asked if the reply is `Unavailable`.
+/// booking's reply, or `Unavailable` without a call of the desk.
 #[test]
 fn refused_memory(rt: HostRuntime) {
     let Ok(mut face) = Face::new(rt.alloc()) else {
@@ -131,7 +131,7 @@ fn names_of_faults(rt: HostRuntime) {
     expect_shown(&rt, &AnswerFault::Write(12), "output failed after 12 bytes");
 }
 
-/// Runs the exchange of the listener's next connection.
+/// Accepts the listener's next connection, and runs its exchange.
 fn answers_one(rt: &impl Runtime, listener: &TcpListener) {
     let (stream, _) = listener.accept().expect(rt, "a connection");
     let mut face = Face::new(rt.alloc()).expect(rt, "a face");

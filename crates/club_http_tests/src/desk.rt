@@ -1,4 +1,4 @@
-//! The desk of these tests.
+//! The test double of the desk.
 
 use crate::server::{Call, Journal};
 use club_core::{Refusal, Reply, Request};
@@ -11,12 +11,12 @@ use std::io::{Read, Write};
 use std::net::TcpStream;
 use std::os::unix::net::UnixStream;
 
-/// A client that sends the next bytes of its request with each command.
+/// A client that sends more bytes of its request at each command.
 #[derive(Drop)]
 pub struct Sender<'d> {
     pub client: &'d TcpStream,
     pub left: &'d [u8],
-    /// The most bytes that it sends at once.
+    /// The largest number of bytes that the client sends at once.
     pub step: usize,
 }
 
@@ -29,34 +29,34 @@ impl Sender<'_> {
     }
 }
 
-/// Gives one reply to all requests and one answer to all commands, and counts requests and
-/// commands.
+/// A desk that returns the same reply to each request and the same answer to each command. It
+/// counts both.
 #[derive(Drop)]
 pub struct Desk<'d> {
     pub alloc: Global,
-    /// The desk counts only requests at this moment.
+    /// The desk counts only the requests at this moment.
     pub moment: Moment,
     pub reply: Reply,
-    /// The status and the text of an answer.
+    /// The status of an answer; its text is `text`.
     pub status: u8,
     pub text: &'d str,
     pub asked: u64,
     pub last: Option<Request>,
     pub commanded: u64,
-    /// The bytes of all commands together.
+    /// The total number of bytes of all commands.
     pub bytes: usize,
     pub sender: Option<Sender<'d>>,
-    /// The desk reads this connection to its end when it is asked. `got` has the bytes that came.
+    /// At a request the desk reads this connection to its end, and stores the bytes in `got`.
     pub office: Option<&'d UnixStream>,
     pub got: Vec<u8>,
     pub journal: Option<&'d Journal>,
-    /// The milliseconds of a request and of a command, by the journal's clock.
+    /// How long a request and a command take, in milliseconds of the journal's clock.
     pub asking_takes: u64,
     pub command_takes: u64,
 }
 
 impl<'d> Desk<'d> {
-    /// Makes a desk that is out of memory at each request.
+    /// Makes a desk that replies `Unavailable` to each request.
     pub fn new(alloc: Global, moment: Moment) -> Desk<'d> {
         Desk {
             alloc,

@@ -1,4 +1,4 @@
-//! Expectations of tests, and parts of their rows.
+//! Assertions and values that the tests share.
 
 use club_values::Moment;
 use std::alloc::Global;
@@ -8,19 +8,19 @@ use std::time::Clock;
 use test_kit::Piece;
 use test_kit::moments::NOON;
 
-/// The runtime of a test. Helpers for sockets add `Net` at their own bound, since the borrow
-/// checker doesn't cover a test that meets it through this trait.
+/// The runtime of a test. Helpers for sockets require `Net` in their own bound. The borrow checker
+/// doesn't cover a test that gets `Net` through this trait.
 pub(crate) trait Runtime: Abort + Alloc<A = Global> + Clock {}
 
 impl<R: Abort + Alloc<A = Global> + Clock> Runtime for R {}
 
-/// Ends the test unless the values are equal. A test that calls it is proved in a third of the time
-/// of one that asserts.
+/// Ends the test unless the values are equal. The proof of a test that calls this function takes a
+/// third of the time that it takes with an assertion.
 pub(crate) fn expect_eq<T: PartialEq + Debug>(rt: &impl Runtime, returned: &T, want: &T) {
     assert_eq!(rt; returned, want);
 }
 
-/// Ends the test unless the values are equal. The message shows the row.
+/// Ends the test unless the values are equal. The message includes the row.
 pub(crate) fn expect_row<T: PartialEq + Debug>(
     rt: &impl Runtime,
     returned: &T,
@@ -30,12 +30,12 @@ pub(crate) fn expect_row<T: PartialEq + Debug>(
     assert_eq!(rt; returned, want, "{row:?}");
 }
 
-/// Ends the test unless the bytes are equal. The message shows `asked`.
+/// Ends the test unless the bytes are equal. The message includes `asked`.
 pub(crate) fn expect_bytes(rt: &impl Runtime, returned: &[u8], want: &[u8], asked: &str) {
     assert_eq!(rt; returned, want, "{asked}");
 }
 
-/// Ends the test unless this is the text of the value.
+/// Ends the test unless the value is displayed as this text.
 pub(crate) fn expect_shown<T: Display>(rt: &impl Runtime, value: &T, want: &str) {
     let text = value.to_string(rt.alloc()).expect(rt, "memory");
     expect_bytes(rt, text.as_bytes(), want.as_bytes(), want);

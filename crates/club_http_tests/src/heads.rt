@@ -1,10 +1,10 @@
-//! The end of a request's head.
+//! Tests of where a request's head ends.
 
 use crate::bodies::is_whole;
 use crate::expect::{Runtime, expect_row, join};
 use test_kit::Piece;
 
-/// Bytes, and whether they begin with a complete request.
+/// Bytes, and whether a complete request is a prefix of them.
 static WHOLE: [(&str, bool); 17] = [
     ("", false),
     ("GET /account HTTP/1.1", false),
@@ -16,19 +16,19 @@ static WHOLE: [(&str, bool); 17] = [
     ("GET /account HTTP/1.1\n\n", false),
     ("GET /account HTTP/1.1\r\n\n", false),
     ("GET /account HTTP/1.1\r\n\r\r\n", false),
-    // These aren't valid heads, whatever follows.
+    // These heads are invalid, whatever bytes follow.
     ("\r\n\r\n", true),
     ("GET\r\n\r\n", true),
-    // These have a body of two bytes.
+    // These heads announce a body of two bytes.
     ("PUT / HTTP/1.1\r\nContent-Length: 2\r\n\r\n", false),
     ("PUT / HTTP/1.1\r\nContent-Length: 2\r\n\r\n{", false),
     ("PUT / HTTP/1.1\r\nContent-Length: 2\r\n\r\n{}", true),
     ("PUT / HTTP/1.1\r\nContent-Length: 2\r\n\r\n{}x", true),
-    // A body of 257 bytes is too long.
+    // A body of 257 bytes is longer than the limit.
     ("PUT / HTTP/1.1\r\nContent-Length: 257\r\n\r\n", true),
 ];
 
-/// Long texts in pieces. A head has at most 16,384 bytes.
+/// Long texts, and whether a complete request is a prefix. A head has at most 16,384 bytes.
 static LONG: [(&[Piece], bool); 3] = [
     (&[(16_383, "a")], false),
     (&[(16_384, "a")], true),
@@ -52,7 +52,7 @@ fn whole_requests(rt: HostRuntime) {
     }
 }
 
-// The head is cut in two at each byte.
+// The head is split in two at each byte.
 #[test]
 fn heads_in_two_pieces(rt: HostRuntime) {
     let head = b"\r\nGET /account HTTP/1.1\r\nHost: club\r\n\r\n";

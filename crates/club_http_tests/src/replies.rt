@@ -1,4 +1,4 @@
-//! The bytes of a reply, and the rest of the buffer.
+//! Tests of a reply's bytes. The bytes of the buffer after a reply stay the same.
 
 use crate::expect::{Runtime, expect_row};
 use club_core::{Refusal, Reply};
@@ -20,7 +20,7 @@ fn writes(rt: &impl Runtime, reply: &Reply, text: &str, len: usize) {
 
 const UNAVAILABLE: PlainReply = PlainReply::Refused(Refusal::Unavailable);
 
-/// Replies, their texts, and the lengths of the texts.
+/// Replies, with their texts and the lengths of the texts.
 static REPLIES: [(PlainReply, &str, usize); 3] = [
     (BOOKED_7, exchanges::BOOKED_7, 133),
     (
@@ -40,7 +40,7 @@ fn worked_replies(rt: HostRuntime) {
     }
 }
 
-// The buffer has room for the longest reply. No club has such numbers.
+// The buffer has room for the longest reply, whose numbers are larger than those of any club.
 #[test]
 fn the_longest_reply(rt: HostRuntime) {
     let reply = Reply::AccountShown {

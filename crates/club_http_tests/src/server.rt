@@ -1,4 +1,4 @@
-//! Servers over memory, and helpers of the tests over sockets.
+//! Tests of servers with connections in memory, and helpers of the tests over sockets.
 
 mod accepted;
 mod at_the_door;
@@ -32,7 +32,7 @@ use test_kit::exchanges::UNAVAILABLE;
 
 const REQUEST: &[u8] = b"GET /account HTTP/1.1\r\nAuthorization: Bearer AgEJ\r\n\r\n";
 
-/// The reply of a desk that is out of memory.
+/// The text of the reply `Unavailable`, which the desk of these tests returns.
 const REPLY: &str = UNAVAILABLE;
 
 /// A clock that can't be read.
@@ -50,17 +50,17 @@ fn new_face(rt: &impl Runtime) -> Face {
     Face::new(rt.alloc()).expect(rt, "a face")
 }
 
-/// A desk that counts the requests at noon.
+/// Returns a desk that counts the requests at noon.
 fn desk_at_noon<'d>(rt: &impl Runtime) -> Desk<'d> {
     Desk::new(rt.alloc(), noon(rt))
 }
 
-/// The patience with a client in most tests.
+/// Returns the patience with a client in most tests.
 fn patience() -> Duration {
     Duration::from_secs(10)
 }
 
-/// A reply about a court's slot that `taken` persons booked.
+/// Returns a reply about a slot of a court that `taken` persons booked.
 fn slot_shown(slot: Slot, price: u16, taken: u64) -> Reply {
     Reply::SlotShown {
         slot,
@@ -72,7 +72,7 @@ fn slot_shown(slot: Slot, price: u16, taken: u64) -> Reply {
     }
 }
 
-/// Returns the next client of a listener. The server may also have the office's door.
+/// Accepts the next client of a listener. The office's commands come at the door, if any.
 fn client_at<'a, C: time::Clock>(
     rt: &impl Runtime,
     listener: &'a TcpListener,
@@ -87,7 +87,7 @@ fn client_at<'a, C: time::Clock>(
     client.expect(rt, "a connection")
 }
 
-/// Runs an exchange at the desk's moment. The bytes of the request stay in the face.
+/// Runs an exchange at the desk's moment. Afterwards `face` contains the bytes of the request.
 fn exchange<C: Connection>(
     face: &mut Face,
     connection: &mut C,
@@ -97,7 +97,7 @@ fn exchange<C: Connection>(
     connection.exchange(face, &mut always(at), desk, &mut Unlogged, at)
 }
 
-/// Serves the next `count` of these arrivals at noon.
+/// Serves the next `count` of these arrivals, each at noon.
 fn serves<L: Arrivals>(
     rt: &impl Runtime,
     arrivals: &mut L,
@@ -108,7 +108,7 @@ fn serves<L: Arrivals>(
     serve_on(arrivals, count, &mut moments, &mut new_face(rt), desk)
 }
 
-/// A client that sends a complete request, and then no more.
+/// A client that sends a complete request, and then ends its side of the connection.
 const WHOLE: &[Step<'static>] = &[Step::Bytes(0, REQUEST), Step::End(0)];
 
 /// Clients that fail, refused requests, and commands of the office.
@@ -125,9 +125,9 @@ static FAILING: [Wire<'static>; 10] = [
     Wire::Client(WHOLE),
 ];
 
-/// The number of clients to serve, and the number of waits for an arrival. Then the number of
-/// requests and of commands that reach the desk, and the bytes of these commands. A command isn't a
-/// client, and none is carried out after the last client.
+/// The number of clients to serve, and the expected number of waits for an arrival. Then the
+/// requests and commands that reach the desk, and the commands' total bytes. Commands don't count
+/// as clients. The server carries out no command after the last client.
 static COUNTS: [(u32, u64, u64, u64, usize); 7] = [
     (0, 0, 0, 0, 0),
     (1, 1, 1, 0, 0),
@@ -138,8 +138,8 @@ static COUNTS: [(u32, u64, u64, u64, usize); 7] = [
     (6, 9, 3, 2, 21),
 ];
 
-// A client that fails counts, and the server goes on after a refused request. The desk carries out
-// each complete command once, with its own bytes.
+// A client that fails counts as served, and the server continues after a refused request. The desk
+// carries out each complete command once, with the bytes that were sent.
 #[test]
 fn serves_as_many_as_asked(rt: HostRuntime) {
     for (count, waited, asked, commanded, bytes) in &COUNTS {
@@ -160,7 +160,7 @@ static WITH_REQUESTS: [Wire<'static>; 4] = [
     Wire::Client(WHOLE),
 ];
 
-// The clock can be read once.
+// The clock can be read only once.
 #[test]
 fn stops_without_a_moment(rt: HostRuntime) {
     let journal = Journal::new(rt.alloc());

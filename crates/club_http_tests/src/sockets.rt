@@ -1,4 +1,4 @@
-//! Clients over sockets.
+//! Clients that connect over sockets.
 
 use crate::expect::{Runtime, expect_bytes};
 use std::io::{Read, Write};
@@ -10,7 +10,7 @@ pub(crate) fn loopback_listener(
     TcpListener::bind(rt, "127.0.0.1:0").expect(rt, "a listener")
 }
 
-/// Returns a client of this listener that has sent these bytes.
+/// Returns a client that is connected to this listener and has sent these bytes.
 pub(crate) fn client_of(
     rt: &(impl Runtime + Net<Listener = TcpListener, Stream = TcpStream>),
     listener: &TcpListener,

@@ -1,14 +1,14 @@
-//! A reader and a writer over memory.
+//! Test doubles: a reader and a writer in memory.
 
 ghost use Rattle.std.specs.Prelude.{◌≤◌};
 
 use club_http::{Inlet, Outlet};
 
-/// A reader that gives a few bytes a call. At its end it gives no bytes, or fails.
+/// A reader that returns a few bytes per call. After its last byte it returns no bytes, or fails.
 #[derive(Drop)]
 pub struct Pieces<'a> {
     pub left: &'a [u8],
-    /// The most bytes of a call, minus one.
+    /// The largest number of bytes that one call returns, minus one.
     behind_first: usize,
     fails: bool,
     pub calls: u64,
@@ -35,7 +35,7 @@ impl Inlet for Pieces<'_> {
 
     ghost failures = { λ reader. reader.failures };
 
-    // each call is counted
+    // Each call is counted.
     ghost fills = { λ old _ _ new. new.calls ≡ one_more old.calls };
 
     fn fill(&mut self, room: &mut [u8]) -> Option<usize> {
@@ -53,10 +53,10 @@ impl Inlet for Pieces<'_> {
     }
 }
 
-/// The most bytes that a writer has room for.
+/// The size of a writer's buffer.
 pub const ROOM: usize = 512;
 
-/// A writer that takes a few bytes a call. After `limit` bytes it fails, or takes no more.
+/// A writer that accepts a few bytes per call. After `limit` bytes it fails, or accepts no more.
 #[derive(Drop)]
 pub struct Narrow {
     bytes: [u8; ROOM],
@@ -95,7 +95,7 @@ impl Outlet for Narrow {
 
     ghost failures = { λ writer. writer.failures };
 
-    // each call is counted
+    // Each call is counted.
     ghost puts = { λ old _ _ new. new.calls ≡ one_more old.calls };
 
     fn put(&mut self, bytes: &[u8]) -> Option<usize> {

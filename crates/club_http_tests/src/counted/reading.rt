@@ -1,4 +1,4 @@
-//! The number of calls that read a request. After its last byte the reader isn't called again.
+//! Tests of how many calls read a request. No call comes after the request's last byte.
 
 use super::doubles::Pieces;
 use super::{BOOKING, Ended, IS_BAD, NO_REQUEST, booked, returns};
@@ -7,8 +7,8 @@ use crate::expect::{Runtime, expect_eq, join};
 use std::ops::Range;
 use test_kit::Piece;
 
-/// The most bytes of a call, the number of calls that read a text, and the number of bytes that
-/// stay with the reader. The reader fails at a call after its last byte.
+/// The largest number of bytes per call, the expected number of calls, and the number of bytes left
+/// unread. The reader fails if it is called after its last byte.
 type Reading = (usize, u64, usize);
 
 fn is_read(rt: &impl Runtime, text: &str, (step, calls, left): &Reading, want: &Ended) {
@@ -17,16 +17,16 @@ fn is_read(rt: &impl Runtime, text: &str, (step, calls, left): &Reading, want: &
     expect_eq(rt, &(reader.calls, reader.left.len()), &(*calls, *left));
 }
 
-/// A text in pieces, and its reading.
+/// A text in pieces, and how the exchange must read it.
 type Read = (&'static [Piece], Reading);
 
-/// The booking has 128 bytes, and the buffer has room for 16,640. The bytes after the booking are
-/// read if the last call gives them.
+/// The booking has 128 bytes, and the buffer has room for 16,640. Bytes after the booking are read
+/// only if the last call returns them too.
 static BOOKINGS: [Read; 14] = [
     (&[(1, BOOKING)], (1, 128, 0)),
     (&[(1, BOOKING)], (7, 19, 0)),
     (&[(1, BOOKING)], (115, 2, 0)),
-    // One call reads the head, and one the body.
+    // One call reads the head, and a second call reads the body.
     (&[(1, BOOKING)], (116, 2, 0)),
     (&[(1, BOOKING)], (127, 2, 0)),
     (&[(1, BOOKING)], (128, 1, 0)),
@@ -40,7 +40,7 @@ static BOOKINGS: [Read; 14] = [
     (&[(1, BOOKING), (100_000, "x")], (200_000, 1, 83_488)),
 ];
 
-/// The longest request: a head of 16,384 bytes, and a body of 256.
+/// Readings of the longest request, which has a head of 16,384 bytes and a body of 256.
 static LONGEST_READINGS: [Reading; 5] = [
     (200_000, 1, 0),
     (16_384, 2, 0),
@@ -49,8 +49,8 @@ static LONGEST_READINGS: [Reading; 5] = [
     (1, 16_640, 0),
 ];
 
-/// Here 20,000 bytes come without the end of a head. They are a bad request after 16,384 of them.
-/// The calls together have room for 16,640 bytes.
+/// These 20,000 bytes contain no end of a head, so they are a bad request after 16,384 bytes. The
+/// buffer has room for 16,640 bytes.
 static ENDLESS: [Reading; 4] = [
     (1, 16_384, 3_616),
     (3, 5_462, 3_614),
@@ -65,7 +65,7 @@ fn is_read_so(rt: &impl Runtime, pieces: &[Piece], readings: &[Reading], want: &
     }
 }
 
-/// The reader would fail at a call after the request.
+/// The reader would fail if it were called after the last byte.
 #[test]
 fn reads_no_further_than_the_request(rt: HostRuntime) {
     for (pieces, reading) in &BOOKINGS {
@@ -79,7 +79,7 @@ fn endless_head(rt: HostRuntime) {
     is_read_so(&rt, &[(20_000, "x")], &ENDLESS, &IS_BAD);
 }
 
-/// The reading of a request of `len` bytes and five bytes after it, with `step` bytes a call.
+/// Returns the reading of a request of `len` bytes and five more, at `step` bytes per call.
 fn by_steps(len: usize, step: usize) -> Reading {
     let calls = len.div_ceil(step.max(1));
     let taken = calls.saturating_mul(step);
@@ -87,7 +87,7 @@ fn by_steps(len: usize, step: usize) -> Reading {
     (step, calls as u64, left)
 }
 
-/// Reads a text of a request and five bytes after it, with each of these steps.
+/// Reads a text that is a request and five more bytes, once with each of these steps.
 fn is_read_by_steps(rt: &impl Runtime, text: &str, steps: Range<usize>, want: &Ended) {
     let len = text.len().saturating_sub(5);
     for step in steps {
@@ -95,7 +95,7 @@ fn is_read_by_steps(rt: &impl Runtime, text: &str, steps: Range<usize>, want: &E
     }
 }
 
-/// Fields of 0, 5, 6 and 7 bytes. They move the end of the head to each remainder modulo 4.
+/// Header fields of 0, 5, 6 and 7 bytes. They move the end of the head to each remainder modulo 4.
 static FIELDS: [&str; 4] = ["", "A: \r\n", "A: b\r\n", "A: bc\r\n"];
 
 fn with_field(rt: &impl Runtime, field: &str) -> String {
@@ -106,7 +106,7 @@ fn with_field(rt: &impl Runtime, field: &str) -> String {
     text.expect(rt, "memory")
 }
 
-/// The calls split the head, its end and its body at different places.
+/// The calls split the request in its head, at the end of the head, and in its body.
 #[test]
 fn splits_a_request(rt: HostRuntime) {
     for field in &FIELDS {
@@ -115,7 +115,7 @@ fn splits_a_request(rt: HostRuntime) {
     }
 }
 
-/// Texts with parts of CR LF CR LF before the first whole one.
+/// Texts with an incomplete CR LF CR LF before the first complete one.
 static PARTS: [&str; 7] = [
     "\r\n\r\nGET /",
     "\r\r\n\r\nGET /",
@@ -134,7 +134,7 @@ fn begins_the_end_of_a_head_again(rt: HostRuntime) {
     }
 }
 
-/// If the input ends, these bytes are a bad request. If the reader fails, nothing is written.
+/// Checks that cut bytes are a bad request, and that a failed read writes no reply.
 fn is_cut(rt: &impl Runtime, bytes: &[u8]) {
     returns(rt, &mut Pieces::new(bytes, 7, false), &IS_BAD);
     let mut reader = Pieces::new(bytes, 7, true);
@@ -142,7 +142,7 @@ fn is_cut(rt: &impl Runtime, bytes: &[u8]) {
     expect_eq(rt, &reader.failures, &1);
 }
 
-/// The booking is cut after each of its bytes.
+/// The input ends after each possible number of the booking's bytes.
 #[test]
 fn cut_input(rt: HostRuntime) {
     let bytes = BOOKING.as_bytes();

@@ -1,6 +1,6 @@
-//! Exchanges over a connection that a listener accepted, with requests and replies of each kind and
-//! with limits of time. A test sets their clock. Only these tests refuse an exchange that reads or
-//! writes less over its socket, or has other limits.
+//! Exchanges over a connection that a listener accepted, with each kind of request and reply, and
+//! with time limits. A test sets the clock. Only these tests refuse an exchange with other limits,
+//! or one that skips bytes of its socket.
 
 use super::{Journal, client_at, exchange, new_face, patience, slot_shown};
 use crate::desk::Desk;
@@ -11,7 +11,7 @@ use club_http::AnswerFault;
 use std::net::TcpListener;
 use test_kit::{PlainReply, PlainRequest, PlainSlot, exchanges, moments, replies, requests};
 
-/// Slots in the first hour that the desk knows, and in the last.
+/// Slots in the first and in the last hour that the desk accepts.
 const FIRST_HOUR: PlainSlot = PlainSlot {
     facility: "court-1",
     day: 10_957,
@@ -24,8 +24,8 @@ const LAST_HOUR: PlainSlot = PlainSlot {
     ..FIRST_HOUR
 };
 
-/// The bytes of a request, its moment, the request, the reply, and the bytes of the reply. A row
-/// without a reply has a reply about the free slot of its request.
+/// The text of a request, its moment, the decoded request, the reply, and the text of the reply. If
+/// the reply is `None`, the desk replies that the slot of the request is free.
 static ROWS: [(&str, &str, PlainRequest, Option<PlainReply>, &str); 5] = [
     (
         exchanges::BOOK_7,
@@ -93,7 +93,7 @@ fn reply_to(rt: &impl Runtime, asked: &PlainRequest, reply: &Option<PlainReply>)
     reply.expect(rt, "a reply")
 }
 
-// The desk is asked once, with the row's request, and the client gets the reply.
+// The desk gets the request of the row once, and the client gets the reply.
 #[test]
 fn exchanges_of_each_day(rt: HostRuntime) {
     for (request, at, asked, returned, reply) in &ROWS {
@@ -118,11 +118,11 @@ fn exchanges_of_each_day(rt: HostRuntime) {
 
 const WHOLE: usize = exchanges::BOOK_7.len();
 
-/// The number of bytes that a client sends, the milliseconds from its connection to its exchange,
-/// and the milliseconds of the desk. Then the number of requests of the desk, and the fault of the
-/// exchange. The client has ten seconds for its request, after its connection. It has ten seconds
-/// for the reply, from the reply's first byte on, however long the desk takes. The server also
-/// serves a request after its time, if all of its bytes have come.
+/// The bytes that a client sends, the milliseconds from its connection to its exchange, and the
+/// milliseconds that the desk takes. Then the requests that reach the desk, and the fault. The
+/// client has ten seconds for its request, counted from its connection. It has ten seconds for the
+/// reply, counted from the reply's first byte. The server serves a late request if all its bytes
+/// have come.
 static LIMITS: [(usize, u64, u64, u64, Option<AnswerFault>); 7] = [
     (WHOLE, 0, 0, 1, None),
     (WHOLE, 9_999, 0, 1, None),

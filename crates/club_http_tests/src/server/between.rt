@@ -1,6 +1,6 @@
-//! Commands that come while the server waits for a client's request. A journal notes the calls of
-//! the server, with their times. No contract states how long a server waits, whether a command or a
-//! client goes first, or that a stream is closed before the log has its line.
+//! Commands that come while the server waits for a client's request. A journal records the server's
+//! calls and their times. No contract states how long a server waits, whether a command or a client
+//! goes first, or that a stream is closed before the log has its line.
 
 use super::doubles::{Script, Step, Wire};
 use super::journal::{Entries, Journal};
@@ -9,8 +9,8 @@ use crate::desk::Desk;
 use crate::expect::{Runtime, expect_eq, expect_row, noon};
 use desk_server::serve_logged;
 
-/// The steps of a client and of the office, and the milliseconds of a command. Then the calls of a
-/// server that has a patience of ten seconds, and their times.
+/// A client's and the office's steps, and how many milliseconds each command takes. Then the calls
+/// of a server with a patience of ten seconds, and their times.
 struct Row {
     steps: &'static [Step<'static>],
     command_takes: u64,
@@ -21,14 +21,14 @@ struct Row {
 const REST: &[u8] = b"ET /account HTTP/1.1\r\nAuthorization: Bearer AgEJ\r\n\r\n";
 
 static ROWS: [Row; 6] = [
-    // The request has come when the command comes, so the request goes first.
+    // The request has arrived before the command, so the server handles the request first.
     Row {
         steps: &[Step::Bytes(0, REQUEST), Step::Command(0, Some(b"an order"))],
         command_takes: 0,
         calls: "[(0, Began), (0, WaitedBytesFirst(10000)), (0, Read(10000)), (0, Asked), \
             (0, Wrote(10000, 140)), (0, Closed), (0, NotedClient)]",
     },
-    // A command between two pieces of the request goes first. It uses up some of the client's time.
+    // A command arrives between two pieces of the request. It uses up some of the client's time.
     Row {
         steps: &[
             Step::Bytes(1_000, b"G"),
@@ -41,7 +41,7 @@ static ROWS: [Row; 6] = [
             (1600, NotedCommand), (1600, WaitedBytesFirst(8400)), (3600, Read(6400)), \
             (3600, Asked), (3600, Wrote(10000, 140)), (3600, Closed), (3600, NotedClient)]",
     },
-    // A silent client delays no command, and is cut off after ten seconds.
+    // A silent client delays no command, and the server cuts it off after ten seconds.
     Row {
         steps: &[
             Step::Command(3_000, Some(b"an order")),
@@ -55,8 +55,8 @@ static ROWS: [Row; 6] = [
             (6000, WaitedBytesFirst(4000)), (10000, Read(0)), (10000, Closed), \
             (10000, NotedClient)]",
     },
-    // A command uses up all of the client's time. The client is cut off unless its request has
-    // come.
+    // A command uses up all of the client's time. The server cuts the client off unless the request
+    // has come.
     Row {
         steps: &[Step::Command(1_000, Some(b"an order"))],
         command_takes: 20_000,

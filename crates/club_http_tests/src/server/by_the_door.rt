@@ -31,8 +31,8 @@ pub fn door_at(rt: &(impl Files + Net), path: &str) -> Result<UnixListener, Fail
     Ok(door)
 }
 
-/// Returns a connection of the office that has sent this command. It waits at most a second for its
-/// answer.
+/// Returns a connection on which the office has sent this command. A read of the answer fails after
+/// a second.
 pub fn office_at(rt: &impl Net, path: &str, command: &[u8]) -> Result<UnixStream, Fail> {
     let mut office = UnixStream::connect(rt, path)?;
     office.write_all(command)?;
@@ -41,8 +41,8 @@ pub fn office_at(rt: &impl Net, path: &str, command: &[u8]) -> Result<UnixStream
     Ok(office)
 }
 
-/// Returns a desk whose client sends the rest of its request with a command. At a request the desk
-/// reads the office's connection.
+/// Returns a desk that makes the client send the rest of its request at a command. At a request the
+/// desk reads the office's connection.
 fn tied_desk<'x>(
     rt: &impl Runtime,
     client: &'x TcpStream,
@@ -63,8 +63,8 @@ fn tied_desk<'x>(
 }
 
 /// Runs an exchange with a client that sends the rest of its request after a command. Returns the
-/// fault, the bytes of the commands, and the number of requests of the desk. When the desk is
-/// asked, the office must have got the whole answer.
+/// fault, the bytes of the commands, and the number of requests. The office must get the complete
+/// answer before the desk gets the request.
 fn ends_beside_a_command<'x>(
     rt: &'x (impl Runtime + Net),
     path: &str,
@@ -84,7 +84,7 @@ fn ends_beside_a_command<'x>(
     Ok((outcome.err(), desk.bytes, desk.asked))
 }
 
-// The client has sent a letter. The office gets its answer before the rest of the request comes.
+// The client has sent one letter. The office gets its answer before the client sends the rest.
 #[test]
 fn a_command_between_two_pieces(rt: HostRuntime) -> Result<(), Fail> {
     let path = new_path(&rt, "between-two-pieces")?;
@@ -100,7 +100,7 @@ fn a_command_between_two_pieces(rt: HostRuntime) -> Result<(), Fail> {
     Ok(())
 }
 
-// The client sends nothing. The desk carries out the command, and then the client is cut off.
+// The client sends nothing. The desk carries out the command. Then the client is cut off.
 #[test]
 fn a_command_beside_a_silent_client(rt: HostRuntime) -> Result<(), Fail> {
     let path = new_path(&rt, "beside-a-silent-client")?;
@@ -115,7 +115,7 @@ fn a_command_beside_a_silent_client(rt: HostRuntime) -> Result<(), Fail> {
     Ok(())
 }
 
-/// A clock. While the server sleeps, a client sends the rest of its request.
+/// A clock that makes a client send the rest of its request while the server sleeps.
 #[derive(Drop)]
 struct Sending<'s> {
     client: &'s TcpStream,
@@ -139,8 +139,8 @@ impl Clock for Sending<'_> {
     }
 }
 
-// The client has sent a letter when the door is shut down, and each later accept at the door fails.
-// The server sleeps ten milliseconds, and then serves the client first.
+// The client has sent one letter. Then the door is shut down, and each later accept at it fails.
+// The server sleeps ten milliseconds, and then serves the client.
 #[test]
 fn a_door_that_fails_beside_a_client(rt: HostRuntime) -> Result<(), Fail> {
     let path = new_path(&rt, "fails-beside-a-client")?;

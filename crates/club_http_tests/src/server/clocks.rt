@@ -1,4 +1,4 @@
-//! The moments that clocks show in zones. No contract states which instant the machine's clock
+//! Tests of the local times that clocks show. No contract states which instant the machine's clock
 //! shows, so only these tests refuse a clock that is late or stops. A program in another language
 //! computed the expected moments from the zone database.
 
@@ -12,11 +12,11 @@ use std::time::{self, Duration};
 
 const BERLIN: &str = "CET-1CEST,M3.5.0,M10.5.0/3";
 
-/// The rule of a zone, the seconds since 1970 began, and the moment that a clock shows in the zone.
+/// A zone's rule, the seconds since 1970 began, and the moment that a clock shows in the zone.
 type Shown = (&'static str, i64, Option<&'static str>);
 
-/// The rows have the first and the last minute of the years 2000 to 2099, seconds just outside
-/// these years, and others.
+/// The rows include the first and the last minute of the years 2000 to 2099, and seconds just
+/// outside of these years.
 static SHOWN: [Shown; 23] = [
     ("UTC0", 1_777_658_459, Some("2026-05-01T18:00")),
     (BERLIN, 1_777_651_200, Some("2026-05-01T18:00")),
@@ -62,14 +62,14 @@ pub fn clock_in<'c, C: time::Clock>(
     }
 }
 
-/// Returns a clock that shows noon in UTC, and can be read `times` times.
+/// Returns a clock that always shows noon in UTC, and fails after `times` readings.
 pub fn noons(times: u64) -> HandSet {
     let clock = HandSet::new(1_776_686_400_000_000, 0);
     clock.readable.set(times);
     clock
 }
 
-/// Returns the moment of a clock that shows this second. `None` is a clock that can't be read.
+/// Returns the moment of a clock at this second. For `None`, the clock can't be read.
 fn moment_of(rt: &impl Runtime, rule: &'static str, second: Option<u64>) -> Option<Moment> {
     let clock = Stopped(second.map(Duration::from_secs));
     clock_in(rt, rule, &clock).now()
@@ -115,8 +115,8 @@ fn rules_of_no_zone(rt: HostRuntime) {
     }
 }
 
-/// The days of March and of October on which summer time begins and ends in Berlin, from 2000 to
-/// 2099. It begins and ends at one o'clock in UTC.
+/// The days in March and October on which summer time starts and ends in Berlin, from 2000 to 2099.
+/// The change is at 01:00 UTC.
 static MARCH: [u8; 100] = [
     26, 25, 31, 30, 28, 27, 26, 25, 30, 29, 28, 27, 25, 31, 30, 29, 27, 26, 25, 31, 29, 28, 27, 26,
     31, 30, 29, 28, 26, 25, 31, 30, 28, 27, 26, 25, 30, 29, 28, 27, 25, 31, 30, 29, 27, 26, 25, 31,
@@ -133,7 +133,7 @@ static OCTOBER: [u8; 100] = [
     28, 27, 26, 25,
 ];
 
-/// Ends the test unless a clock in Berlin shows this time, `seconds` after the day began in UTC.
+/// Ends the test unless a clock in Berlin shows `time`, `seconds` after midnight UTC.
 fn shows(rt: &impl Runtime, (year, month, day): (u16, &str, u8), seconds: u16, time: &str) {
     let text = format!(in rt.alloc(); "{year}-{month}-{day}T{time}").expect(rt, "memory");
     let wanted = moment(rt, text.as_str());
@@ -166,10 +166,10 @@ fn shows_the_end_of_each_summer_time(rt: HostRuntime) {
     }
 }
 
-/// The second at which 2030 begins.
+/// The first second of 2030, counted from the start of 1970.
 const BEGINNING_OF_2030: u64 = 1_893_456_000;
 
-// The clock shows each minute of a day from its first second to its last.
+// The clock shows each minute of a day at the minute's first second and at its last.
 #[test]
 fn shows_each_minute_of_a_day(rt: HostRuntime) {
     let first = moment(&rt, "2030-01-01T00:00").number();
@@ -182,7 +182,7 @@ fn shows_each_minute_of_a_day(rt: HostRuntime) {
     }
 }
 
-// The server reads the clock for each moment. The clock advances by a minute at each reading.
+// The server reads the clock once for each moment. The clock advances by a minute at each reading.
 #[test]
 fn shows_a_clock_that_advances(rt: HostRuntime) {
     let clock = HandSet::new(946_684_740_000_000, 60_000_000);
@@ -191,12 +191,12 @@ fn shows_a_clock_that_advances(rt: HostRuntime) {
     expect_eq(&rt, &moments.now(), &Some(moment(&rt, "2000-01-01T00:01")));
 }
 
-/// Returns the minutes of the machine's clock since 1970 began.
+/// Returns the minutes since the start of 1970 by the machine's clock.
 fn minute_of(rt: &impl Runtime) -> u64 {
     rt.since_1970().expect(rt, "a time").as_secs() / 60
 }
 
-// The minute may change between the three readings.
+// The minute may change between the three readings of the clock.
 #[test]
 fn shows_the_machines_clock(rt: HostRuntime) {
     let before = minute_of(&rt);

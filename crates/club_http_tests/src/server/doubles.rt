@@ -1,4 +1,4 @@
-//! Connections over memory, and clocks.
+//! Test doubles: connections in memory, and clocks.
 
 ghost use Rattle.std.specs.Prelude.{◌≤◌, length, IfSome};
 ghost use Rattle.desk_server.specs.Limits.{moved};
@@ -12,12 +12,12 @@ use std::cell::Cell;
 use std::io::{self, ErrorKind, Read, Write};
 use std::time::{Clock, Duration};
 
-/// The next event for a server that waits for a client, and the milliseconds until it comes.
+/// The next event for a server that waits for a client, and the milliseconds before the event.
 #[derive(Clone, Copy, Drop)]
 pub enum Step<'a> {
     /// Bytes of the client.
     Bytes(u64, &'a [u8]),
-    /// A command with these bytes; `None` if it is incomplete.
+    /// A command with these bytes, or `None` for an incomplete command.
     Command(u64, Option<&'a [u8]>),
     /// A command whose sender closed its connection before the server accepted it.
     Gone(u64),
@@ -32,11 +32,11 @@ pub enum Step<'a> {
 pub enum Wire<'a> {
     /// The wait failed.
     Absent,
-    /// A command of the office with these bytes; `None` if it is incomplete.
+    /// A command of the office with these bytes, or `None` for an incomplete command.
     Command(Option<&'a [u8]>),
     /// A client.
     Client(&'a [Step<'a>]),
-    /// A client to which each write fails.
+    /// A client whose stream fails at each write.
     Deaf(&'a [Step<'a>]),
 }
 
@@ -54,12 +54,12 @@ impl Write for Broken {
     }
 }
 
-/// The stream of a client over memory. It notes its calls in a journal.
+/// The stream of a client in memory. It records its calls in a journal.
 pub struct Played<'a> {
     journal: &'a Journal,
     steps: &'a [Step<'a>],
     deaf: bool,
-    // the number of steps that have come
+    // The number of steps that have come.
     came: usize,
 }
 
@@ -68,7 +68,7 @@ fn milliseconds(limit: Duration) -> u64 {
 }
 
 impl<'a> Played<'a> {
-    // Returns the next step if it comes within the limit. Otherwise the clock advances by the
+    // Returns the next step if the step comes within the limit. Otherwise advances the clock by the
     // limit.
     fn next_within(&self, limit: Duration) -> Option<Step<'a>> {
         let most = milliseconds(limit);
@@ -83,7 +83,7 @@ impl<'a> Played<'a> {
     }
 }
 
-/// Reads bytes that have come.
+/// Reads bytes that have arrived.
 fn read_from(bytes: &[u8], room: &mut [u8]) -> Waited
     ensures { IfSome (moved result) (λ n. n ≤ length room.new) }
 {
@@ -165,7 +165,7 @@ impl Drop for Played<'_> {
     }
 }
 
-/// A command of the office over memory; `None` if it is incomplete.
+/// A command of the office in memory, or `None` for an incomplete command.
 #[derive(Drop)]
 pub struct Letter<'a>(pub Option<&'a [u8]>);
 
@@ -181,7 +181,7 @@ impl Handover for Letter<'_> {
     }
 }
 
-/// Arrivals, one after the other, with the journal's clock and a patience of ten seconds.
+/// Arrivals in their order, with the journal's clock and a patience of ten seconds.
 #[derive(Drop)]
 pub struct Script<'a> {
     journal: &'a Journal,
@@ -235,7 +235,7 @@ impl<'a> Arrivals for Script<'a> {
     }
 }
 
-/// A clock that always shows one time; `None` if it can't be read.
+/// A clock that always shows the same time, or that can't be read if the time is `None`.
 #[derive(Drop)]
 pub struct Stopped(pub Option<Duration>);
 
@@ -254,7 +254,7 @@ impl Clock for Stopped {
 pub struct HandSet {
     microseconds: Cell<u64>,
     step: u64,
-    /// The number of times that it can still be read.
+    /// The number of readings after which the clock fails.
     pub readable: Cell<u64>,
 }
 
@@ -268,7 +268,7 @@ impl HandSet {
         }
     }
 
-    /// The milliseconds that it shows.
+    /// Returns the milliseconds that the clock shows.
     pub fn elapsed(&self) -> u64 {
         self.microseconds.get() / 1_000
     }
@@ -303,8 +303,8 @@ impl Clock for HandSet {
     }
 }
 
-/// A client that sends a byte, or takes a byte of its reply, after each pause. Signals interrupt
-/// the first `interruptions` waits for it, halfway through the pause. It ends after its last byte.
+/// A client that sends or receives one byte after each pause. Signals interrupt the first
+/// `interruptions` waits, halfway through the pause. The client ends after its last byte.
 #[derive(Drop)]
 pub struct Slow<'a> {
     pub clock: &'a HandSet,
@@ -317,8 +317,8 @@ pub struct Slow<'a> {
 }
 
 impl Slow<'_> {
-    // Waits for the pause, at most until the limit. Returns whether the pause is over; `None` if a
-    // signal interrupted the wait.
+    // Waits for the pause, but not longer than the limit. Returns whether the pause is over, or
+    // `None` if a signal interrupted the wait.
     fn wait(&mut self, limit: Duration) -> Option<bool> {
         let most = milliseconds(limit);
         if self.interruptions > 0 {

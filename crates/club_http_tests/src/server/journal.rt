@@ -1,5 +1,5 @@
-//! A journal of the calls of a client's stream, of the desk and of the log. It notes the time of
-//! each call by a clock that the test sets.
+//! A journal of the calls of a client's stream, of the desk and of the log. It records the time of
+//! each call, by a clock that the test sets.
 
 use super::doubles::HandSet;
 use crate::expect::Runtime;
@@ -7,10 +7,10 @@ use desk_server::{Log, LogEvent};
 use std::alloc::Global;
 use std::cell::RefCell;
 
-/// A call, with the milliseconds of its limit, and the number of bytes of a write or a command.
+/// A call, with its time limit in milliseconds, or the number of bytes of a write or a command.
 #[derive(Clone, Copy, Debug)]
 pub enum Call {
-    /// A wait for a client and for the office. A command goes first, or the client's bytes do.
+    /// A wait for a client or the office. If both are ready, this wait returns the command.
     WaitedCommandFirst(u64),
     WaitedBytesFirst(u64),
     Read(u64),
@@ -19,7 +19,7 @@ pub enum Call {
     /// The client's stream was closed.
     Closed,
     Asked,
-    /// The desk carried out a command of this many bytes.
+    /// The desk carried out a command with this number of bytes.
     Commanded(usize),
     Began,
     NotedCommand,
@@ -27,7 +27,7 @@ pub enum Call {
     NotedOther,
 }
 
-/// Calls with their times.
+/// Calls, and the times at which they were made.
 #[derive(Drop)]
 pub struct Journal {
     pub clock: HandSet,
@@ -48,7 +48,7 @@ impl Journal {
         }
     }
 
-    /// Takes the calls and their times out of the journal, and returns their text.
+    /// Removes the calls and their times from the journal, and returns them as text.
     pub fn calls(&self, rt: &impl Runtime) -> String {
         let calls = self.calls.try_replace(Vec::new(rt.alloc()));
         let calls = calls.unwrap_or(Vec::new(rt.alloc()));
@@ -56,7 +56,7 @@ impl Journal {
     }
 }
 
-/// A log that notes its calls.
+/// A log that records its calls in a journal.
 #[derive(Drop)]
 pub struct Entries<'j>(pub &'j Journal);
 

@@ -1,5 +1,5 @@
-//! Requests and replies of many lengths, over sockets in one process. Requests come in one piece
-//! and in many. No contract states which bytes a socket gives or takes, so only these tests refuse
+//! Requests and replies of many lengths, over sockets in one process. Requests come in one piece or
+//! in many. No contract states which bytes a socket sends or receives, so only these tests refuse
 //! an exchange that drops a request or a reply of some length.
 
 use super::by_the_door::{door_at, new_path, office_at};
@@ -14,9 +14,9 @@ use std::net::{Net, TcpListener, TcpStream};
 use std::test::Fail;
 use test_kit::{COURT_AT_18, exchanges, replies, requests};
 
-/// Runs an exchange with a client that sends this request in pieces of `step` bytes, with a command
-/// between each two pieces. Returns the last request of the desk. Ends the test unless the client
-/// gets this text.
+/// Runs an exchange with a client that sends this request in pieces of `step` bytes. A command
+/// comes between each two pieces. Returns the desk's last request. Ends the test unless the client
+/// gets `text`.
 fn asked_in_pieces(
     rt: &(impl Runtime + Net<Listener = TcpListener, Stream = TcpStream> + Files),
     path: &str,
@@ -53,7 +53,7 @@ fn asked_in_pieces(
     Ok(desk.last)
 }
 
-/// Returns a booking with these numbers of bytes in its head and its body.
+/// Returns the request of a booking with a head of `head` bytes and a body of `body` bytes.
 fn booking_of(rt: &impl Runtime, head: usize, body: usize) -> Result<Vec<u8>, Fail> {
     let start = format!(in rt.alloc();
         "PUT /slots/court-1/2026-05-01/18/bookings/7 HTTP/1.1\r\nAuthorization: Bearer AgEJ\r\n\
@@ -68,7 +68,7 @@ fn booking_of(rt: &impl Runtime, head: usize, body: usize) -> Result<Vec<u8>, Fa
     Ok(request)
 }
 
-/// The number of bytes of a head, of a body, and of each piece.
+/// The number of bytes of a head, of a body, and of each piece of the request.
 static BOOKINGS: [(usize, usize, usize); 9] = [
     (200, 12, 20_000),
     (200, 12, 7),
@@ -96,11 +96,11 @@ fn requests_of_each_length(rt: HostRuntime) -> Result<(), Fail> {
     Ok(())
 }
 
-/// The longest name of a facility.
+/// A facility's name of the greatest length.
 const NAME: &str = "abcdefghijklmnopqrstuvwx";
 
 /// A price, and the number of persons who booked. With names of 1 to 24 letters, the replies have
-/// each length from 195 to 226 bytes.
+/// all lengths from 195 to 226 bytes.
 static FIGURES: [(u16, u64); 3] = [(0, 0), (200, 3), (10_000, 999)];
 
 /// Returns a reply about a slot of the facility with this name, and the bytes of the reply.

@@ -1,4 +1,4 @@
-//! Time limits, by a clock that advances while the server waits for a client.
+//! Tests of time limits, with a clock that advances while the server waits for a client.
 
 use super::doubles::{HandSet, Slow};
 use super::{REQUEST, desk_at_noon, new_face, patience};
@@ -10,13 +10,13 @@ use libc::net as c;
 use std::os::fd::AsRawFd;
 use std::time::Duration;
 
-/// Milliseconds beyond each limit of these tests.
+/// A pause in milliseconds that is longer than all time limits of these tests.
 const NEVER: u64 = 1_000_000_000;
 
-/// A number of readings beyond those of each test.
+/// More readings of the clock than any of these tests needs.
 const ALWAYS: u64 = u64::MAX;
 
-/// The fault of an exchange, if any, the numbers of reads and of writes, and the milliseconds that
+/// The exchange's fault, if any, the numbers of reads and of writes, and the milliseconds that
 /// passed.
 type Outcome = (Option<AnswerFault>, u64, u64, u64);
 
@@ -24,12 +24,12 @@ const CUT: Option<AnswerFault> = Some(AnswerFault::Read);
 
 const UNWRITTEN: Option<AnswerFault> = Some(AnswerFault::Write(0));
 
-/// The milliseconds before each byte that a client sends, the milliseconds before each byte that it
-/// takes, and the number of times that the clock can be read.
+/// The pause before each byte that a client sends, the pause before each byte that it receives, and
+/// the number of readings after which the clock fails. Pauses are in milliseconds.
 ///
-/// The request has 53 bytes and its reply 140. The patience is ten seconds for each. After that
-/// limit one more read or write doesn't wait, and the client is cut off. If the clock can't be
-/// read, no read or write waits.
+/// The request has 53 bytes and its reply 140. The patience is ten seconds for each. After ten
+/// seconds the server tries one more read or write without a wait, and then cuts the client off. If
+/// the clock fails, no read or write waits.
 static OUTCOMES: [((u64, u64, u64), Outcome); 12] = [
     ((0, 0, ALWAYS), (None, 53, 140, 0)),
     ((100, 50, ALWAYS), (None, 53, 140, 12_300)),
@@ -48,7 +48,7 @@ static OUTCOMES: [((u64, u64, u64), Outcome); 12] = [
     ((0, 0, 55), (None, 53, 140, 0)),
 ];
 
-/// Returns a client that pauses these milliseconds before each of its bytes.
+/// Returns a client that pauses `pause` milliseconds before each of its bytes.
 fn slow<'a>(clock: &'a HandSet, pause: u64, bytes: &'a [u8]) -> Slow<'a> {
     Slow {
         clock,
@@ -59,7 +59,7 @@ fn slow<'a>(clock: &'a HandSet, pause: u64, bytes: &'a [u8]) -> Slow<'a> {
     }
 }
 
-/// Runs an exchange. `sends` has the client's request, and `takes` gets the reply.
+/// Runs an exchange. `sends` is the client's request, and `takes` receives the reply.
 fn outcome_of(rt: &impl Runtime, sends: Slow<'_>, takes: Slow<'_>, patience: Duration) -> Outcome {
     let clock = sends.clock;
     let mut inlet = Accepted::new(sends, clock, patience);
@@ -85,8 +85,8 @@ fn a_client_that_dawdles_is_cut_off(rt: HostRuntime) {
     }
 }
 
-/// The number of signals that interrupt the first waits for a client. Each comes half a second into
-/// a pause of a second. The patience is a minute: 53 pauses and 14 interrupted halves.
+/// The number of signals that interrupt waits for a client. Each signal comes halfway through a
+/// pause of one second. The patience is a minute: 53 pauses and 14 interrupted halves.
 static INTERRUPTED: [(u32, Outcome); 4] = [
     (1, (None, 54, 140, 53_500)),
     (10, (None, 63, 140, 58_000)),
@@ -94,7 +94,7 @@ static INTERRUPTED: [(u32, Outcome); 4] = [
     (15, (CUT, 68, 0, 60_000)),
 ];
 
-// A signal doesn't end a read, and the read's limit stays.
+// A signal doesn't end a read, and doesn't change the read's limit.
 #[test]
 fn goes_on_after_a_signal(rt: HostRuntime) {
     for (signals, outcome) in &INTERRUPTED {
@@ -107,9 +107,9 @@ fn goes_on_after_a_signal(rt: HostRuntime) {
     }
 }
 
-/// The milliseconds before each byte after a request, the number of reads, and the milliseconds
-/// that passed. The patience is ten seconds, and each wait has at most 200 milliseconds. The read
-/// after the patience is over doesn't wait.
+/// The pause before each byte after a request, the number of reads, and the time that passed, in
+/// milliseconds. The patience is ten seconds, and each wait has at most 200 milliseconds. Once the
+/// patience is over, a read doesn't wait.
 static RESTS: [(u64, u64, u64); 5] = [
     (0, 54, 0),
     (100, 54, 5_300),
@@ -129,7 +129,7 @@ fn what_still_comes_is_taken(rt: HostRuntime) {
     }
 }
 
-// A listener that was shut down fails at once. The server rests after each failure.
+// After a shutdown, a listener fails at once. The server pauses after each failure.
 #[test]
 fn rests_after_a_wait_that_failed(rt: HostRuntime) {
     let listener = loopback_listener(&rt);

@@ -1,4 +1,4 @@
-//! The server's log of connections: its lines, and when the server writes them.
+//! Tests of the server's log: the lines of its connections, and when the server writes them.
 
 use super::clocks::{clock_in, noons};
 use super::doubles::{Broken, HandSet, Script, Step, Wire};
@@ -12,7 +12,7 @@ use std::io::{ErrorKind, Read, Write};
 use std::net::{TcpListener, TcpStream};
 use std::time::Duration;
 
-/// One of the requests comes in two pieces, with commands before and between the pieces.
+/// One request comes in two pieces, with commands before it and between its pieces.
 static SCRIPT: [Wire<'static>; 11] = [
     Wire::Command(Some(b"an order")),
     Wire::Client(WHOLE),
@@ -63,10 +63,10 @@ const LINES: &str = "2026-04-20T12:00 office credit 1 1533
 2026-04-20T12:00 - /account 405 1533
 ";
 
-/// The outcome of a server, the number of waits for an arrival, and the number of requests at noon.
+/// The server's result, the number of waits for an arrival, and the number of requests at noon.
 type Served = (Result<(), ClockOutOfRange>, u64, u64);
 
-/// Serves the script's connections, and writes their lines. The clock can be read `left` times.
+/// Serves the script's connections, and writes their lines. The clock fails after `left` readings.
 fn log_script<W: Write>(rt: &impl Runtime, left: u64, writer: &mut W) -> Served {
     let journal = Journal::new(rt.alloc());
     let mut arrivals = Script::new(&journal, &SCRIPT);
@@ -80,7 +80,7 @@ fn log_script<W: Write>(rt: &impl Runtime, left: u64, writer: &mut W) -> Served 
     (outcome, arrivals.waited, desk.asked)
 }
 
-// This law says that a log has the lines of the connections that it noted.
+// This law states that a log has the lines of the connections that it recorded.
 #[test]
 fn a_log_has_its_lines() {
     desk_server::laws::a_log_has_its_lines::<WriteOutlet<Broken>, HandSet>();
@@ -103,7 +103,7 @@ fn a_line_for_a_connection_without_a_moment(rt: HostRuntime) {
     expect_bytes(&rt, &written, lines, "no moment");
 }
 
-// A log that fails changes nothing for the clients.
+// If the log fails, the clients still get the same replies.
 #[test]
 fn a_log_that_fails(rt: HostRuntime) {
     let returned = log_script(&rt, u64::MAX, &mut Broken);
@@ -111,7 +111,7 @@ fn a_log_that_fails(rt: HostRuntime) {
 }
 
 /// The first bytes of a request, and the method and the path that the log shows, if any. The log
-/// looks at the first 96 bytes, which are enough for the desk's longest request line.
+/// uses only the first 96 bytes, which are enough for the desk's longest request line.
 static REQUEST_LINES: [(&str, Option<&str>, Option<&str>); 12] = [
     ("GET /account HTTP/1.1\r\n", Some("GET"), Some("/account")),
     (
@@ -163,7 +163,7 @@ fn request_lines(rt: HostRuntime) {
     }
 }
 
-/// A log that checks at each line whether the client's connection is closed.
+/// A log that checks at each line whether the client's connection was closed first.
 #[derive(Drop)]
 struct Closings {
     client: TcpStream,
@@ -200,8 +200,8 @@ impl Log for Closings {
     }
 }
 
-/// The bytes of clients that are cut off. They get no reply, since a reply ends the server's side
-/// of the connection before the connection is closed.
+/// The bytes of clients that the server cuts off. The server doesn't reply to them, since it would
+/// end its side of the connection after a reply and before the close.
 static CUT: [&[u8]; 3] = [b"", b"G", b"GET /account HTTP/1.1\r\nHost: club\r\n"];
 
 fn closes_before_its_line<'x>(rt: &'x impl Runtime, listener: &'x TcpListener, client: TcpStream) {
@@ -218,7 +218,7 @@ fn closes_before_its_line<'x>(rt: &'x impl Runtime, listener: &'x TcpListener, c
     expect_eq(rt, &(served, log.lines, log.closed), &(Ok(()), 1, 1));
 }
 
-// The server closes a connection before it writes the connection's line.
+// The server closes a connection before it writes the log line of the connection.
 #[test]
 fn closed_before_its_line(rt: HostRuntime) {
     for sent in &CUT {

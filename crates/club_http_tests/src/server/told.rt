@@ -1,5 +1,5 @@
-//! Exchanges of the server over a stream with ghost values of the bytes to come and of the bytes
-//! that it took. So the contract of an exchange speaks of each byte.
+//! Exchanges over a stream that has ghost values of the bytes it will read and of those it has
+//! written. So the contract of an exchange covers each byte.
 
 use super::doubles::{Letter, Stopped};
 use super::{REPLY, REQUEST, desk_at_noon, exchange, new_face, patience};
@@ -9,8 +9,7 @@ use club_http::{AnswerFault, Inlet, Outlet};
 use desk_server::{Accepted, ClientStream, TimedStream, Waited, Woken};
 use std::time::Duration;
 
-/// A client that sends a few bytes a call, and takes a few bytes a call. A write beyond its limit
-/// fails.
+/// A client that sends and receives a few bytes per call. A write beyond its limit fails.
 #[derive(Drop)]
 struct Told<'a> {
     reader: Pieces<'a>,
@@ -55,12 +54,12 @@ impl<'a> ClientStream for Told<'a> {
     }
 }
 
-/// The fault of an exchange, if any, the number of reads, the number of bytes that weren't read,
-/// and the number of bytes of the reply that the client took.
+/// The exchange's fault, if any, the number of reads, the number of bytes that weren't read, and
+/// the number of bytes of the reply that the client received.
 type Outcome = (Option<AnswerFault>, u64, usize, usize);
 
-/// The most bytes of a call, the number of bytes that the client takes, and the outcome. The
-/// request has 53 bytes and its reply 140.
+/// The largest number of bytes per call, the number of bytes that the client accepts, and the
+/// outcome. The request has 53 bytes and its reply 140.
 static OUTCOMES: [((usize, usize), Outcome); 6] = [
     ((ROOM, ROOM), (None, 1, 0, 140)),
     ((1, ROOM), (None, 53, 0, 140)),
@@ -70,8 +69,8 @@ static OUTCOMES: [((usize, usize), Outcome); 6] = [
     ((ROOM, 0), (Some(AnswerFault::Write(0)), 1, 0, 0)),
 ];
 
-// The client took the reply's text, or the prefix of it that the fault states. The server reads no
-// more after the request.
+// The client received the complete reply, or the prefix whose length the fault states. The server
+// reads nothing after the request.
 #[test]
 fn takes_the_reply_and_nothing_else(rt: HostRuntime) {
     for ((step, limit), want) in &OUTCOMES {
