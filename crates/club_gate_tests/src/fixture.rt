@@ -1,4 +1,4 @@
-//! Scenes at a desk over tables in memory, and the desk of the fixture.
+//! Scenes, which are played at a desk over tables in memory, and the desk of the fixture.
 
 use crate::expect::{Host, expect_eq};
 use crate::values::{at, command, request};
@@ -11,13 +11,13 @@ pub(crate) trait Fixture {
     fn play<S: ClubStore + Drop>(&self, rt: &impl Host, desk: Desk<S>);
 }
 
-/// Plays a scene over new tables in memory. It is the one function here that names their type: the
-/// proof of each takes some ten seconds.
+/// Plays a scene over new tables in memory. Only this function names the type of the tables, since
+/// a proof of such a function takes some ten seconds.
 ///
 /// # Errors
 ///
-/// The tables can't be made, and nothing happens.
-pub(crate) fn try_to_play(rt: &impl Host, scene: &impl Fixture) -> Result<(), StoreFault> {
+/// Returns the fault if the tables can't be created. Then the scene isn't played.
+pub(crate) fn try_to_play(rt: &impl Host, scene: &impl Scene) -> Result<(), StoreFault> {
     let store = Store::open_in_memory(rt.alloc())?;
     scene.play(rt, Desk::new(rt.alloc(), store));
     Ok(())
@@ -32,7 +32,7 @@ pub(crate) fn carry_out<S: ClubStore>(rt: &impl Host, desk: &mut Desk<S>, plain:
     expect_eq(rt, &matches!(answer, OfficeReply::Refused(_)), &false);
 }
 
-/// Makes the fixture at the desk of an empty club.
+/// Carries out the commands of the fixture at the desk of an empty club.
 pub(crate) fn furnish<S: ClubStore>(rt: &impl Host, mut desk: Desk<S>) -> Desk<S> {
     for plain in &FIXTURE {
         carry_out(rt, &mut desk, plain);
@@ -40,7 +40,7 @@ pub(crate) fn furnish<S: ClubStore>(rt: &impl Host, mut desk: Desk<S>) -> Desk<S
     desk
 }
 
-/// The reply at a moment to a request whose pass is these bytes.
+/// Returns the reply to a request with this pass at this moment.
 pub(crate) fn reply<S: ClubStore>(
     rt: &impl Host,
     desk: &mut Desk<S>,

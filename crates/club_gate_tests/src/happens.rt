@@ -1,9 +1,9 @@
-//! Events with their replies, in plain values.
+//! Events with their expected replies, as plain values.
 
 use crate::prelude::*;
 use club_gate::{Event, EventReply, Words};
 
-/// The answer to a new key `amy-1` under the first root.
+/// The answer to the command that adds the key `amy-1` with the root `ROOT`.
 pub(crate) const SIGNED: OfficeReply = OfficeReply::Key {
     signature: AMY_1_SIGNATURE,
 };
@@ -11,7 +11,7 @@ pub(crate) const SIGNED: OfficeReply = OfficeReply::Key {
 #[derive(Clone, Copy)]
 pub(crate) enum Happens {
     Commanded(PlainCommand, OfficeReply),
-    /// A request at noon under the text of a pass, and its reply.
+    /// A request at noon, with the text of its pass, and the expected reply.
     Asked(&'static str, PlainRequest, PlainReply),
 }
 

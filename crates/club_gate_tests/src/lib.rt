@@ -1,6 +1,6 @@
 //! Tests of the tables, of the store over them, and of the desk over tables in memory. The desk's
-//! are about the calls of its store, about memory, and about random lists of events, which the
-//! reference machine answers too. The rows of replies are scenarios.
+//! tests cover calls of its store, memory, and random lists of events, whose replies are compared
+//! with the reference machine's. Scenarios have the replies to single requests and commands.
 #![tactic(auto)]
 
 #[cfg(test)]

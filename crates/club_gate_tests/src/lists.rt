@@ -1,17 +1,17 @@
-//! Random lists of events, one by one and at once: the desk's replies are the reference machine's,
-//! and those to amy are the solo machine's, which holds only her part.
+//! Random lists of events, played one by one or in one run. The desk replies like the reference
+//! machine, and to amy like the solo machine, which has only amy's part of the club.
 
 use crate::prelude::*;
 use crate::trial::Trial;
 use test_kit::drawn::{AUDIT_AMY, AUDITORS, Asking, Event, Numbers, SLOTS, audit};
 
-// How many pairs of lists a test draws: the second begins with the club that the first one left. A
-// hundred lists in one test would take most of the minute that a test has.
+// The number of pairs of lists for each seed. The second list starts with the club after the first.
+// A hundred lists in one test would take most of its minute.
 const PAIRS: u32 = 10;
 
 const EVENTS: u32 = 60;
 
-/// Two lists, which are played event by event or run at once.
+/// Two lists of events. Each is played event by event, or in one run if `are_run`.
 #[derive(Drop)]
 struct Pair {
     first: Vec<Event>,
@@ -44,7 +44,7 @@ impl Fixture for Pair {
     }
 }
 
-/// Random events, and then requests that show the members' accounts and the slots.
+/// Returns random events, and then requests that show the members' accounts and the slots.
 fn draw(rt: &impl Host, numbers: &mut Numbers) -> Vec<Event> {
     let mut events = Vec::new(rt.alloc());
     for _ in 0..EVENTS {
@@ -63,7 +63,7 @@ fn draw(rt: &impl Host, numbers: &mut Numbers) -> Vec<Event> {
     events
 }
 
-/// Plays the lists of a row of numbers, event by event or at once.
+/// Draws pairs of lists from the seed `first`, and plays them event by event or in one run.
 fn play_lists(rt: &impl Host, first: u64, pairs: u32, are_run: bool) {
     let mut numbers = Numbers::new(first);
     for _ in 0..pairs {
@@ -88,8 +88,8 @@ fn answers_more_lists_as_the_reference(rt: HostRuntime) {
     play_lists(&rt, 2_029, PAIRS, false);
 }
 
-// The reference machine never replies `Unavailable`. So neither does the desk, here or in any other
-// list.
+// The reference machine never replies `Unavailable`. So the desk doesn't either, in this test and
+// in each other test of lists.
 #[test]
 fn no_unavailable_with_ample_memory(rt: HostRuntime) {
     play_lists(&rt, 2_030, PAIRS, false);

@@ -1,4 +1,4 @@
-//! Passes, in plain values.
+//! Passes, as plain values.
 
 use crate::prelude::*;
 use club_gate::{LOCATION, key_signature, minted};
@@ -10,12 +10,12 @@ pub(crate) static FORMS: [Form; 3] = [Form::V1, Form::V2, Form::Json];
 
 /// The pass of a request.
 #[derive(Clone, Copy)]
-pub(crate) enum PresentedPass {
-    /// The office's pass of a key under a root, with caveats that were added without the root.
+pub(crate) enum Shown {
+    /// The office's pass of a key under this root, with caveats added without knowledge of it.
     Of(&'static str, &'static [u8], &'static [&'static str]),
-    /// Amy's with its last byte changed.
+    /// Amy's pass with a changed last byte of the signature.
     Changed,
-    /// Its identifier is the name of amy's key alone.
+    /// A pass whose identifier is `amy-1` without the prefix `key:`.
     Unnamed,
 }
 

@@ -1,7 +1,7 @@
-//! The desk reads of its store only what an answer to a request or a command needs, and its change
-//! is the last call. For a request the key comes first, and the older root for a pass that the
-//! current one doesn't sign. Then come the record under the number and the facility, then the sums
-//! for a limit of points, and at last the rows for the decision.
+//! The desk reads from its store only what its answer needs, and changes the store in its last
+//! call. For a request the desk first reads the key, and the older root if the current root didn't
+//! sign the pass. Then it reads the booking's record and the facility, the sums for a spend limit,
+//! and the rows for the decision.
 
 use crate::passes::{AMY, BOB, FORMS, PresentedPass};
 use crate::prelude::*;
@@ -26,12 +26,12 @@ const RECORD: &[Call] = &[Key, Record, Facility];
 
 const BOOKING: &[Call] = &[Key, Record, Facility, Slot, Account, OpenCount, Change];
 
-/// Under a limit that leaves room for all that the member has used, no sum over bookings is read.
+/// If the limit covers the charge and all that the member has used, the desk reads no sum.
 const LIMITED: &[Call] = &[
     Key, Record, Facility, Account, Slot, Account, OpenCount, Change,
 ];
 
-/// Under a lower limit what the key has spent is read, too.
+/// If the limit is lower, the desk also reads how much the key has spent.
 const SUMMED: &[Call] = &[
     Key, Record, Facility, Account, Spent, Slot, Account, OpenCount, Change,
 ];
@@ -40,7 +40,7 @@ const OVER_THE_LIMIT: &[Call] = &[Key, Record, Facility, Account, Spent];
 
 const SUMS: &[Call] = &[Key, Account, OpenCount, Spent];
 
-/// A repeat reads its facility only for a caveat on the kind.
+/// For a repeat, the desk reads the facility only if a caveat restricts the kind.
 const REPEAT: &[Call] = &[Key, Record];
 
 const CANCELLATION: &[Call] = &[Key, Record, Change];
@@ -68,8 +68,8 @@ const UNDER_THIRD: PresentedPass = PresentedPass::Of("amy-1", THIRD_ROOT, &[]);
 
 const AT_18: PresentedPass = PresentedPass::Of("amy-1", ROOT, &["hours = 18-19"]);
 
-/// A pass that allows no booking, whatever its key has spent.
-const VIEWS: PresentedPass = PresentedPass::Of("amy-1", ROOT, &["actions = view"]);
+/// A pass that allows no booking, however little its key has spent.
+const VIEWS: Shown = Shown::Of("amy-1", ROOT, &["actions = view"]);
 
 const VIEWS_THEN_SPENDS: PresentedPass = PresentedPass::Of(
     "amy-1",
@@ -83,7 +83,7 @@ const COURTS: PresentedPass = PresentedPass::Of("amy-1", ROOT, &["hours = 18-20"
 
 const BOATS: PresentedPass = PresentedPass::Of("amy-1", ROOT, &["kind = boat"]);
 
-/// A facility that the club lacks.
+/// A slot of a facility that doesn't exist.
 const NOWHERE: PlainSlot = PlainSlot {
     facility: "court-9",
     ..COURT_AT_18
@@ -94,22 +94,22 @@ const CANCEL_8: PlainRequest = PlainRequest::Cancel(COURT_AT_18, 8);
 const BOOK_NOWHERE: PlainRequest = PlainRequest::Book(NOWHERE, 7, 2);
 
 static REFUSED: [Row; 5] = [
-    // The identifier is no key's.
-    (PresentedPass::Unnamed, BOOK_7, NOT_VERIFIED, &[]),
+    // The identifier of this pass isn't that of a key.
+    (Shown::Unnamed, BOOK_7, NOT_VERIFIED, &[]),
     (NOBODY, BOOK_7, NOT_VERIFIED, &[Key]),
     (PresentedPass::Changed, BOOK_7, NOT_VERIFIED, BOTH_ROOTS),
     (UNDER_SECOND_NARROWED, BOOK_7, NOT_VERIFIED, BOTH_ROOTS),
     (BOB, BOOK_7, KEY_REVOKED, &[Key]),
 ];
 
-// Number 7 isn't booked.
+// There is no booking under number 7.
 static FIRST: [Row; 10] = [
     (AMY, VIEW, PlainReply::SlotShown(0, false), SLOT),
     (AMY, ACCOUNT, ACCOUNT_BEFORE, SUMS),
     (AMY, BOOK_7, BOOKED_7, BOOKING),
     (AT_18, BOOK_7, BOOKED_7, BOOKING),
     (SPENDS_700, BOOK_7, BOOKED_7, LIMITED),
-    // A request that a caveat refuses reads no sum.
+    // If a caveat refuses the request, the desk reads no sum.
     (VIEWS, BOOK_7, DENIED_1, RECORD),
     (VIEWS_THEN_SPENDS, BOOK_7, DENIED_1, RECORD),
     (VIEWS, ACCOUNT, DENIED_1, &[Key]),
@@ -117,10 +117,10 @@ static FIRST: [Row; 10] = [
     (AMY, BOOK_NOWHERE, NO_SUCH_FACILITY, RECORD),
 ];
 
-// Number 7 is booked, for 600 points.
+// There is a booking under number 7, for 600 points.
 static AGAIN: [Row; 10] = [
     (AMY, BOOK_7, BOOKED_7, REPEAT),
-    // A repeat costs nothing, so a spend limit doesn't matter.
+    // A repeat costs nothing, so a spend limit doesn't refuse it.
     (SPENDS_700, BOOK_7, BOOKED_7, REPEAT),
     (COURTS, BOOK_7, BOOKED_7, RECORD),
     (BOATS, BOOK_7, DENIED_1, RECORD),
@@ -129,18 +129,18 @@ static AGAIN: [Row; 10] = [
     (AMY, CANCEL_7, CANCELLED_7, CANCELLATION),
     (SPENDS_700, CANCEL_7, CANCELLED_7, CANCELLATION),
     (AMY, ACCOUNT, ACCOUNT_AFTER, SUMS),
-    // Number 8 would come to 800 points.
+    // With number 8, the key would have spent 800 points.
     (SPENDS_700, BOOK_8, DENIED_1, OVER_THE_LIMIT),
 ];
 
-// Amy's key has another root, and the one before it is good.
+// Amy's key has a new root, and passes under the older root are still good.
 static ROTATED: [Row; 3] = [
     (UNDER_SECOND, BOOK_7, BOOKED_7, BOOKING),
     (AMY, BOOK_7, BOOKED_7, BOOKING_BY_OLDER),
     (UNDER_THIRD, BOOK_7, NOT_VERIFIED, BOTH_ROOTS),
 ];
 
-/// A key of amy's, the caveats of its pass, the reply to a booking under number 8, and the calls.
+/// A key of amy, the caveats of its pass, the reply to the booking of number 8, and the calls.
 type Limited = (
     &'static str,
     &'static [&'static str],
@@ -148,15 +148,15 @@ type Limited = (
     &'static [Call],
 );
 
-/// A booking of the last place for 200 points, under either key of amy.
+/// Bookings of the last place for 200 points, under amy's first and second key.
 const BOOKED_BY_1: PlainReply = PlainReply::Booked("amy-1", 8, 200, 0);
 
 const BOOKED_BY_2: PlainReply = PlainReply::Booked("amy-2", 8, 200, 0);
 
 const THREE_LIMITS: &[&str] = &["spend <= 900", "spend <= 799", "spend <= 901"];
 
-// Number 7 is booked, for 600 points: all that amy has used, and her first key has spent. Number 8
-// costs 200, so the limits leave 599, 600 and 601 points for what was spent before.
+// Amy's first key has booked number 7 for 600 points, and amy has spent nothing else. Number 8
+// costs 200 points. So the limits allow 599, 600 and 601 points before it.
 static LIMITS: [Limited; 8] = [
     ("amy-1", &["spend <= 799"], DENIED_1, OVER_THE_LIMIT),
     ("amy-1", &["spend <= 800"], BOOKED_BY_1, LIMITED),
@@ -165,13 +165,13 @@ static LIMITS: [Limited; 8] = [
     ("amy-2", &["spend <= 799"], BOOKED_BY_2, SUMMED),
     ("amy-2", &["spend <= 800"], BOOKED_BY_2, LIMITED),
     ("amy-2", &["spend <= 801"], BOOKED_BY_2, LIMITED),
-    // The lowest limit decides whether a sum is read.
+    // The lowest of the limits decides whether the desk reads a sum.
     ("amy-2", THREE_LIMITS, BOOKED_BY_2, SUMMED),
-    // A limit below the charge refuses whatever was spent.
+    // A limit below the charge refuses the booking, however little was spent before.
     ("amy-2", &["spend <= 199"], DENIED_1, RECORD),
 ];
 
-/// A command, why it is refused, if it is, and the calls of the store.
+/// A command, the reason if the desk refuses it, and the calls of the store.
 type Commanded = (PlainCommand, Option<OfficeFault>, &'static [Call]);
 
 const PLACED: &[Call] = &[Facility, Change];
@@ -206,12 +206,12 @@ static DONE: [Commanded; 11] = [
     (OpenSlot(COURT_AT_18), None, PLACED),
 ];
 
-// A command that is refused changes nothing.
+// A refused command changes nothing.
 static REFUSED_COMMANDS: [Commanded; 12] = [
     (AddMember("amy", 1), Some(Exists), &[Account]),
     (Credit("cy", 1), Some(Unknown), &[Account]),
     (Debit("cy", 1), Some(Unknown), &[Account]),
-    // A point more than amy's balance.
+    // One point more than amy's balance.
     (Debit("amy", 10_001), Some(OutOfRange), &[Account]),
     (SetQuota("cy", 1), Some(Unknown), &[Account]),
     (ADD_AGAIN, Some(Exists), &[Facility]),
@@ -223,8 +223,8 @@ static REFUSED_COMMANDS: [Commanded; 12] = [
     (OpenSlot(NOWHERE), Some(Unknown), &[Facility]),
 ];
 
-/// Amy has booked `court-1` under the numbers 7 and 8, and cancelled 8. A command that finds
-/// nothing to do is done without a change.
+/// Amy has booked `court-1` under the numbers 7 and 8, and has cancelled 8. A second cancellation
+/// succeeds without a change.
 static CANCELLED: [Commanded; 4] = [
     (CancelBooking("amy-1", 7), None, CANCELS),
     (CancelBooking("amy-1", 8), None, RECORDED),
@@ -232,12 +232,12 @@ static CANCELLED: [Commanded; 4] = [
     (CancelBooking("amy-9", 7), Some(Unknown), &[Key, Record]),
 ];
 
-/// The requests or the rotation before. The desk is that of the fixture, where bob's key is revoked
-/// and amy has a second one.
+/// The earlier requests, or a rotation. The club is the fixture, but bob's key is revoked and amy
+/// has a second key.
 #[derive(Clone, Copy)]
 enum Before {
     Requests(&'static [PlainRequest]),
-    /// Amy's first key gets another root.
+    /// Amy's first key gets a new root.
     Rotation,
 }
 
@@ -267,11 +267,11 @@ impl Before {
     }
 }
 
-/// What the desk is asked, and its answer.
+/// A request or a command, with the expected answer.
 #[derive(Clone, Copy)]
 enum Asked {
-    /// A request under a pass in this form.
-    Request(Form, PresentedPass, PlainRequest, PlainReply),
+    /// A request under a pass in this form, and the expected reply.
+    Request(Form, Shown, PlainRequest, PlainReply),
     Command(PlainCommand, Option<OfficeFault>),
 }
 
@@ -295,7 +295,7 @@ impl Asked {
     }
 }
 
-/// What is asked after these events, the place of its row, and the calls of the store.
+/// The events before, the request or command, the index of its row, and the calls of the store.
 #[derive(Clone, Copy)]
 struct Reading {
     before: Before,
@@ -314,7 +314,7 @@ impl Fixture for Reading {
     }
 }
 
-/// Plays a row with its pass in each form.
+/// Plays a row with its pass in each of the three forms.
 fn reads(rt: &impl Host, before: Before, place: usize, row: &Row) {
     let (shown, request, want, calls) = *row;
     for form in &FORMS {

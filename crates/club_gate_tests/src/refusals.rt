@@ -1,16 +1,16 @@
-//! The desk's replies if its store fails, or isn't called.
+//! Tests of the desk's replies if its store fails, or if the desk doesn't call its store.
 
 use crate::prelude::*;
 use crate::refusing::Refusing;
 use club_gate::key_signature;
 use pass_forms::MAX_TEXT;
 
-// The signature of the longest name under a root of 64 bytes 7, by an independent program.
+// The signature for a name of 24 letters under a root of 64 bytes 7, by an independent program.
 const LONGEST: [u8; 32] = *b"\
     \x23\x1d\xfe\xcc\x5b\xb5\xa6\xe6\x60\xe0\xa1\xbb\xd3\xab\x92\x0e\
     \xb2\x38\x15\xb7\x1d\x5d\x84\xd4\xb8\x8c\x1c\xaa\x2c\x5b\x47\xce";
 
-/// A store that fails from this call on.
+/// The number of the first call that fails, and the fault of the store.
 #[derive(Clone, Copy)]
 struct Failure {
     first: usize,
@@ -27,7 +27,7 @@ fn failing_desk<S: ClubStore>(
     Desk::new(rt.alloc(), failing)
 }
 
-/// A booking is unavailable, and a new key and the day sheet fail.
+/// Ends the test unless a booking gets `Unavailable`, and a new key and the day sheet fail.
 fn expect_failures<S: ClubStore>(rt: &impl Host, desk: &mut Desk<S>, fault: StoreFault) {
     let returned = reply(rt, desk, NOON, AMY_V2.as_bytes(), &BOOK_7);
     expect_eq(rt, &returned, &Reply::Refused(Refusal::Unavailable));
@@ -37,7 +37,7 @@ fn expect_failures<S: ClubStore>(rt: &impl Host, desk: &mut Desk<S>, fault: Stor
     expect_eq(rt, &desk.sheet(day(rt, "2026-05-01")).is_err(), &true);
 }
 
-/// `court-1` has no persons at 18, and there is no key `amy-2`.
+/// Ends the test unless nobody has booked `court-1` at 18, and there is no key `amy-2`.
 fn expect_untouched<S: ClubStore>(rt: &impl Host, store: &mut S) {
     let held = store.slot(&slot(rt, &COURT_AT_18)).expect(rt, "a slot");
     expect_eq(rt, &held.taken, &0);
@@ -45,8 +45,8 @@ fn expect_untouched<S: ClubStore>(rt: &impl Host, store: &mut S) {
     expect_eq(rt, &key.is_none(), &true);
 }
 
-// Every request and command fails and nothing is changed.
-impl Fixture for Failure {
+// Each request and each command fails, and changes nothing.
+impl Scene for Failure {
     fn play<S: ClubStore + Drop>(&self, rt: &impl Host, desk: Desk<S>) {
         let mut desk = failing_desk(rt, desk, self);
         expect_failures(rt, &mut desk, self.fault);
@@ -60,8 +60,8 @@ fn reports_refused_memory(rt: HostRuntime) {
     play(&rt, &Failure { first: 1, fault });
 }
 
-// A booking's first six calls read: the key, the record, the facility, the slot, the account, the
-// open bookings. The seventh writes.
+// A booking reads the key, the record, the facility, the slot, the account and the open bookings,
+// in six calls. The seventh call writes.
 #[test]
 fn reports_refused_storage(rt: HostRuntime) {
     let fault = StoreFault::Storage;
@@ -70,10 +70,10 @@ fn reports_refused_storage(rt: HostRuntime) {
     }
 }
 
-// One byte too many.
+// One byte longer than the longest text of a pass.
 static LONG: [u8; MAX_TEXT + 1] = [b'A'; MAX_TEXT + 1];
 
-/// A text in V1 with 2,049 empty caveats: longer than a pass, and than the head of a request.
+/// A V1 text with 2,049 empty caveats. It is longer than a pass or a request's head may be.
 static FAR_TOO_LONG: [Piece; 3] = [(1, HEAD), (2_049, "MDAwOWNpZCAK"), (1, END)];
 
 const HEAD: &str = "MDAxN2xvY2F0aW9uIGNsdWItZGVzawowMDE5aWRlbnRpZmllciBrZXk6YW15LTEK";
@@ -90,7 +90,7 @@ const ALWAYS: Failure = Failure {
     fault: StoreFault::Storage,
 };
 
-/// Texts that are no pass, at a desk whose store always fails.
+/// Texts that aren't passes, at a desk whose store always fails.
 struct FaultsOfForm;
 
 impl Fixture for FaultsOfForm {
@@ -104,7 +104,7 @@ impl Fixture for FaultsOfForm {
     }
 }
 
-// They are refused before the store is called.
+// The desk refuses these texts before it calls the store.
 #[test]
 fn reports_a_fault_of_form_first(rt: HostRuntime) {
     play(&rt, &FaultsOfForm);
@@ -117,7 +117,7 @@ fn signs_for_the_longest_name(rt: HostRuntime) {
     expect_eq(&rt, &key_signature(&name, &root), &LONGEST);
 }
 
-/// Scenarios have the other faults.
+/// The faults that no scenario shows.
 static FAULTS: [(Fault, &str); 2] = [
     (Fault::Store(StoreFault::Memory), "out of memory"),
     (Fault::Store(StoreFault::Storage), "storage failed"),

@@ -1,6 +1,6 @@
-//! Commands of the office and the known booking if an allocation is refused.
-//! `tests/desk/refused_memory_tests.py` refuses each in turn, and none after it: a call that is out
-//! of memory changes nothing, and a second call is answered.
+//! The office's commands and the known booking, while memory is refused.
+//! `tests/desk/refused_memory_tests.py` refuses one allocation per run, each in turn. A call that
+//! is out of memory changes nothing, and a second call succeeds.
 
 use crate::fixture::try_to_play;
 use crate::happens::SIGNED;
@@ -10,7 +10,7 @@ use test_kit::passes::AMY_1_SECOND_SIGNATURE;
 
 const UNAVAILABLE: Reply = Reply::Refused(Refusal::Unavailable);
 
-/// The reply at noon; by a second call if the first is out of memory.
+/// Returns the reply at noon. If the first call is out of memory, asks a second time.
 fn reply_at_noon<S: ClubStore>(
     rt: &impl Host,
     desk: &mut Desk<S>,
@@ -23,7 +23,7 @@ fn reply_at_noon<S: ClubStore>(
     }
 }
 
-/// What amy's key sees of the club: her account, and two slots.
+/// Returns what amy's key shows of the club: amy's account, and two slots.
 fn amys_view<S: ClubStore>(rt: &impl Host, desk: &mut Desk<S>) -> [Reply; 3] {
     [
         reply_at_noon(rt, desk, AMY_V2, &ACCOUNT),
@@ -57,12 +57,12 @@ const DONE: OfficeReply = OfficeReply::Done;
 
 const EXISTS: OfficeReply = OfficeReply::Refused(Fault::Refused(OfficeFault::Exists));
 
-/// The answer to another root of `amy-1`.
+/// The answer to the command that replaces the root of `amy-1`.
 const SIGNED_ANEW: OfficeReply = OfficeReply::Key {
     signature: AMY_1_SECOND_SIGNATURE,
 };
 
-/// Amy with quota 5, 10,000 points and her key; and the court.
+/// The commands that add amy with quota 5, 10,000 points and a key, and `court-1`.
 static FIXTURE: [(PlainCommand, OfficeReply); 4] = [
     (PlainCommand::AddMember("amy", 5), DONE),
     (PlainCommand::Credit("amy", 10_000), DONE),
@@ -73,7 +73,7 @@ static FIXTURE: [(PlainCommand, OfficeReply); 4] = [
     ),
 ];
 
-/// Amy has booked. The older root is good for long, so her pass still shows what the key sees.
+/// Commands after amy has booked. The older root stays good, so her pass still works.
 static COMMANDS: [(PlainCommand, OfficeReply); 9] = [
     (PlainCommand::SetFacility("court-1", 3, 100, 9, 20), DONE),
     (PlainCommand::Debit("amy", 1), DONE),
@@ -89,7 +89,7 @@ static COMMANDS: [(PlainCommand, OfficeReply); 9] = [
     (PlainCommand::RevokeKey("amy-1"), DONE),
 ];
 
-/// The commands were carried out.
+/// Repeats of two commands. Their answers show that the commands were carried out.
 static REVOKED: [(PlainCommand, OfficeReply); 2] = [
     (PlainCommand::AddMember("amy", 5), EXISTS),
     (PlainCommand::CloseSlot(COURT_AT_19), EXISTS),
@@ -114,8 +114,8 @@ fn expect_replied<S: ClubStore>(
     expect_eq(rt, &returned, &want.reply().expect(rt, "a reply"));
 }
 
-/// The first reply to the booking is the booking's, which is then on record. Or it is unavailable:
-/// then nothing changed, and a second request is served.
+/// Ends the test unless the booking succeeded or got `Unavailable`. If it got `Unavailable`,
+/// nothing must have changed. A second request must succeed.
 fn is_booked_or_unavailable<S: ClubStore>(
     rt: &impl Host,
     desk: &mut Desk<S>,
@@ -137,7 +137,7 @@ fn books<S: ClubStore>(rt: &impl Host, desk: &mut Desk<S>, pass: &str) {
     is_booked_or_unavailable(rt, desk, pass, &first);
 }
 
-/// The reply to a list of only the booking; unavailable too if the list is out of memory.
+/// Runs a list of only the booking. Returns its reply, or `Unavailable` if memory is refused.
 fn reply_of_a_run<S: ClubStore>(rt: &impl Host, desk: &mut Desk<S>, pass: &str) -> Reply {
     let words = Words {
         pass: pass.as_bytes(),
@@ -153,13 +153,13 @@ fn reply_of_a_run<S: ClubStore>(rt: &impl Host, desk: &mut Desk<S>, pass: &str) 
     }
 }
 
-/// What is done from the fixture on.
+/// What a test does at the desk of the fixture.
 #[derive(Clone, Copy)]
 enum Task {
     Commands,
-    /// The booking under this pass, by `Desk::ask`.
+    /// Books under this pass with `Desk::ask`.
     Ask(&'static str),
-    /// The same by `Desk::run`.
+    /// Books under this pass with `Desk::run`.
     Run(&'static str),
 }
 
@@ -177,7 +177,7 @@ impl Fixture for Task {
     }
 }
 
-/// Does this over new tables; over others if there was no memory for the first.
+/// Plays the task over new tables. If there was no memory for them, tries once more.
 fn perform(rt: &impl Host, task: &Task) {
     match try_to_play(rt, task) {
         Err(StoreFault::Memory) => try_to_play(rt, task).expect(rt, "a store"),

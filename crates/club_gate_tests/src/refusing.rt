@@ -1,4 +1,4 @@
-//! A store that notes its calls in their order, and may fail from one of them on. Its contracts
+//! A store that records its calls in their order. It can fail from a chosen call on. Its contracts
 //! promise nothing.
 
 use crate::prelude::*;
@@ -21,11 +21,11 @@ pub(crate) enum Call {
     Change,
 }
 
-/// The number of calls that are noted. Each answer needs fewer.
+/// The number of calls that are recorded. No answer needs as many.
 const MOST: usize = 16;
 
-/// A store, its first calls in their order, how many calls there were, the number of the first that
-/// fails, counted from 1, and its fault.
+/// A store, its first calls in their order, and their number. From call number `first` on, each
+/// call fails with `fault`. The first call has number 1.
 #[derive(Drop)]
 pub(crate) struct Refusing<S: ClubStore> {
     pub store: S,
@@ -36,7 +36,7 @@ pub(crate) struct Refusing<S: ClubStore> {
 }
 
 impl<S: ClubStore> Refusing<S> {
-    /// A store that fails from a call on, which counts from 1, with this fault.
+    /// Returns a store whose calls fail with this fault from number `first` on.
     pub fn from_call(first: usize, fault: StoreFault, store: S) -> Refusing<S> {
         Refusing {
             store,
@@ -51,7 +51,7 @@ impl<S: ClubStore> Refusing<S> {
         Refusing::from_call(usize::MAX, StoreFault::Storage, store)
     }
 
-    /// Ends the test of a row unless these were the calls, in this order.
+    /// Ends the test of a row unless the desk made exactly these calls, in this order.
     pub fn expect_calls(&self, rt: &impl Host, row: usize, want: &[Call]) {
         expect_row(rt, &row, &self.calls, &want.len());
         for (call, noted) in want.iter().zip(&self.noted) {

@@ -1,4 +1,4 @@
-//! Tests of the tables of a club, and of its store over them.
+//! Tests of a club's tables, and of the store over them.
 
 mod changes;
 mod databases;

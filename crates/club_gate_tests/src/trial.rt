@@ -1,4 +1,4 @@
-//! A desk beside the reference machine, and beside the solo machine, which holds only amy's part.
+//! Compares a desk with the reference machine, and with the solo machine of amy's part.
 
 use crate::passes::text_of_asking;
 use crate::prelude::*;
@@ -8,7 +8,7 @@ use club_reference::{Club, Words};
 use test_kit::drawn::{AMY, Asking, BEGINNING, Event};
 use test_kit::signed_pass;
 
-/// The desk, the reference machine, the solo machine of amy, and the names of her keys.
+/// The desk, the reference machine, amy's solo machine, and the names of amy's keys.
 #[derive(Drop)]
 pub(crate) struct Trial<S: ClubStore> {
     desk: Desk<S>,
@@ -17,7 +17,7 @@ pub(crate) struct Trial<S: ClubStore> {
     own_keys: Vec<&'static str>,
 }
 
-/// The text of the pass of an event; a command has none.
+/// Returns the text of the event's pass. A command has no pass, and its text is empty.
 fn text_of(rt: &impl Host, event: &Event) -> String {
     match event {
         Event::Asked(asking) => text_of_asking(rt, asking),
@@ -25,7 +25,7 @@ fn text_of(rt: &impl Host, event: &Event) -> String {
     }
 }
 
-/// An event as it is sent to the desk, with the text of its pass.
+/// Returns the event as the desk gets it, with the text of its pass.
 fn sent_event<'a>(rt: &impl Host, event: &Event, text: &'a str) -> SentEvent<'a> {
     match event {
         Event::Asked(asking) => SentEvent::Asked {
@@ -39,7 +39,7 @@ fn sent_event<'a>(rt: &impl Host, event: &Event, text: &'a str) -> SentEvent<'a>
     }
 }
 
-/// The words of a request for the reference machine: the pass is signed under the one root.
+/// Returns the request for the reference machine. Its pass is signed under one root.
 fn words_of(rt: &impl Host, asking: &Asking) -> Words {
     let key = name(rt, asking.key);
     let pass = signed_pass(rt.alloc(), Some(key), asking.root, asking.caveats);
@@ -49,7 +49,7 @@ fn words_of(rt: &impl Host, asking: &Asking) -> Words {
     }
 }
 
-/// The desk's answer to the office for this answer of the reference machine.
+/// Returns the answer that the desk must give if the reference machine gives this one.
 fn desk_reply(answer: &OfficeAnswer) -> OfficeReply {
     match *answer {
         OfficeAnswer::Done => OfficeReply::Done,
@@ -77,7 +77,7 @@ fn event_reply(rt: &impl Host, reference: &mut Club, event: &Event) -> EventRepl
 }
 
 impl<S: ClubStore> Trial<S> {
-    /// The club that each list begins with, from the desk of an empty one.
+    /// Starts with the club that each list begins with. `desk` is the desk of an empty club.
     pub fn begin(rt: &impl Host, desk: Desk<S>) -> Trial<S> {
         let mut trial = Trial {
             desk,
@@ -91,7 +91,7 @@ impl<S: ClubStore> Trial<S> {
         trial
     }
 
-    /// Goes on with the same club: a desk with an empty cache, and amy's part copied anew.
+    /// Continues with the same club, a desk with an empty cache, and a new copy of amy's part.
     pub fn reopened(self, rt: &impl Host) -> Trial<S> {
         let Trial {
             desk,
@@ -112,7 +112,7 @@ impl<S: ClubStore> Trial<S> {
         self.own_keys.iter().any(|own| *own == key)
     }
 
-    /// Whether a successful command is amy's own.
+    /// Returns whether amy's part must also get a command that succeeded.
     fn is_own(&self, plain: &PlainCommand) -> bool {
         match *plain {
             PlainCommand::AddMember(member, _)
@@ -128,7 +128,7 @@ impl<S: ClubStore> Trial<S> {
         }
     }
 
-    /// Gives a command to the desk and the reference machine, and to amy's part if it is her own.
+    /// Sends a command to the desk and the reference machine, and amy's own to her part too.
     fn give(&mut self, rt: &impl Host, plain: &PlainCommand) {
         let answer = office_answer(rt, &mut self.reference, plain);
         let returned = self.desk.office(&command(rt, plain));
@@ -142,7 +142,7 @@ impl<S: ClubStore> Trial<S> {
         }
     }
 
-    /// Asks the desk and the reference machine, and amy's part if the key is hers.
+    /// Sends a request to the desk and the reference machine. Requests of amy go to her part too.
     fn ask(&mut self, rt: &impl Host, asking: &Asking) {
         let text = text_of_asking(rt, asking);
         let desk = &mut self.desk;
@@ -176,7 +176,7 @@ impl<S: ClubStore> Trial<S> {
         self.desk.run(sent.as_slice()).expect(rt, "memory")
     }
 
-    /// Runs events at once, and compares the responses with the reference machine's.
+    /// Sends all events in one run, and compares the replies with the reference machine's.
     pub fn run(&mut self, rt: &impl Host, events: &[Event]) {
         let returned = self.desk_replies(rt, events);
         let mut want = Vec::new(rt.alloc());

@@ -1,4 +1,4 @@
-//! Values of the tests, made from plain ones.
+//! Typed values that tests make from plain values.
 
 use crate::expect::{Host, expect_row};
 use club_core::{Command, Request};
@@ -15,7 +15,7 @@ pub(crate) fn day(rt: &impl Host, text: &str) -> Day {
     Day::read(text.as_bytes()).expect(rt, "a day")
 }
 
-/// The moment of a minute, counted from 1970-01-01T00:00.
+/// Returns the moment of a minute, counted from 1970-01-01T00:00.
 pub(crate) fn at(rt: &impl Host, minute: u32) -> Moment {
     Moment::from_number(minute).expect(rt, "a moment")
 }

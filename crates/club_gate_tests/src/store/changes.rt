@@ -1,5 +1,5 @@
-//! Changes of a small club: the rows that each leaves, and changes that don't fit it. Those are
-//! false of its rows, or the club after them isn't sound: each is a fault of storage.
+//! Changes of a small club: the rows after each change, and changes that the store refuses. A
+//! refused change contradicts the club's rows or breaks a rule of the club. Its fault is `Storage`.
 
 use super::rows::{AMY_1, Kept, Older, facility, key};
 use super::write::Write::{
@@ -13,8 +13,8 @@ use club_core::MemberAccount;
 use test_kit::moments::START;
 use test_kit::{COURT, PlainFacility};
 
-/// Rows and sums of a club. A member has its credited points, the points of its bookings, and its
-/// quota. A slot has its persons, and whether it is closed. Amy's bookings are all under `amy-1`.
+/// What a store shows of a club. A member has its credited points, the points of its bookings, and
+/// its quota. A slot has its persons, and whether it is closed. All bookings are under `amy-1`.
 #[derive(Clone, Copy)]
 struct Seen {
     amy: Option<(u32, u32, u8)>,
@@ -28,7 +28,7 @@ struct Seen {
     open: u64,
 }
 
-/// The writes, the club after them, and changes that don't fit it.
+/// The changes, the club after them, and changes that this club must refuse.
 type Row = (&'static [Write], Seen, &'static [Write]);
 
 const EMPTY: Seen = Seen {
@@ -42,7 +42,7 @@ const EMPTY: Seen = Seen {
     open: 0,
 };
 
-/// Amy's points in two credits, her key, the court and her booking of it.
+/// Adds amy with points from two credits, her key, the court, and her booking of the court.
 static FILLS: [Write; 5] = [
     Member("amy", 9_000),
     Credit("amy", 1_000),
@@ -61,7 +61,7 @@ const FILLED: Seen = Seen {
     ..EMPTY
 };
 
-/// Bookings that aren't those of the filled club, or don't fit into it.
+/// Bookings that differ from the one on record, and a slot of an unknown facility.
 const REFUNDED_7: PlainBooking = PlainBooking {
     refund: Some(300),
     ..BOOKING_7
@@ -92,7 +92,7 @@ const NOWHERE: PlainSlot = PlainSlot {
     ..COURT_AT_18
 };
 
-/// The court is shut at that hour.
+/// The court isn't open at that hour.
 const COURT_AT_22: PlainSlot = PlainSlot {
     hour: 22,
     ..COURT_AT_18
@@ -106,34 +106,34 @@ const SECOND_KEY_WITH_OLDER: Kept = Kept {
     ..AMY_1
 };
 
-/// Amy has 9,400 points left, and the court has one place at 18 and four at 19.
+/// Refused changes. Amy has 9,400 points, and the court has one place at 18 and four at 19.
 const UNFIT: &[Write] = &[
     Cancel(UNKNOWN_KEY, "amy", 300),
     Book("amy-2", 7, COURT_AT_19, 2, "amy", 600),
     Cancel(OTHER_PERSONS, "amy", 300),
     Cancel(OTHER_SLOT, "amy", 300),
     Cancel(OTHER_CHARGE, "amy", 300),
-    // A point more than the charge.
+    // The refund is one point more than the charge.
     Cancel(BOOKING_7, "amy", 601),
-    // A number that is used, and a facility that isn't there.
+    // The number is in use, or the facility doesn't exist.
     Book("amy-1", 7, COURT_AT_18, 2, "amy", 600),
     Book("amy-1", 9, NOWHERE, 0, "amy", 200),
-    // Two persons at one place; and five in a slot that nobody booked.
+    // Two persons for one place, and five persons for four places.
     Book("amy-1", 9, COURT_AT_18, 1, "amy", 200),
     Book("amy-1", 9, COURT_AT_19, 4, "amy", 200),
-    // A point more than amy has.
+    // The charge is one point more than amy has.
     Book("amy-1", 9, COURT_AT_18, 0, "amy", 9_401),
-    // Names that are taken, and a credit beyond 999,999,999 points.
+    // These names are taken, and the credit exceeds 999,999,999 points.
     Member("amy", 0),
     Facility(COURT),
     Key(AMY_1),
     Key(SECOND_KEY_WITH_OLDER),
     Credit("amy", 999_990_000),
-    // Of an unknown member; more than was credited; a point more than the booking leaves.
+    // The member is unknown, or the debit exceeds the credited points, or amy's balance.
     Debit("cy", 1),
     Debit("amy", 10_001),
     Debit("amy", 9_401),
-    // Of an unknown facility; each number beyond its limit; a place less than a slot has persons.
+    // An unknown facility, numbers beyond their limits, and fewer places than persons in a slot.
     Numbers("court-9", 4, 200, 8, 22),
     Numbers("court-1", 51, 200, 8, 22),
     Numbers("court-1", 4, 10_000, 8, 22),
@@ -144,12 +144,12 @@ const UNFIT: &[Write] = &[
     Quota("cy", 5),
     Close(NOWHERE),
     Open(NOWHERE),
-    // A root that the key never had, and a key that isn't there.
+    // The key never had this root, or the key doesn't exist.
     Rotate("amy-1", Older(SECOND_ROOT, "2026-04-25T00:00"), THIRD_ROOT),
     Rotate("amy-2", OLDER, SECOND_ROOT),
 ];
 
-/// Neither a booking under amy's key nor its refund is ben's, and he has no point more.
+/// Ben can't pay for bookings of amy's key or get their refund. He has 1,000 points.
 const UNFIT_OF_BEN: &[Write] = &[
     Book("amy-1", 9, COURT_AT_19, 2, "ben", 600),
     Cancel(BOOKING_7, "ben", 300),
@@ -161,14 +161,14 @@ const WITH_BEN: Seen = Seen {
     ..FILLED
 };
 
-/// The booking as it was on record and as it is; and no place at all.
+/// The booking is already cancelled, and a facility must have a place.
 const UNFIT_ONCE_CANCELLED: &[Write] = &[
     Cancel(BOOKING_7, "amy", 300),
     Cancel(REFUNDED_7, "amy", 300),
     Numbers("court-1", 0, 200, 8, 22),
 ];
 
-/// The refund goes back to the member and the key, and the places to the slot.
+/// The refund goes to the member and the key. The places of the slot are free again.
 const CANCELLED: Seen = Seen {
     amy: Some((10_000, 300, 5)),
     at_18: (0, false),
@@ -182,7 +182,7 @@ const DEBITED: Seen = Seen {
     ..FILLED
 };
 
-/// A slot with a row, and one without.
+/// This slot has a row in the table, and the next one has none.
 const CLOSED_AT_18: Seen = Seen {
     at_18: (3, true),
     ..FILLED
@@ -204,7 +204,7 @@ static ROWS: [Row; 9] = [
     (&[Debit("amy", 9_400)], DEBITED, &[Debit("amy", 1)]),
     (&[Close(COURT_AT_18)], CLOSED_AT_18, &[Close(COURT_AT_18)]),
     (&[Close(COURT_AT_19)], CLOSED_AT_19, &[Close(COURT_AT_19)]),
-    // An open slot can be opened, also at an hour at which the court is shut. Its persons stay.
+    // An open slot can be opened again, even at an hour when the court is shut. Its persons stay.
     (&[Close(COURT_AT_18), Open(COURT_AT_18)], FILLED, &[]),
     (&[Open(COURT_AT_18), Open(COURT_AT_22)], FILLED, &[]),
     (
@@ -214,7 +214,7 @@ static ROWS: [Row; 9] = [
     ),
 ];
 
-/// A member's points, what its bookings cost, and its quota.
+/// Returns a member's credited points, the points of its bookings, and its quota.
 fn account<C: ClubStore>(rt: &impl Host, store: &mut C, text: &str) -> Option<(u32, u32, u8)> {
     let account = store.account(&name(rt, text)).expect(rt, "an answer")?;
     let MemberAccount { member, balance } = account;
@@ -231,7 +231,7 @@ fn expect_accounts<C: ClubStore>(rt: &impl Host, store: &mut C, row: usize, seen
     expect_row(rt, &row, &store.spent(&name(rt, "amy-2")), &Ok(0));
 }
 
-/// The key with its older root. There is no second one.
+/// Ends the test unless the key and its older root are as seen. There must be no second key.
 fn expect_keys<C: ClubStore>(rt: &impl Host, store: &mut C, row: usize, seen: &Seen) {
     let amy_1 = name(rt, "amy-1");
     let (bare, older) = match seen.key {
@@ -248,7 +248,7 @@ fn expect_keys<C: ClubStore>(rt: &impl Host, store: &mut C, row: usize, seen: &S
     expect_row(rt, &row, &store.older_root(&amy_2), &Ok(None));
 }
 
-/// The court and its slots. There is no second court.
+/// Ends the test unless the court and its slots are as seen. There must be no second court.
 fn expect_court<C: ClubStore>(rt: &impl Host, store: &mut C, row: usize, seen: &Seen) {
     let court_1 = name(rt, "court-1");
     let want = seen.court.map(|court| facility(rt, &court));
@@ -267,7 +267,7 @@ fn expect_court<C: ClubStore>(rt: &impl Host, store: &mut C, row: usize, seen: &
     }
 }
 
-/// The day's bookings, which aren't cancelled. There is none on the next day.
+/// Ends the test unless the day has the open booking, if any, and the next day has none.
 fn expect_days<C: ClubStore>(rt: &impl Host, store: &mut C, row: usize, seen: &Seen) {
     let rows = store.day(day(rt, "2026-05-01")).expect(rt, "a day");
     expect_row(rt, &row, &(rows.len() as u64), &seen.open);
@@ -283,7 +283,7 @@ fn expect_days<C: ClubStore>(rt: &impl Host, store: &mut C, row: usize, seen: &S
 /// The minute before the slot begins.
 const BEFORE: &str = "2026-05-01T17:59";
 
-/// The bookings on record. They are open until their slot begins.
+/// Ends the test unless the bookings are as seen. They are open until their slot begins.
 fn expect_bookings<C: ClubStore>(rt: &impl Host, store: &mut C, row: usize, seen: &Seen) {
     let amy_1 = name(rt, "amy-1");
     for (numbered, want) in [(7, seen.seventh), (8, None), (9, None)] {
@@ -310,7 +310,7 @@ fn expect_seen<C: ClubStore>(rt: &impl Host, store: &mut C, row: usize, seen: &S
     expect_days(rt, store, row, seen);
 }
 
-/// Makes changes, which all end so.
+/// Applies changes, and ends the test unless each of them returns `want`.
 fn apply<C: ClubStore>(
     rt: &impl Host,
     store: &mut C,
@@ -322,7 +322,7 @@ fn apply<C: ClubStore>(
     }
 }
 
-/// A row with its number, after the writes that all rows begin with.
+/// A row and its number, and the changes that come before each row.
 #[derive(Clone, Copy)]
 struct Played<'a> {
     before: &'a [Write],

@@ -1,18 +1,18 @@
-//! Databases as they are before a store opens them.
+//! Databases before a store opens them.
 
 use crate::prelude::*;
 use sqlite::MemStore;
 use test_kit::version_1::{OLDER_ROOTS, STATEMENTS};
 
-/// What a database holds before it is opened.
+/// The contents of a database before a store opens it.
 #[derive(Clone, Copy)]
 pub(crate) enum Contents {
     Nothing,
     /// The tables of version 1 with the rows of its tests.
     First,
-    /// The same with older roots: those of version 2 without the index of the bookings.
+    /// Version 2 with the same rows, but without the index of the bookings.
     Unindexed,
-    /// Those of version 2, which have the index beside.
+    /// Version 2 with the same rows and the index of the bookings.
     Second,
 }
 
@@ -31,7 +31,7 @@ impl Contents {
         }
     }
 
-    /// The version that is read in it.
+    /// Returns the version in the table `desk`, if there is one.
     pub fn version(self) -> Option<i64> {
         match self {
             Contents::Nothing => None,
@@ -67,7 +67,7 @@ pub(crate) fn database(rt: &impl Host, contents: Contents) -> Connection<MemStor
     database_after(rt, &contents.statements())
 }
 
-/// How many bookings a database has, if it has a table of them.
+/// Returns the number of bookings in a database, or `None` if it has no table of bookings.
 pub(crate) fn bookings<S: Alter>(connection: &mut Connection<S>) -> Option<i64> {
     let row = connection
         .query_row("SELECT count(*) FROM bookings", &[])

@@ -1,6 +1,6 @@
-//! Openings of real files: of one that another program has, of one that can't be opened, and of one
-//! whose tables are refused. `do_in_file` and `make_file` alone open stores in files: the proof of
-//! each takes half a minute or more.
+//! Openings of real files: a file in use, a file that can't be opened, and a file whose tables are
+//! refused. Only `do_in_file` and `make_file` open stores in files, since the proof of each takes
+//! at least half a minute.
 
 use super::databases::{Contents, bookings, runs_all};
 use super::listing::shows;
@@ -11,19 +11,19 @@ use std::test::Fail;
 use std::{env, fs, process};
 use test_kit::version_1::STATEMENTS;
 
-/// The rest that a failed opening leaves.
+/// What a failed opening returns besides its fault.
 #[derive(Clone, Copy, Debug, PartialEq, Eq)]
 pub enum Left {
-    /// The files, which are closed.
+    /// The closed files.
     Files,
-    /// The files, which another program holds.
+    /// No files, since another connection holds them.
     Held,
-    /// The open file, with so many bookings; `None` if it has no table of them.
+    /// The open file, with its number of bookings, or `None` if it has no table of them.
     Open(Option<i64>),
     Nothing,
 }
 
-/// A path of this process alone.
+/// Returns a path that only this process uses.
 pub fn path_of(host: &HostRuntime) -> Result<String, Fail> {
     let folder = env::temp_dir(host)?;
     let folder = folder.as_str();
@@ -31,7 +31,7 @@ pub fn path_of(host: &HostRuntime) -> Result<String, Fail> {
     Ok(format!(in host.alloc(); "{folder}/club-{id}")?)
 }
 
-/// Removes a file, and its log, which may be gone already.
+/// Removes a file, and its log if there is one.
 pub fn remove(host: &HostRuntime, path: &str) -> Result<(), Fail> {
     fs::remove_file(host, path)?;
     let log = format!(in host.alloc(); "{path}-wal")?;
@@ -43,7 +43,7 @@ pub trait FileWork {
     fn work<S: Alter>(&self, rt: &impl Host, store: &mut Store<S>);
 }
 
-/// Opens the store in the file at a path, and does this over it.
+/// Opens the store in the file at a path, and does this work with the store.
 pub fn do_in_file(
     host: &HostRuntime,
     rt: &impl Host,
@@ -70,7 +70,7 @@ pub fn make_file(host: &HostRuntime, rt: &impl Host, path: &str, lists: &[&[&str
     connection.close().expect(rt, "closed");
 }
 
-/// Compares what the store shows with these contents.
+/// Ends the test unless the store shows these contents.
 impl FileWork for Contents {
     fn work<S: Alter>(&self, rt: &impl Host, store: &mut Store<S>) {
         shows(rt, store, *self);
@@ -84,14 +84,14 @@ impl FileWork for OpensOnly {
     fn work<S: Alter>(&self, _rt: &impl Host, _store: &mut Store<S>) {}
 }
 
-/// The rest that a failed opening leaves.
+/// Returns what a failed opening leaves, or `None` if the opening succeeds.
 fn left_by_opening(host: &HostRuntime, rt: &impl Host, path: &str) -> Option<Left> {
     do_in_file(host, rt, path, &OpensOnly)
         .err()
         .map(|(_, left)| left)
 }
 
-/// A second opening of the same file beside the first.
+/// Opens the same file a second time while the first store is open.
 #[derive(Clone, Copy)]
 struct Reopening<'a> {
     host: &'a HostRuntime,
@@ -105,7 +105,7 @@ impl FileWork for Reopening<'_> {
     }
 }
 
-/// A file that another program has is distinguished from one that can't be opened.
+/// The fault distinguishes a file in use from a file that can't be opened.
 #[test]
 fn a_held_file(rt: HostRuntime) -> Result<(), Fail> {
     let path = path_of(&rt)?;
@@ -123,7 +123,7 @@ fn a_held_file(rt: HostRuntime) -> Result<(), Fail> {
 
 static NINTH: [&str; 1] = ["UPDATE desk SET version = 9"];
 
-/// A file whose tables are refused is left open, with its rows: at the next opening too.
+/// An opening that refuses the tables returns the open file with its rows. So does the next.
 #[test]
 fn a_file_of_refused_tables(rt: HostRuntime) -> Result<(), Fail> {
     let path = path_of(&rt)?;

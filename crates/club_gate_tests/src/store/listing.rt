@@ -1,5 +1,5 @@
-//! The rows and views of the club of `databases`. Amy has two bookings there: the court's, and the
-//! room's, which is cancelled.
+//! The rows and views of the club in `databases`. Amy has booked the court, and has booked and
+//! cancelled the room.
 
 use super::databases::{Contents, database};
 use super::rows::{AMY_1, Kept, key, member};
@@ -13,7 +13,7 @@ const CANCELLED_8: PlainBooking = PlainBooking {
     ..BOOKING_8
 };
 
-/// Requests of `amy-1`, the persons in the slot of each, and the booking under its number.
+/// Requests of `amy-1`, with the persons in the slot, and the booking under the number, if any.
 static VIEWS: [(PlainRequest, u64, Option<PlainBooking>); 6] = [
     (ACCOUNT, 0, None),
     (VIEW, 3, None),
@@ -37,14 +37,14 @@ pub(crate) fn adopt<S: Alter + Drop>(rt: &impl Host, connection: Connection<S>) 
         .expect(rt, "adopted")
 }
 
-/// The view that `amy-1` has of a request on the day before the slots, with the key.
+/// Returns the key, and its view of a request on the day before the slots.
 fn view<S: Alter>(rt: &impl Host, store: &mut Store<S>, asked: &PlainRequest) -> KeyView {
     let at = moment(rt, DAY_BEFORE);
     let found = store.view(&name(rt, "amy-1"), &request(rt, asked), at);
     found.expect(rt, "an answer").expect(rt, "a view")
 }
 
-/// Ends the test unless the store has this key, with its older root, and a view has it, too.
+/// Ends the test unless a read of the key and a view both return this key and its older root.
 pub(crate) fn shows_key<S: Alter>(rt: &impl Host, store: &mut Store<S>, kept: &Kept) {
     let want = key(rt, kept);
     expect_eq(rt, &store.key(&want.name), &Ok(Some(want)));
@@ -53,7 +53,7 @@ pub(crate) fn shows_key<S: Alter>(rt: &impl Host, store: &mut Store<S>, kept: &K
     expect_eq(rt, &seen.view.key, &want.row());
 }
 
-/// Of 10,000 points 600 are spent on the court, and of 601 for the room 300 came back.
+/// Amy had 10,000 points. The court cost 600. The room cost 601, and 300 were refunded.
 fn shows_views<S: Alter>(rt: &impl Host, store: &mut Store<S>) {
     for (row, (asked, taken, booked)) in VIEWS.iter().enumerate() {
         let seen = view(rt, store, asked).view;
@@ -65,7 +65,7 @@ fn shows_views<S: Alter>(rt: &impl Host, store: &mut Store<S>) {
     }
 }
 
-/// The same sums and bookings, each by a reading of its own.
+/// Reads the sums and bookings of the views again, each with its own method of the store.
 fn shows_rows<C: ClubStore>(rt: &impl Host, store: &mut C) {
     let amy = name(rt, "amy");
     let account = MemberAccount {
@@ -84,7 +84,7 @@ fn shows_rows<C: ClubStore>(rt: &impl Host, store: &mut C) {
     }
 }
 
-/// Ends the test unless the store shows the club of these tables.
+/// Ends the test unless the store shows the club of these contents.
 pub(crate) fn shows<S: Alter>(rt: &impl Host, store: &mut Store<S>, contents: Contents) {
     let amy = store.member(&name(rt, "amy"));
     if let Contents::Nothing = contents {
@@ -97,7 +97,7 @@ pub(crate) fn shows<S: Alter>(rt: &impl Host, store: &mut Store<S>, contents: Co
     shows_rows(rt, store);
 }
 
-/// Also if the tables are opened again.
+/// The test opens the tables a second time.
 #[test]
 fn shows_what_a_key_sees(rt: HostRuntime) {
     let mut store = adopt(&rt, database(&rt, Contents::Second));

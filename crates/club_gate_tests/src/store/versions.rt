@@ -1,4 +1,4 @@
-//! Tables of version 1, those of version 2 without the index of the bookings, and other databases.
+//! Tables of version 1, tables of version 2 without the index of the bookings, and other databases.
 
 use super::databases::Contents::{self, First, Nothing, Unindexed};
 use super::databases::{database, runs, version};
@@ -8,7 +8,7 @@ use super::write::{Write, change};
 use crate::prelude::*;
 use test_kit::version_1::{DESK, WITHOUT_TOTALS};
 
-/// How many indexes of the bookings' name are listed.
+/// Returns the number of indexes that have the name of the bookings' index.
 fn indexes<S: Alter>(rt: &impl Host, connection: &mut Connection<S>) -> i64 {
     let listed = "SELECT count(*) FROM sqlite_schema \
         WHERE type = 'index' AND name = 'bookings_by_key' AND tbl_name = 'bookings'";
@@ -16,7 +16,7 @@ fn indexes<S: Alter>(rt: &impl Host, connection: &mut Connection<S>) -> i64 {
     row.get(0).expect(rt, "a number")
 }
 
-/// Ends the test unless a database without the index has it once it is opened, and once more.
+/// Ends the test unless the first opening creates the index, and a second one keeps it.
 fn gets_the_index(rt: &impl Host, contents: Contents) {
     let mut connection = database(rt, contents);
     expect_eq(rt, &indexes(rt, &mut connection), &0);
@@ -33,7 +33,7 @@ fn makes_the_index_of_the_bookings(rt: HostRuntime) {
     gets_the_index(&rt, Unindexed);
 }
 
-/// Also if the tables are opened again.
+/// The test opens the tables a second time.
 #[test]
 fn has_no_older_root_once_migrated(rt: HostRuntime) {
     let mut store = adopt(&rt, database(&rt, First));
@@ -58,12 +58,11 @@ fn rotates_a_key_once_migrated(rt: HostRuntime) {
     shows_key(&rt, &mut adopt(&rt, store.into_connection()), &ROTATED);
 }
 
-/// A database that is no club's: what it holds, what was done to it, and the version that it has.
+/// A database that isn't a club's: its contents, the statements that change it, and its version.
 type Other = (Contents, &'static [&'static str], Option<i64>);
 
-/// Another version, a version without its tables, a table of another kind, and a transaction. Then
-/// tables under another version, tables without one of them, and tables where another one has the
-/// name of the index.
+/// An unknown version, a version without its tables, a wrong table, and a transaction. Then tables
+/// with an unknown version, a missing table, and a table with the index's name.
 static OTHERS: [Other; 9] = [
     (
         Nothing,
@@ -92,7 +91,7 @@ static OTHERS: [Other; 9] = [
     ),
 ];
 
-/// Why a store refuses to open a database, which has this version then.
+/// Returns why a store refuses to open a database, and the database's version after that.
 fn refusal<S: Alter + Drop>(
     rt: &impl Host,
     connection: Connection<S>,
@@ -102,7 +101,7 @@ fn refusal<S: Alter + Drop>(
     (fault, version(&mut left))
 }
 
-/// Ends the test unless the database is refused, and left as it was.
+/// Ends the test unless the store refuses the database, and leaves its version unchanged.
 fn is_refused(rt: &impl Host, row: usize, other: &Other) {
     let (contents, texts, version) = other;
     let mut connection = database(rt, *contents);

@@ -1,4 +1,4 @@
-//! Changes of a club, from plain data.
+//! Changes of a club, as plain values.
 
 use super::rows::{Kept, Older, facility, key, member};
 use crate::prelude::*;
@@ -8,24 +8,24 @@ use test_kit::PlainFacility;
 
 #[derive(Clone, Copy)]
 pub(crate) enum Write {
-    /// A member with these credited points.
+    /// Adds a member with this number of credited points.
     Member(&'static str, u32),
     Credit(&'static str, u32),
     Debit(&'static str, u32),
     Quota(&'static str, u8),
     Facility(PlainFacility),
-    /// The numbers of a facility: its places, price and hours.
+    /// Replaces the numbers of a facility: its places, price, and hours of opening and closing.
     Numbers(&'static str, u8, u16, u8, u8),
     Key(Kept),
     Revoke(&'static str),
-    /// A new root for a key, in place of the former one, which is good until the moment.
+    /// Replaces a key's root. Passes under the former root are good until its moment.
     Rotate(&'static str, Older, &'static [u8]),
     Close(PlainSlot),
     Open(PlainSlot),
-    /// A booking: its key, number, slot and guests, the member that pays, and the charge. One place
-    /// is left.
+    /// Adds a booking: the key, the number, the slot, the guests, the member that pays, and the
+    /// charge. One place is left after it.
     Book(&'static str, u32, PlainSlot, u8, &'static str, u32),
-    /// The cancellation of a booking with a refund to this member.
+    /// Cancels a booking, with a refund to this member.
     Cancel(PlainBooking, &'static str, u32),
 }
 
