@@ -13,29 +13,29 @@ pub enum PlainCommand {
     AddMember(&'static str, u32),
     /// Credits this many points to a member.
     Credit(&'static str, u32),
-    /// Takes this many points off a member's credit.
+    /// Takes this many points from a member's credit.
     Debit(&'static str, u32),
-    /// Gives a member a new quota.
+    /// Replaces a member's quota.
     SetQuota(&'static str, u32),
-    /// Adds a facility with this many places, each for this many points, open from one hour to
-    /// another.
+    /// Adds a facility. The numbers are its places, the points per place, and the hours at which it
+    /// opens and shuts.
     AddFacility(&'static str, Kind, u32, u32, u32, u32),
-    /// Gives an existing facility new values of the same numbers.
+    /// Replaces the four numbers of a facility.
     SetFacility(&'static str, u32, u32, u32, u32),
-    /// Adds a key of a member with this root.
+    /// Adds a key with this name, for this member and with this root.
     AddKey(&'static str, &'static str, &'static [u8]),
     RevokeKey(&'static str),
-    /// Gives a key a new root. Passes under the older root are good until the minute, counted from
-    /// 1970-01-01T00:00.
+    /// Replaces a key's root. Passes under the older root are good until this minute, which is
+    /// counted from 1970-01-01T00:00.
     RotateKey(&'static str, &'static [u8], u32),
-    /// Cancels the booking of a key under a number.
+    /// Cancels the booking under a key and a number.
     CancelBooking(&'static str, u32),
     CloseSlot(PlainSlot),
     OpenSlot(PlainSlot),
 }
 
-/// Members `amy` and `bob`, each with quota 5, 10,000 points and a key; `court-1` with 4 places for
-/// 200 points and `room-1` with 1 place for 601, both from 8 to 22.
+/// Adds amy and bob, each with quota 5, 10,000 points and a key. Adds `court-1`, with 4 places for
+/// 200 points each, and `room-1`, with 1 place for 601. Both open at 8 and shut at 22.
 pub static FIXTURE: [PlainCommand; 8] = [
     PlainCommand::AddMember("amy", 5),
     PlainCommand::Credit("amy", 10_000),
@@ -52,7 +52,7 @@ fn named(text: &str) -> Option<Name> {
 }
 
 impl PlainCommand {
-    /// Returns the command; `None` if a name, a root, a moment or a slot is outside its limits.
+    /// Returns the command, or `None` if a name, a root, a moment or a slot is outside its limits.
     pub fn command(&self) -> Option<Command> {
         Some(match *self {
             PlainCommand::AddMember(member, quota) => Command::AddMember {

@@ -1,4 +1,4 @@
-//! Random events from a fixed seed, and the club that they happen in.
+//! Random events from a fixed seed, and the club in which they happen.
 
 ghost use Rattle.std.specs.Prelude.{◌<◌};
 
@@ -23,13 +23,13 @@ static MEMBERS: [&str; 3] = [AMY, "bob", "cy"];
 
 static KEYS: [&str; 4] = ["amy-1", "bob-1", "cy-1", SPARE];
 
-// A key name that no member has at the start.
+// The name of a key that doesn't exist at the start.
 const SPARE: &str = "spare";
 
-/// The slots on 2026-05-01.
+/// The slots of the random events, all on 2026-05-01.
 pub static SLOTS: [PlainSlot; 3] = [COURT_AT_18, COURT_AT_19, ROOM_AT_18];
 
-/// Audit keys, one for each member. No event uses them. Their accounts show the members' totals.
+/// An audit key for each member, which shows the member's account. No random event uses it.
 pub const AUDIT_AMY: &str = "audit-amy";
 
 const AUDIT_BOB: &str = "audit-bob";
@@ -38,7 +38,7 @@ const AUDIT_CY: &str = "audit-cy";
 
 pub static AUDITORS: [&str; 3] = [AUDIT_AMY, AUDIT_BOB, AUDIT_CY];
 
-/// The commands at the start of a club: three members with a key each and an audit key each,
+/// The commands that create the club: three members, each with a key and an audit key, and then
 /// `court-1` and `room-1`.
 pub static BEGINNING: [PlainCommand; 14] = [
     PlainCommand::AddMember(AMY, 2),
@@ -57,7 +57,7 @@ pub static BEGINNING: [PlainCommand; 14] = [
     PlainCommand::AddFacility("room-1", Kind::Room, 1, 601, 8, 22),
 ];
 
-// The caveats of passes.
+// The lists of caveats that a random pass may have.
 static CAVEATS: [&[&str]; 12] = [
     &[],
     &[],
@@ -73,13 +73,13 @@ static CAVEATS: [&[&str]; 12] = [
     &["days = 2026-05-01..2026-05-02", "shoe = red"],
 ];
 
-/// The roots of keys. The first one belongs to the keys at the start of a club.
+/// The roots of keys. At the start of a club, all keys have the first root.
 static ROOTS: [&[u8]; 2] = [ROOT, SECOND_ROOT];
 
 static FORMS: [Form; 3] = [Form::V1, Form::V2, Form::Json];
 
-/// A request, and its pass: the office's pass of a key under a root, with caveats that were added
-/// without the root.
+/// A request, and its pass: the office's pass of a key under a root, with caveats added without
+/// knowledge of the root.
 #[derive(Clone, Copy)]
 pub struct Asking {
     pub key: &'static str,
@@ -90,7 +90,7 @@ pub struct Asking {
     pub moment: u32,
 }
 
-/// Returns the request for a member's account under a key that no other request uses.
+/// Returns the request for a member's account under the member's audit key.
 pub fn audit(key: &'static str) -> Asking {
     Asking {
         key,
@@ -102,7 +102,7 @@ pub fn audit(key: &'static str) -> Asking {
     }
 }
 
-/// A random event.
+/// A random event: a request or a command.
 #[derive(Clone, Copy)]
 pub enum Event {
     Asked(Asking),
@@ -116,12 +116,12 @@ pub struct Numbers {
 }
 
 impl Numbers {
-    /// Returns the generator with this seed.
+    /// Returns the generator with the seed `first`.
     pub fn new(first: u64) -> Numbers {
         Numbers { state: first }
     }
 
-    /// Returns the next number, reduced below a bound.
+    /// Returns the next random number, which is less than `bound`.
     fn below(&mut self, bound: u32) -> u32
         requires { 0 < bound }
         ensures { result < bound }
@@ -134,7 +134,7 @@ impl Numbers {
         SLOTS[self.below(3) as usize]
     }
 
-    // In three of four cases, a number comes with the same slot.
+    // In three of four cases, the slot depends only on the booking's number.
     fn slot_of(&mut self, booking: u32) -> PlainSlot {
         if self.below(4) == 0 {
             return self.slot();
@@ -153,7 +153,7 @@ impl Numbers {
         }
     }
 
-    // Around the start of the slots at 18, or around the first minute at which they can be booked.
+    // Near the start of the slots at 18, or near the first minute at which they can be booked.
     fn moment(&mut self) -> u32 {
         match self.below(8) {
             0 => START - 86_500 + self.below(200),
@@ -161,7 +161,7 @@ impl Numbers {
         }
     }
 
-    // One pass in four is signed under another root than the first.
+    // One pass in four is signed under the second root.
     fn draw_asking(&mut self) -> Asking {
         let is_other = self.below(4) == 0;
         Asking {
@@ -205,7 +205,7 @@ impl Numbers {
         }
     }
 
-    /// Returns the next event, which is a request or, in one of six cases, a command.
+    /// Returns the next event. One event in six is a command, on average.
     pub fn event(&mut self) -> Event {
         match self.below(6) {
             0 => Event::Commanded(self.command()),

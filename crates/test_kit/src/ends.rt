@@ -1,19 +1,19 @@
-//! The expected end of a command's run.
+//! The expected end of a run of a command.
 
 use std::alloc::{AllocError, Global};
 
-/// The expected end of a run.
+/// The expected status and text of a run.
 #[derive(Clone, Copy, Debug)]
 pub enum End {
-    /// It ends with status 0, and outputs this text and a line feed.
+    /// The run ends with status 0, and prints this text and a line feed.
     Writes(&'static str),
-    /// It ends with this status and this text, which is its output or its line on standard error.
+    /// The run ends with this status, and prints exactly this text.
     Prints(u8, &'static str),
-    /// It ends with this status and a text with this prefix.
+    /// The run ends with this status, and its text starts with this prefix.
     Begins(u8, &'static str),
 }
 
-/// The status of a run, and what it wrote or its line on standard error, if any.
+/// The status of a run, and the text on its standard output or its standard error.
 #[derive(Debug, Drop)]
 pub struct Output {
     pub status: u8,
@@ -21,13 +21,13 @@ pub struct Output {
 }
 
 impl Output {
-    /// Returns whether a run ended with this status and a text with this prefix.
+    /// Returns whether the status is `status` and the text starts with `front`.
     pub fn begins(&self, status: u8, front: &str) -> bool {
         self.status == status && self.text.as_str().starts_with(front)
     }
 }
 
-/// Returns whether a text is this line.
+/// Returns whether `text` is `line` and a line feed.
 fn is_line(text: &str, line: &str) -> bool {
     match text.strip_suffix('\n') {
         Some(text) => text == line,
@@ -47,7 +47,7 @@ impl End {
     }
 }
 
-/// Returns the start of the line about an unknown form.
+/// Returns the start of the message about an unknown form of passes.
 pub fn form_line(alloc: Global, form: &str) -> Result<String, AllocError> {
     format!(in alloc;
         "error: invalid value '{form}' for '--form <FORM>'\n  [possible values: v1, v2, json]\n"

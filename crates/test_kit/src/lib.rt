@@ -1,6 +1,6 @@
 //! Values that the test crates share: commands of the office, requests, replies and rows as plain
-//! values, the club that most tests begin with, and known passes. It also has the bytes of known
-//! exchanges, and tables of version 1. It asserts nothing: a value outside its limits is `None`.
+//! values. Also the club of most tests, known passes, bytes of known exchanges, and tables of
+//! version 1. This crate has no assertions, and returns `None` for a value outside its limits.
 #![tactic(auto)]
 
 mod commands;

@@ -1,13 +1,13 @@
-//! Moments, each as the number of its minute, counted from 1970-01-01T00:00.
+//! Moments as numbers of minutes since 1970-01-01T00:00.
 
-/// 2026-04-20T12:00, when most requests are made.
+/// 2026-04-20T12:00, the moment of most requests.
 pub const NOON: u32 = 29_611_440;
 
-/// 2026-04-25T00:00, till when an older root is good.
+/// 2026-04-25T00:00. Until then, an older root is good.
 pub const UNTIL: u32 = 29_617_920;
 
-/// 2026-05-01T18:00, when the slots of that hour begin.
+/// 2026-05-01T18:00, the moment at which the slots at 18 start.
 pub const START: u32 = 29_627_640;
 
-/// 2000-01-01T00:00, the first moment.
+/// 2000-01-01T00:00, the first moment that the club accepts.
 pub const FIRST: u32 = 15_778_080;

@@ -1,7 +1,7 @@
-//! The texts of the pass that the office makes for `amy-1`, and signatures, by an independent
-//! program.
+//! The texts of the office's pass for the key `amy-1`, and signatures. An independent program
+//! computed both.
 
-/// The pass of `amy-1` under `ROOT` in each form. In V2 it has 79 characters.
+/// The pass of `amy-1` under `ROOT` in each form. The text in V2 has 79 characters.
 pub const AMY_V1: &str =
     "MDAxN2xvY2F0aW9uIGNsdWItZGVzawowMDE5aWRlbnRpZmllciBrZXk6YW15LTEKMDAyZnNpZ25hdHVyZSAOxT68xWmrcT\
     Hn8FCToPlVfpOKYLQh8KTsOfqe_tMgmQo";
@@ -13,7 +13,7 @@ pub const AMY_JSON: &str =
     "{\"c\":[],\"i\":\"key:amy-1\",\"l\":\"club-desk\",\"s64\":\"DsU-vMVpq3Ex5_BQk6D5VX6Tim\
     C0IfCk7Dn6nv7TIJk\",\"v\":2}";
 
-/// The signature of this pass, and of the pass of `amy-1` under `SECOND_ROOT`.
+/// The signatures of the pass of `amy-1` under `ROOT` and under `SECOND_ROOT`.
 pub const AMY_1_SIGNATURE: [u8; 32] = *b"\
     \x0e\xc5\x3e\xbc\xc5\x69\xab\x71\x31\xe7\xf0\x50\x93\xa0\xf9\x55\
     \x7e\x93\x8a\x60\xb4\x21\xf0\xa4\xec\x39\xfa\x9e\xfe\xd3\x20\x99";

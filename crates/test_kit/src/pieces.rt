@@ -1,8 +1,8 @@
-//! Long texts made of pieces.
+//! Long texts that consist of repeated pieces.
 
 use std::alloc::{AllocError, Global};
 
-/// A text, and how many times it is repeated.
+/// How many times a text is repeated, and the text.
 pub type Piece = (usize, &'static str);
 
 fn append(text: &mut String, piece: &Piece) -> Result<(), AllocError> {
@@ -12,7 +12,7 @@ fn append(text: &mut String, piece: &Piece) -> Result<(), AllocError> {
     Ok(())
 }
 
-/// Returns the pieces joined together.
+/// Returns the pieces as one text.
 pub fn join(alloc: Global, pieces: &[Piece]) -> Result<String, AllocError> {
     let mut text = String::new(alloc);
     for piece in pieces {

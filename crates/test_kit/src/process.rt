@@ -1,4 +1,4 @@
-//! A process with given arguments, which keeps the text printed on its standard error.
+//! A test double of a process. It has given arguments, and keeps what is printed on standard error.
 
 use std::alloc::Global;
 use std::cell::RefCell;
@@ -6,7 +6,7 @@ use std::env::{Env, FillError};
 use std::fmt::Display;
 use std::io::{self, ErrorKind};
 
-/// A process with these arguments and no environment variables.
+/// A process with these arguments and without environment variables.
 #[derive(Drop)]
 pub struct Process<'a> {
     alloc: Global,
@@ -15,7 +15,7 @@ pub struct Process<'a> {
 }
 
 impl<'a> Process<'a> {
-    /// Returns a process that has printed nothing.
+    /// Returns a process with these arguments that hasn't printed anything.
     pub fn new(alloc: Global, arguments: &'a [&'a [u8]]) -> Process<'a> {
         Process {
             alloc,
@@ -24,7 +24,7 @@ impl<'a> Process<'a> {
         }
     }
 
-    /// Returns the text printed on standard error.
+    /// Returns what the process printed on its standard error.
     pub fn into_printed(self) -> String {
         let Process { printed, .. } = self;
         printed.into_inner()

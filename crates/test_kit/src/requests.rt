@@ -8,33 +8,33 @@ use club_rows::{BookingNumber, Guests};
 #[derive(Clone, Copy)]
 pub enum PlainRequest {
     View(PlainSlot),
-    /// A booking of a slot under a number, with this many guests.
+    /// A booking of a slot under a number, for the member and this many guests.
     Book(PlainSlot, u32, u8),
-    /// The cancellation of a slot's booking under a number.
+    /// The cancellation of the booking of a slot under a number.
     Cancel(PlainSlot, u32),
     Account,
 }
 
 pub const ACCOUNT: PlainRequest = PlainRequest::Account;
 
-/// A view of `court-1` at 18 hours.
+/// A request to view `court-1` at 18.
 pub const VIEW: PlainRequest = PlainRequest::View(COURT_AT_18);
 
-/// Amy's booking of that slot under number 7 for three persons, and its cancellation.
+/// Amy's booking of `court-1` at 18 under number 7 for three persons, and the cancellation.
 pub const BOOK_7: PlainRequest = PlainRequest::Book(COURT_AT_18, 7, 2);
 
 pub const CANCEL_7: PlainRequest = PlainRequest::Cancel(COURT_AT_18, 7);
 
-/// A booking under the same number without guests.
+/// A booking of the same slot under number 7, but without guests.
 pub const BOOK_7_ALONE: PlainRequest = PlainRequest::Book(COURT_AT_18, 7, 0);
 
-/// Bookings of `court-1` under other numbers.
+/// Bookings of the same slot under other numbers, without guests.
 pub const BOOK_2: PlainRequest = PlainRequest::Book(COURT_AT_18, 2, 0);
 
 pub const BOOK_8: PlainRequest = PlainRequest::Book(COURT_AT_18, 8, 0);
 
 impl PlainRequest {
-    /// Returns the request; `None` if a part is outside its limits.
+    /// Returns the request, or `None` if a part is outside its limits.
     pub fn request(&self) -> Option<Request> {
         Some(match self {
             PlainRequest::View(slot) => Request::View { slot: slot.slot()? },

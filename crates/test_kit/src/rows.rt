@@ -4,7 +4,7 @@ use crate::slots::{COURT_AT_18, PlainSlot, ROOM_AT_18};
 use club_rows::{Booking, BookingNumber, Facility, Guests, Member};
 use club_values::{Kind, Name};
 
-/// A facility, open from 8 to 22 hours.
+/// A facility that opens at 8 and shuts at 22.
 #[derive(Clone, Copy)]
 pub struct PlainFacility {
     pub name: &'static str,
@@ -13,7 +13,7 @@ pub struct PlainFacility {
     pub price: u16,
 }
 
-/// `court-1`, and `room-1`.
+/// The facilities `court-1` and `room-1`.
 pub const COURT: PlainFacility = PlainFacility {
     name: "court-1",
     kind: Kind::Court,
@@ -28,7 +28,7 @@ pub const ROOM: PlainFacility = PlainFacility {
     price: 601,
 };
 
-/// A booking, with its refund if it is cancelled.
+/// A booking, and its refund if it was cancelled.
 #[derive(Clone, Copy)]
 pub struct PlainBooking {
     pub key: &'static str,
@@ -40,7 +40,7 @@ pub struct PlainBooking {
     pub refund: Option<u32>,
 }
 
-/// Amy's booking of `court-1` under number 7 for three persons, and of `room-1` under number 8.
+/// Amy's bookings of `court-1` under number 7, for three persons, and of `room-1` under number 8.
 pub const BOOKING_7: PlainBooking = PlainBooking {
     key: "amy-1",
     number: 7,
@@ -71,7 +71,7 @@ pub fn amy(credited: u32, quota: u8) -> Option<Member> {
 }
 
 impl PlainFacility {
-    /// Returns the row; `None` if its name isn't valid.
+    /// Returns the row, or `None` if its name isn't valid.
     pub fn facility(&self) -> Option<Facility> {
         Some(Facility {
             name: Name::read(self.name.as_bytes())?,
@@ -85,7 +85,7 @@ impl PlainFacility {
 }
 
 impl PlainBooking {
-    /// Returns the row; `None` if a part is outside its limits.
+    /// Returns the row, or `None` if a part is outside its limits.
     pub fn booking(&self) -> Option<Booking> {
         Some(Booking {
             key: Name::read(self.key.as_bytes())?,

@@ -1,7 +1,7 @@
-//! Statements that create tables of version 1 with a club, and change them to version 2 without the
-//! index of the bookings.
+//! SQL statements that create a club with tables of version 1, and that change those tables to
+//! version 2 without the index of the bookings.
 
-/// The table of the version, which every version has.
+/// Creates the table `desk`, which has the version. All versions have this table.
 pub const DESK: &str = "CREATE TABLE desk (version INTEGER NOT NULL) STRICT";
 
 const FACILITIES: &str =
@@ -27,8 +27,8 @@ const BOOKINGS: &str =
 
 const FIRST: &str = "INSERT INTO desk (version) VALUES (1)";
 
-/// Creates the tables and the rows of the fixture. Amy has booked the court under number 7. Her
-/// booking of the room under number 8 is cancelled with a refund of 300.
+/// Creates the tables, and inserts the rows of the fixture. Amy has booked the court under number
+/// 7. The booking of the room under number 8 is cancelled with a refund of 300.
 pub static STATEMENTS: [&str; 18] = [
     DESK,
     "CREATE TABLE members (name TEXT NOT NULL PRIMARY KEY, credited INTEGER NOT NULL CHECK \
@@ -55,8 +55,7 @@ pub static STATEMENTS: [&str; 18] = [
     "INSERT INTO bookings VALUES ('amy-1', 8, 'room-1', 20574, 18, 0, 601, 0, 1, 300)",
 ];
 
-/// Creates the tables as they were before they had the totals of members and slots, and adds a
-/// member.
+/// Creates the earlier tables, without the totals of members and slots, and inserts a member.
 pub static WITHOUT_TOTALS: [&str; 8] = [
     DESK,
     "CREATE TABLE members (name TEXT NOT NULL PRIMARY KEY, credited INTEGER NOT NULL CHECK \
@@ -73,7 +72,7 @@ pub static WITHOUT_TOTALS: [&str; 8] = [
     "INSERT INTO members VALUES ('amy', 10000, 5)",
 ];
 
-/// Changes tables of version 1 to version 2 without the index of the bookings.
+/// Changes tables of version 1 to version 2, but doesn't create the index of the bookings.
 pub static OLDER_ROOTS: [&str; 2] = [
     "CREATE TABLE old_roots (pass_key TEXT NOT NULL PRIMARY KEY REFERENCES keys (name), root BLOB \
         NOT NULL, until INTEGER NOT NULL CHECK (until BETWEEN 15778080 AND 68374079)) STRICT",

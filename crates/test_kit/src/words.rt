@@ -1,4 +1,4 @@
-//! Passes as the reference machine takes them, with the roots under which they are signed.
+//! Passes in the form that the reference machine reads, with the roots that signed them.
 
 use club_reference::Pass;
 use club_rows::Root;
@@ -13,8 +13,8 @@ fn texts(alloc: Global, caveats: &[&str]) -> Result<Vec<Vec<u8>>, AllocError> {
     Ok(texts)
 }
 
-/// Returns a pass with these caveats that is signed under one root. Returns `None` if the root
-/// isn't valid, or memory is refused.
+/// Returns a pass with these caveats, signed under this root. Returns `None` if the root isn't
+/// valid or memory is refused.
 pub fn signed_pass(
     alloc: Global,
     key: Option<Name>,
