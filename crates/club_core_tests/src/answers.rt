@@ -1,5 +1,5 @@
-//! Answers to commands of the office that are carried out, what a refusal and a root print, and the
-//! roots of a key that are good at a moment.
+//! Tests of the answers to successful commands, of the texts of a refusal and a root, and of how
+//! long an older root is good.
 
 use crate::expect::{Host, expect_eq};
 use crate::values::{key, moment, name, root};
@@ -12,7 +12,7 @@ use test_kit::moments::{BEFORE_UNTIL, UNTIL};
 use test_kit::roots::{ROOT, SECOND_ROOT};
 use test_kit::{COURT_AT_18, minutes};
 
-/// A command, and the root in its answer, if it has a new key or a new root.
+/// A command, and the root in its answer if the command adds a key or replaces a root.
 static DONE: [(PlainCommand, Option<&[u8]>); 8] = [
     (RevokeKey("amy-1"), None),
     (OpenSlot(COURT_AT_18), None),
@@ -55,7 +55,7 @@ fn displays_a_refusal(rt: HostRuntime) {
 
 static ROOTS: [&[u8]; 2] = [&[7; 16], &[8; 64]];
 
-/// A root is a secret: its debug output shows none of its bytes.
+/// A root is a secret, so its debug output must show none of its bytes.
 #[test]
 fn prints_no_root(rt: HostRuntime) {
     for (row, bytes) in ROOTS.iter().enumerate() {
@@ -65,7 +65,7 @@ fn prints_no_root(rt: HostRuntime) {
     }
 }
 
-/// Whether a key was rotated, a moment, and whether its older root is good then.
+/// Whether the key was rotated, a moment, and whether the older root is good at that moment.
 static OLDER: [(bool, &str, bool); 3] = [
     (true, BEFORE_UNTIL, true),
     (true, UNTIL, false),

@@ -1,5 +1,5 @@
-//! Requests as caveats see them, and a decision that no scenario leads to. The views are those of
-//! the key `amy-1` of amy, who has quota 5 and 10,000 points, and of `court-1`.
+//! Tests of how caveats see requests, and of a decision in a state that no club reaches. The key
+//! `amy-1` belongs to amy, who has quota 5 and 10,000 points. The facility is `court-1`.
 
 use crate::expect::{Host, expect_eq};
 use crate::values::{booking, facility, key, moment, slot};
@@ -38,7 +38,7 @@ fn recorded(rt: &impl Host) -> View {
     }
 }
 
-/// The view with the key alone; the member's name comes from the key's row.
+/// Returns a view that has only the key. The member's name is in the key's row.
 fn bare(rt: &impl Host) -> View {
     View {
         member: amy(0, 0).expect(rt, "a member"),
@@ -47,10 +47,10 @@ fn bare(rt: &impl Host) -> View {
     }
 }
 
-/// The moment, and the first refusal that applies.
+/// The moment, and the first of the reasons to refuse the booking.
 static ORDER: [(&str, Refusal); 2] = [(NOON, Refusal::SlotClosed), (START, Refusal::NotBookable)];
 
-/// A slot that is closed and full. No club comes to it.
+/// The slot is closed and full at once. No club reaches this state.
 #[test]
 fn order_of_refusals(rt: HostRuntime) {
     let view = View {
@@ -79,7 +79,7 @@ fn account(rt: &impl Host) -> Ask {
     }
 }
 
-/// A booking of number 7 that costs so much.
+/// Returns a booking under number 7 that costs `owed` points.
 fn booking_for(rt: &impl Host, owed: u64) -> Ask {
     Ask {
         action: Action::Book,
@@ -112,7 +112,7 @@ fn a_bare_view(rt: HostRuntime) {
     expect_eq(&rt, &of_key, &bare(&rt), &"bare");
 }
 
-/// Only a booking that isn't on record, at a known facility, is a new one.
+/// A booking is new only if it isn't on record and its facility is known.
 #[test]
 fn new_bookings(rt: HostRuntime) {
     expect_eq(&rt, &fresh(&rt).books_anew(), &true, &"fresh");

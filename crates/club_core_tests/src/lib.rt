@@ -1,5 +1,5 @@
-//! Tests of the caveat language's values, of a club's rows, of what requests are to caveats, and of
-//! the reference machine. The rows of answers are scenarios.
+//! Tests of caveats, of a club's rows, of how caveats see requests, and of the reference machine.
+//! Scenarios have the replies to single requests and commands.
 #![tactic(auto)]
 
 #[cfg(test)]

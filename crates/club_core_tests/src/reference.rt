@@ -1,5 +1,5 @@
-//! Tests of the reference machine: a member's part of a club, copies of one, and a list of many
-//! requests. Its replies in other states are scenarios.
+//! Tests of the reference machine: a member's part of a club, copies of a club, and many requests.
+//! Scenarios have its other replies.
 
 use crate::expect::{Host, expect_eq};
 use crate::values::{moment, name, slot};
@@ -15,7 +15,7 @@ use test_kit::{
     COURT_AT_18, FIXTURE, FRIDAY, PlainCommand, PlainReply, PlainRequest, PlainSlot, signed_pass,
 };
 
-/// A request at noon under a pass of this key, and its reply.
+/// The key of a pass, a request at noon under this pass, and the expected reply.
 type Step = (&'static str, PlainRequest, PlainReply);
 
 fn words(rt: &impl Host, key: &str, asked: &PlainRequest) -> Words {
@@ -26,8 +26,8 @@ fn words(rt: &impl Host, key: &str, asked: &PlainRequest) -> Words {
     }
 }
 
-/// Ends the test unless the club gives the replies of these steps, in their order; if others than
-/// its member hold something of each slot, as a member's part.
+/// Ends the test unless the club gives these replies in this order. If `others` is `Some`, the club
+/// is a member's part, and other members have this use of each slot.
 fn plays(rt: &impl Host, club: &mut Club, others: Option<SlotUse>, steps: &[Step]) {
     for (row, (key, asked, want)) in steps.iter().enumerate() {
         let (words, at) = (words(rt, key, asked), moment(rt, NOON));
@@ -54,13 +54,13 @@ fn fixture_club(rt: &impl Host) -> Club {
     club
 }
 
-/// Ends the test unless this many persons have booked a slot, and it is closed or open.
+/// Ends the test unless `held` has the slot's number of persons, and whether it is closed.
 fn expect_use(rt: &impl Host, slot: &SlotUse, held: (u32, bool)) {
     expect_eq(rt, &(slot.taken, slot.closed), &held, &"a slot");
 }
 
-/// Ends the test unless amy's part gives the replies of these steps, and others than amy hold this
-/// of the court at 18. They hold nothing where no slot is asked for.
+/// Ends the test unless amy's part gives these replies, and `held` is the use of the court at 18 by
+/// others than amy. Without a slot, others must have no use.
 fn part_plays(rt: &impl Host, club: &Club, held: (u32, bool), steps: &[Step]) {
     let amy = name(rt, "amy");
     let nothing = club.outside(&amy, None);
@@ -69,7 +69,7 @@ fn part_plays(rt: &impl Host, club: &Club, held: (u32, bool), steps: &[Step]) {
     expect_use(rt, &others, held);
     let mut part = club.part(&amy).expect(rt, "memory");
     plays(rt, &mut part, Some(others), steps);
-    // There are no rows of others.
+    // A part doesn't have the keys of other members.
     plays(rt, &mut part, None, &[("bob-1", ACCOUNT, NOT_VERIFIED)]);
 }
 
@@ -83,7 +83,7 @@ const AFTER: Step = ("amy-1", ACCOUNT, ACCOUNT_AFTER);
 
 const AMY_CANCELS: Step = ("amy-1", CANCEL_7, CANCELLED_7);
 
-/// If bob holds a place of the slot.
+/// The reply if bob has already booked one place of the slot.
 const AMY_FILLS: Step = ("amy-1", BOOK_7, FILLED_BY_7);
 
 #[test]
@@ -96,7 +96,7 @@ fn a_part_sees_what_others_hold(rt: HostRuntime) {
 
 const IT_IS_CLOSED: Step = ("amy-1", BOOK_7, PlainReply::Refused(Refusal::SlotClosed));
 
-/// A part sees a closed slot, and one that is opened again, by what is held of it.
+/// The part learns from the use by others whether the slot is closed or open again.
 #[test]
 fn opens_a_slot_for_all(rt: HostRuntime) {
     let mut club = fixture_club(&rt);
@@ -115,7 +115,7 @@ fn a_duplicate_is_independent(rt: HostRuntime) {
     plays(&rt, &mut club, None, &[AFTER]);
 }
 
-/// A booking of a place of `court-1`, the account, and the cancellation.
+/// Returns a booking of one place of `court-1`, a request for the account, and the cancellation.
 fn booked_and_cancelled(day: u16, hour: u8, booking: u32) -> [Step; 3] {
     let place = PlainSlot {
         day,
@@ -132,7 +132,7 @@ fn booked_and_cancelled(day: u16, hour: u8, booking: u32) -> [Step; 3] {
     ]
 }
 
-/// Amy books `court-1` alone in each hour of fifteen days, sees the account, and cancels.
+/// Amy books one place of `court-1` in each open hour of fifteen days, and cancels each booking.
 #[test]
 fn answers_a_long_list(rt: HostRuntime) {
     let mut club = fixture_club(&rt);

@@ -1,4 +1,4 @@
-//! Which bookings a limit of points allows after more than requests can spend, and faults.
+//! Tests of spend limits with more points than requests can spend, and of faults of caveats.
 
 use super::calls::{answer, fault_at};
 use crate::expect::{Host, expect_eq};
@@ -8,8 +8,8 @@ use pass_caveats::{Ask, CaveatFault};
 use test_kit::COURT_AT_18;
 use test_kit::moments::NOON;
 
-/// A request to book `court-1` on 2026-05-01 at 18 for two guests, made on 2026-04-20 at noon, of a
-/// key that has spent so much.
+/// Returns a request to book `court-1` on 2026-05-01 at 18 for two guests, made on 2026-04-20 at
+/// noon. Its key has already spent `spent` points.
 fn booking(rt: &impl Host, spent: u64) -> Ask {
     Ask {
         action: Action::Book,
@@ -22,7 +22,7 @@ fn booking(rt: &impl Host, spent: u64) -> Ask {
     }
 }
 
-/// The points that were spent, a caveat, and whether it allows the booking.
+/// The points that the key has spent, a caveat, and whether the caveat allows the booking.
 static SPENT: [(u64, &str, bool); 4] = [
     (999_999_399, "spend <= 999999999", true),
     (999_999_399, "spend <= 999999998", false),
@@ -38,7 +38,7 @@ fn limits_of_points(rt: HostRuntime) {
     }
 }
 
-// Caveats, and the fault of each as the second.
+// Caveats, and the fault of each if it is the second caveat of a pass.
 static SECOND: [(&str, Option<CaveatFault>); 2] = [
     ("shoe = red", Some(CaveatFault::NotUnderstood(2))),
     ("weekday = fri", None),

@@ -1,5 +1,5 @@
-//! The tested calls without their contracts, which tests don't need: this makes the tests' proofs
-//! much faster.
+//! Wrappers of the tested functions, without contracts. The tests don't need the contracts, and
+//! their proofs are much faster without them.
 
 use club_values::{Action, Day, Hour, Kind, Moment, Name};
 use pass_caveats::{Ask, CaveatFault};
@@ -40,7 +40,7 @@ pub(crate) fn read_action(text: &[u8]) -> Option<Action> {
     Action::read(text)
 }
 
-// Whether the caveat of a text allows a request; `None` if it isn't understood.
+// Returns whether the caveat allows a request, or `None` if the text isn't a known caveat.
 pub(crate) fn answer(text: &str, ask: &Ask) -> Option<bool> {
     let caveat = pass_caveats::read(text.as_bytes())?;
     Some(pass_caveats::allows(&caveat, ask))
