@@ -1,5 +1,5 @@
-//! Tests of how caveats see requests, and of a decision in a state that no club reaches. The key
-//! `amy-1` belongs to amy, who has quota 5 and 10,000 points. The facility is `court-1`.
+//! Tests of the facts that caveats check, and of a decision in a state that no club reaches. The
+//! key `amy-1` belongs to amy, who has quota 5 and 10,000 points. The facility is `court-1`.
 
 use crate::expect::{Host, expect_eq};
 use crate::values::{booking, facility, key, moment, slot};

@@ -1,5 +1,5 @@
-//! Tests of caveats, of a club's rows, of how caveats see requests, and of the reference machine.
-//! Scenarios have the replies to single requests and commands.
+//! Tests of caveats, of a club's rows, of the facts that caveats check, and of the reference
+//! machine. Scenarios have the replies to single requests and commands.
 #![tactic(auto)]
 
 #[cfg(test)]

@@ -27,7 +27,7 @@ fn words(rt: &impl Host, key: &str, asked: &PlainRequest) -> Words {
 }
 
 /// Ends the test unless the club gives these replies in this order. If `others` is `Some`, the club
-/// is a member's part, and other members have this use of each slot.
+/// is a member's part, and `others` states how other members use each slot.
 fn plays(rt: &impl Host, club: &mut Club, others: Option<SlotUse>, steps: &[Step]) {
     for (row, (key, asked, want)) in steps.iter().enumerate() {
         let (words, at) = (words(rt, key, asked), moment(rt, NOON));
@@ -59,8 +59,8 @@ fn expect_use(rt: &impl Host, slot: &SlotUse, held: (u32, bool)) {
     expect_eq(rt, &(slot.taken, slot.closed), &held, &"a slot");
 }
 
-/// Ends the test unless amy's part gives these replies, and `held` is the use of the court at 18 by
-/// others than amy. Without a slot, others must have no use.
+/// Ends the test unless amy's part gives these replies, and `held` states how others use the court
+/// at 18. Without a slot, that use must be empty.
 fn part_plays(rt: &impl Host, club: &Club, held: (u32, bool), steps: &[Step]) {
     let amy = name(rt, "amy");
     let nothing = club.outside(&amy, None);
@@ -96,7 +96,7 @@ fn a_part_sees_what_others_hold(rt: HostRuntime) {
 
 const IT_IS_CLOSED: Step = ("amy-1", BOOK_7, PlainReply::Refused(Refusal::SlotClosed));
 
-/// The part learns from the use by others whether the slot is closed or open again.
+/// The value `others` tells a part whether the slot is closed, or open again.
 #[test]
 fn opens_a_slot_for_all(rt: HostRuntime) {
     let mut club = fixture_club(&rt);

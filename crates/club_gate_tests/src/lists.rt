@@ -88,8 +88,8 @@ fn answers_more_lists_as_the_reference(rt: HostRuntime) {
     play_lists(&rt, 2_029, PAIRS, false);
 }
 
-// The reference machine never replies `Unavailable`. So the desk doesn't either, in this test and
-// in each other test of lists.
+// The reference machine never replies `Unavailable`. So no test of lists accepts `Unavailable` from
+// the desk.
 #[test]
 fn no_unavailable_with_ample_memory(rt: HostRuntime) {
     play_lists(&rt, 2_030, PAIRS, false);

@@ -124,7 +124,7 @@ static MEMBERS: [PlainCommand; 5] = [
 
 const BOOKINGS: u8 = 60;
 
-/// Returns the booking under a number. The bookings go round the 24 hours of one day.
+/// Returns the booking under a number. Its hour is the number modulo 24.
 fn booking(number: u8) -> PlainRequest {
     let slot = PlainSlot {
         facility: FACILITY,

@@ -1,4 +1,4 @@
-//! The office's commands and the known booking, while memory is refused.
+//! The office's commands and booking 7, while memory is refused.
 //! `tests/desk/refused_memory_tests.py` refuses one allocation per run, each in turn. A call that
 //! is out of memory changes nothing, and a second call succeeds.
 

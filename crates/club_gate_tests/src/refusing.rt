@@ -24,8 +24,8 @@ pub(crate) enum Call {
 /// The number of calls that are recorded. No answer needs as many.
 const MOST: usize = 16;
 
-/// A store, its first calls in their order, and their number. From call number `first` on, each
-/// call fails with `fault`. The first call has number 1.
+/// A store, its first calls in their order, and the number of all calls. From call number `first`
+/// on, each call fails with `fault`. The first call has number 1.
 #[derive(Drop)]
 pub(crate) struct Refusing<S: ClubStore> {
     pub store: S,

@@ -128,7 +128,7 @@ impl<S: ClubStore> Trial<S> {
         }
     }
 
-    /// Sends a command to the desk and the reference machine, and amy's own to her part too.
+    /// Sends a command to the desk and the reference machine. Amy's commands go to her part too.
     fn give(&mut self, rt: &impl Host, plain: &PlainCommand) {
         let answer = office_answer(rt, &mut self.reference, plain);
         let returned = self.desk.office(&command(rt, plain));

@@ -1,4 +1,4 @@
-//! Tests of spend limits with more points than requests can spend, and of faults of caveats.
+//! Tests of spend limits above what requests can spend, and of the faults of caveats.
 
 use super::calls::{answer, fault_at};
 use crate::expect::{Host, expect_eq};

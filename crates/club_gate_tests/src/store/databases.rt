@@ -8,7 +8,7 @@ use test_kit::version_1::{OLDER_ROOTS, STATEMENTS};
 #[derive(Clone, Copy)]
 pub(crate) enum Contents {
     Nothing,
-    /// The tables of version 1 with the rows of its tests.
+    /// Version 1 with the rows of `STATEMENTS`.
     First,
     /// Version 2 with the same rows, but without the index of the bookings.
     Unindexed,

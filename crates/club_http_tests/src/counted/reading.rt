@@ -134,7 +134,7 @@ fn begins_the_end_of_a_head_again(rt: HostRuntime) {
     }
 }
 
-/// Checks that cut bytes are a bad request, and that a failed read writes no reply.
+/// Checks that incomplete bytes are a bad request, and that no reply follows a failed read.
 fn is_cut(rt: &impl Runtime, bytes: &[u8]) {
     returns(rt, &mut Pieces::new(bytes, 7, false), &IS_BAD);
     let mut reader = Pieces::new(bytes, 7, true);

@@ -1,6 +1,6 @@
 //! Exchanges over a connection that a listener accepted, with each kind of request and reply, and
 //! with time limits. A test sets the clock. Only these tests refuse an exchange with other limits,
-//! or one that skips bytes of its socket.
+//! or one that reads or writes fewer bytes.
 
 use super::{Journal, client_at, exchange, new_face, patience, slot_shown};
 use crate::desk::Desk;

@@ -140,7 +140,7 @@ impl Clock for Sending<'_> {
 }
 
 // The client has sent one letter. Then the door is shut down, and each later accept at it fails.
-// The server sleeps ten milliseconds, and then serves the client.
+// The server sleeps ten milliseconds, and then serves the client first.
 #[test]
 fn a_door_that_fails_beside_a_client(rt: HostRuntime) -> Result<(), Fail> {
     let path = new_path(&rt, "fails-beside-a-client")?;

@@ -86,7 +86,7 @@ fn a_client_that_dawdles_is_cut_off(rt: HostRuntime) {
 }
 
 /// The number of signals that interrupt waits for a client. Each signal comes halfway through a
-/// pause of one second. The patience is a minute: 53 pauses and 14 interrupted halves.
+/// pause of one second. The patience is a minute, as long as 53 pauses and 14 halves.
 static INTERRUPTED: [(u32, Outcome); 4] = [
     (1, (None, 54, 140, 53_500)),
     (10, (None, 63, 140, 58_000)),
