@@ -17,7 +17,7 @@ pub(crate) trait Fixture {
 /// # Errors
 ///
 /// Returns the fault if the tables can't be created. Then the scene isn't played.
-pub(crate) fn try_to_play(rt: &impl Host, scene: &impl Scene) -> Result<(), StoreFault> {
+pub(crate) fn try_to_play(rt: &impl Host, scene: &impl Fixture) -> Result<(), StoreFault> {
     let store = Store::open_in_memory(rt.alloc())?;
     scene.play(rt, Desk::new(rt.alloc(), store));
     Ok(())

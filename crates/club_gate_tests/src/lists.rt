@@ -63,7 +63,7 @@ fn draw(rt: &impl Host, numbers: &mut Numbers) -> Vec<Event> {
     events
 }
 
-/// Draws pairs of lists from the seed `first`, and plays them event by event or in one run.
+/// Draws pairs of lists from the seed `first`, and plays_rows them event by event or in one run.
 fn play_lists(rt: &impl Host, first: u64, pairs: u32, are_run: bool) {
     let mut numbers = Numbers::new(first);
     for _ in 0..pairs {

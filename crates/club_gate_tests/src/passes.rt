@@ -10,7 +10,7 @@ pub(crate) static FORMS: [Form; 3] = [Form::V1, Form::V2, Form::Json];
 
 /// The pass of a request.
 #[derive(Clone, Copy)]
-pub(crate) enum Shown {
+pub(crate) enum PresentedPass {
     /// The office's pass of a key under this root, with caveats added without knowledge of it.
     Of(&'static str, &'static [u8], &'static [&'static str]),
     /// Amy's pass with a changed last byte of the signature.

@@ -69,7 +69,7 @@ const UNDER_THIRD: PresentedPass = PresentedPass::Of("amy-1", THIRD_ROOT, &[]);
 const AT_18: PresentedPass = PresentedPass::Of("amy-1", ROOT, &["hours = 18-19"]);
 
 /// A pass that allows no booking, however little its key has spent.
-const VIEWS: Shown = Shown::Of("amy-1", ROOT, &["actions = view"]);
+const VIEWS: PresentedPass = PresentedPass::Of("amy-1", ROOT, &["actions = view"]);
 
 const VIEWS_THEN_SPENDS: PresentedPass = PresentedPass::Of(
     "amy-1",
@@ -95,7 +95,7 @@ const BOOK_NOWHERE: PlainRequest = PlainRequest::Book(NOWHERE, 7, 2);
 
 static REFUSED: [Row; 5] = [
     // The identifier of this pass isn't that of a key.
-    (Shown::Unnamed, BOOK_7, NOT_VERIFIED, &[]),
+    (PresentedPass::Unnamed, BOOK_7, NOT_VERIFIED, &[]),
     (NOBODY, BOOK_7, NOT_VERIFIED, &[Key]),
     (PresentedPass::Changed, BOOK_7, NOT_VERIFIED, BOTH_ROOTS),
     (UNDER_SECOND_NARROWED, BOOK_7, NOT_VERIFIED, BOTH_ROOTS),
@@ -271,7 +271,7 @@ impl Before {
 #[derive(Clone, Copy)]
 enum Asked {
     /// A request under a pass in this form, and the expected reply.
-    Request(Form, Shown, PlainRequest, PlainReply),
+    Request(Form, PresentedPass, PlainRequest, PlainReply),
     Command(PlainCommand, Option<OfficeFault>),
 }
 

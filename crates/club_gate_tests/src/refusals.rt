@@ -46,7 +46,7 @@ fn expect_untouched<S: ClubStore>(rt: &impl Host, store: &mut S) {
 }
 
 // Each request and each command fails, and changes nothing.
-impl Scene for Failure {
+impl Fixture for Failure {
     fn play<S: ClubStore + Drop>(&self, rt: &impl Host, desk: Desk<S>) {
         let mut desk = failing_desk(rt, desk, self);
         expect_failures(rt, &mut desk, self.fault);
