@@ -89,8 +89,8 @@ fn alike(replies: &[String], wanted: &[String]) -> usize {
 }
 
 impl Trial {
-    /// The expected lines of files with a club, of which the tables have this version: its rows,
-    /// the replies to the task again and to the events after it, and the rows after these.
+    /// Returns the expected lines of files with a club, whose tables have this version. The lines
+    /// are its rows, the replies to the repeated task and to later events, and the rows then.
     fn lines(&self, rt: &impl Host, club: &Club, version: Version) -> Vec<String> {
         let Trial(_, task, then, _) = self;
         let mut lines = lines_of(rt, club, version);

@@ -82,7 +82,7 @@ impl Taker {
         Taker::new(MAX_REPLY_LEN, MAX_REPLY_LEN, false)
     }
 
-    /// Takes the first of these bytes for which there is room. Returns their number.
+    /// Takes the first bytes, as many as there is room for. Returns their number.
     pub fn take(&mut self, bytes: &[u8]) -> usize
         ensures { result ≤ length bytes.now }
     {

@@ -1,4 +1,5 @@
-//! What a crash may leave of two files: each change since the last sync is kept, lost or torn.
+//! The contents that a crash may leave in two files: each change since the last sync is kept, lost
+//! or torn.
 
 use crate::disk::{Bytes, Stops};
 use crate::expect::{Host, push};

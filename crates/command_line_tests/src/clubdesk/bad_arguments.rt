@@ -38,7 +38,7 @@ fn expect_refused(rt: &impl Host, line: &str, end: &End) {
 
 const BAD_VALUE: End = Begins(3, "bad value");
 
-// The first arguments of a command, and after a colon their ends, each of which has a bad value.
+// The first arguments of a command. After a colon come the rests, each with one bad value.
 static BAD_VALUES: [&str; 18] = [
     "add-member|F|: Amy|5 |5 amybobcydideeveflogushalfi|5 amy| amy|+5 amy|5x amy|1000000000 \
     amy|0000000005",
