@@ -1,6 +1,6 @@
 //! Tests of requests for a booking: complete, cut short, in two pieces, and with bytes after them.
 
-ghost use Rattle.http_request.specs.Front.{Covers};
+ghost use Rattle.http_request.specs.HeadResult.{Covers};
 
 use crate::expect::{Runtime, expect_row, join};
 use club_core::{Refusal, Request};
