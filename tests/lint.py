@@ -47,6 +47,7 @@ TWINS = {
     "header_at caveat_at optional_at wide_at": "the readings of V1 and V2 say the same of two layouts",
     "Answers": "what rows of tables answer, and what a call returns for what arguments ask",
     "ReadsArguments of_arguments": "what both programs make of their arguments",
+    "is_key_of": "whether a name is that of a member's key, by a club and by the reference's lists",
     "EndsWith exit_status fault_line fault_output fault_status": "the faults of both programs, their lines and statuses",
 }
 UNITS = re.compile("byte|bit|character|letter|digit|column|line|caveat|pass|place|person|guest|booking|point|day|hour|minute|second|moment|year|name|fault"

@@ -4,7 +4,7 @@ use crate::slots::{COURT_AT_18, PlainSlot, ROOM_AT_18};
 use club_rows::{Booking, BookingNumber, Facility, Guests, Member};
 use club_values::{Kind, Name};
 
-/// A facility that opens at 8 and shuts at 22.
+/// A facility that is open from hour 8 to hour 22.
 #[derive(Clone, Copy)]
 pub struct PlainFacility {
     pub name: &'static str,

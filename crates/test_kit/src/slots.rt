@@ -13,7 +13,7 @@ pub struct PlainSlot {
     pub hour: u8,
 }
 
-/// The slots of `court-1` and of `room-1` on `FRIDAY` at 18.
+/// The slots of `court-1` and of `room-1` on `FRIDAY` at hour 18.
 pub const COURT_AT_18: PlainSlot = PlainSlot {
     facility: "court-1",
     day: FRIDAY,
@@ -26,7 +26,7 @@ pub const ROOM_AT_18: PlainSlot = PlainSlot {
     hour: 18,
 };
 
-/// The slot of `court-1` on `FRIDAY` at 19.
+/// The slot of `court-1` on `FRIDAY` at hour 19.
 pub const COURT_AT_19: PlainSlot = PlainSlot {
     hour: 19,
     ..COURT_AT_18
