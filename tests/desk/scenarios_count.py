@@ -31,7 +31,9 @@ TESTS = ("club_core_tests", "club_gate_tests", "club_http_tests", "end_to_end_te
 READERS = {
     "club_gate_tests/long": {"TEXTS": lambda value: [rows.of_spaced(rows.join(it).decode()) for it in value]},
     "club_http_tests/bodies": {"LONGEST": lambda value: [rows.decodes(rows.join(value), ("book", ("court-1", 20574, 18), 7, 2))]},
-    "end_to_end_tests/tasks": dict.fromkeys(("REQUESTS", "COMMANDS", "COMMANDS_OF_SLOTS", "OPENINGS"), rows.of_crashes),
+    "end_to_end_tests/tasks": dict.fromkeys(("BOOKS", "EXCHANGES", "CANCELS", "BOOKS_AND_CANCELS", "ADDS_A_KEY", "CLOSES", "OPENS",
+                                             "SETS_A_QUOTA", "DEBITS", "SETS_A_FACILITY", "CANCELS_FOR_A_MEMBER", "ROTATES", "MAKES_TABLES", "MIGRATES",
+                                             "ADDS_THE_INDEX"), rows.of_crash),
     "clubdesk_tests/commands": {"PASSES_OF_KEYS": rows.of_runs},
 }
 

@@ -146,13 +146,9 @@ def of_spaced(text):
 # ---- crashes
 
 
-def of_crashes(value):
-    return [row for trial in value for row in of_crash(trial.values[1])]
-
-
-def of_crash(task):
+def of_crash(value):
     found = []
-    for event in task:
+    for event in value.values[1]:
         name, values = last(event.name), event.values
         asked = facts.plain_bytes(values[1].encode()) if name != "Gives" else tuple(spelled_words(command_of(values[0])))
         found.append([Fact("crash", (asked,), "whole or not at all")])

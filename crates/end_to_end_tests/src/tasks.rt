@@ -3,7 +3,6 @@
 use crate::crash::Beginning::{self, First, Made, Nothing, Unindexed};
 use crate::crash::Trial;
 use crate::desk::Event::{self, Asks, Exchanges, Gives};
-use crate::expect::Host;
 use test_kit::PlainCommand::{
     AddKey, CancelBooking, CloseSlot, Debit, OpenSlot, RotateKey, SetFacility, SetQuota,
 };
@@ -20,109 +19,152 @@ const BOOK_ROOM: Event = Asks(NOON, BOOK_8);
 
 const SHOW: Event = Asks(NOON, ACCOUNT);
 
-/// The booking by `answer`; other requests are by `Desk::ask`.
-const EXCHANGE: Event = Exchanges(NOON, BOOK_7);
-
 /// The club of the fixture, and the same after the booking.
 const FRESH: Beginning = Made(&[]);
 
 const BOOKED: Beginning = Made(&[BOOK]);
 
-static REQUESTS: [Trial; 4] = [
-    Trial(FRESH, &[BOOK], &[SHOW], [54, 66]),
-    Trial(FRESH, &[EXCHANGE], &[Exchanges(NOON, ACCOUNT)], [54, 66]),
-    Trial(BOOKED, &[CANCEL], &[BOOK, SHOW], [50, 64]),
-    // The second commit writes where the first one made room, so one sync must do.
-    Trial(FRESH, &[BOOK, CANCEL], &[SHOW], [58, 66]),
-];
+/// By `Desk::ask`.
+static BOOKS: Trial = Trial(FRESH, &[BOOK], &[SHOW], [54, 66]);
+
+#[test]
+fn books_whole_or_not_at_all(rt: HostRuntime) {
+    BOOKS.holds(&rt);
+}
+
+const EXCHANGE: Event = Exchanges(NOON, BOOK_7);
+
+/// By `answer`.
+static EXCHANGES: Trial = Trial(FRESH, &[EXCHANGE], &[Exchanges(NOON, ACCOUNT)], [54, 66]);
+
+#[test]
+fn exchanges_a_booking_whole_or_not_at_all(rt: HostRuntime) {
+    EXCHANGES.holds(&rt);
+}
+
+static CANCELS: Trial = Trial(BOOKED, &[CANCEL], &[BOOK, SHOW], [50, 64]);
+
+#[test]
+fn cancels_whole_or_not_at_all(rt: HostRuntime) {
+    CANCELS.holds(&rt);
+}
+
+/// The second commit writes where the first one made room, so one sync must do.
+static BOOKS_AND_CANCELS: Trial = Trial(FRESH, &[BOOK, CANCEL], &[SHOW], [58, 66]);
+
+#[test]
+fn books_and_cancels_whole_or_not_at_all(rt: HostRuntime) {
+    BOOKS_AND_CANCELS.holds(&rt);
+}
 
 const ADD_KEY: Event = Gives(AddKey("amy-2", "amy", ROOT));
 
-const ROTATE: Event = Gives(RotateKey("amy-1", SECOND_ROOT, minutes::UNTIL));
+static ADDS_A_KEY: Trial = Trial(FRESH, &[ADD_KEY], &[], [48, 63]);
 
-/// It takes all that the booking leaves, so that a second debit is refused.
-const DEBIT: Event = Gives(Debit("amy", 9_400));
-
-/// Below the number of open bookings, which stay.
-const SET_QUOTA: Event = Gives(SetQuota("amy", 1));
-
-static COMMANDS: [Trial; 4] = [
-    Trial(FRESH, &[ADD_KEY], &[], [48, 63]),
-    Trial(FRESH, &[ROTATE], &[SHOW], [48, 63]),
-    Trial(BOOKED, &[DEBIT], &[BOOK], [44, 61]),
-    Trial(Made(&[BOOK, BOOK_ROOM]), &[SET_QUOTA], &[BOOK], [44, 61]),
-];
-
-const CLOSE_AT_18: Event = Gives(CloseSlot(COURT_AT_18));
+#[test]
+fn adds_a_key_whole_or_not_at_all(rt: HostRuntime) {
+    ADDS_A_KEY.holds(&rt);
+}
 
 const CLOSE_AT_19: Event = Gives(CloseSlot(COURT_AT_19));
+
+/// While the slot before it is booked.
+static CLOSES: Trial = Trial(BOOKED, &[CLOSE_AT_19], &[], [46, 62]);
+
+#[test]
+fn closes_a_slot_or_not(rt: HostRuntime) {
+    CLOSES.holds(&rt);
+}
+
+const CLOSE_AT_18: Event = Gives(CloseSlot(COURT_AT_18));
 
 const CLOSED: Beginning = Made(&[CLOSE_AT_18, CLOSE_AT_19]);
 
 const OPEN_AT_19: Event = Gives(OpenSlot(COURT_AT_19));
 
-/// It leaves as many places as the slot has persons.
+/// While the slot before it stays closed.
+static OPENS: Trial = Trial(CLOSED, &[OPEN_AT_19], &[CLOSE_AT_18], [44, 61]);
+
+#[test]
+fn opens_a_slot_or_not(rt: HostRuntime) {
+    OPENS.holds(&rt);
+}
+
+const DEBIT: Event = Gives(Debit("amy", 9_400));
+
+/// It takes all that the booking leaves, so that a second debit is refused.
+static DEBITS: Trial = Trial(BOOKED, &[DEBIT], &[BOOK], [44, 61]);
+
+#[test]
+fn debits_a_member_or_not(rt: HostRuntime) {
+    DEBITS.holds(&rt);
+}
+
 const SET_FACILITY: Event = Gives(SetFacility("court-1", 3, 100, 9, 20));
 
-/// A second one changes nothing, and the member's own cancellation gets the whole charge.
+/// It leaves as many places as the slot has persons.
+static SETS_A_FACILITY: Trial = Trial(BOOKED, &[SET_FACILITY], &[BOOK], [44, 61]);
+
+#[test]
+fn sets_a_facility_whole_or_not_at_all(rt: HostRuntime) {
+    SETS_A_FACILITY.holds(&rt);
+}
+
 const CANCEL_BOOKING: Event = Gives(CancelBooking("amy-1", 7));
 
-static COMMANDS_OF_SLOTS: [Trial; 4] = [
-    // While the slot before it is booked, and while it stays closed.
-    Trial(BOOKED, &[CLOSE_AT_19], &[], [46, 62]),
-    Trial(CLOSED, &[OPEN_AT_19], &[CLOSE_AT_18], [44, 61]),
-    Trial(BOOKED, &[SET_FACILITY], &[BOOK], [44, 61]),
-    Trial(BOOKED, &[CANCEL_BOOKING], &[CANCEL, BOOK, SHOW], [50, 64]),
-];
+/// A second one changes nothing, and the member's own cancellation gets the whole charge.
+static CANCELS_FOR_A_MEMBER: Trial = Trial(
+    BOOKED,
+    &[CANCEL_BOOKING],
+    &[CANCEL, BOOK, SHOW],
+    [50, 64],
+);
+
+#[test]
+fn cancels_for_a_member_whole_or_not_at_all(rt: HostRuntime) {
+    CANCELS_FOR_A_MEMBER.holds(&rt);
+}
+
+const SET_QUOTA: Event = Gives(SetQuota("amy", 1));
+
+/// Below the number of open bookings, which stay.
+static SETS_A_QUOTA: Trial = Trial(Made(&[BOOK, BOOK_ROOM]), &[SET_QUOTA], &[BOOK], [44, 61]);
+
+#[test]
+fn sets_a_quota_or_not(rt: HostRuntime) {
+    SETS_A_QUOTA.holds(&rt);
+}
+
+const ROTATE: Event = Gives(RotateKey("amy-1", SECOND_ROOT, minutes::UNTIL));
+
+static ROTATES: Trial = Trial(FRESH, &[ROTATE], &[SHOW], [48, 63]);
+
+#[test]
+fn rotates_a_key_whole_or_not_at_all(rt: HostRuntime) {
+    ROTATES.holds(&rt);
+}
+
+static MAKES_TABLES: Trial = Trial(Nothing, &[], &[], [61, 32]);
+
+#[test]
+fn makes_all_tables_or_none(rt: HostRuntime) {
+    MAKES_TABLES.holds(&rt);
+}
 
 /// Two bookings. The second is cancelled.
 const TWICE: &[Event] = &[BOOK, BOOK_ROOM, Asks(LATER, CANCEL_8)];
 
-/// The tables are made or changed when they are opened.
-static OPENINGS: [Trial; 3] = [
-    Trial(Nothing, &[], &[], [61, 32]),
-    Trial(First(TWICE), &[], &[BOOK, BOOK_ROOM, SHOW], [52, 56]),
-    Trial(Unindexed(TWICE), &[], &[BOOK, BOOK_ROOM, SHOW], [46, 59]),
-];
-
-/// Fails the test unless each task is done whole or not at all.
-fn hold(rt: &impl Host, trials: &[Trial]) {
-    for trial in trials {
-        trial.holds(rt);
-    }
-}
+/// The tables are changed when they are opened.
+static MIGRATES: Trial = Trial(First(TWICE), &[], &[BOOK, BOOK_ROOM, SHOW], [52, 56]);
 
 #[test]
-fn bookings_are_done_whole_or_not_at_all(rt: HostRuntime) {
-    hold(&rt, &REQUESTS[..2]);
+fn migrates_whole_or_not_at_all(rt: HostRuntime) {
+    MIGRATES.holds(&rt);
 }
 
-#[test]
-fn cancellations_are_done_whole_or_not_at_all(rt: HostRuntime) {
-    hold(&rt, &REQUESTS[2..]);
-}
+static ADDS_THE_INDEX: Trial = Trial(Unindexed(TWICE), &[], &[BOOK, BOOK_ROOM, SHOW], [46, 59]);
 
 #[test]
-fn keys_are_changed_whole_or_not_at_all(rt: HostRuntime) {
-    hold(&rt, &COMMANDS[..2]);
-}
-
-#[test]
-fn members_are_changed_whole_or_not_at_all(rt: HostRuntime) {
-    hold(&rt, &COMMANDS[2..]);
-}
-
-#[test]
-fn slots_are_changed_whole_or_not_at_all(rt: HostRuntime) {
-    hold(&rt, &COMMANDS_OF_SLOTS[..2]);
-}
-
-#[test]
-fn facilities_and_bookings_are_changed_whole_or_not_at_all(rt: HostRuntime) {
-    hold(&rt, &COMMANDS_OF_SLOTS[2..]);
-}
-
-#[test]
-fn tables_are_made_and_changed_whole_or_not_at_all(rt: HostRuntime) {
-    hold(&rt, &OPENINGS);
+fn adds_the_index_or_not(rt: HostRuntime) {
+    ADDS_THE_INDEX.holds(&rt);
 }
