@@ -226,11 +226,7 @@ impl Crashes<'_> {
         self.expect_left(rt, done, files, &LOST);
         for number in 0..changes_in(files) {
             for survivals in tried_of(files, number, turn) {
-                let case = Case {
-                    number,
-                    survivals: *survivals,
-                };
-                self.expect_left(rt, done, files, &case);
+                self.expect_left(rt, done, files, &Case(number, *survivals));
             }
         }
     }

@@ -43,8 +43,8 @@ impl Bytes {
     /// All that is in the files, synced or not.
     pub fn of_files(rt: &impl Host, files: &Files<Stops>) -> Bytes {
         Bytes {
-            log: Vec::from_slice(rt.alloc(), files.log.inner().bytes()).expect(rt, "memory"),
-            db: Vec::from_slice(rt.alloc(), files.db.inner().bytes()).expect(rt, "memory"),
+            log: Vec::from_slice(rt.alloc(), &files.log.inner().bytes).expect(rt, "memory"),
+            db: Vec::from_slice(rt.alloc(), &files.db.inner().bytes).expect(rt, "memory"),
         }
     }
 

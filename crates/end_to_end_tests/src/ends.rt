@@ -18,22 +18,11 @@ pub(crate) struct Giver<'a> {
 }
 
 impl<'a> Giver<'a> {
-    /// These bytes, and then the input ends.
-    pub fn ending(bytes: &'a [u8]) -> Giver<'a> {
-        Giver {
-            left: bytes,
-            step: WHOLE,
-            fails: false,
-            calls: 0,
-        }
-    }
-
-    /// These bytes, at most `step` a call, and then each read fails.
-    pub fn failing(bytes: &'a [u8], step: usize) -> Giver<'a> {
+    pub fn new(bytes: &'a [u8], step: usize, fails: bool) -> Giver<'a> {
         Giver {
             left: bytes,
             step,
-            fails: true,
+            fails,
             calls: 0,
         }
     }

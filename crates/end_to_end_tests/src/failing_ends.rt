@@ -37,7 +37,7 @@ impl Fixture for Whole {
     fn play<S: ClubStore>(&self, rt: &impl Host, front: &mut Served<S>) {
         let Whole(behind, gives, takes, stay, reads, writes) = *self;
         let text = join(rt.alloc(), &[(1, BOOK_7), (behind, "x")]).expect(rt, "memory");
-        let mut giver = Giver::failing(text.as_bytes(), gives);
+        let mut giver = Giver::new(text.as_bytes(), gives, true);
         let mut taker = Taker::new(takes, MAX_REPLY_LEN, false);
         expect_eq(rt, &front.exchange(rt, &mut giver, &mut taker), &None);
         expect_case(rt, BOOK_7, &taker.written_bytes(), &BOOKED_7.as_bytes());
@@ -63,7 +63,7 @@ impl Fixture for CutInput {
         for len in 0..bytes.len() {
             let taker = front.written_to(rt, &bytes[..len]);
             expect_case(rt, "cut", &taker.written_bytes(), &BAD_REQUEST.as_bytes());
-            let mut giver = Giver::failing(&bytes[..len], WHOLE);
+            let mut giver = Giver::new(&bytes[..len], WHOLE, true);
             let mut taker = Taker::whole();
             let fault = front.exchange(rt, &mut giver, &mut taker);
             expect_eq(rt, &(fault, taker.calls), &(Some(AnswerFault::Read), 0));
@@ -87,7 +87,7 @@ struct ShortWriter {
 
 impl Fixture for ShortWriter {
     fn play<S: ClubStore>(&self, rt: &impl Host, front: &mut Served<S>) {
-        let mut giver = Giver::failing(BOOK_7.as_bytes(), WHOLE);
+        let mut giver = Giver::new(BOOK_7.as_bytes(), WHOLE, true);
         let mut taker = Taker::new(MAX_REPLY_LEN, self.len, self.stalls);
         let fault = front.exchange(rt, &mut giver, &mut taker);
         expect_eq(rt, &fault, &Some(AnswerFault::Write(self.len)));

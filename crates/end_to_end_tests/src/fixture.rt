@@ -1,7 +1,7 @@
 //! A desk over the tables in memory behind its face, and requests of amy's with their replies.
 
 use crate::desk::moment;
-use crate::ends::{Giver, Taker};
+use crate::ends::{Giver, Taker, WHOLE};
 use crate::expect::{Host, expect_case, expect_eq, text};
 use club_core::ClubStore;
 use club_gate::OfficeReply;
@@ -96,7 +96,7 @@ impl<S: ClubStore> Served<S> {
     /// The output for these bytes. The input ends after them.
     pub fn written_to(&mut self, rt: &impl Host, bytes: &[u8]) -> Taker {
         let mut taker = Taker::whole();
-        let fault = self.exchange(rt, &mut Giver::ending(bytes), &mut taker);
+        let fault = self.exchange(rt, &mut Giver::new(bytes, WHOLE, false), &mut taker);
         expect_eq(rt, &fault, &None);
         taker
     }

@@ -23,11 +23,11 @@ pub(crate) struct Change {
 
 #[derive(Drop)]
 pub(crate) struct Recorded {
-    bytes: Vec<u8>,
+    pub bytes: Vec<u8>,
     /// The bytes at the last sync, and the changes since then, the oldest first.
-    synced: Vec<u8>,
-    synced_digest: u64,
-    changes: Vec<Change>,
+    pub synced: Vec<u8>,
+    pub synced_digest: u64,
+    pub changes: Vec<Change>,
     usable: bool,
     faults: u64,
     caught: u64,
@@ -45,23 +45,6 @@ impl Recorded {
             faults: 0,
             caught: 0,
         })
-    }
-
-    /// What a read returns.
-    pub fn bytes(&self) -> &[u8] {
-        &self.bytes
-    }
-
-    pub fn synced(&self) -> &[u8] {
-        &self.synced
-    }
-
-    pub fn synced_digest(&self) -> u64 {
-        self.synced_digest
-    }
-
-    pub fn changes(&self) -> &[Change] {
-        &self.changes
     }
 }
 

@@ -46,20 +46,15 @@ const BY_TURNS: usize = 6;
 /// Survivals of the changes of two files, around the change of this number. The log's changes come
 /// first.
 #[derive(Clone, Copy)]
-pub(crate) struct Case {
-    pub number: usize,
-    pub survivals: Survivals,
-}
+pub(crate) struct Case(pub usize, pub Survivals);
 
-pub(crate) const KEPT: Case = Case {
-    number: 0,
-    survivals: Survivals(Survival::Kept, Survival::Kept, Survival::Kept),
-};
+const ALL_KEPT: Survivals = Survivals(Survival::Kept, Survival::Kept, Survival::Kept);
 
-pub(crate) const LOST: Case = Case {
-    number: 0,
-    survivals: Survivals(Survival::Lost, Survival::Lost, Survival::Lost),
-};
+const ALL_LOST: Survivals = Survivals(Survival::Lost, Survival::Lost, Survival::Lost);
+
+pub(crate) const KEPT: Case = Case(0, ALL_KEPT);
+
+pub(crate) const LOST: Case = Case(0, ALL_LOST);
 
 /// Any byte: it fills the gap before a write past the end of a file.
 const GARBAGE: u8 = 0xA5;
@@ -79,12 +74,10 @@ impl Survival {
 
     /// The survival of a change of this length: a single byte is kept or lost, not torn.
     fn of_len(self, len: usize) -> Survival {
-        if len != 1 {
-            self
-        } else if self.keeps(0, 1) {
-            Survival::Kept
-        } else {
-            Survival::Lost
+        match len {
+            1 if self.keeps(0, 1) => Survival::Kept,
+            1 => Survival::Lost,
+            _ => self,
         }
     }
 
@@ -103,12 +96,13 @@ impl Survival {
 impl Case {
     /// The survival of the change of this number.
     fn survival(&self, number: usize, change: &Change) -> Survival {
-        let survival = if number < self.number {
-            self.survivals.0
-        } else if number == self.number {
-            self.survivals.1
+        let Case(torn, Survivals(before, own, after)) = *self;
+        let survival = if number < torn {
+            before
+        } else if number == torn {
+            own
         } else {
-            self.survivals.2
+            after
         };
         survival.of_len(change.len)
     }
@@ -157,8 +151,8 @@ fn make(rt: &impl Host, file: &mut Vec<u8>, change: &Change, survival: Survival)
 
 /// What is left of a file whose first change has this number.
 fn left_of(rt: &impl Host, file: &Recorded, first: usize, case: &Case) -> Vec<u8> {
-    let mut bytes = Vec::from_slice(rt.alloc(), file.synced()).expect(rt, "memory");
-    for (place, change) in file.changes().iter().enumerate() {
+    let mut bytes = Vec::from_slice(rt.alloc(), &file.synced).expect(rt, "memory");
+    for (place, change) in file.changes.iter().enumerate() {
         let survival = case.survival(first.saturating_add(place), change);
         make(rt, &mut bytes, change, survival);
     }
@@ -169,20 +163,20 @@ pub(crate) fn left(rt: &impl Host, files: &Files<Stops>, case: &Case) -> Bytes {
     let (log, db) = (files.log.inner(), files.db.inner());
     Bytes {
         log: left_of(rt, log, 0, case),
-        db: left_of(rt, db, log.changes().len(), case),
+        db: left_of(rt, db, log.changes.len(), case),
     }
 }
 
 /// The number of changes since the last syncs of the files.
 pub(crate) fn changes_in(files: &Files<Stops>) -> usize {
     let (log, db) = (files.log.inner(), files.db.inner());
-    log.changes().len().saturating_add(db.changes().len())
+    log.changes.len().saturating_add(db.changes.len())
 }
 
 /// The survivals that are tried for a change: all for the newest of its file, else one, by turns.
 pub(crate) fn tried_of(files: &Files<Stops>, number: usize, turn: usize) -> &'static [Survivals] {
     let next = number.saturating_add(1);
-    if next == files.log.inner().changes().len() || next == changes_in(files) {
+    if next == files.log.inner().changes.len() || next == changes_in(files) {
         return &TRIED;
     }
     let row = number.wrapping_add(turn) % BY_TURNS;
@@ -191,8 +185,8 @@ pub(crate) fn tried_of(files: &Files<Stops>, number: usize, turn: usize) -> &'st
 
 /// Extends a digest by what is left of a file whose first change has this number.
 fn digest_with(digest: u64, file: &Recorded, first: usize, case: &Case) -> u64 {
-    let mut digest = digest_of(digest ^ file.synced_digest(), &[]);
-    for (place, change) in file.changes().iter().enumerate() {
+    let mut digest = digest_of(digest ^ file.synced_digest, &[]);
+    for (place, change) in file.changes.iter().enumerate() {
         match case.survival(first.saturating_add(place), change) {
             Survival::Lost => {}
             survival => digest = digest_of(digest ^ change.digest, &[survival.number()]),
@@ -205,5 +199,5 @@ fn digest_with(digest: u64, file: &Recorded, first: usize, case: &Case) -> u64 {
 pub(crate) fn digest_of_left(key: u64, files: &Files<Stops>, case: &Case) -> u64 {
     let (log, db) = (files.log.inner(), files.db.inner());
     let digest = digest_with(key, log, 0, case);
-    digest_with(digest, db, log.changes().len(), case)
+    digest_with(digest, db, log.changes.len(), case)
 }
