@@ -1,7 +1,7 @@
 //! The door of a server: its file, who may make it, and files that can't have one.
 
 use crate::files::{AMY, new_club};
-use crate::runs::{ClubFile, expect_eq};
+use crate::runs::{ClubFile, expect_eq, new_path};
 use clubdesk_files::{FileDoor, connect, may_make_door};
 use desk_server::Door;
 use std::fs;
@@ -45,10 +45,12 @@ fn a_door_beside_its_file(rt: HostRuntime) -> Result<(), Fail> {
 // has more bytes than a socket's address may have.
 #[test]
 fn a_door_in_a_folder_of_a_long_name(rt: HostRuntime) -> Result<(), Fail> {
-    let beside = ClubFile::new(&rt, "deep")?;
-    let folder = format!(in rt.alloc(); "{}-{:0>120}", beside.path(), 0)?;
+    let path = new_path(&rt, "deep")?;
+    let zeros = "0".repeat(rt.alloc(), 120)?;
+    let folder = format!(in rt.alloc(); "{path}-{zeros}")?;
     fs::create_dir(&rt, folder.as_str())?;
-    let club = ClubFile::at(&rt, format!(in rt.alloc(); "{folder}/club")?);
+    let place = format!(in rt.alloc(); "{folder}/club")?;
+    let club = ClubFile::at(&rt, place);
     club.play(&AMY)?;
     expect_door(&rt, &club)?;
     drop(club);

@@ -252,13 +252,14 @@ impl<'a> Plan<'a> {
         &mut self,
         desk: &mut OfficeDesk<'_, S, C>,
     ) -> Result<(), Fail> {
+        let mut face = Face::new(self.rt.alloc())?;
         let machine = Machine::new(Some(0), 0);
         let written = Written::new(self.rt.alloc());
         let mut queue = Queue::new(self.arriving.as_slice(), &machine, &written);
         let mut moments = Given(self.moments.as_slice());
-        let mut face = Face::new(self.rt.alloc())?;
-        serve_on(&mut queue, self.clients, &mut moments, &mut face, desk)?;
+        let served = serve_on(&mut queue, self.clients, &mut moments, &mut face, desk);
         let written = written.bytes(self.rt.alloc());
+        served?;
         let want = str::from_utf8(self.want.as_slice());
         expect_eq(self.rt, &str::from_utf8(written.as_slice()), &want)?;
         self.arriving.clear();

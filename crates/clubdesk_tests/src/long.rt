@@ -2,7 +2,7 @@
 
 use crate::callers::Input;
 use crate::memory::play;
-use crate::runs::{ClubFile, Fixture, expect_end, parts_of};
+use crate::runs::{ClubFile, Fixture, expect_end, new_path, parts_of};
 use crate::servers::OFFICE;
 use std::test::Fail;
 
@@ -21,12 +21,11 @@ static EDGES: [&str; 4] = [
 // The long path leads to the file of a short path.
 #[test]
 fn at_a_path_of_4000_letters(rt: HostRuntime) -> Result<(), Fail> {
-    let short = ClubFile::new(&rt, "long")?;
-    let dots = "/.".repeat(
-        rt.alloc(),
-        4_000usize.saturating_sub(short.path().len()) / 2,
-    )?;
-    let club = ClubFile::at(&rt, format!(in rt.alloc(); "{dots}{}", short.path())?);
+    let short = new_path(&rt, "long")?;
+    let letters = 4_000usize.saturating_sub(short.len());
+    let dots = "/.".repeat(rt.alloc(), letters / 2)?;
+    let path = format!(in rt.alloc(); "{dots}{short}")?;
+    let club = ClubFile::at(&rt, path);
     club.play(&OFFICE)?;
     club.play(&EDGES)
 }

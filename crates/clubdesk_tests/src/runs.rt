@@ -274,6 +274,14 @@ pub struct ClubFile<'a> {
     path: String,
 }
 
+/// Returns a path that only this process uses, where no file exists yet.
+pub fn new_path(rt: &HostRuntime, name: &str) -> Result<String, Fail> {
+    let folder = env::temp_dir(rt)?;
+    let folder = folder.as_str();
+    let id = process::id(rt.process());
+    Ok(format!(in rt.alloc(); "{folder}/clubdesk-{name}-{id}")?)
+}
+
 impl<'a> ClubFile<'a> {
     /// Returns the file at a path.
     pub fn at(rt: &'a HostRuntime, path: String) -> ClubFile<'a> {
@@ -282,10 +290,7 @@ impl<'a> ClubFile<'a> {
 
     /// Returns a file that only this process uses, and that doesn't exist yet.
     pub fn new(rt: &'a HostRuntime, name: &str) -> Result<ClubFile<'a>, Fail> {
-        let folder = env::temp_dir(rt)?;
-        let folder = folder.as_str();
-        let id = process::id(rt.process());
-        let path = format!(in rt.alloc(); "{folder}/clubdesk-{name}-{id}")?;
+        let path = new_path(rt, name)?;
         Ok(ClubFile { rt, path })
     }
 
