@@ -12,7 +12,7 @@ export const state = {
   given: "", // the pass's text with `base`, the points that its key spent before the loan
   base: 0,
   key: null,
-  name: "", // the name by which a member chooses the pass
+  name: "", // the label of the pass, which a member chooses
   isKept: false,
   store: null, // null if the browser stores nothing
   sender: null,
