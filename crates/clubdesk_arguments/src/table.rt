@@ -36,7 +36,7 @@ const STATUSES: &str = "Exit status:
   5  storage failed
   6  serve, show-account: the clock shows no minute from 2000 to 2099
   7  input or output failed
-  8  no answer from the server: the command was done or not
+  8  no answer from the server: the command may have been done
   9  nothing was done: the server didn't get the whole command";
 
 const ADD_MEMBER_HELP: &str =
@@ -52,15 +52,15 @@ Example:
   clubdesk credit club.db amy 10000";
 
 const DEBIT_HELP: &str =
-    "Takes points back that the member was credited with. POINTS are 1 to 1000000,
-and at most the member's balance.
+    "Takes back credited points. POINTS are 1 to 1000000, but at most the member's
+balance.
 
 Example:
   clubdesk debit club.db amy 500";
 
 const SET_QUOTA_HELP: &str =
     "QUOTA is the most bookings that the member may have open at once, 0 to 99.
-Open bookings above it stay.
+Open bookings stay, even if there are more than QUOTA.
 
 Example:
   clubdesk set-quota club.db amy 8";
@@ -75,15 +75,17 @@ Example:
 
 const SET_FACILITY_HELP: &str =
     "PLACES are 1 to 50. PRICE is the points for one place and one hour, 0 to 9999.
-The facility OPENS and SHUTS at full hours, 0 to 24. No slot may have more
-persons than PLACES. The kind stays, and bookings keep their charge and hour.
+The facility OPENS and SHUTS at full hours, 0 to 24. Fails if a slot already has
+more persons than PLACES. The facility keeps its kind. Bookings keep their
+charge and their hour.
 
 Example:
   clubdesk set-facility club.db court-1 4 250 8 21";
 
-const ADD_KEY_HELP: &str = "Prints the pass of the key. ROOT is the key's secret, 16 to 64 bytes in
-hexadecimal. Other users may see an argument in the list of processes, so leave
-ROOT out and give --root-stdin, which reads it from standard input.
+const ADD_KEY_HELP: &str =
+    "Prints the key's pass. ROOT is the key's secret, 16 to 64 bytes in hexadecimal.
+Other users can see arguments in the process list. To hide ROOT, leave it out
+and use --root-stdin.
 
 Example:
   openssl rand -hex 32 | clubdesk add-key club.db amy-1 amy --root-stdin";
@@ -94,30 +96,29 @@ Example:
   clubdesk revoke-key club.db amy-1";
 
 const ROTATE_KEY_HELP: &str =
-    "Prints the new pass. ROOT is the key's new root. With --root-stdin it is read
-from standard input, and the arguments are FILE KEY MOMENT. Passes under the
-former root are served before MOMENT, then no longer.
+    "Prints the new pass. ROOT is the key's new root. With --root-stdin, ROOT is read
+from standard input, and the arguments are FILE KEY MOMENT. The old root expires
+at MOMENT: passes signed under it are served until then.
 
 Example:
   openssl rand -hex 32 | clubdesk rotate-key club.db amy-1 2026-05-01T00:00 --root-stdin";
 
 const CLOSE_SLOT_HELP: &str =
-    "The slot can't be booked any more. A slot that somebody booked isn't closed.
+    "The slot can no longer be booked. Fails if the slot already has a booking.
 HOUR has two digits, 00 to 23.
 
 Example:
   clubdesk close-slot club.db court-1 2026-05-01 18";
 
-const OPEN_SLOT_HELP: &str = "The slot can be booked again. A slot that is open stays as it is.
+const OPEN_SLOT_HELP: &str = "The slot can be booked again. An open slot stays open.
 HOUR has two digits, 00 to 23.
 
 Example:
   clubdesk open-slot club.db court-1 2026-05-01 18";
 
 const CANCEL_BOOKING_HELP: &str =
-    "NUMBER is the booking's number, 1 to 999999999. The whole charge is refunded,
-whenever the slot begins or began, also of a revoked key. A booking that is
-cancelled stays as it is.
+    "NUMBER is the booking's number, 1 to 999999999. Refunds the whole charge, even
+if the slot has begun or the key is revoked. A cancelled booking stays as it is.
 
 Example:
   clubdesk cancel-booking club.db amy-1 7";
@@ -128,24 +129,24 @@ Example:
   clubdesk sheet club.db 2026-05-01";
 
 const SERVE_HELP: &str =
-    "Serves N connections to 127.0.0.1, one after the other, then ends. A client
-may take SECONDS to send its request, and as long again to read its reply. A
-slower client is cut off.
+    "Serves N connections to 127.0.0.1, one after the other, then ends. A client has
+SECONDS to send its request, SECONDS to read the reply, and SECONDS to close the
+connection. The server cuts off a slower client.
 
 Example:
   clubdesk serve club.db --port 8080 --count 1000 --zone CET-1CEST,M3.5.0,M10.5.0/3";
 
 const SHOW_ACCOUNT_HELP: &str =
     "Prints the account that the desk shows to the key: member, balance, quota, open
-bookings and points spent. Then it says whether the key is revoked, and until
-when its older root is good. No root is printed.
+bookings and points spent. Also prints whether the key is revoked, and when its
+old root expires. Prints no root.
 
 Example:
   clubdesk show-account club.db amy-1 --zone CET-1CEST,M3.5.0,M10.5.0/3";
 
 const SHOW_SLOT_HELP: &str =
-    "Prints the slot that the desk shows to every key: kind, price, places, how many
-are taken, and whether it is closed. HOUR has two digits, 00 to 23.
+    "Prints the slot as the desk shows it to every key: kind, price, places, places
+taken, and whether it is closed. HOUR has two digits, 00 to 23.
 
 Example:
   clubdesk show-slot club.db court-1 2026-05-01 18";
@@ -164,11 +165,11 @@ const HOUR: Argument = Argument::NeededPositional("HOUR");
 
 const ROOT_BY_INPUT: Argument = Argument::Flag("root-stdin", "Reads ROOT from standard input");
 
-const FORM: Argument = Argument::Or("form", "FORM", "v1, v2 or json", "v2");
+const FORM: Argument = Argument::Or("form", "FORM", "The form of the pass: v1, v2 or json", "v2");
 
-const ZONE: Argument = Argument::Or("zone", "RULE", "The clock's zone, a POSIX rule", "UTC0");
+const ZONE: Argument = Argument::Or("zone", "RULE", "The club's time zone, a POSIX rule", "UTC0");
 
-const AT: Argument = Argument::Value("at", "MOMENT", "The moment, instead of the clock's");
+const AT: Argument = Argument::Value("at", "MOMENT", "The time to use instead of the clock's");
 
 const SLOT: &[Argument] = &[FILE, FACILITY, DAY, HOUR];
 
@@ -212,23 +213,23 @@ const ROTATE_KEY_ARGUMENTS: &[Argument] = &[
 
 const SERVE_ARGUMENTS: &[Argument] = &[
     FILE,
-    Argument::Needed("port", "P", "The port, at most 65535; 0 for any free one"),
-    Argument::Needed("count", "N", "The number of connections, 1 to 1000000"),
+    Argument::Needed("port", "P", "The port, 0 to 65535; 0 takes any free port"),
+    Argument::Needed("count", "N", "The number of connections to serve, 1 to 1000000"),
     ZONE,
     AT,
     Argument::Or(
         "patience",
         "SECONDS",
-        "For request, reply and rest, 1 to 3600 each",
+        "The time for each of request, reply and close, 1 to 3600",
         "10",
     ),
-    Argument::Flag("log", "Logs each connection in a line on standard error"),
+    Argument::Flag("log", "Writes a line for each connection to standard error"),
 ];
 
 /// The program `clubdesk` with its commands.
 static CLUBDESK: Program<CommandName> = Program {
     name: "clubdesk",
-    about: "The desk of a club: its office, its day sheet and its server",
+    about: "Runs a sports club's facilities desk: server, office commands and day sheets",
     statuses: STATUSES,
     rows: &[
         Row {
@@ -263,7 +264,7 @@ static CLUBDESK: Program<CommandName> = Program {
         Row {
             command: CommandName::SetQuota,
             name: "set-quota",
-            about: "Gives a member another quota",
+            about: "Changes a member's quota",
             help: SET_QUOTA_HELP,
             arguments: &[
                 FILE,
@@ -281,7 +282,7 @@ static CLUBDESK: Program<CommandName> = Program {
         Row {
             command: CommandName::SetFacility,
             name: "set-facility",
-            about: "Gives a facility other places, price and hours",
+            about: "Changes a facility's places, price and hours",
             help: SET_FACILITY_HELP,
             arguments: SET_FACILITY_ARGUMENTS,
         },
@@ -302,7 +303,7 @@ static CLUBDESK: Program<CommandName> = Program {
         Row {
             command: CommandName::RotateKey,
             name: "rotate-key",
-            about: "Gives a key a new root",
+            about: "Replaces the root of a key",
             help: ROTATE_KEY_HELP,
             arguments: ROTATE_KEY_ARGUMENTS,
         },
@@ -330,28 +331,28 @@ static CLUBDESK: Program<CommandName> = Program {
         Row {
             command: CommandName::Sheet,
             name: "sheet",
-            about: "Prints the sheet of a day's bookings",
+            about: "Prints the bookings of a day",
             help: SHEET_HELP,
             arguments: &[FILE, DAY],
         },
         Row {
             command: CommandName::Serve,
             name: "serve",
-            about: "Serves requests over HTTP",
+            about: "Serves HTTP requests",
             help: SERVE_HELP,
             arguments: SERVE_ARGUMENTS,
         },
         Row {
             command: CommandName::ShowAccount,
             name: "show-account",
-            about: "Shows the account of a key",
+            about: "Prints the account of a key",
             help: SHOW_ACCOUNT_HELP,
             arguments: &[FILE, KEY, ZONE, AT],
         },
         Row {
             command: CommandName::ShowSlot,
             name: "show-slot",
-            about: "Shows a slot of a facility",
+            about: "Prints a slot of a facility",
             help: SHOW_SLOT_HELP,
             arguments: SLOT,
         },

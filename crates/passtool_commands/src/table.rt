@@ -40,35 +40,35 @@ const NARROW_HELP: &str = "Caveats that the desk understands, each with an examp
 Example:
   passtool narrow \"guests <= 2\" \"until < 2026-05-01T18:00\" < pass";
 
-const VERIFY_HELP: &str = "Doesn't test caveats; the desk does that.
+const VERIFY_HELP: &str = "Checks the signature only. The desk checks the caveats.
 
 Example:
   passtool verify --root 00ff < pass";
 
-const CAVEAT_HELP: &str = "Caveats to add, in this order; after -- they may begin with a dash";
+const CAVEAT_HELP: &str = "Caveats to add, in order; put -- before one that begins with a dash";
 
 const ROOT: Argument = Argument::Needed(
     "root",
     "ROOT",
-    "1 to 64 bytes in hexadecimal; other users may see it in the list of processes",
+    "The root, 1 to 64 bytes in hexadecimal. Other users can see it in the process list",
 );
 
 const MINT_ARGUMENTS: &[Argument] = &[
     ROOT,
-    Argument::Needed("id", "ID", "The identifier"),
+    Argument::Needed("id", "ID", "The identifier of the pass"),
     Argument::Value(
         "location",
         "LOCATION",
-        "A hint at who made the pass; not signed, not checked, empty by default",
+        "A hint about who made the pass. It isn't signed or checked",
     ),
-    Argument::Or("form", "FORM", "v1, v2 or json", "v2"),
+    Argument::Or("form", "FORM", "The form of the pass: v1, v2 or json", "v2"),
     Argument::Positionals("caveat", "CAVEAT", CAVEAT_HELP),
 ];
 
 const NARROW_ARGUMENTS: &[Argument] = &[
     Argument::Flag(
         "any",
-        "Takes any caveats, not only those that the desk understands",
+        "Allows caveats that the desk doesn't understand",
     ),
     Argument::NeededPositionals("caveat", "CAVEAT", CAVEAT_HELP),
 ];
@@ -76,41 +76,41 @@ const NARROW_ARGUMENTS: &[Argument] = &[
 /// The program `passtool` with its commands.
 static PASSTOOL: Program<Name> = Program {
     name: "passtool",
-    about: "Passes on the command line",
+    about: "Makes, reads, narrows, converts and checks access passes",
     statuses: STATUSES,
     rows: &[
         Row {
             command: Name::Mint,
             name: "mint",
-            about: "Prints a new pass, signed under a root; reads no input",
+            about: "Prints a new pass, signed under a root",
             help: "Example:\n  passtool mint --root 00ff --id key:amy-1 --form v1 \"kind = court\"",
             arguments: MINT_ARGUMENTS,
         },
         Row {
             command: Name::Show,
             name: "show",
-            about: "Prints the fields of the pass on standard input, one to a line",
+            about: "Reads a pass from standard input and prints its fields, one per line",
             help: "Example:\n  passtool show < pass",
             arguments: &[],
         },
         Row {
             command: Name::Narrow,
             name: "narrow",
-            about: "Prints the pass on standard input with caveats added, in the form it came in",
+            about: "Reads a pass from standard input and prints it with caveats added",
             help: NARROW_HELP,
             arguments: NARROW_ARGUMENTS,
         },
         Row {
             command: Name::Convert,
             name: "convert",
-            about: "Prints the pass on standard input in the given form",
+            about: "Reads a pass from standard input and prints it in the given form",
             help: "Example:\n  passtool convert --form json < pass",
-            arguments: &[Argument::Needed("form", "FORM", "v1, v2 or json")],
+            arguments: &[Argument::Needed("form", "FORM", "The form of the pass: v1, v2 or json")],
         },
         Row {
             command: Name::Verify,
             name: "verify",
-            about: "Tells whether the pass on standard input is signed under a root",
+            about: "Reads a pass from standard input and checks that it is signed under a root",
             help: VERIFY_HELP,
             arguments: &[ROOT],
         },
