@@ -41,7 +41,7 @@ PAGE = ROOT / "docs" / "AUDIT.md"
 PROMISES = ROOT / "docs" / "PROMISES.md"
 TOUR = ROOT / "docs" / "TOUR.md"
 # What comments say of where definitions are from.
-SOURCES = (r"RFC \d+", r"FIPS [\d-]+", r"NDSS \d+", r"libmacaroons", r"\bours\b")
+SOURCES = (r"RFC \d+", r"FIPS [\d-]+", r"NDSS \d+", r"libmacaroons")
 # Methods that std's types have too, so that a name alone doesn't tell the type.
 OF_STD = set("len is_empty push iter next clone as_slice as_bytes as_str into_iter map unwrap unwrap_or ok_or expect write read remove".split())
 
@@ -144,9 +144,9 @@ def named_as_computing():
 
 
 def source_of(comments):
-    """Returns the sources of definitions, from their file's head and their own comments."""
+    """Returns the sources that a file's head and the comments of its definitions cite. Definitions without one are ours."""
     found = [it[0] for pattern in SOURCES for it in re.finditer(pattern, comments)]
-    return ", ".join(dict.fromkeys(found)) or "not said"
+    return ", ".join(dict.fromkeys(found))
 
 
 def in_reading_order(book, files):
@@ -268,7 +268,7 @@ class Audit:
             own = sorted((it for it in listed if it.module == file.module), key=lambda it: it.line)
             gist = re.sub(r" \([^)]*(\)|$)", "", re.match(r".*?[^A-Z0-9][.:](?= |$)|.*", file.head)[0]).rstrip(".:")
             source = source_of(" ".join([file.head, *(it.comment for it in own)]))
-            source = "" if source == "ours" else f" [{source}]"
+            source = f" [{source}]" if source else ""
             groups = [(numbers + (mark and " " + mark), ", ".join(f"`{it.name}`" for it in group))
                       for (numbers, mark), group in groupby(own, lambda it: (self.numbers(it), self.mark(it)))]
             head = f"**`{file.path.relative_to(ROOT)}`** ({sum(it.lines for it in own)}): {gist}{source}"
@@ -392,7 +392,7 @@ class Audit:
             "the page. `tests/audit.py --below NAME` prints the files and lines below one definition, or below a function such as `Desk::ask`. "
             "[TOUR](TOUR.md#when-is-a-root-good) follows twelve paths.",
             "To check a promise, read its clause, then the definitions with its number, from the top. The numbers and the [mark](#marks) come before the "
-            "names. Each file has its lines of code in brackets, and its source, a standard or libmacaroons, unless it is ours alone.",
+            "names. Each file has its lines of code in brackets, and the standards that it cites. Without one, its definitions are ours.",
             "\n".join(self.summary()),
             "These functions have further clauses, such as why a request fails: `--below` prints what is below all of them.",
             "## Computing definitions",
