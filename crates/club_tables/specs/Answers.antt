@@ -1,4 +1,4 @@
--- The values that the rows of a query decode to, whatever the tables contain, and the reasons why a read fails (ours).
+-- This file defines how the rows of each query are decoded, and why a read fails.
 use Rattle.club_tables.specs.Columns.{whole_in, whole, HasValues, IsCostRow, cost_in, key_values, older_root_values, member_values, facility_values}
 use Rattle.club_tables.specs.{Columns.{booking_values, name_values, use_values}, Fault.FailsToAsk, Sheet.AreBookings, Stored.{IsMemberRow, no_slot_use}}
 use Rattle.club_tables.specs.{Transaction.{BoundStatement, Asked, IsUntouched}, declared.row.MemberRow.MemberRow}
@@ -11,7 +11,7 @@ use Rattle.club_rows.specs.{Key.key_of_row, Limits.places_limit, Rows.{IsFacilit
 use Rattle.club_rows.specs.declared.{facility.Facility.Facility, key.{KeyRow.KeyRow, OlderRoot.OlderRoot}}
 use Rattle.club_core.specs.declared.{slot_use.SlotUse.SlotUse, store.StoreFault.{StoreFault, TheVariants.{Memory, Storage}}}
 
--- the row decodes to this value: the value is within its limits, and the row has the value's columns
+-- The row contains the columns of this value, and the value is within its limits.
 abbrev pub IsKeyIn : Row → KeyRow → Type 0
 IsKeyIn row key = IsKeyRow key × HasValues row (key_values (key_of_row key None))
 
@@ -27,63 +27,66 @@ IsFacilityIn row facility = IsFacility facility × HasValues row (facility_value
 abbrev pub IsBookingIn : Row → Booking → Type 0
 IsBookingIn row booking = IsBooking booking × HasValues row (booking_values booking)
 
--- the row decodes to a booking with this key and number
+-- The row decodes to a booking, and the booking has this key and number.
 abbrev pub IsBookingNamed : List ℕ → ℕ → Row → Booking → Type 0
 IsBookingNamed key number row booking = IsBookingIn row booking × ((booking.key ≡ key) × (booking.number ≡ number))
 
 abbrev pub IsUseIn : Row → SlotUse → Type 0
 IsUseIn row found = (found.taken ≤ places_limit) × HasValues row (use_values found)
 
--- the value of the first row; None if and only if there is no row
+-- The optional value is decoded from the first row. It is `None` if and only if there is no row.
 abbrev pub IsFirst : {A : Type 0} → (Row → A → Type 0) → List Row → Option A → Type 0
 IsFirst Yields [] found = found ≡ None
 IsFirst Yields (row ∷ rows) found = IsSomeAnd found (Yields row)
 
--- the use of a slot according to its only row; without a row, the slot is open and has no persons
+-- The rows decode to this use of a slot. Without a row, the slot is open and nobody has booked it.
+-- Two or more rows can't be decoded.
 abbrev pub IsUse : List Row → SlotUse → Type 0
 IsUse [] found = found ≡ no_slot_use
 IsUse (row ∷ []) found = IsUseIn row found
 IsUse (row ∷ other ∷ rows) found = ⊥
 
--- the total cost of rows that each consist of a charge and a refund
+-- The number is the total cost of the rows. Each row consists of a charge and a refund.
 abbrev pub AreCosts : List Row → ℕ → Type 0
 AreCosts rows cost = All IsCostRow rows × (cost ≡ sum_by cost_in rows) × (cost < 2 ^ 64)
 
--- a row with the number of persons in a slot, which is at most the highest number of places of a facility
+-- The row contains a number of persons. This number is at most the highest number of places that a
+-- facility may have.
 abbrev pub IsTakenRow : Row → Type 0
 IsTakenRow row = (taken : ℕ) × (taken ≤ places_limit) × (column row 0 ≡ whole taken)
 
--- the highest `taken` of the rows; 0 if there are no rows
+-- The highest number in the first column of the rows, or 0 if there are no rows.
 abbrev pub most_in : List Row → ℕ
 most_in rows = fold (λ most row. max most (whole_in (column row 0))) 0 rows
 
 abbrev pub IsMostIn : List Row → ℕ → Type 0
 IsMostIn rows most = All IsTakenRow rows × (most ≡ most_in rows)
 
--- the count is the number of rows
+-- The count is the number of rows.
 abbrev pub IsCount : List Row → ℕ → Type 0
 IsCount rows count = count ≡ length rows
 
--- the query returned rows that can't be decoded
+-- The query returned rows that can't be decoded. The fault is `Storage`.
 pub record IsUnread {S : Type 0} (g : Ghosts S) (statement : BoundStatement) (CanRead : List Row → Type 0) (old : Held S) (fault : StoreFault) : Type 0 where
   pub rows : List Row
   pub query : Asked g statement.0 statement.1 old rows
   pub unread : ¬ CanRead rows
   pub fault_is : fault ≡ Storage
 
--- the database refused the query, or the query returned rows that can't be decoded
+-- The read fails because the database refused the query, or because the rows can't be decoded.
 abbrev pub FailsToRead : {S : Type 0} → Ghosts S → BoundStatement → (List Row → Type 0) → Held S → Held S → StoreFault → Type 0
 FailsToRead g statement CanRead old new fault = FailsToAsk g statement old new fault ⊎ IsUnread g statement CanRead old fault
 
--- The result is decoded from the rows that the query returned. The call fails only in two cases: the database refused the query, which gives the error's fault,
--- or the rows can't be decoded, which gives Storage.
+-- The result is decoded from the rows that the query returned. The call fails in two cases only:
+-- - If the database refuses the query, the call returns the fault of the database's error.
+-- - If the rows can't be decoded, the call returns `Storage`.
 pub record Answers {S A : Type 0} (g : Ghosts S) (statement : BoundStatement) (IsAnswer : List Row → A
     → Type 0) (old new : Held S) (result : Result A StoreFault) : Type 0
   where
     pub success : HasCleanDisk (state g new) → IfOk result (λ answer. (rows : List Row) × Asked g statement.0 statement.1 old rows × IsAnswer rows answer)
     pub failure : HasCleanDisk (state g new) → IfErr result (FailsToRead g statement (λ rows. (answer : A) × IsAnswer rows answer) old new)
 
--- the reads, with their arguments
+-- The reads of a club's tables, with their arguments.
 pub data Reading : Type 0 where
   OfKey : (name : List ℕ) → Reading
   OfOlderRoot : (key : List ℕ) → Reading
@@ -96,7 +99,7 @@ pub data Reading : Type 0 where
   OfDay : (day : ℕ) → Reading
   OfOpen : (member : List ℕ) (moment : ℕ) → Reading
 
--- the statement of a read, with the values of its parameters
+-- The SQL statement of a read, with the values of its parameters.
 abbrev pub reading_statement : Reading → BoundStatement
 reading_statement (OfKey name) = (KEY.now, Text name ∷ [])
 reading_statement (OfOlderRoot key) = (OLDER_ROOT.now, Text key ∷ [])
@@ -109,7 +112,7 @@ reading_statement (OfTaken facility) = (TAKEN.now, Text facility ∷ [])
 reading_statement (OfDay day) = (DAY.now, whole day ∷ [])
 reading_statement (OfOpen member moment) = (OPEN.now, Text member ∷ whole moment ∷ whole (moment / minutes_a_day) ∷ [])
 
--- the rows that a read can decode
+-- The read can decode these rows.
 abbrev pub CanRead : Reading → List Row → Type 0
 CanRead (OfKey name) rows = (found : Option KeyRow) × IsFirst IsKeyIn rows found
 CanRead (OfOlderRoot key) rows = (found : Option OlderRoot) × IsFirst IsOlderRootIn rows found
@@ -122,7 +125,7 @@ CanRead (OfTaken facility) rows = (most : ℕ) × IsMostIn rows most
 CanRead (OfDay day) rows = (bookings : List Booking) × AreBookings rows bookings
 CanRead (OfOpen member moment) rows = (count : ℕ) × IsCount rows count
 
--- the query for a day returned its rows, but memory for the decoded bookings was refused
+-- The query for a day returned its rows, but there was no memory for the decoded bookings.
 abbrev pub LacksMemory : {S : Type 0} → Ghosts S → Reading → Held S → StoreFault → Type 0
 LacksMemory g (OfDay day) old fault = (fault ≡ Memory) × (rows : List Row) × Asked g DAY.now (whole day ∷ []) old rows
 LacksMemory g _ old fault = ⊥
@@ -130,13 +133,14 @@ LacksMemory g _ old fault = ⊥
 abbrev pub FailsAtReading : {S : Type 0} → Ghosts S → Reading → Held S → Held S → StoreFault → Type 0
 FailsAtReading g reading old new fault = FailsToRead g (reading_statement reading) (CanRead reading) old new fault ⊎ LacksMemory g reading old fault
 
--- a connection after reads: if it was idle, it is unchanged
+-- Between the old and the new state, the connection was only used to read. If no write was pending,
+-- the connection is unchanged.
 pub record IsAfterReadings {S : Type 0} (g : Ghosts S) (old new : Held S) : Type 0 where
   pub same : IsUntouched (state g old) (state g new)
   pub clean : HasCleanDisk (state g new)
   pub fault_count : (state g old).faults ≤ (state g new).faults
 
--- the fault of a read that failed, possibly after other reads
+-- A read failed with this fault, perhaps after other reads.
 pub record IsReadFault {S : Type 0} (g : Ghosts S) (old new : Held S) (fault : StoreFault) : Type 0 where
   pub from : Held S
   pub after : IsAfterReadings g old from

@@ -1,4 +1,4 @@
--- The statements that apply each change, with the values of their parameters (ours).
+-- This file defines the SQL statements of each change, with the values of their parameters.
 use Rattle.std.specs.Prelude.{◌≡◌, ℕ, ℤ, pos, neg_ℤ, List, [], ◌∷◌, ◌++◌}
 use Rattle.sqlite_value.specs.{Order.Row, declared.value.Value.TheVariants.{Int, Text, Blob}}
 use Rattle.club_values.specs.declared.slot.Slot.{Slot}
@@ -12,7 +12,7 @@ use Rattle.club_tables.specs.{Transaction.BoundStatement, declared.texts.TheCons
 use Rattle.club_tables.specs.declared.texts.TheConstants.{REVOKE_KEY, PUT_OLDER_ROOT, SET_ROOT, CLOSE_SLOT, OPEN_SLOT, SET_QUOTA, ADD_BOOKING, CANCEL_BOOKING}
 use Rattle.club_tables.specs.declared.texts.TheConstants.{CHARGE, ADD_USED, ADD_TAKEN}
 
--- inserts a new member, who has spent no points on bookings
+-- Inserts a new member. A new member has spent no points on bookings.
 abbrev pub adding_member : Member → List BoundStatement
 adding_member member = (ADD_MEMBER.now, Text member.name ∷ whole member.credited ∷ whole member.quota ∷ []) ∷ []
 
@@ -28,7 +28,7 @@ giving_quota member quota = (SET_QUOTA.now, Text member ∷ whole quota ∷ []) 
 abbrev pub adding_facility : Facility → List BoundStatement
 adding_facility facility = (ADD_FACILITY.now, facility_values facility) ∷ []
 
--- a facility's name, and its new places, price and hours
+-- The parameters that set a facility's places, price and hours: its name, and then the new numbers.
 abbrev pub numbers_values : List ℕ → ℕ → ℕ → ℕ → ℕ → Row
 numbers_values facility places price opens shuts = Text facility ∷ whole places ∷ whole price ∷ whole opens ∷ whole shuts ∷ []
 
@@ -44,45 +44,50 @@ revoking key = (REVOKE_KEY.now, Text key ∷ []) ∷ []
 abbrev pub closing : Slot → List BoundStatement
 closing slot = (CLOSE_SLOT.now, name_values slot) ∷ []
 
--- marks a slot as open, whether or not it was closed
+-- Opens a slot, even if it is already open.
 abbrev pub reopening : Slot → List BoundStatement
 reopening slot = (OPEN_SLOT.now, name_values slot) ∷ []
 
--- stores the older root, and sets a new root for the key if its current root is this older one
+-- Stores the key's older root, and then sets the key's new root. The second statement writes a row
+-- only if the key's current root is this older root.
 abbrev pub rotating : Row → Row → List BoundStatement
 rotating put set = (PUT_OLDER_ROOT.now, put) ∷ (SET_ROOT.now, set) ∷ []
 
 abbrev pub replacing_root : List ℕ → List ℕ → OlderRoot → List BoundStatement
 replacing_root key root older = rotating (Text key ∷ older_root_values older) (Text key ∷ Blob root ∷ Blob older.root ∷ [])
 
--- the parameters for adding an amount to the points that a member with this key has spent
+-- The parameters that add an amount to the points that a member has spent. The last parameter is
+-- the key of the booking.
 abbrev pub used_values : List ℕ → ℤ → List ℕ → Row
 used_values member points key = Text member ∷ Int points ∷ Text key ∷ []
 
--- the parameters for charging a member with this key for a booking of a slot
+-- The parameters that charge a member for a booking: the member, the points, the booking's key, and
+-- its slot.
 abbrev pub charge_values : List ℕ → ℕ → List ℕ → Slot → Row
 charge_values member points key slot = Text member ∷ whole points ∷ Text key ∷ name_values slot
 
--- the three statements that insert a booking, with the values of their parameters
+-- Three statements: insert a booking, add its persons to its slot, and charge its member.
 abbrev pub booking_with : Row → Row → Row → List BoundStatement
 booking_with booking taken charge = (ADD_BOOKING.now, booking) ∷ (ADD_TAKEN.now, taken) ∷ (CHARGE.now, charge) ∷ []
 
 abbrev pub cancelling_with : Row → Row → Row → List BoundStatement
 cancelling_with booking used taken = (CANCEL_BOOKING.now, booking) ∷ (ADD_USED.now, used) ∷ (ADD_TAKEN.now, taken) ∷ []
 
--- inserts a booking under a key of the member, adds its persons to its slot, and then charges the member if the slot has enough places
+-- Inserts a booking under a key of the member, adds its persons to its slot, and charges the
+-- member. The last statement writes a row only if the slot has enough places.
 abbrev pub adding_booking : Booking → List ℕ → List BoundStatement
 adding_booking booking member =
     booking_with (booking_values booking) (name_values booking.slot ++ Int (pos (persons_taken booking)) ∷ [])
     (charge_values member (cost_of booking) booking.key booking.slot)
 
--- marks the member's booking with these values as cancelled, and subtracts it from the totals of the member and the slot
+-- Marks the member's booking as cancelled. Subtracts the refund from the points that the member has
+-- spent, and the booking's persons from the slot's persons.
 abbrev pub cancelling : Booking → List ℕ → ℕ → List BoundStatement
 cancelling booking member refund =
     cancelling_with (booking_values booking ++ whole refund ∷ []) (used_values member (neg_ℤ (pos refund)) booking.key)
     (name_values booking.slot ++ Int (neg_ℤ (pos (persons_of booking))) ∷ [])
 
--- the statements of a change
+-- The statements of a change, with the values of their parameters.
 abbrev pub statements_of : Change → List BoundStatement
 statements_of (InsertMember member) = adding_member member
 statements_of (AddCredit member points) = adding_credit member points

@@ -1,4 +1,5 @@
--- The values of a row's columns (ours). Whole numbers and truth values are integers, names and kinds are texts, and roots are bytes.
+-- This file defines the values of a row's columns. Numbers and truth values are stored as integers,
+-- names and kinds as texts, and roots as bytes.
 use Rattle.std.specs.Prelude.{◌≡◌, ℕ, ◌+◌, ◌-◌, ◌≤◌, ℤ, pos, Bool, List, [], ◌∷◌, ◌++◌, Option, Some, None, ⊤}
 use Rattle.sqlite_value.specs.{Order.{Row, column}, declared.value.Value.{Value, TheVariants.{Int, Text, Blob}}}
 use Rattle.club_values.specs.{Kind.kind_text, declared.slot.Slot.Slot}
@@ -28,7 +29,7 @@ facility_values facility =
 abbrev pub key_values : Key → Row
 key_values key = Text key.name ∷ Text key.member ∷ Blob key.root ∷ flag key.revoked ∷ []
 
--- the columns that identify a slot; the next definitions have the columns of its use, and all columns
+-- The columns that identify a slot.
 abbrev pub name_values : Slot → Row
 name_values slot = Text slot.facility ∷ whole slot.day ∷ whole slot.hour ∷ []
 
@@ -38,7 +39,7 @@ use_values held = flag held.closed ∷ whole held.taken ∷ []
 abbrev pub slot_values : SlotRow → Row
 slot_values row = name_values row.slot ++ use_values row.held
 
--- the columns of an older root that a query returns; the next definition has all columns of its row
+-- The two columns of an older root that a query returns.
 abbrev pub older_root_values : OlderRoot → Row
 older_root_values older = Blob older.root ∷ whole older.until ∷ []
 
@@ -50,7 +51,7 @@ booking_values booking =
     Text booking.key ∷ whole booking.number ∷ Text booking.slot.facility ∷ whole booking.slot.day ∷ whole booking.slot.hour
     ∷ whole booking.guests ∷ whole booking.charge ∷ whole booking.left ∷ flag booking.cancelled ∷ whole booking.refund ∷ []
 
--- the row has these values, starting at this index
+-- The row contains these values in consecutive columns, starting at this index.
 abbrev pub HasFrom : ℕ → Row → Row → Type 0
 HasFrom at row [] = ⊤
 HasFrom at row (value ∷ values) = (column row at ≡ value) × HasFrom (at + 1) row values
@@ -70,20 +71,22 @@ abbrev pub integer_in : Value → Option ℤ
 integer_in (Int n) = Some n
 integer_in _ = None
 
--- the number in a value that is a whole number of at least 0; 0 for any other value
+-- The number that a value contains, if it is an integer of at least 0. For any other value, the
+-- result is 0.
 abbrev pub whole_in : Value → ℕ
 whole_in (Int (pos n)) = n
 whole_in _ = 0
 
--- the columns that a query returns for the cost of a booking
+-- The two columns that a query returns for the cost of a booking: its charge and its refund.
 abbrev pub cost_values : Booking → Row
 cost_values booking = whole booking.charge ∷ whole booking.refund ∷ []
 
--- the cost of a row that consists of a charge and a refund
+-- The cost in a row of two columns: the charge minus the refund.
 abbrev pub cost_in : Row → ℕ
 cost_in row = whole_in (column row 0) - whole_in (column row 1)
 
--- the cost of a row that consists of a charge and a refund; the charge is within its limit, and the refund is at most the charge
+-- The cost is the charge minus the refund. The charge is within its limit, and the refund is at
+-- most the charge.
 pub record IsCostIn (row : Row) (cost : ℕ) : Type 0 where
   pub charge : ℕ
   pub refund : ℕ

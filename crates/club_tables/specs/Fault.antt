@@ -1,11 +1,11 @@
--- A failed call returns the fault that the database's error maps to (ours).
+-- This file defines the faults of calls that the database refuses.
 use Rattle.std.specs.Prelude.{◌≡◌, ◌⊎◌, ℕ, ◌<◌, ◌≤◌, List, [], ◌∷◌, Result, Ok, Err, IfErr, IsTrue, OnOk, OnErr}
 use Rattle.sqlite.specs.{Effect.Database, Held.{Held, state}, State.{HasCleanDisk, Survives, FailsToQuery, IsNotRun, Executes, ExecutesInside}}
 use Rattle.sqlite.specs.{Steps.FailsToCommit, Store.Ghosts, declared.error.Error.Error}
 use Rattle.club_core.specs.declared.store.StoreFault.{StoreFault, TheVariants.Storage}
 use Rattle.club_tables.specs.Transaction.{BoundStatement, Ran, IsKept, transaction_start, fault_by}
 
--- the database refused a query with an error that maps to the fault; the disk's count of failures doesn't decrease
+-- The database refused a query, and the fault corresponds to the database's error.
 pub record FailsToAsk {S : Type 0} (g : Ghosts S) (statement : BoundStatement) (old new : Held S) (fault : StoreFault) : Type 0 where
   pub mid : Held S
   pub error : Error
@@ -13,7 +13,7 @@ pub record FailsToAsk {S : Type 0} (g : Ghosts S) (statement : BoundStatement) (
   pub fault_count : (state g mid).faults ≤ (state g new).faults
   pub fault_is : fault ≡ fault_by error
 
--- the database refused to prepare a text, with an error that maps to the fault
+-- The database refused to prepare an SQL text, and the fault corresponds to the database's error.
 pub record FailsToPrepare {S : Type 0} (g : Ghosts S) (sql : List ℕ) (old new : Held S) (fault : StoreFault) : Type 0 where
   pub mid : Held S
   pub error : Error
@@ -21,14 +21,17 @@ pub record FailsToPrepare {S : Type 0} (g : Ghosts S) (sql : List ℕ) (old new 
   pub fault_count : (state g mid).faults ≤ (state g new).faults
   pub fault_is : fault ≡ fault_by error
 
--- the database refused a statement with an error that maps to the fault; or the statement inserted or updated fewer rows than it must, and the fault is Storage
+-- A statement fails in two cases:
+-- - The database refuses the statement, and the fault corresponds to the database's error.
+-- - The statement writes fewer rows than required, and the fault is `Storage`.
 abbrev pub StopsAt : {S : Type 0} → Ghosts S → ℕ → BoundStatement → Held S → Held S → StoreFault → Type 0
 StopsAt g fewest statement old new fault =
     ((error : Error) × ExecutesInside 0 statement.0 statement.1 (state g old) (state g new) (Err error) × (fault ≡ fault_by error))
     ⊎ ((count : ℕ) × Executes statement.0 statement.1 (state g old) (state g new) (Ok count) × (count < fewest) × (fault ≡ Storage)
     × IsTrue (state g old).is_open)
 
--- the statements ran in order, within a transaction, until one of them failed; or all statements ran, but the database refused the commit
+-- The statements ran in order, in one transaction, until a statement failed. If all statements ran,
+-- the database refused the commit.
 abbrev pub FailsInTurn : {S : Type 0} → Ghosts S → ℕ → List BoundStatement → Held S → Held S → StoreFault → Type 0
 FailsInTurn g fewest [] old new fault = (error : Error) × FailsToCommit (state g old) (state g new) error × (fault ≡ fault_by error)
 FailsInTurn {S} g fewest (statement ∷ more) old new fault =
@@ -36,14 +39,16 @@ FailsInTurn {S} g fewest (statement ∷ more) old new fault =
     ⊎ ((mid : Held S) × (count : ℕ) × Executes statement.0 statement.1 (state g old) (state g mid) (Ok count) × FailsInTurn g fewest more mid new fault
     × (fewest ≤ count) × IsTrue (state g old).is_open)
 
--- statements in their own transaction ran until one of them failed, or the database refused their commit
+-- A transaction of these statements failed. Either a statement failed, or the database refused the
+-- commit.
 pub record FailsToRun {S : Type 0} (g : Ghosts S) (fewest : ℕ) (all : List BoundStatement) (old new : Held S) (fault : StoreFault) : Type 0 where
   pub mid : Held S
   pub failure : FailsInTurn g fewest all (transaction_start old) mid fault
   pub fault_count : (state g mid).faults ≤ (state g new).faults
 
--- Statements that run in their own transaction. Each must insert or update at least this many rows. Either all ran and were committed, or the committed state
--- is unchanged. In the second case, a crash may still leave the statements' effects.
+-- The statements run in a transaction of their own, and each statement must write at least `fewest`
+-- rows. If the call succeeds, all statements were committed. If the call fails, the committed state
+-- is unchanged. Even after a failed call, a crash may leave the effects of all statements.
 pub record Commits {S : Type 0} (g : Ghosts S) (fewest : ℕ) (all : List BoundStatement) (old new : Held S) (result : Result (Unit {0}) StoreFault)
     : Type 0
   where

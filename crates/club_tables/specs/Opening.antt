@@ -1,4 +1,4 @@
--- The tables that an opening finds, accepts or creates (ours).
+-- This file defines how the tables of a database are opened, migrated or created.
 use Rattle.std.specs.Prelude.{◌≡◌, ◌≢◌, ◌⊎◌, ℕ, List, [], ◌∷◌, ◌++◌, map, All, Ok, Result, OnOk, OnErr, IfErr, IsTrue, false, codes}
 use Rattle.sqlite.specs.{Change.is_used, Effect.{Database, Reads}, Held.{Held, state}, Listing.understood, Order.Row, Schema.Schema}
 use Rattle.sqlite.specs.{State.{State, HasCleanDisk, Survives}, Store.Ghosts}
@@ -14,27 +14,27 @@ use Rattle.club_core.specs.{Club.Club, Store.KeepsClub, declared.store.StoreFaul
 abbrev pub version_text : List ℕ
 version_text = VERSION.now
 
--- the statements that read a row by its key, for tables of version 1; the next definition is for version 2
+-- The statements that read a row by its key, for tables of version 1.
 abbrev pub first_texts : List (List ℕ)
 first_texts = KEY.now ∷ MEMBER.now ∷ FACILITY.now ∷ SLOT.now ∷ BOOKING.now ∷ []
 
 abbrev pub texts_by_key : List (List ℕ)
 texts_by_key = KEY.now ∷ MEMBER.now ∷ FACILITY.now ∷ SLOT.now ∷ BOOKING.now ∷ OLDER_ROOT.now ∷ []
 
--- this text is a statement only if the bookings' index exists; an opening prepares the text, and never runs the statement
+-- SQLite accepts this text only if the index of the bookings exists. The call that opens the tables
+-- prepares the text, and never runs it.
 abbrev pub index_text : List ℕ
 index_text = DROP_BOOKINGS_BY_KEY.now
 
--- the texts for version 2, and the text that is a statement only if the index exists
+-- The statements that read a row by its key, and the text that tests for the index of the bookings.
 abbrev pub indexed_texts : List (List ℕ)
 indexed_texts = texts_by_key ++ index_text ∷ []
 
--- statements with these texts and no parameters
+-- Statements with these texts and without parameters.
 abbrev pub batch : List (List ℕ) → List BoundStatement
 batch texts = map (λ (text : List ℕ). (text, [])) texts
 
--- The batch of statements that creates the tables. The next two definitions are the batch that migrates version 1 to version 2, and the batch that creates the
--- index of the bookings.
+-- The statements that create the tables of an empty club.
 abbrev pub table_batch : List BoundStatement
 table_batch =
     batch (MAKE_DESK.now ∷ MAKE_MEMBERS.now ∷ MAKE_FACILITIES.now ∷ MAKE_KEYS.now ∷ MAKE_SLOTS.now ∷ MAKE_BOOKINGS.now
@@ -46,20 +46,23 @@ migration = batch (MAKE_OLD_ROOTS.now ∷ MAKE_BOOKINGS_BY_KEY.now ∷ SET_VERSI
 abbrev pub index_batch : List BoundStatement
 index_batch = batch (MAKE_BOOKINGS_BY_KEY.now ∷ [])
 
--- a batch that an opening may run: it creates the tables, migrates tables of version 1, or creates the index
+-- The statements create the tables, migrate tables of version 1, or create the index of the
+-- bookings.
 abbrev pub IsOpeningBatch : List BoundStatement → Type 0
 IsOpeningBatch statements = (statements ≡ table_batch) ⊎ ((statements ≡ migration) ⊎ (statements ≡ index_batch))
 
--- no table is called `desk`, in upper or lower case, so no version can be read
+-- The schema has no object called `desk`, in upper or lower case. So SQLite refuses the query for
+-- the version.
 pub record HasNoDesk (schema : Schema) : Type 0 where
   pub no_desk_name : is_used schema (codes "desk") ≡ false
   pub no_version_query : ¬ IsUnderstood schema VERSION.now
 
--- the text is a query that returns these rows for this database
+-- The SQL text is a query, and the query returns these rows for this database.
 abbrev pub YieldsRows : List ℕ → Database → List Row → Type 0
 YieldsRows sql db rows = (c : Compiled) × (understood db.schema sql ≡ Ok c) × Reads c.command db [] rows
 
--- the query for the version returned these rows; if the database represents a club, they hold the version of its tables
+-- The query for the version returned these rows. If the database represents a club, the rows
+-- contain the version of its tables.
 pub record YieldsVersion {S : Type 0} (g : Ghosts S) (old new : Held S) (rows : List Row) : Type 0 where
   pub query : Asked g version_text [] old rows
   pub version_rows : YieldsRows version_text (state g old).now rows
@@ -67,82 +70,92 @@ pub record YieldsVersion {S : Type 0} (g : Ghosts S) (old new : Held S) (rows : 
       → (RepresentsVersion2 (state g new) club others × (rows ≡ version_values 2 ∷ []))
       ⊎ (RepresentsVersion1 (state g new) club others × (rows ≡ version_values 1 ∷ []))
 
--- each text is a statement over these tables
+-- SQLite accepts each text as a statement over the committed tables.
 abbrev pub Understands : {S : Type 0} → Ghosts S → List (List ℕ) → Held S → Type 0
 Understands g texts held = All (IsUnderstood (state g held).committed.schema) texts
 
--- tables of this version exist: one row holds the version, and each row can be read by its key
+-- The database has tables of this version: one row contains the version, and SQLite accepts each of
+-- these texts.
 pub record IsReady (version : ℕ) (texts : List (List ℕ)) (db : Database) : Type 0 where
   pub version_row : (row : Row) × YieldsRows VERSION.now db (row ∷ []) × HasValues row (version_values version)
   pub by_key : All (IsUnderstood db.schema) texts
 
--- tables of this version existed, and are unchanged
+-- The database had tables of this version, and is unchanged.
 pub record FoundReady (version : ℕ) (texts : List (List ℕ)) (old new : State) : Type 0 where
   pub ready : IsReady version texts new.committed
   pub same : new.committed ≡ old.committed
 
--- tables of this version existed, and all statements of this batch ran over them
+-- The database had tables of this version, and all of these statements ran.
 pub record Upgrade (version : ℕ) (texts : List (List ℕ)) (statements : List BoundStatement) {S : Type 0} (g : Ghosts S) (old new : Held S) : Type 0 where
   pub from : Held S
   pub found : FoundReady version texts (state g old) (state g from)
   pub same : (state g from).now ≡ (state g old).committed
   pub ran : Ran g 0 statements from (state g new).committed
 
--- each text was a statement over the tables, and all statements of this batch ran over them
+-- SQLite accepted each text as a statement over the tables. Then all of these statements ran.
 abbrev pub HasRunOver : List (List ℕ) → List BoundStatement → {S : Type 0} → Ghosts S → Held S → Held S → Type 0
 HasRunOver texts statements {S} g old new =
     (from : Held S) × IsTrue (state g old).is_open × Understands g texts old
     × ((state g from).committed ≡ (state g old).committed)
     × ((state g from).now ≡ (state g old).committed) × Ran g 0 statements from (state g new).committed
 
--- tables of version 1 existed, and all statements of the migration ran over them
+-- The database had tables of version 1, and all statements of the migration ran.
 abbrev pub Migrated : {S : Type 0} → Ghosts S → Held S → Held S → Type 0
 Migrated g old new = Upgrade 1 first_texts migration g old new
 
 abbrev pub HasMigrated : {S : Type 0} → Ghosts S → Held S → Held S → Type 0
 HasMigrated g old new = HasRunOver first_texts migration g old new
 
--- tables of version 2 existed, and the index of the bookings was created
+-- The database had tables of version 2, and the statement that creates the index of the bookings
+-- ran.
 abbrev pub AddsIndex : {S : Type 0} → Ghosts S → Held S → Held S → Type 0
 AddsIndex g old new = Upgrade 2 texts_by_key index_batch g old new
 
--- either the index existed and nothing was changed, or the index was created after a read
+-- Either the index of the bookings existed and nothing was changed, or the index was created after
+-- a read.
 abbrev pub HasOrGetsIndex : {S : Type 0} → Ghosts S → Held S → Held S → Type 0
 HasOrGetsIndex {S} g old new =
     (IsUnderstood (state g old).now.schema index_text × IsKept (state g old) (state g new))
     ⊎ ((from : Held S) × HasCleanDisk (state g from) × IsKept (state g old) (state g from) × Ran g 0 index_batch from (state g new).committed)
 
--- either each text, including that of the index, was a statement and nothing was changed; or the other texts were statements, and the index was created
+-- Either all texts were accepted, including the text that tests for the index, and nothing was
+-- changed. Or the other texts were accepted, and the index was created.
 abbrev pub EnsuresIndex : {S : Type 0} → Ghosts S → Held S → Held S → Type 0
 EnsuresIndex g old new =
     (IsKept (state g old) (state g new) × Understands g indexed_texts new) ⊎ HasRunOver texts_by_key index_batch g old new
 
--- no version could be read, and all statements that create the tables ran
+-- The database had no table with a version, and all statements that create the tables ran.
 pub record MadeAll {S : Type 0} (g : Ghosts S) (old new : Held S) : Type 0 where
   pub from : Held S
   pub same : (state g from).now ≡ (state g old).committed
   pub no_desk_table : HasNoDesk (state g old).committed.schema
   pub ran : Ran g 0 table_batch from (state g new).committed
 
--- An opening accepts three kinds of databases. In tables of version 2 it creates the index of the bookings if it is missing. It migrates tables of version 1.
--- In a database without a version, it creates the tables.
+-- Three kinds of databases can be opened:
+-- - Tables of version 2 get the index of the bookings, if the index is missing.
+-- - Tables of version 1 are migrated to version 2.
+-- - A database without a version gets all tables.
 abbrev pub AcceptsTables : {S : Type 0} → Ghosts S → Held S → Held S → Type 0
 AcceptsTables g old new =
     FoundReady 2 indexed_texts (state g old) (state g new) ⊎ (AddsIndex g old new ⊎ (Migrated g old new ⊎ MadeAll g old new))
 
--- the property holds for one of the texts
+-- The property is true for at least one of the texts.
 abbrev pub OneOf : (List ℕ → Type 0) → List (List ℕ) → Type 0
 OneOf P [] = ⊥
 OneOf P (text ∷ texts) = P text ⊎ OneOf P texts
 
--- one of the texts wasn't a statement over these tables, or the database failed to prepare it
+-- SQLite didn't accept one of the texts as a statement, or the database failed to prepare the text.
 pub record FailsToPrepareOne {S : Type 0} (g : Ghosts S) (texts : List (List ℕ)) (old new : Held S) (fault : StoreFault) : Type 0 where
   pub from : Held S
   pub after : IsAfterReadings g old from
   pub failure : OneOf (λ text. FailsToPrepare g text from new fault) texts
 
--- The failures of an opening. Memory runs out while the opening reads the version or looks for the index. The database refuses a batch that creates the tables,
--- migrates them, or creates the index. A row can't be read by its key, or the version is neither 1 nor 2.
+-- The tables can't be opened in these cases:
+-- - Memory runs out while the version is read, or while the text that tests for the index is
+--   prepared.
+-- - The database refuses the statements that create the tables, migrate them, or create the index.
+-- - The database refuses one of the statements that read a row by its key.
+-- - The version is neither 1 nor 2.
 abbrev pub FailsToTake : {S : Type 0} → Ghosts S → Held S → Held S → StoreFault → Type 0
 FailsToTake g old new fault =
     ((fault ≡ Memory) × (FailsToAsk g (version_text, []) old new fault ⊎ FailsToPrepare g index_text old new fault))
@@ -150,21 +163,23 @@ FailsToTake g old new fault =
     ⊎ (OneOf (λ text. FailsToPrepare g text old new fault) texts_by_key
     ⊎ ((fault ≡ Storage) × (rows : List Row) × Asked g version_text [] old rows × (rows ≢ version_values 2 ∷ []) × (rows ≢ version_values 1 ∷ []))))
 
--- a fault that an opening may return
+-- Opening the tables may fail with this fault.
 pub record IsOpeningFault {S : Type 0} (g : Ghosts S) (old new : Held S) (fault : StoreFault) : Type 0 where
   pub from : Held S
   pub after : IsAfterReadings g old from
   pub failure : FailsToTake g from new fault
 
--- ---- steps of an opening
-
--- the relation holds if the connection was idle before and is open now
+-- The relation holds if the connection had no pending write before, and is open now.
 abbrev pub WhenIdle : {S : Type 0} → Ghosts S → (Held S → Held S → Type 0) → Held S → Held S → Type 0
 WhenIdle g Done old new = IsTrue (state g new).is_open → IsIdle (state g old) → Done old new
 
--- A step of an opening, over tables that represent a club by `Before`. After success, the tables represent the same club with the index of the bookings, and
--- `Done` relates the old state to the new one. After a failure, they still represent the club by `Before`, and `Fails` holds for the fault. A crash may leave a
--- state that was possible before the step, or a state that a batch of the opening leaves.
+-- One step of opening the tables, which represent a club as `Before` describes.
+-- - After success, the tables represent the same club with the index of the bookings. `Done`
+--   relates the old state to the new state.
+-- - After a failure, the tables still represent the club as `Before` describes. `Fails` describes
+--   the fault.
+-- - After a crash, the state was possible before the step, or is the result of the statements of a
+--   step.
 pub record Opens {S : Type 0} (g : Ghosts S) (Before : Held S → Club → List Club → Type 0) (Done : Held S → Held S → Type 0)
     (Fails : Held S → Held S → StoreFault → Type 0) (old new : Held S) (result : Result (Unit {0}) StoreFault) : Type 0
   where
@@ -175,7 +190,7 @@ pub record Opens {S : Type 0} (g : Ghosts S) (Before : Held S → Club → List 
     pub fault : HasCleanDisk (state g new) → IfErr result (Fails old new)
     pub survives : Survives (state g old) (state g new) (MayCommit g 0 IsOpeningBatch old)
 
--- a step that runs all statements of a batch
+-- A step of opening the tables that runs all of these statements.
 abbrev pub RunsBatch : {S : Type 0} → Ghosts S → (Held S → Club → List Club → Type 0) → List BoundStatement → Held S → Held S
     → Result (Unit {0}) StoreFault → Type 0
 RunsBatch g Before statements =

@@ -1,4 +1,4 @@
--- The club that a connection represents, and the promises of reads and changes (ours).
+-- This file defines the club that a connection represents, and the promises of reads and changes.
 use Rattle.std.specs.Prelude.{◌≡◌, ◌⊎◌, ℕ, ◌<◌, ◌≤◌, ◌^◌, List, ◌∷◌, All, None, Result, IfErr, OnErr, true}
 use Rattle.sqlite.specs.{Held.{Held, state}, State.{HasCleanDisk, Survives}, Store.Ghosts}
 use Rattle.club_core.specs.{Club.{Club, IsSound}, Office.are_limits, Store.{Changes, FitsClub, KeepsClub, Returns}, declared.change.Change.Change}
@@ -13,7 +13,8 @@ use Rattle.club_tables.specs.{Tables.{Represents, RepresentsVersion1, Represents
 abbrev pub represents_in : {S : Type 0} → Ghosts S → Held S → Club → List Club → Type 0
 represents_in g held = Represents (state g held)
 
--- the connection represents the club; this club, and each club that a crash may leave, is sound
+-- The connection represents the club. This club is sound, and so is each club that a crash may
+-- leave.
 abbrev pub sound_in : {S : Type 0} → Ghosts S → Held S → Club → List Club → Type 0
 sound_in g held club others = All IsSound (club ∷ others) × Represents (state g held) club others
 
@@ -26,8 +27,9 @@ version_2_in g held = RepresentsVersion2 (state g held)
 abbrev pub found_in : {S : Type 0} → Ghosts S → Held S → Club → List Club → Type 0
 found_in g held = IsFound (state g held)
 
--- A read-only call. Its result is correct for the current club. The club, the possible crash states and an idle connection are unchanged. A failed call returns
--- the fault of a refused statement's error, or Storage if the rows can't be decoded.
+-- A call that only reads. Its result is correct for the current club, and the club and its possible
+-- crash states are unchanged. A failed call returns the fault of the database's error, or `Storage`
+-- if the rows can't be decoded.
 pub record ReadsClub {S A : Type 0} (g : Ghosts S) (old new : Held S) (result : Result A StoreFault) (IsReturned : Club → A → Type 0) : Type 0 where
   pub returns : HasCleanDisk (state g new) → Returns (represents_in g) old result IsReturned
   pub kept : HasCleanDisk (state g new) → KeepsClub (represents_in g) old new
@@ -35,13 +37,14 @@ pub record ReadsClub {S A : Type 0} (g : Ghosts S) (old new : Held S) (result : 
   pub survives : Survives (state g old) (state g new) (λ _. ⊥)
   pub fault : HasCleanDisk (state g new) → IfErr result (IsReadFault g old new)
 
--- the database refused the statements, or one of them inserted or updated fewer rows than it must
+-- The transaction failed with this fault, perhaps after reads.
 pub record IsRunFault {S : Type 0} (g : Ghosts S) (fewest : ℕ) (statements : List BoundStatement) (old new : Held S) (fault : StoreFault) : Type 0 where
   pub from : Held S
   pub after : IsAfterReadings g old from
   pub failure : FailsToRun g fewest statements from new fault
 
--- the values of a change are within their limits; a new key has no older root, because inserting a key writes none
+-- The values of a change are within their limits. A new key must have no older root, because the
+-- statement that inserts a key doesn't store an older root.
 abbrev pub InLimits : Change → Type 0
 InLimits (InsertMember member) = IsMember member
 InLimits (AddCredit name points) = points < 2 ^ 32
@@ -57,18 +60,21 @@ InLimits (MarkOpen slot) = IsSlot slot
 InLimits (InsertBooking booking member) = IsBooking booking
 InLimits (MarkCancelled booking member refund) = refund ≤ booking.charge
 
--- the fault of a change: the database refused a statement, a statement inserted or updated no row, or a value is outside its limits
+-- A change fails with this fault because a value is outside its limits, the database refuses a
+-- statement, or a statement writes no row.
 abbrev pub IsChangeFault : {S : Type 0} → Ghosts S → Change → Held S → Held S → StoreFault → Type 0
 IsChangeFault g change old new fault = IsRunFault g 1 (statements_of change) old new fault ⊎ ((¬ InLimits change) × (fault ≡ Storage))
 
--- Either a change fits the club and is applied, or the call fails. A failed call leaves an idle connection unchanged. A crash may still leave the effects of
--- the change's statements, if each of them inserted or updated a row.
+-- A call that applies a change. If the call succeeds, the change fits the club and is applied. A
+-- failed call leaves the committed state unchanged. A crash may still leave the effects of the
+-- change's statements, if each statement wrote a row.
 pub record ChangesClub {S : Type 0} (g : Ghosts S) (change : Change) (old new : Held S) (result : Result (Unit {0}) StoreFault) : Type 0 where
   pub was_clean : HasCleanDisk (state g new) → HasCleanDisk (state g old)
   pub effect : HasCleanDisk (state g new) → Changes (represents_in g) change old new result
   pub no_change : OnErr result (IsUntouched (state g old) (state g new))
   pub survives : Survives (state g old) (state g new) (MayCommit g 1 (AreStatementsOf change) old)
   pub fault : HasCleanDisk (state g new) → IfErr result (IsChangeFault g change old new)
-  -- if the change fits, each statement writes a row, so only an error can make the change fail
+  -- If the change fits the club, each of its statements writes a row. So the change can only fail
+  -- because the database refuses a statement.
   pub fault_if_fits : HasCleanDisk (state g new) → (club : Club) (others : List Club) → represents_in g old club others → FitsClub change club
       → IfErr result (IsRunFault g 0 (statements_of change) old new)

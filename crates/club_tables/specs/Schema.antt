@@ -1,4 +1,5 @@
--- The tables of the club as SQLite understands them (ours): seven STRICT tables, where each column is NOT NULL.
+-- This file defines the tables of a club as SQLite understands them. There are seven STRICT tables,
+-- and every column is NOT NULL.
 use Rattle.std.specs.Prelude.{ℕ, pos, true, false, codes, None, List, [], ◌∷◌, ◌++◌, map, slice_get, unwrap_or}
 use Rattle.sqlite_value.specs.{Keys.plain, declared.{keys.Collation.TheVariants.Binary, value.Value.TheVariants.{Null, Int}}}
 use Rattle.sqlite_sql.specs.{Term.{Term, lit, col, op2}, declared.ops.{BinaryOp.TheVariants.{And, Compare}, CompareOp.TheVariants.{Ge, Le}}}
@@ -17,12 +18,13 @@ text = column_of Text
 abbrev pub number : List ℕ → Column
 number = column_of Integer
 
--- CHECK (.. BETWEEN low AND high) for the column at this position; the rowid has position 0
+-- The constraint `CHECK (column BETWEEN low AND high)` for the column at this position. Position 0
+-- is the rowid.
 abbrev pub within : ℕ → ℕ → ℕ → Term
 within place low high =
     op2 And (op2 (Compare Ge Binary) (col 1 place) (lit (Int (pos low)))) (op2 (Compare Le Binary) (col 1 place) (lit (Int (pos high))))
 
--- a foreign key: the column at this position REFERENCES the column `name` of a table
+-- A foreign key: the column at this position references the column `name` of a table.
 abbrev pub refers_to : List ℕ → ℕ → Reference
 refers_to parent place = record {
   columns = place ∷ [];
@@ -33,7 +35,8 @@ refers_to parent place = record {
   is_deferred = false;
 }
 
--- a table; `keys` has the column positions of its primary key, or is empty if the table has no primary key
+-- A table of the club. `keys` contains the column positions of its primary key, and is empty if the
+-- table has no primary key.
 abbrev pub table_of : List ℕ → List Column → List (List ℕ) → List Term → List Reference → Table
 table_of name columns keys checks references = record {
   name = name;
@@ -50,7 +53,7 @@ table_of name columns keys checks references = record {
   is_counted = false;
 }
 
--- the table with the version of the tables
+-- The table that stores the version of the tables.
 abbrev pub desk_table : Table
 desk_table = table_of (codes "desk") (number (codes "version") ∷ []) [] [] []
 
@@ -73,7 +76,7 @@ keys_table =
     (text (codes "name") ∷ text (codes "member") ∷ column_of Blob (codes "root") ∷ number (codes "revoked") ∷ []) ((1 ∷ []) ∷ [])
     (within 4 0 1 ∷ []) (refers_to (codes "members") 2 ∷ [])
 
--- the columns that identify a slot
+-- The columns that identify a slot.
 abbrev pub slot_columns : List Column
 slot_columns = text (codes "facility") ∷ number (codes "day") ∷ number (codes "hour") ∷ []
 
@@ -92,7 +95,7 @@ bookings_table =
     ∷ within 9 0 1 ∷ within 10 0 499_950 ∷ [])
     (refers_to (codes "keys") 1 ∷ refers_to (codes "facilities") 3 ∷ [])
 
--- the table of the older roots of keys that were rotated
+-- The table of older roots, for keys that were rotated.
 abbrev pub old_roots_table : Table
 old_roots_table =
     table_of (codes "old_roots") (text (codes "pass_key") ∷ column_of Blob (codes "root") ∷ number (codes "until") ∷ []) ((1 ∷ []) ∷ [])
@@ -101,7 +104,7 @@ old_roots_table =
 abbrev pub no_schema : Schema
 no_schema = record { tables = []; indexes = []; views = [] }
 
--- the index that sorts keys by their members
+-- The index that sorts keys by their members.
 abbrev pub keys_by_member : Index
 keys_by_member = record {
   name = codes "keys_by_member";
@@ -112,21 +115,23 @@ keys_by_member = record {
   is_unique = false;
 }
 
--- the first six tables, in the order of their creation; each table takes the next trees, for its rows and for its key
+-- The first six tables, in the order of their creation. Each table uses the next free B-trees for
+-- its rows and for its primary key.
 abbrev pub six_tables : Schema
 six_tables =
     created (created (created (created (created (created no_schema desk_table) members_table) facilities_table) keys_table) slots_table)
     bookings_table
 
--- the tables of version 1
+-- The schema of version 1.
 abbrev pub first_schema : Schema
 first_schema = indexed six_tables (record keys_table { tree = 5 }) keys_by_member
 
--- the tables of version 2 without the index of the bookings
+-- The schema of version 2 without the index of the bookings.
 abbrev pub unindexed_schema : Schema
 unindexed_schema = created first_schema old_roots_table
 
--- the index that sorts a key's bookings by `cancelled`, `day`, `hour` and `number`, and includes `charge` and `refund`
+-- The index that sorts a key's bookings by `cancelled`, `day`, `hour` and `number`. The index also
+-- contains `charge` and `refund`.
 abbrev pub bookings_by_key : Index
 bookings_by_key = record {
   name = codes "bookings_by_key";
@@ -137,6 +142,6 @@ bookings_by_key = record {
   is_unique = false;
 }
 
--- the tables of version 2
+-- The schema of version 2, with all indexes.
 abbrev pub club_schema : Schema
 club_schema = indexed unindexed_schema (record bookings_table { tree = 9 }) bookings_by_key

@@ -1,14 +1,15 @@
--- The statements as SQLite understands them over the tables of the club (ours).
+-- This file defines the club's SQL statements as SQLite understands them.
 use Rattle.std.specs.Prelude.{ℕ, pos, negsuc, false, None, List, [], map}
 use Rattle.sqlite_value.specs.{Keys.ascending, declared.{keys.Collation.TheVariants.Binary, value.Value.TheVariants.Int}}
 use Rattle.sqlite_sql.specs.declared.ops.{BinaryOp.TheVariants.Compare, CompareOp.TheVariants.Eq}
 use Rattle.sqlite.specs.{Query.{Query, Join}, Term.{Term, lit, col, op2}}
 
--- the column at this position of the row equals a parameter; parameters are numbered from 0
+-- The condition that the column at this position equals a parameter. Parameters are numbered from
+-- 0.
 abbrev pub is_given : ℕ → ℕ → Term
 is_given place parameter = op2 (Compare Eq Binary) (col 1 place) (col 0 parameter)
 
--- SELECT .. FROM .. WHERE .., without ORDER BY
+-- A query of the form `SELECT .. FROM .. WHERE ..`, without `ORDER BY`.
 abbrev pub select : Join → List Term → List Term → Query
 select from filter project = record {
   from = from;
@@ -22,6 +23,6 @@ select from filter project = record {
   offset = lit (Int (pos 0));
 }
 
--- a query with ORDER BY: terms are in ascending order, and texts are compared by their bytes
+-- A query with `ORDER BY`. The order is ascending, and texts are compared by their bytes.
 abbrev pub in_order : List Term → Query → Query
 in_order terms query = record query { order = map (λ (term : Term). (term, ascending Binary)) terms }

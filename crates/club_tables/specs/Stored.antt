@@ -1,4 +1,4 @@
--- The stored rows with their totals, and their relation to the rows of a club (ours).
+-- This file defines the rows that the tables store for a club.
 use Rattle.std.specs.{Prelude.{◌≡◌, ◌≢◌, ◌≤◌, ℕ, false, List, map, find, sum_by, Option, option_map, if◌then◌else◌, unwrap_or, AllPairs}, Str.bytes_eq}
 use Rattle.club_values.specs.declared.slot.Slot.{Slot}
 use Rattle.club_rows.specs.{Booking.{same_slot, persons_of}, Limits.credited_limit, Rows.IsMember, declared.booking.Booking.Booking}
@@ -6,17 +6,17 @@ use Rattle.club_rows.specs.declared.{facility.Facility.Facility, key.{Key.Key, O
 use Rattle.club_core.specs.{Basis.slot_use, Club.{Club, bookings_of}, KeyParts.older_root_of, Sums.cost_of, declared.slot_use.SlotUse.SlotUse}
 use Rattle.club_tables.specs.declared.row.MemberRow.{MemberRow}
 
--- a row of `slots`: a slot that was closed or booked, and its use
+-- A row of the table `slots`: a slot that was closed or booked, and its use.
 pub record SlotRow : Type 0 where
   pub slot : Slot
   pub held : SlotUse
 
--- a row of `old_roots`: the older root of the key with this name
+-- A row of the table `old_roots`: the name of a key, and its older root.
 pub record OlderRow : Type 0 where
   pub key : List ℕ
   pub older : OlderRoot
 
--- the rows of all tables
+-- The rows of all tables of a club.
 pub record Rows : Type 0 where
   pub members : List MemberRow
   pub facilities : List Facility
@@ -25,7 +25,7 @@ pub record Rows : Type 0 where
   pub bookings : List Booking
   pub olders : List OlderRow
 
--- the points that a member has spent on bookings
+-- The points that a member has spent on bookings.
 abbrev pub used_by : Club → List ℕ → ℕ
 used_by club name = sum_by cost_of (bookings_of name club)
 
@@ -42,15 +42,18 @@ no_slot_use = record { taken = 0; closed = false }
 abbrev pub row_of : Slot → List SlotRow → Option SlotRow
 row_of slot rows = find (λ (row : SlotRow). same_slot row.slot slot) rows
 
--- the use of a slot according to these rows; a slot without a row is open and has no persons
+-- The use of a slot, from the rows of the table `slots`. A slot without a row is open, and nobody
+-- has booked it.
 abbrev pub stored_slot_use : Slot → List SlotRow → SlotUse
 stored_slot_use slot rows = unwrap_or (option_map (λ (row : SlotRow). row.held) (row_of slot rows)) no_slot_use
 
--- the older root of a key according to these rows; none if the key has no row
+-- The older root of a key, from the rows of the table `old_roots`. The result is `None` if the key
+-- has no row.
 abbrev pub older_by : List ℕ → List OlderRow → Option OlderRoot
 older_by name rows = option_map (λ (row : OlderRow). row.older) (find (λ (row : OlderRow). bytes_eq row.key name) rows)
 
--- the rows are those of the club, and each stored total equals its sum; slots and older roots may be in any order
+-- The rows are the rows of the club, and each stored total equals the sum over the bookings. The
+-- rows of slots and older roots may be in any order.
 pub record IsStoredAs (club : Club) (rows : Rows) : Type 0 where
   pub members : rows.members ≡ map (member_row club) club.members
   pub facilities : rows.facilities ≡ club.facilities
@@ -61,6 +64,6 @@ pub record IsStoredAs (club : Club) (rows : Rows) : Type 0 where
   pub olders_once : AllPairs (λ (a : OlderRow) (b : OlderRow). a.key ≢ b.key) rows.olders
   pub once : AllPairs (λ (a : SlotRow) (b : SlotRow). a.slot ≢ b.slot) rows.slots
 
--- the number of places that a booking takes in its slot; a cancelled booking takes none
+-- The number of places that a booking takes in its slot. A cancelled booking takes no places.
 abbrev pub persons_taken : Booking → ℕ
 persons_taken booking = if booking.cancelled then 0 else persons_of booking

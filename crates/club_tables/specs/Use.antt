@@ -1,11 +1,12 @@
--- The rows that show the use of a slot (ours).
+-- This file defines the rows that the query for the use of a slot returns.
 use Rattle.std.specs.Prelude.{◌≡◌, ◌⊎◌, List, [], ◌∷◌}
 use Rattle.sqlite_value.specs.Order.{Row}
 use Rattle.club_values.specs.declared.slot.Slot.{Slot}
 use Rattle.club_core.specs.{Basis.slot_use, Club.Club}
 use Rattle.club_tables.specs.{Columns.use_values, Stored.no_slot_use}
 
--- one row holds the slot's use; or there is no row, and the slot is open without persons
+-- The query returns one row with the use of the slot. It returns no row only if the slot is open
+-- and nobody has booked it.
 abbrev pub ShowsUse : Club → Slot → List Row → Type 0
 ShowsUse club slot rows =
     (rows ≡ use_values (slot_use club slot) ∷ []) ⊎ ((rows ≡ []) × (slot_use club slot ≡ no_slot_use))
