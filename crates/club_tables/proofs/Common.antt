@@ -1,4 +1,4 @@
--- Re-exports the names that most proofs here cite. Declares nothing.
+-- This file re-exports the names that most of the proofs in this crate use.
 pub use Rattle.std.proofs.Common.{◌≡◌, List, refl, arith, [], sym, ◌∷◌, ◌∙◌, ℕ, subst, inl, inr, map, ap, true, false, Bool, length, ◌≤◌, Some, rules, ◌++◌}
 pub use Rattle.std.proofs.Common.{filter, ◌≢◌, cond, ◌+◌, pos, ℤ, IsTrue, ◌<◌, if◌then◌else◌, Option, None, find, Ok, take, ◌==◌, slice_get, All, not}
 pub use Rattle.std.proofs.Common.{true≢false, IsPermutation, AllPairs, option_map, Contains, suc, Result, Err, ◌||◌, ◌&&◌, sum_by, get_or, ◌/◌, ◌-◌, zero, ◌^◌}

@@ -1,4 +1,4 @@
--- The effects on the tables of each change of the club.
+-- Lemmas about the effect of each change on the tables.
 
 pub mod AddLemmas
 pub mod ChangeLemmas

@@ -1,4 +1,4 @@
--- Transactions, and the club that a connection represents after a crash.
+-- Lemmas about transactions, and about the club that a connection represents after a crash.
 
 pub mod RepresentsLemmas
 pub mod SurviveLemmas

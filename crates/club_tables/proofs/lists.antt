@@ -1,4 +1,4 @@
--- Lists of rows, and the values that are read from them.
+-- Lemmas about lists of rows and the values that rows are decoded into.
 
 pub mod RowLemmas
 pub mod BookingRows

@@ -1,4 +1,4 @@
--- Lemmas on how an opening creates, migrates and accepts the tables.
+-- Lemmas about creating, migrating and opening the tables.
 
 pub mod MakesLemmas
 pub mod MakingLemmas

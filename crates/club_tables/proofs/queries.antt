@@ -1,4 +1,4 @@
--- The results of the club's queries.
+-- Lemmas about the results of the club's queries.
 
 pub mod KeyLemmas
 pub mod MemberLemmas

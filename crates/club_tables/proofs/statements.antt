@@ -1,4 +1,4 @@
--- The effect of one statement on any table: SELECT, INSERT, UPDATE.
+-- Lemmas about the effect of one SQL statement on any table.
 
 pub mod MeansLemmas
 pub mod SelectLemmas

@@ -1,4 +1,5 @@
--- The effects of statements that insert a row, or that insert or update the row of a slot or of an older root.
+-- Lemmas about statements that insert a row, and about statements that insert or update the row of
+-- a slot or an older root.
 use Rattle.club_tables.proofs.Common.{pos, List, [], map, ◌∷◌, ◌++◌, refl, sym, subst, ◌≡◌, ◌≢◌, ◌≤◌, ℕ, ◌/◌, ℤ, true, false, if◌then◌else◌, Some, Option}
 use Rattle.club_tables.proofs.Common.{length, ap, ◌∙◌, Bool, filter, slice_get, None, find, cond, AllPairs, option_map, AllByRecursion, bytes_eq}
 use Rattle.club_tables.proofs.Common.{bytes_eq-Decides, and-true, or-false, everything, Null, Int, Text, Table, Term, lit, col, op2, eval_all, Values, Insert}
@@ -19,13 +20,10 @@ use Rattle.club_tables.proofs.statements.{SelectLemmas.{one_passes, text_equal, 
 use Rattle.std.proofs.Common.{unwrap_or}
 use Rattle.sqlite.specs.Kind.TheVariants.{Integer}
 
--- ---- lists
-
 pub each_weaker : {X : Type 0} {P Q : X → Type 0} → ((x : X) → P x → Q x) → (xs : List X) → AllByRecursion P xs → AllByRecursion Q xs
 each_weaker weaker [] h = tt
 each_weaker weaker (x ∷ xs) h = (weaker x h.0, each_weaker weaker xs h.1)
 
--- if at most one element passes, a search finds every element that passes
 pub only_found : {X : Type 0} (q : X → Bool) (xs : List X) → length (filter q xs) ≤ 1 → AllByRecursion (λ x. q x ≡ true → find q xs ≡ Some x) xs
 only_found q [] low = tt
 only_found {X} q (x ∷ xs) low = (λ passes. rw passes refl, go (q x) low (only_found q xs))
@@ -37,7 +35,7 @@ only_found {X} q (x ∷ xs) low = (λ passes. rw passes refl, go (q x) low (only
         absurd (omega (arith, low, contains_counts q xs _ (All-contains_itself xs k d within) passes)))
     go false low more = more low
 
--- ---- a new row comes last in its table
+-- A new row is the last row of its table.
 
 added : {X : Type 0} (values : X → Row) {text : List ℕ} {at width : ℕ} {terms : List Term} → Means club_schema text (Insert at (Values terms width))
     → (table : Table) → slice_get club_schema.tables at ≡ Some table → table.is_counted ≡ false
@@ -53,7 +51,7 @@ added values means table listed uncounted unstamped still params x gives casts r
     let put = inserts means table listed uncounted unstamped still old new holds_rows.schema params (values x) gives casts count ran in
     (on old.now new.now holds_rows put.0 (subst (λ rs. Holds values rs (xs ++ x ∷ [])) (sym put.1) (holds_more values _ xs x (held old.now holds_rows))), put.2)
 
--- ---- members
+-- Lemmas about the statement that inserts a member.
 
 abbrev pub member_table : Table
 member_table = record members_table { tree = members_tree }
@@ -62,7 +60,7 @@ member_means : Means club_schema ADD_MEMBER.now (Insert 1 (Values (lit Null ∷ 
 unfolding understood everything
 member_means = record { is = refl; plain = (refl, refl) }
 
--- a new member's bookings have cost nothing
+-- The row of a new member, who has spent no points on bookings.
 abbrev pub new_row : Member → MemberRow
 new_row member = record { member = member; used = 0 }
 
@@ -72,7 +70,7 @@ member_put rows member =
     added member_values member_means member_table refl refl refl (λ row. refl) _ (new_row member) refl (simp (cast_null, cast_int)) rows _ rows.members
     (λ old holds_rows. holds_rows.held.members) (λ old new holds_rows wrote held. on_members holds_rows wrote held)
 
--- ---- facilities
+-- Lemmas about the statement that inserts a facility.
 
 abbrev pub facility_table : Table
 facility_table = record facilities_table { tree = facilities_tree }
@@ -87,7 +85,7 @@ facility_put rows facility =
     added facility_values facility_means facility_table refl refl refl (λ row. refl) _ facility refl (simp (cast_null, cast_int)) rows _ rows.facilities
     (λ old holds_rows. holds_rows.held.facilities) (λ old new holds_rows wrote held. on_facilities holds_rows wrote held)
 
--- ---- keys
+-- Lemmas about the statement that inserts a key.
 
 abbrev pub key_table : Table
 key_table = record keys_table { tree = keys_tree }
@@ -101,7 +99,7 @@ key_put rows key =
     added key_values key_means key_table refl refl refl (λ row. refl) _ key refl (simp (cast_null, cast_int)) rows _ rows.keys
     (λ old holds_rows. holds_rows.held.keys) (λ old new holds_rows wrote held. on_keys holds_rows wrote held)
 
--- ---- bookings
+-- Lemmas about the statement that inserts a booking.
 
 abbrev pub booking_table : Table
 booking_table = record bookings_table { tree = bookings_tree }
@@ -116,8 +114,6 @@ booking_put rows booking =
     added booking_values booking_means booking_table refl refl refl (λ row. refl) _ booking refl (simp (cast_null, cast_int)) rows _ rows.bookings
     (λ old holds_rows. holds_rows.held.bookings) (λ old new holds_rows wrote held. on_bookings holds_rows wrote held)
 
--- ---- rows of slots that are inserted or updated by their keys
-
 abbrev target : Option (List ℕ)
 target = Some (1 ∷ 2 ∷ 3 ∷ [])
 
@@ -126,8 +122,6 @@ PutsSlot text terms more sets at =
     PutsRow slots_table.name slots_table.columns slots_table.uniques slots_table.checks slots_table.references slots_tree target 4 text terms more sets 6 at
     (first_clause (command_of (understood club_schema text)))
 
--- ---- a statement that inserts or updates the row of a slot
-
 module _ {text : List ℕ} {terms more sets : List Term} {at : ℕ} (puts : PutsSlot text terms more sets at) (rows : Rows)
     (once : AllPairs (λ (a : SlotRow) (b : SlotRow). a.slot ≢ b.slot) rows.slots) (slot : Slot) (params : Row) (closed taken : Value)
     (gives : value_rows params 6 (length terms / 6) terms ≡ (Null ∷ name_values slot ++ closed ∷ taken ∷ []) ∷ [])
@@ -135,11 +129,11 @@ module _ {text : List ℕ} {terms more sets : List Term} {at : ℕ} (puts : Puts
   abbrev is_of_slot : SlotRow → Bool
   is_of_slot row = same_slot row.slot slot
 
-  -- the values that the ON CONFLICT clause reads: the parameters, the rowid of the conflicting row, and the new row at this rowid
+  -- The values that the ON CONFLICT clause can read: the parameters, the rowid of the existing row,
+  -- and the new row.
   abbrev sees : Row → ℤ → Row
   sees there id = params ++ rowid there ∷ shown slot_table (Int id ∷ name_values slot ++ closed ∷ taken ∷ [])
 
-  -- the slot's row is inserted or updated, whether or not there was one
   slot_put : (row_of slot rows.slots ≡ None → closed ∷ taken ∷ [] ≡ use_values (change no_slot_use))
       → ((there : Row) (next : ℤ) → column (sees there next) at ≡ rowid there)
       → ((x : SlotRow) → row_of slot rows.slots ≡ Some x → (id next : ℤ) (there : Row)
@@ -162,7 +156,7 @@ module _ {text : List ℕ} {terms more sets : List Term} {at : ℕ} (puts : Puts
       (only_found is_of_slot rows.slots (one_passes _ is_of_slot rows.slots (λ x y a b apart. apart (a, b)) alone))) count executed in
       (on_slots holds_rows left.0 left.1, left.2)
 
-  -- if a row is written, the existing row passes the tests of the ON CONFLICT clause
+  -- If the statement writes a row, the existing row meets the conditions of the ON CONFLICT clause.
   slot_allowed : ((there : Row) (next : ℤ) → column (sees there next) at ≡ rowid there) → (allows : SlotRow → Bool)
       → ((id next : ℤ) (there : Row) (x : SlotRow) → list_all (holds (sees there next ∷ (Int id ∷ slot_values x) ∷ [])) more ≡ allows x)
       → (old new : State) (count : ℕ) → HoldsRows old.now rows → Executes text params old new (Ok count) → 1 ≤ count
@@ -179,7 +173,7 @@ module _ {text : List ℕ} {terms more sets : List Term} {at : ℕ} (puts : Puts
       (λ id x. rw (cast_int id, cast_int (pos x.slot.day), cast_int (pos x.slot.hour), cast_int (pos (truth x.held.closed)), cast_int (pos x.held.taken)) refl)
       rows.slots holds_rows.held.slots alone (λ there. ids there next) allows (λ id there x. allowed id next there x) count executed some x is
 
--- ---- a slot is closed
+-- Lemmas about the statement that closes a slot.
 
 abbrev is_open : Term
 is_open = op2 (Compare Eq Binary) (col 1 4) (lit (Int (pos 0)))
@@ -192,7 +186,7 @@ close_puts = record { is = refl; plain = (refl, refl); aims = refl; by = refl }
 abbrev pub close_use : SlotUse → SlotUse
 close_use held = record held { closed = true }
 
--- the statement's test for an open slot
+-- The statement's condition for an open slot is true if and only if the slot is open.
 open_is : (held : SlotUse) → (is_true (binary (Compare Eq Binary) (flag held.closed) (whole 0)) && true) ≡ not held.closed
 open_is held = and-true _ ∙ whole_equal (truth held.closed) 0 ∙ not_closed held.closed
   where
@@ -208,7 +202,7 @@ slot_closed rows once slot is_open =
     slot_put close_puts rows once slot (name_values slot) (whole 1) (whole 0) refl (cast_int (pos 1)) (cast_int (pos 0)) close_use (λ _. refl)
     (λ there next. refl) (λ x is id next there. (open_is x.held ∙ ap not (ap (λ o. (use_by o).closed) (sym is) ∙ is_open), refl))
 
--- if a row is written, the slot was open
+-- If the statement writes a row, the slot was open.
 pub slot_was_open : (rows : Rows) → AllPairs (λ (a : SlotRow) (b : SlotRow). a.slot ≢ b.slot) rows.slots → (slot : Slot) → (old new : State) (count : ℕ)
     → HoldsRows old.now rows → Executes CLOSE_SLOT.now (name_values slot) old new (Ok count) → 1 ≤ count
     → (stored_slot_use slot rows.slots).closed ≡ false
@@ -227,7 +221,7 @@ slot_was_open rows once slot old new count holds_rows executed some = go (row_of
         executed some x is in
         false_of x.held.closed was_open
 
--- ---- a slot is opened, whether or not it was closed
+-- Lemmas about the statement that opens a slot.
 
 open_puts : PutsSlot OPEN_SLOT.now (lit Null ∷ col 0 0 ∷ col 0 1 ∷ col 0 2 ∷ lit (Int (pos 0)) ∷ lit (Int (pos 0)) ∷ []) []
     (col 1 0 ∷ col 1 0 ∷ col 1 1 ∷ col 1 2 ∷ col 1 3 ∷ lit (Int (pos 0)) ∷ col 1 5 ∷ []) 3
@@ -243,7 +237,7 @@ slot_opened rows once slot =
     slot_put open_puts rows once slot (name_values slot) (whole 0) (whole 0) refl (cast_int (pos 0)) (cast_int (pos 0)) open_use (λ _. refl)
     (λ there next. refl) (λ x is id next there. (refl, refl))
 
--- ---- persons are added to a slot
+-- Lemmas about the statement that adds persons to a slot.
 
 taken_puts : PutsSlot ADD_TAKEN.now (lit Null ∷ col 0 0 ∷ col 0 1 ∷ col 0 2 ∷ lit (Int (pos 0)) ∷ col 0 3 ∷ []) []
     (col 1 0 ∷ col 1 0 ∷ col 1 1 ∷ col 1 2 ∷ col 1 3 ∷ col 1 4 ∷ op2 (Arith Add) (col 1 5) (col 0 3) ∷ []) 4
@@ -267,7 +261,7 @@ slot_taken rows once slot persons next fresh sum =
           (subst (λ (held : SlotUse). binary (Arith Add) (whole held.taken) (Int persons) ≡ whole (next held.taken)) (ap use_by is) sum),
     ))
 
--- ---- older roots
+-- Lemmas about the statement that stores an older root.
 
 abbrev older_table : Table
 older_table = record old_roots_table { tree = olders_tree }
@@ -275,7 +269,6 @@ older_table = record old_roots_table { tree = olders_tree }
 abbrev older_target : Option (List ℕ)
 older_target = Some (1 ∷ [])
 
--- a row conflicts with a new one if both belong to the same key
 olders_conflict : (id id' : ℤ) (row : OlderRow) (key : List ℕ) (older : OlderRoot)
     → conflicts older_target club_schema.indexes older_table (Int id' ∷ Text key ∷ older_root_values older) (Int id ∷ older_values row) ≡ bytes_eq row.key key
 unfolding first_key
@@ -300,21 +293,19 @@ module _ (key : List ℕ) (older : OlderRoot) where
   abbrev pub renewed : OlderRow → OlderRow
   renewed row = record row { older = if bytes_eq row.key key then older else row.older }
 
-  -- the row of the key gets this older root, or a row with this older root is inserted
+  -- The rows of older roots after the key's older root is inserted or updated.
   abbrev pub put_older : List OlderRow → List OlderRow
   put_older rows = put_among older_values is_of renewed (record { key = key; older = older }) rows
 
   same_older : (row : OlderRow) → is_of row ≡ false → renewed row ≡ row
   same_older row fails = rw fails refl
 
-  -- the older root of each key after the row is inserted or updated
   pub older_put : (name : List ℕ) (rows : List OlderRow) → older_by name (put_older rows) ≡ (if bytes_eq key name then Some older else older_by name rows)
   older_put name rows =
       by_put (λ (row : OlderRow). row.key) bytes_eq same_names itself key renewed (λ row. refl) (record { key = key; older = older }) refl
       (λ found. option_map (λ (row : OlderRow). row.older) found) (λ _. Some older)
       (λ row passes. ap (λ b. Some (if b then older else row.older)) passes) same_older refl name rows
 
-  -- no key has two rows
   pub put_once : (rows : List OlderRow) → AllPairs (λ (a : OlderRow) (b : OlderRow). a.key ≢ b.key) rows
       → AllPairs (λ (a : OlderRow) (b : OlderRow). a.key ≢ b.key) (put_older rows)
   put_once = once_put (λ (row : OlderRow). row.key) bytes_eq same_names itself key renewed (λ row. refl) (record { key = key; older = older }) refl

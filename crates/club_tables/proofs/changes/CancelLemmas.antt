@@ -1,4 +1,4 @@
--- The effect on the tables of the statement that cancels a booking, and the stored rows of the club after the cancellation.
+-- Lemmas about the statement that cancels a booking.
 use Rattle.club_tables.proofs.Common.{cases_Bool, inl, inr, rules, ◌≡◌, ℕ, ◌≤◌, pos, Some, Bool, true, false, ◌||◌, List, [], ◌∷◌, ◌++◌, map, refl, sym, ap}
 use Rattle.club_tables.proofs.Common.{subst, ◌∙◌, All, arith, ◌+◌, ◌-◌, if◌then◌else◌, Contains, unsigned_Decides, bytes_eq-Decides, and_parts, or-true}
 use Rattle.club_tables.proofs.Common.{or-false, list_all, AllByRecursion, bytes_eq, length-map, get_or-map, everything, Int, Text, Binary, Compare, Eq, binary}
@@ -40,12 +40,11 @@ text_same a b h = (bytes_eq-Decides a b).0 (sym (text_equal a b) ∙ h)
 whole_same : (m n : ℕ) → is_true (binary (Compare Eq Binary) (Int (pos m)) (Int (pos n))) ≡ true → m ≡ n
 whole_same m n h = (unsigned_Decides m n).0 (sym (whole_equal m n) ∙ h)
 
--- a booking under another key or number is unchanged
+-- Cancelling a booking doesn't change a booking with another key or number.
 other_stays : (key : List ℕ) (number refund : ℕ) (booking : Booking) → is_numbered key number booking ≡ false
     → cancelled_booking key number refund booking ≡ booking
 other_stays key number refund booking fails = rw (fails, or-false booking.cancelled) refl
 
--- if a property holds for all changed elements, it holds for one of them
 pub mapped_holds : {X Y : Type 0} (P : Y → Type 0) (f : X → Y) (xs : List X) (x : X) → All P (map f xs) → Contains xs x → P (f x)
 mapped_holds P f xs x all has = subst P (get_or-map f xs has.0 x (f x) has.1 ∙ ap f has.2) (all has.0 (f x) (omega (arith, has.1, length-map xs f)))
 
@@ -56,11 +55,9 @@ module _ (rows : Rows) (once : AreBookingsOnce rows.bookings) (booking : Booking
   abbrev is_here : Booking → Bool
   is_here = is_numbered booking.key booking.number
 
-  -- the tests don't read the rowid
   abbrev is_as_given : Booking → Bool
   is_as_given b = test params cancel_tests cancel_terms (Int (pos 0) ∷ booking_values b)
 
-  -- a booking that passes the tests has the given values, and isn't cancelled
   as_given : (b : Booking) → is_as_given b ≡ true → (b ≡ booking) × (b.cancelled ≡ false)
   as_given b h =
       let t = all_true (holds (params ∷ (Int (pos 0) ∷ booking_values b) ∷ [])) cancel_tests h in
@@ -98,7 +95,7 @@ module _ (rows : Rows) (once : AreBookingsOnce rows.bookings) (booking : Booking
       let low = one_numbered booking.key booking.number rows.bookings once in
       search rules
 
-  -- if a row is written, a booking with the given values is stored
+  -- If the statement writes a row, the table contains a booking with the given values.
   pub cancel_found : WhenRan (CANCEL_BOOKING.now, params) rows (λ old new count.
       1 ≤ count → (booking_under booking.key booking.number rows.bookings ≡ Some booking) × (booking.cancelled ≡ false))
   cancel_found old new count holds_rows ran some =
@@ -106,7 +103,7 @@ module _ (rows : Rows) (once : AreBookingsOnce rows.bookings) (booking : Booking
       let given = as_given one.0 one.2 in
       (one.1 ∙ ap Some given.0, sym (ap (λ (x : Booking). x.cancelled) given.0) ∙ given.1)
 
-  -- if a booking with the given values is stored, its row is updated
+  -- If the booking is stored and isn't cancelled, the statement updates the booking's row.
   pub booking_cancelled : booking_under booking.key booking.number rows.bookings ≡ Some booking → booking.cancelled ≡ false
       → Steps (CANCEL_BOOKING.now, params) rows
       (record rows { bookings = map (cancelled_booking booking.key booking.number refund) rows.bookings })
@@ -117,11 +114,6 @@ module _ (rows : Rows) (once : AreBookingsOnce rows.bookings) (booking : Booking
       (cancelled_booking booking.key booking.number refund) (other_stays booking.key booking.number refund)
       (λ id passes. rw (passes, uncancelled) refl) (λ id b. simp cast_int) (λ wrote held. on_bookings holds_rows wrote held)
 
--- ---- the stored rows
-
--- ---- cancellations
-
--- an amount is subtracted only if a test passes
 taken_away : (b : Bool) (all left back : ℕ) → left + (if b then back else 0) ≡ all → (if b then all - back else all) ≡ left
 taken_away b all left back is = grind arith
 
@@ -154,7 +146,6 @@ module _ (club : Club) (sound : IsSound club) (booking : Booking) (cancels : IsT
   marked_there : is_marked key number booking ≡ true
   marked_there = rw (there.1, cancels.1) refl
 
-  -- the booking is in the club before the change, and the changed booking after it
   row : IsBooking booking
   row = subst IsBooking there.0.2 (sound.rows.bookings there.0.0 booking there.0.1)
 
@@ -173,7 +164,8 @@ module _ (club : Club) (sound : IsSound club) (booking : Booking) (cancels : IsT
   at_most : refund ≤ booking.charge
   at_most = omega (arith, next_row.refund, now_refund)
 
-  -- the cost of a member's bookings falls by the refund if the key is the member's
+  -- If the key belongs to the member, a cancellation lowers the member's spent points by the
+  -- refund.
   pub used_back : (name : List ℕ) → used_by next name + (if is_key_of name club key then refund else 0) ≡ used_by club name
   used_back name =
       let own : Booking → Bool = λ b. is_key_of name club b.key in
@@ -183,7 +175,7 @@ module _ (club : Club) (sound : IsSound club) (booking : Booking) (cancels : IsT
         | inr is ↦ let s = rw is at sums in rw is (omega (arith, s))
       ]
 
-  -- the number of persons in a slot falls by the booking's persons if the booking is in that slot
+  -- If the booking is in the slot, a cancellation lowers the slot's number of persons.
   pub taken_back : (s : Slot) → taken_in s next.bookings + (if same_slot booking.slot s then persons_of booking else 0) ≡ taken_in s club.bookings
   taken_back s =
       let sums = picked_changed (is_numbered key number) change (other_stays key number refund) persons_of (is_in s) club.bookings booking alone cancels.0 in

@@ -1,4 +1,4 @@
--- The effects on the tables of the statements that change the row of a member or of a key.
+-- Lemmas about the statements that update the row of a member or of a key.
 use Rattle.club_tables.proofs.Common.{rules, ◌≡◌, ◌+◌, ◌≤◌, ℕ, ℤ, pos, Ok, Some, Bool, true, ◌&&◌, if◌then◌else◌, List, [], ◌∷◌, length, map, ◌≢◌, refl, sym}
 use Rattle.club_tables.proofs.Common.{ap, ◌∙◌, false, subst, filter, find, AllPairs, list_all, bytes_eq, and_parts, bytes_eq-Decides, and-true, or-true}
 use Rattle.club_tables.proofs.Common.{or-false, everything, Int, Text, Blob, Binary, Arith, Compare, Add, Eq, binary, cast_row, Row, Table, Term, col, op2}
@@ -16,19 +16,15 @@ use Rattle.club_core.specs.After.{member_with_quota}
 use Rattle.std.specs.Ordering.{is_le}
 use Rattle.sqlite_sql.specs.declared.ops.CompareOp.TheVariants.{Le}
 
--- ---- an UPDATE of the one element that a test finds
-
--- if at most one element passes the wider test, a narrower test finds the same element
 pub wider_is : {X : Type 0} (p q : X → Bool) → Implies p q → (xs : List X) → length (filter q xs) ≤ 1 → (x : X) → find p xs ≡ Some x
     → (find q xs ≡ Some x) × (p x ≡ true)
 wider_is p q wide xs low x is = (sym (found_by_both p q xs (agree p q wide xs x low is)) ∙ is, (found p xs x is).1)
 
--- the relation holds after the statement ran over tables with these rows
+-- The relation holds after the statement has run on tables that contain these rows.
 abbrev pub WhenRan : BoundStatement → Rows → (State → State → ℕ → Type 0) → Type 1
 WhenRan statement rows P =
     (old new : State) (count : ℕ) → HoldsRows old.now rows → Executes statement.0 statement.1 old new (Ok count) → P old new count
 
--- the statement changes the elements that pass a test; there is at most one, and a wider test finds it
 pub record FindsOne {X : Type 0} (values : X → Row) (p q : X → Bool) (xs : List X) (shown : Row → Row) (old new : State) (table : Table) (count : ℕ) : Type 0
   where
     pub finds : Finds values p xs shown old new table count
@@ -37,14 +33,13 @@ pub record FindsOne {X : Type 0} (values : X → Row) (p q : X → Bool) (xs : L
 
 module _ {X : Type 0} {values : X → Row} {p q : X → Bool} {xs : List X} {shown : Row → Row} {old new : State} {table : Table} {count : ℕ}
     (it : FindsOne values p q xs shown old new table count) where
-  -- if a row is written, the element exists and passes the test
+  -- If the statement writes a row, the element exists and passes the test.
   pub one_found : 1 ≤ count → (x : X) × (find q xs ≡ Some x) × (p x ≡ true)
   one_found some =
       let one = passes_one it.finds some in
       let is = wider_is p q it.wide xs it.low one.0 one.1 in
       (one.0, is.0, is.1)
 
-  -- if the element exists and passes the test, its row is written, and no other row is changed
   pub one_changed : {next : Rows} (x : X) → find q xs ≡ Some x → p x ≡ true → (change : X → X) → ((y : X) → q y ≡ false → change y ≡ y)
       → ((id : ℤ) → q x ≡ true → shown (Int id ∷ values x) ≡ Int id ∷ Int id ∷ values (change x))
       → ((id : ℤ) (y : X) → cast_row table (Int id ∷ values y) ≡ Int id ∷ values y)
@@ -59,16 +54,12 @@ module _ {X : Type 0} {values : X → Row} {p q : X → Bool} {xs : List X} {sho
       subst (λ z. q z ≡ true → shown (Int id ∷ values z) ≡ Int id ∷ Int id ∷ values (change z)) same (sets id) mine) casts it.low in
       (on it.finds.wrote held, some)
 
--- ---- keys that are found by their names
-
 abbrev pub AreKeysOnce : List Key → Type 0
 AreKeysOnce = AllPairs (λ (a : Key) (b : Key). a.name ≢ b.name)
 
--- a key with this name is stored
+-- A search for this name in the list of keys finds this key.
 abbrev pub StoresKey : List ℕ → List Key → Key → Type 0
 StoresKey name keys key = find (λ (key : Key). bytes_eq key.name name) keys ≡ Some key
-
--- ---- the numbers of a member's row
 
 abbrev pub name_of : MemberRow → List ℕ
 name_of row = row.member.name
@@ -76,22 +67,21 @@ name_of row = row.member.name
 abbrev pub AreNamedOnce : List MemberRow → Type 0
 AreNamedOnce = AllPairs (λ (a : MemberRow) (b : MemberRow). name_of a ≢ name_of b)
 
--- a member with this name is stored
+-- A search for this name in the rows of members finds this row.
 abbrev pub StoresMember : List ℕ → List MemberRow → MemberRow → Type 0
 StoresMember name members row = find (λ (row : MemberRow). bytes_eq (name_of row) name) members ≡ Some row
 
--- adds points to the credit of the member with this name; `used_row` applies `next` to the points that the member has spent
+-- Adds points to the credit of the member with this name.
 abbrev pub credited_row : List ℕ → ℕ → MemberRow → MemberRow
 credited_row name points row = record row { member = credited_member name points row.member }
 
 abbrev pub used_row : List ℕ → (ℕ → ℕ) → MemberRow → MemberRow
 used_row name next row = record row { used = if bytes_eq row.member.name name then next row.used else row.used }
 
--- sets the quota of the member with this name
+-- Sets the quota of the member with this name.
 abbrev pub quota_row : List ℕ → ℕ → MemberRow → MemberRow
 quota_row name quota row = record row { member = member_with_quota name quota row.member }
 
--- the result of `<=` for two whole numbers
 pub whole_to : (m n : ℕ) → is_true (binary (Compare Le Binary) (Int (pos m)) (Int (pos n))) ≡ nat_le m n
 unfolding binary
 whole_to m n =
@@ -144,7 +134,6 @@ module _ (rows : Rows) (once : AreNamedOnce rows.members) (name : List ℕ) wher
     abbrev credit_params : Row
     credit_params = Text name ∷ whole points ∷ []
 
-    -- the tests don't read the rowid
     abbrev is_credited : MemberRow → Bool
     is_credited row = test credit_params credit_tests credit_terms (Int (pos 0) ∷ member_values row)
 
@@ -156,7 +145,7 @@ module _ (rows : Rows) (once : AreNamedOnce rows.members) (name : List ℕ) wher
         let wide : Implies is_credited is_named = λ row passes. sym (text_equal (name_of row) name) ∙ (and_parts _ _ passes).0 in
         search (rules, low_named)
 
-    -- if a row is written, the member exists and its credit is at most the maximum
+    -- If the statement writes a row, the member exists and the new credit is at most the maximum.
     pub credit_found : WhenRan (ADD_CREDIT.now, credit_params) rows (λ old new count. 1 ≤ count → (row : MemberRow) × StoresMember name rows.members row
         × (is_true (binary (Compare Le Binary) (binary (Arith Add) (whole row.member.credited) (whole points)) (whole 999_999_999)) ≡ true))
     credit_found old new count holds_rows ran some =
@@ -184,7 +173,7 @@ module _ (rows : Rows) (once : AreNamedOnce rows.members) (name : List ℕ) wher
         (λ id row. and-true _ ∙ text_equal (name_of row) name) in
         search (rules, low_named)
 
-    -- if a row is written, the member exists
+    -- If the statement writes a row, the member exists.
     pub quota_found : WhenRan (SET_QUOTA.now, quota_params) rows (λ old new count. 1 ≤ count → (row : MemberRow) × StoresMember name rows.members row)
     quota_found old new count holds_rows ran some =
         let one = one_found (quota_finds old new count holds_rows ran) some in
@@ -230,7 +219,7 @@ module _ (rows : Rows) (once : AreNamedOnce rows.members) (name : List ℕ) wher
         let wide : Implies is_owner is_named = λ row passes. (and_parts (is_named row) is_owned passes).0 in
         search (rules, low_named)
 
-    -- if a row is written, the key belongs to the member
+    -- If the statement writes a row, the key belongs to the member.
     pub owner_found : AreKeysOnce rows.keys
         → WhenRan (ADD_USED.now, used_params) rows (λ old new count. 1 ≤ count → (k : Key) × StoresKey key rows.keys k × (k.member ≡ name))
     owner_found unique old new count holds_rows ran some =
@@ -248,8 +237,6 @@ module _ (rows : Rows) (once : AreNamedOnce rows.members) (name : List ℕ) wher
         (rw (key_is.1, (bytes_eq-Decides k.member name).1 same) refl)) in
         one_changed (used_finds old new count holds_rows ran) row is (rw (owned, (found is_named rows.members row is).1) refl)
         (used_row name next) (λ row fails. rw fails refl) (λ id passes. rw (passes, sum) refl) casts_member (λ wrote held. on_members holds_rows wrote held)
-
--- ---- a key is revoked, or gets a new root
 
 abbrev revoke_terms : List Term
 revoke_terms = col 1 0 ∷ col 1 0 ∷ col 1 1 ∷ col 1 2 ∷ col 1 3 ∷ lit (Int (pos 1)) ∷ []
@@ -307,14 +294,13 @@ module _ (rows : Rows) (once : AreKeysOnce rows.keys) (name : List ℕ) where
         let wide : Implies has_root has_name = λ key passes. (and_parts (has_name key) _ passes).0 in
         search (rules, low_keys)
 
-    -- if a row is written, the key has the former root
+    -- If the statement writes a row, the key had the former root.
     pub root_found : WhenRan (SET_ROOT.now, root_params) rows (λ old new count.
         1 ≤ count → (key : Key) × StoresKey name rows.keys key × (key.root ≡ was))
     root_found old new count holds_rows ran some =
         let one = one_found (root_finds old new count holds_rows ran) some in
         (one.0, one.1, (bytes_eq-Decides one.0.root was).0 (and_parts (has_name one.0) _ one.2).1)
 
-    -- the key's columns don't include the older root
     pub root_set : (key : Key) → StoresKey name rows.keys key → key.root ≡ was → (until : ℕ)
         → Steps (SET_ROOT.now, root_params) rows (record rows { keys = map (rotated_key name root until) rows.keys })
     root_set key is same until old new count holds_rows ran =

@@ -1,4 +1,4 @@
--- The effect on the tables of the statement that charges a member for a booking.
+-- Lemmas about the statement that charges a member for a booking.
 use Rattle.club_tables.proofs.Common.{rules, ◌≡◌, ◌≤◌, ℕ, ℤ, Bool, true, ◌&&◌, if◌then◌else◌, List, [], ◌∷◌, length, map, refl, sym, ap, ◌∙◌, subst, filter}
 use Rattle.club_tables.proofs.Common.{list_all, bytes_eq, and_parts, bytes_eq-Decides, and-true, everything, Int, Text, Binary, Arith, Compare, Add, Eq, binary}
 use Rattle.club_tables.proofs.Common.{Row, Term, col, op2, holds, Query, inner, end, counted, Update, understood, Key, MemberRow, club_schema, whole}
@@ -30,7 +30,6 @@ charge_means : Means club_schema CHARGE.now (Update 1 (record { lets = []; body 
 unfolding understood everything
 charge_means = record { is = refl; plain = (refl, refl) }
 
--- a property of each row follows from the element that the row stores
 each_zip : {X : Type 0} (values : X → Row) (P : Row → X → Type 0) → ((id : ℤ) (x : X) → P (Int id ∷ values x) x) → (rows : List Row) (xs : List X)
     → AllZip (λ row x. IsRowOf (values x) row) rows xs → AllZip P rows xs
 each_zip values P each [] [] same = tt
@@ -52,7 +51,7 @@ module _ (rows : Rows) (once : AreNamedOnce rows.members) (name : List ℕ) wher
     abbrev owns_it : Key → Bool
     owns_it k = bytes_eq k.name key && bytes_eq k.member name
 
-    -- the slot's row has no more persons than the facility has places
+    -- The number of persons in the slot's row is at most the number of places of the facility.
     abbrev pub has_room : SlotRow → Facility → Bool
     has_room row facility =
         bytes_eq facility.name slot.facility && (bytes_eq row.slot.facility slot.facility && (row.slot.day == slot.day && (row.slot.hour == slot.hour
@@ -112,7 +111,6 @@ module _ (rows : Rows) (once : AreNamedOnce rows.members) (name : List ℕ) wher
         let wide : Implies is_charged is_named = λ row passes. (and_parts (is_named row) _ passes).0 in
         search (rules, low_named)
 
-    -- if a row is written, the member exists and has the points, the key is the member's, and the slot has enough places
     pub record Charged : Type 0 where
       pub row : MemberRow
       pub stores : StoresMember name rows.members row

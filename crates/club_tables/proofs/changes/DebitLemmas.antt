@@ -1,4 +1,4 @@
--- The statement for a debit. After the statement, the tables store the rows of the club after the debit.
+-- Lemmas about the statement that subtracts points from a member's credit.
 use Rattle.club_tables.proofs.Common.{rules, ◌≡◌, ◌+◌, ◌-◌, ◌≤◌, ◌<◌, ◌^◌, ℕ, pos, Bool, true, if◌then◌else◌, List, [], ◌∷◌, length, map, refl, sym, ap, ◌∙◌}
 use Rattle.club_tables.proofs.Common.{Some, subst, find, filter, Contains, All-contains, bytes_eq, and_parts, everything, Int, Text, Binary, Arith, Compare}
 use Rattle.club_tables.proofs.Common.{Add, Sub, binary, Row, Term, col, op2, inner, end, Update, understood, Club, IsSound, Member, member_named, MemberRow}
@@ -20,16 +20,15 @@ debit_means : Means club_schema TAKE_CREDIT.now (Update 1 (record { lets = []; b
 unfolding understood everything
 debit_means = record { is = refl; plain = (refl, refl) }
 
--- the result of subtracting two whole numbers
 difference : (m r : ℕ) → r ≤ m → m < 2 ^ 63 → binary (Arith Sub) (whole m) (whole r) ≡ whole (m - r)
 unfolding binary
 difference m r low small = search rules
 
--- subtracts points from the credit of the member with this name
+-- Subtracts points from the credit of the member with this name.
 abbrev pub debited_row : List ℕ → ℕ → MemberRow → MemberRow
 debited_row name points row = record row { member = debited_member name points row.member }
 
--- the member of the row has this many unspent points
+-- The member of this row has at least this many unspent points.
 abbrev pub leaves : ℕ → MemberRow → Bool
 leaves points row = is_true (binary (Compare Le Binary) (binary (Arith Add) (whole row.used) (whole points)) (whole row.member.credited))
 
@@ -40,7 +39,6 @@ module _ (rows : Rows) (once : AreNamedOnce rows.members) (name : List ℕ) (poi
   abbrev debit_params : Row
   debit_params = Text name ∷ whole points ∷ []
 
-  -- the tests don't read the rowid
   abbrev is_debited : MemberRow → Bool
   is_debited row = test debit_params debit_tests debit_terms (Int (pos 0) ∷ member_values row)
 
@@ -53,7 +51,7 @@ module _ (rows : Rows) (once : AreNamedOnce rows.members) (name : List ℕ) (poi
       let low = one_named name_of name rows.members once in
       search rules
 
-  -- if a row is written, the member exists and has enough unspent points
+  -- If the statement writes a row, the member exists and has enough unspent points.
   pub debit_found : WhenRan (TAKE_CREDIT.now, debit_params) rows (λ old new count.
       1 ≤ count → (row : MemberRow) × StoresMember name rows.members row × (leaves points row ≡ true))
   debit_found old new count holds_rows ran some =
@@ -81,7 +79,6 @@ module _ (club : Club) (sound : IsSound club) (name : List ℕ) (points : ℕ) (
   spent_little : used_by club member.name ≤ member.credited
   spent_little = All-contains (λ (m : Member). used_by club m.name ≤ m.credited) club.members member sound.balances there.0
 
-  -- if the statement's test passes, the member has enough unspent points
   pub enough_left : points < 2 ^ 32 → leaves points (member_row club member) ≡ true → used_by club member.name + points ≤ member.credited
   enough_left few passes =
       let is = rw (
@@ -90,7 +87,6 @@ module _ (club : Club) (sound : IsSound club) (name : List ℕ) (points : ℕ) (
       ) at passes in
       grind (arith, nat_tests)
 
-  -- if the debit fits the club, the member has enough unspent points
   pub enough_if_fits : FitsClub (TakeCredit name points) club → points ≤ member.credited → used_by club member.name + points ≤ member.credited
   enough_if_fits fits low =
       let left = mapped_holds (λ (m : Member). used_by club m.name ≤ m.credited) (debited_member name points) club.members member fits.sound.balances there.0 in

@@ -1,4 +1,4 @@
--- If each statement of a change wrote a row, the change meets the preconditions in `Suits`, and so fits the club.
+-- Proof that a change fits the club if each of its statements wrote a row.
 use Rattle.club_tables.proofs.Common.{◌≡◌, ◌≢◌, ℕ, ◌+◌, ◌≤◌, Bool, true, false, ◌&&◌, ◌==◌, List, [], ◌∷◌, ◌++◌, map, Contains, All, refl, sym, ap, subst, ◌∙◌}
 use Rattle.club_tables.proofs.Common.{arith, true≢false, find, filter, slice_get, AllPairs, Some, bytes_eq, bytes_eq-Decides, unsigned_Decides, and_parts}
 use Rattle.club_tables.proofs.Common.{nat_le, nat_tests, AllByRecursion, All-from_recursion, All-contains, all_from_map, all_has, has_found, has_kept, Has}
@@ -17,7 +17,6 @@ use Rattle.club_rows.specs.Limits.{credited_limit}
 use Rattle.club_core.specs.declared.change.Change.{Change}
 use Rattle.club_laws.specs.SoundRuns.{Suits, SuitsBooking, SuitingChangesKeepSound}
 
--- two names that compare as different are different
 differs : (a b : List ℕ) → bytes_eq a b ≡ false → b ≢ a
 differs a b other e = true≢false (sym ((bytes_eq-Decides a b).1 (sym e)) ∙ other)
 
@@ -37,7 +36,6 @@ unnumbered booking bookings apart =
 at_most : (m n : ℕ) → nat_le m n ≡ true → m ≤ n
 at_most m n h = grind (arith, nat_tests)
 
--- the facts that follow if a slot has room
 room_parts : (row : SlotRow) (facility : Facility) (slot : Slot) → (bytes_eq facility.name slot.facility && (bytes_eq row.slot.facility slot.facility
     && (row.slot.day == slot.day && (row.slot.hour == slot.hour && nat_le row.held.taken facility.places)))) ≡ true
     → (facility.name ≡ slot.facility) × (row.slot ≡ slot) × (row.held.taken ≤ facility.places)
@@ -165,7 +163,6 @@ module _ {S : Type 0} (g : Ghosts S) (old : Held S) (club : Club) (tables : Hold
   suits db (MarkCancelled booking member refund) within ran =
       let it = is_true g old club tables db (MarkCancelled booking member refund) within ran in (it.0.0, within)
 
-  -- a change whose statements ran fits the club
   pub fits_if_ran : SuitingChangesKeepSound → (db : Database) (change : Change) → InLimits change → Ran g 1 (statements_of change) old db
       → FitsClub change club
   fits_if_ran law db change within ran =

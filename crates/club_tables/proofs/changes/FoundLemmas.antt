@@ -1,4 +1,4 @@
--- Lemmas on finding rows, and bounds on the persons in a slot.
+-- Lemmas about searches for rows, and upper bounds for the persons in a slot.
 use Rattle.club_tables.proofs.Common.{rules, ◌≡◌, ℕ, ◌≤◌, pos, neg_ℤ, Bool, None, List, Option, Some, refl, sym, ◌∙◌, ◌≢◌, ◌+◌, ◌-◌, true, if◌then◌else◌, []}
 use Rattle.club_tables.proofs.Common.{◌∷◌, ◌++◌, map, Contains, ap, arith, zero, suc, All-contains, bytes_eq-Decides, find, option_map, bytes_eq, binary, Arith}
 use Rattle.club_tables.proofs.Common.{Add, ◌<◌, ◌^◌, cond, SlotUse, IsFacility, Int, Club, IsSound, taken_in, same_slot, IsBooking, Booking, Facility, Slot}
@@ -18,12 +18,11 @@ contains_mapped f (x ∷ xs) y (suc k, low, is) =
     let later = contains_mapped f xs y (k, omega (arith, low), is) in
     (later.0, (suc later.1.0, omega (arith, later.1.1), later.1.2), later.2)
 
--- adding the negative of a number subtracts that number, if the result isn't negative
 pub minus : (m r : ℕ) → r ≤ m → m < 2 ^ 63 → binary (Arith Add) (whole m) (Int (neg_ℤ (pos r))) ≡ whole (m - r)
 unfolding binary
 minus m r low small = search rules
 
--- no slot has more persons than the highest number of places of a facility
+-- The number of persons in a slot is at most the highest number of places that a facility may have.
 pub few_taken : (club : Club) → IsSound club → (slot : Slot) → Contains (map (λ (f : Facility). f.name) club.facilities) slot.facility
     → taken_in slot club.bookings ≤ places_limit
 few_taken club sound slot has =
@@ -32,7 +31,6 @@ few_taken club sound slot has =
     slot (sym at.2) in
     omega (arith, low, (All-contains IsFacility club.facilities at.0 sound.rows.facilities at.1).few_places)
 
--- a slot whose row was inserted or updated has a row
 pub put_there : (slot : Slot) (change : SlotUse → SlotUse) (rows : List SlotRow) → (x : SlotRow) × (row_of slot (put_slot slot change rows) ≡ Some x)
 put_there slot change rows = go (list_any is_of rows) refl
   where
@@ -51,7 +49,6 @@ put_there slot change rows = go (list_any is_of rows) refl
           ∙ ap (λ b. cond b (Some (new_row slot change)) None) (same_itself slot),
     )
 
--- the facility of a slot whose row was inserted or updated exists
 pub slot_placed : {db : Database} (facilities : List Facility) (rows : Rows) → rows.facilities ≡ facilities → (slot : Slot) (change : SlotUse → SlotUse)
     → HoldsRows db (record rows { slots = put_slot slot change rows.slots }) → Contains (map (λ (f : Facility). f.name) facilities) slot.facility
 slot_placed facilities rows same slot change holds =
@@ -61,14 +58,13 @@ slot_placed facilities rows same slot change holds =
     subst (λ (s : Slot). Contains (map (λ (f : Facility). f.name) facilities) s.facility) (same_slots at.0.slot slot at_is.1)
     (subst (λ (fs : List Facility). Contains (map (λ (f : Facility). f.name) fs) at.0.slot.facility) same known)
 
--- a facility whose name is in the list of names has a row
 pub facility_there : (club : Club) (name : List ℕ) → Contains (map (λ (f : Facility). f.name) club.facilities) name → HasFacility name club
 facility_there club name named =
     let is_of : Facility → Bool = λ f. bytes_eq f.name name in
     let there = contains_mapped (λ (f : Facility). f.name) club.facilities name named in
     find_some is_of club.facilities (contains_counts is_of club.facilities there.0 there.1 ((bytes_eq-Decides there.0.name name).1 there.2))
 
--- if closing a slot fits the club, the slot is open
+-- A change that closes a slot fits the club only if the slot is open.
 pub still_open : (club : Club) (slot : Slot) → FitsClub (MarkClosed slot) club → is_closed slot club ≡ false
 still_open club slot fits =
     let apart = apart_last (λ (a : Slot) (b : Slot). a ≢ b) club.closed slot
@@ -79,7 +75,6 @@ still_open club slot fits =
     go [] apart = refl
     go (other ∷ slots) apart = rw (not_same other slot apart.0) (go slots apart.1)
 
--- if names are unique, a search by an element's name finds that element
 pub the_named : {X : Type 0} (name : X → List ℕ) (xs : List X) (x : X) → AllPairs (λ a b. name a ≢ name b) xs → Has xs x
     → find (λ y. bytes_eq (name y) (name x)) xs ≡ Some x
 the_named {X} name xs x unique has =
@@ -87,6 +82,5 @@ the_named {X} name xs x unique has =
     find_first is_of xs ∙ ap (λ ys. slice_get ys 0) (only (filter is_of xs) x (one_named name (name x) xs unique)
     (has_kept is_of xs x has ((bytes_eq-Decides (name x) (name x)).1 refl)))
 
--- the number of persons of a booking is within its bound, and so is its cost
 pub few_persons : (booking : Booking) → IsBooking booking → persons_taken booking ≤ 50
 few_persons booking row = let guests : booking.guests ≤ 49 = row.guests in grind arith

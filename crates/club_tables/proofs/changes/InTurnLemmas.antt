@@ -1,4 +1,4 @@
--- Consecutive statements that each write a row.
+-- Lemmas about a sequence of statements that each write a row.
 use Rattle.club_tables.proofs.Common.{rules, ◌≡◌, ◌≤◌, ℕ, Ok, List, [], ◌∷◌, sym, subst, inl, inr, arith, IsTrue, Ghosts, Held, state, StoreFault, Executes}
 use Rattle.club_tables.proofs.Common.{BoundStatement, Rows, HoldsRows, RanInTurn, FailsInTurn}
 
@@ -8,7 +8,6 @@ module _ {S : Type 0} (g : Ghosts S) where
       (old new : Held S) (count : ℕ) → HoldsRows (state g old).now rows → Executes statement.0 statement.1 (state g old) (state g new) (Ok count)
       → HoldsRows (state g new).now next × (1 ≤ count)
 
-  -- each statement writes a row, and together they turn the first rows into the last ones
   abbrev pub GoThrough : List BoundStatement → Rows → Rows → Type 0
   GoThrough [] rows last = rows ≡ last
   GoThrough (statement ∷ more) rows last = (next : Rows) × Moves statement rows next × GoThrough more next last
@@ -19,7 +18,6 @@ module _ {S : Type 0} (g : Ghosts S) where
   left_by (statement ∷ more) rows last through old new holds ran =
       left_by more through.0 last through.2 ran.0 new (through.1 old ran.0 ran.1 holds ran.2).0 ran.3
 
-  -- if each statement writes a row when it runs, a failure isn't caused by an unwritten row
   pub less_in_turn : (all : List BoundStatement) (old new : Held S) (fault : StoreFault)
       → (IsTrue (state g old).is_open → (rows : Rows) × (last : Rows) × HoldsRows (state g old).now rows × GoThrough all rows last)
       → FailsInTurn g 1 all old new fault → FailsInTurn g 0 all old new fault

@@ -1,4 +1,4 @@
--- The statement that sets a facility's numbers. After the statement, the tables store the rows of the changed club.
+-- Lemmas about the statement that sets a facility's places, price and hours.
 use Rattle.club_tables.proofs.Common.{rules, ◌≡◌, ◌≢◌, ◌≤◌, ◌<◌, ℕ, pos, min, Bool, true, false, not, ◌&&◌, None, Option, Some, List, [], ◌∷◌, length, map}
 use Rattle.club_tables.proofs.Common.{refl, sym, ap, ◌∙◌, subst, find, filter, list_all, option_map, unwrap_or, bytes_eq, bytes_eq-Decides, and_parts}
 use Rattle.club_tables.proofs.Common.{everything, Int, Text, Binary, Compare, Eq, binary, Row, Term, col, op2, holds, Query, inner, end, counted, Update}
@@ -34,7 +34,6 @@ numbers_means : Means club_schema SET_NUMBERS.now (Update 2 (record { lets = [];
 unfolding understood everything
 numbers_means = record { is = refl; plain = (refl, refl) }
 
--- the result of NOT EXISTS, from a count that stops at one
 none_counted : {X : Type 0} (xs : List X) → is_true (unary Not (Int (pos (min 1 (length xs))))) ≡ not (is_counted (length xs))
 unfolding unary
 none_counted [] = refl
@@ -43,11 +42,11 @@ none_counted (x ∷ xs) = let one : min 1 (length (x ∷ xs)) ≡ 1 = omega arit
 casts_facility : (id : ℤ) (f : Facility) → cast_row facility_table (Int id ∷ facility_values f) ≡ Int id ∷ facility_values f
 casts_facility id f = simp cast_int
 
--- a slot of the facility with more persons than these places
+-- The row belongs to a slot of this facility, and the slot has more persons than these places.
 abbrev pub crowds : List ℕ → ℕ → SlotRow → Bool
 crowds name places row = bytes_eq row.slot.facility name && nat_lt places row.held.taken
 
--- some slot of the facility has more persons than these places
+-- At least one slot of the facility has more persons than these places.
 abbrev pub is_crowded : List ℕ → ℕ → List SlotRow → Bool
 is_crowded name places slots = is_counted (length (filter (crowds name places) slots))
 
@@ -81,7 +80,6 @@ module _ (rows : Rows) (once : AllPairs (λ (a : Facility) (b : Facility). a.nam
       let low = one_named (λ (f : Facility). f.name) name rows.facilities once in
       search rules
 
-  -- if a row is written, the facility exists and none of its slots has more persons than the new places
   pub numbers_found : WhenRan (SET_NUMBERS.now, params) rows (λ old new count. 1 ≤ count → (f : Facility)
       × (find is_named rows.facilities ≡ Some f) × (not (is_crowded name places rows.slots) ≡ true))
   numbers_found old new count holds_rows ran some =
@@ -95,10 +93,7 @@ module _ (rows : Rows) (once : AllPairs (λ (a : Facility) (b : Facility). a.nam
       (facility_with_numbers name places price opens shuts) (λ f fails. rw fails refl) (λ id passes. rw passes refl) casts_facility
       (λ wrote held. on_facilities holds_rows wrote held)
 
--- ---- the persons of the facility's slots
-
 module _ (club : Club) (rows : Rows) (stored : IsStoredAs club rows) (name : List ℕ) (places : ℕ) where
-  -- if no slot's row has more persons than the places, no slot of the club has more
   pub few_by_rows : not (is_crowded name places rows.slots) ≡ true → (slot : Slot) → slot.facility ≡ name → taken_in slot club.bookings ≤ places
   few_by_rows roomy slot of = elim (slot_taken_by club rows stored slot) [
     | inl none ↦ omega (arith, none)
@@ -113,7 +108,6 @@ module _ (club : Club) (rows : Rows) (stored : IsStoredAs club rows) (name : Lis
           absurd (true≢false (sym roomy ∙ ap not (counted_some (filter (crowds name places) rows.slots) some)))
       by row has named taken false few = grind (arith, nat_tests)
 
-  -- if no slot of the club has more persons than the places, no slot's row has more
   pub few_in_rows : ((slot : Slot) → slot.facility ≡ name → taken_in slot club.bookings ≤ places) → not (is_crowded name places rows.slots) ≡ true
   few_in_rows few =
       let none : filter (crowds name places) rows.slots ≡ [] =
@@ -128,7 +122,6 @@ module _ (club : Club) (rows : Rows) (stored : IsStoredAs club rows) (name : Lis
           let low = few row.slot ((bytes_eq-Decides row.slot.facility name).0 named) in
           grind (arith, nat_tests)
 
--- a change that fits meets the conditions on the facility's numbers and on the persons in its slots
 module _ (club : Club) (name : List ℕ) (places price opens shuts : ℕ) (fits : FitsClub (ReplaceNumbers name places price opens shuts) club) where
   abbrev facility : Facility
   facility = fits.carries.0

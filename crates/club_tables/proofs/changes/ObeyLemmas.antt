@@ -1,4 +1,4 @@
--- The constraints of the tables, applied to their rows: names are unique, and each name that a row refers to is the name of a row.
+-- Lemmas about the constraints of the tables: primary keys and foreign keys.
 use Rattle.club_tables.proofs.Common.{◌≡◌, ℕ, ℤ, Bool, true, false, not, ◌&&◌, ◌==◌, List, [], ◌∷◌, ◌++◌, map, Contains, refl, sym, ap, subst, ◌∙◌, inl, inr}
 use Rattle.club_tables.proofs.Common.{bytes_eq, bytes_eq-Decides, and_parts, and-true, or_parts, cases_Bool, list_any, AllByRecursion, AllZip, Int, Row}
 use Rattle.club_tables.proofs.Common.{Database, Holds, HoldsRows, Rows, MemberRow, Facility, Key, Booking, SlotRow, Less, binary, value_cmp, rowid, Has}
@@ -9,7 +9,6 @@ use Rattle.club_tables.proofs.statements.UpdateLemmas.{Below}
 use Rattle.sqlite_schema.specs.{Names.same_name, Rules.{Obeys, agree, differ}, declared.schema.Constraint.TheVariants.{Unique, ForeignKey}}
 use Rattle.sqlite_value.specs.Keys.{plain, joined}
 
--- tables that hold rows obey their constraints
 obeys : {db : Database} {rows : Rows} → HoldsRows db rows → Obeys club_schema db.trees
 obeys {db = db} holds_rows = subst (λ s. Obeys s db.trees) holds_rows.schema holds_rows.database.obeys
 
@@ -26,12 +25,9 @@ not_true : (b : Bool) → not b ≡ true → b ≡ false
 not_true true h = absurd cc
 not_true false h = refl
 
--- two ascending rowids are different
 rising_differ : (a b : ℤ) → value_cmp (Int a) (Int b) ≡ Less → differ (Int b) (Int a) ≡ true
 unfolding binary
 rising_differ a b less = rw (value_cmp_total.antisymm (Int b) (Int a), less) refl
-
--- ---- primary keys of tables
 
 module _ {X : Type 0} (values : X → Row) (places : List ℕ) (same : X → X → Bool)
     (tests : (id id' : ℤ) (a b : X) → agree plain places (Int id ∷ values a) places (Int id' ∷ values b) ≡ same a b) where
@@ -58,7 +54,6 @@ module _ {X : Type 0} (values : X → Row) (places : List ℕ) (same : X → X �
           let apart : (same p.1 q.1 && true) ≡ false = rw (tests p.0 q.0 p.1 q.1, rising_differ q.0 p.0 below.0) at clash in
           (sym (and-true (same p.1 q.1)) ∙ apart, each rest below.1 (λ r has. in_all r (inr has)))
 
-  -- no earlier element equals the last one
   unlike_last : (rows : List Row) (xs : List X) (x : X) → Holds values rows (xs ++ x ∷ [])
       → AllByRecursion (λ row. list_any (Clashes row) rows ≡ false) rows → AllByRecursion (λ y. same x y ≡ false) xs
   unlike_last rows xs x held none =
@@ -68,8 +63,6 @@ module _ {X : Type 0} (values : X → Row) (places : List ℕ) (same : X → X �
       (subst (λ rs. AllByRecursion (λ row. list_any (Clashes row) rs ≡ false) rs) it.rows_are none) in
       apart_last R xs x (subst (Apart R) (sym it.xs_are) (ascending-map R (λ q. q.1) it.pairs apart))
 
--- ---- references to other tables
-
 any_zip : {X : Type 0} (values : X → Row) (hit : Row → Bool) (p : X → Bool) → ((id : ℤ) (x : X) → hit (Int id ∷ values x) ≡ p x) → (rows : List Row)
     (xs : List X) → AllZip (λ row x. IsRowOf (values x) row) rows xs → list_any hit rows ≡ list_any p xs
 any_zip values hit p tested [] [] same = refl
@@ -78,7 +71,6 @@ any_zip values hit p tested (r ∷ rows) [] same = absurd same
 any_zip values hit p tested (r ∷ rows) (x ∷ xs) same =
     rw (ap hit same.0.1 ∙ tested same.0.0 x, any_zip values hit p tested rows xs same.1) refl
 
--- if some element has this name, the list of names contains it
 named_among : {X : Type 0} (name : X → List ℕ) (n : List ℕ) (xs : List X) → list_any (λ x. bytes_eq (name x) n) xs ≡ true → Contains (map name xs) n
 named_among name n xs any = contains_had (map name xs) n (go xs any)
   where
@@ -98,7 +90,6 @@ all_zip values P Q gives (r ∷ rows) (x ∷ xs) same all =
     (gives same.0.0 x (subst Q same.0.1 all.0), all_zip values P Q gives rows xs same.1 all.1)
 
 module _ {db : Database} {rows : Rows} (holds_rows : HoldsRows db rows) where
-  -- ---- unique names
 
   pub members_apart : (xs : List MemberRow) (x : MemberRow) → rows.members ≡ xs ++ x ∷ []
       → AllByRecursion (λ (y : MemberRow). bytes_eq x.member.name y.member.name ≡ false) xs
@@ -135,8 +126,6 @@ module _ {db : Database} {rows : Rows} (holds_rows : HoldsRows db rows) where
       (db.trees bookings_tree) xs x
       (subst (Holds booking_values (db.trees bookings_tree)) is holds_rows.held.bookings)
       (all_weaker_rows (λ row h. not_true _ (and_parts _ _ h).0) (db.trees bookings_tree) ((obeys holds_rows).rules Unique).1.1.1.1.1.0)
-
-  -- ---- names that rows refer to
 
   pub key_members : AllByRecursion (λ (k : Key). Contains (map (λ (row : MemberRow). row.member.name) rows.members) k.member) rows.keys
   unfolding first_key same_name joined

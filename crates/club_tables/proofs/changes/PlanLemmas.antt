@@ -1,4 +1,4 @@
--- Facts about the club that follow from an applied change, and the effects of each statement of a change that fits.
+-- Proof that the statements of a change apply the change to the tables.
 use Rattle.club_tables.proofs.Common.{rules, ◌≡◌, ℕ, ◌≤◌, ℤ, pos, neg_ℤ, Bool, Ok, None, List, Option, Some, refl, sym, subst, ◌∙◌, ◌≢◌, ◌+◌, ◌-◌, true}
 use Rattle.club_tables.proofs.Common.{if◌then◌else◌, [], ◌∷◌, ◌++◌, map, Contains, ap, arith, IsTrue, inl, inr, recursion_from_All, All-contains}
 use Rattle.club_tables.proofs.Common.{bytes_eq-Decides, find, option_map, bytes_eq, Database, Held, state, Row, binary, Arith, Add, cond, SlotUse, IsMember}
@@ -43,12 +43,9 @@ module _ {S : Type 0} (g : Ghosts S) (old : Held S) (club : Club) (tables : Hold
   members_once = subst AreNamedOnce (sym tables.storage.members)
       (pairs_mapped (λ (a : MemberRow) (b : MemberRow). name_of a ≢ name_of b) (member_row club) (λ row. row.member) club.members tables.sound.unique.members)
 
-  -- ---- a change that was applied
-
   abbrev pub start : State
   start = state g (transaction_start old)
 
-  -- a stored member's row is the row of a member of the club
   pub member_of : (name : List ℕ) (row : MemberRow) → StoresMember name tables.rows.members row
       → (m : Member) × (member_named name club ≡ Some m) × (row ≡ member_row club m)
   member_of name row stores =
@@ -69,7 +66,7 @@ module _ {S : Type 0} (g : Ghosts S) (old : Held S) (club : Club) (tables : Hold
       some in
       (one.0, subst (λ keys. StoresKey key keys one.0) same one.1, one.2)
 
-  -- the rows after a booking is written; `filled_rows` are the rows after its persons are also added to its slot
+  -- The rows after a booking is inserted.
   abbrev pub booked_rows : Booking → Rows
   booked_rows booking = record tables.rows { bookings = tables.rows.bookings ++ booking ∷ [] }
 
@@ -79,7 +76,6 @@ module _ {S : Type 0} (g : Ghosts S) (old : Held S) (club : Club) (tables : Hold
   abbrev pub filled_rows : Booking → Rows
   filled_rows booking = record (booked_rows booking) { slots = put_slot booking.slot (take_use (adds booking)) tables.rows.slots }
 
-  -- a statement adds the booking's persons to its slot, whose facility exists
   filled : (booking : Booking) → IsBooking booking → Contains (map (λ (f : Facility). f.name) club.facilities) booking.slot.facility
       → Steps (ADD_TAKEN.now, name_values booking.slot ++ Int (pos (persons_taken booking)) ∷ []) (booked_rows booking) (filled_rows booking)
   filled booking row known =
@@ -91,7 +87,6 @@ module _ {S : Type 0} (g : Ghosts S) (old : Held S) (club : Club) (tables : Hold
       (subst (λ (u : SlotUse). binary (Arith Add) (whole u.taken) (Int (pos (persons_taken booking))) ≡ whole (u.taken + persons_taken booking)) (sym held)
       (total (taken_in booking.slot club.bookings) (persons_taken booking) (omega (arith, few, persons))))
 
-  -- facts that follow from a written booking: its number was free, its facility exists, and its member was charged
   pub record BookedBy (booking : Booking) (member : List ℕ) (at : Held S) : Type 0 where
     pub free : AllByRecursion (λ (b : Booking). (bytes_eq booking.key b.key && booking.number == b.number) ≡ false) tables.rows.bookings
     pub known : Contains (map (λ (f : Facility). f.name) club.facilities) booking.slot.facility
@@ -164,7 +159,6 @@ module _ {S : Type 0} (g : Ghosts S) (old : Held S) (club : Club) (tables : Hold
         owned_by t1.0 t2.0 _ first.0 tables.storage.keys members_once member booking.key (neg_ℤ (pos refund)) t2.1 t2.2 t2.4,
       )
 
-  -- the number of persons in a slot after those of a booking are added
   pub filled_use : (booking : Booking) (row : SlotRow) → row_of booking.slot (filled_rows booking).slots ≡ Some row
       → row.held.taken ≡ taken_in booking.slot (club.bookings ++ booking ∷ [])
   filled_use booking row is =
@@ -176,9 +170,7 @@ module _ {S : Type 0} (g : Ghosts S) (old : Held S) (club : Club) (tables : Hold
       ∙ sym (taken_more club booking booking.slot ∙ ap (λ b. if b then taken_in booking.slot club.bookings + persons_taken booking
       else taken_in booking.slot club.bookings) (same_itself booking.slot))
 
-  -- ---- the statements of a change that fits
-
-  -- the statements leave tables with the rows of this club
+  -- After the statements have run, the tables contain the rows of this club.
   abbrev LeaveRows : List BoundStatement → Club → Type 0
   LeaveRows all next = (last : Rows) × GoThrough g all tables.rows last × IsStoredAs next last
 
@@ -194,7 +186,6 @@ module _ {S : Type 0} (g : Ghosts S) (old : Held S) (club : Club) (tables : Hold
       subst (λ ms. StoresMember name ms (member_row club member)) (sym tables.storage.members)
       (find_mapped (λ (row : MemberRow). bytes_eq (name_of row) name) (member_row club) club.members ∙ ap (option_map (member_row club)) h)
 
-  -- the member of a key exists, and has spent at most the highest possible credit
   owner_of : (member key : List ℕ) → IsOwnedBy member key club → (m : Member) × (member_named member club ≡ Some m) × (m.name ≡ member)
       × (used_by club m.name ≤ credited_limit)
   owner_of member key owns =
@@ -212,7 +203,6 @@ module _ {S : Type 0} (g : Ghosts S) (old : Held S) (club : Club) (tables : Hold
         omega (arith, low, (All-contains IsMember club.members one.0 tables.sound.rows.members here.0).credited),
       )
 
-  -- one statement changes the bookings, and two others add amounts to the totals of a member and of a slot
   totals : (values : Row) (change : List Booking → List Booking) (member key : List ℕ) (points : ℤ) (used : ℕ → ℕ) (slot : Slot) (persons : ℤ)
       (taken : ℕ → ℕ) → Steps (CANCEL_BOOKING.now, values) tables.rows (record tables.rows { bookings = change tables.rows.bookings })
       → IsOwnedBy member key club
@@ -370,7 +360,6 @@ module _ {S : Type 0} (g : Ghosts S) (old : Held S) (club : Club) (tables : Hold
   plan (InsertBooking booking member) fits = booking_through booking member fits
   plan (MarkCancelled booking member refund) fits = cancel_through booking member refund fits
 
-  -- the statements leave tables that hold the changed club
   pub made : (db : Database) (change : Change) → FitsClub change club → Ran g 1 (statements_of change) old db → HoldsClub db (after change club)
   made db change fits ran =
       let it = plan change fits in

@@ -1,4 +1,4 @@
--- The stored rows of the club after each change.
+-- Lemmas about the rows that the tables store for the club after each change.
 use Rattle.club_tables.proofs.Common.{◌≡◌, ◌≢◌, ℕ, ◌+◌, Bool, true, false, not, ◌&&◌, ◌||◌, cond, if◌then◌else◌, List, [], ◌∷◌, ◌++◌, map, Option, Some, None}
 use Rattle.club_tables.proofs.Common.{Contains, refl, sym, ap, subst, ◌∙◌, arith, true≢false, rules, filter, find, sum_by, option_and_then, AllPairs}
 use Rattle.club_tables.proofs.Common.{option_map, AllByRecursion, list_any, bytes_eq, map-append, list_any-append, find-append, filter-append, option_or}
@@ -14,7 +14,7 @@ use Rattle.club_tables.proofs.{queries.MemberLemmas.any_filtered, statements.Pas
 use Rattle.club_tables.proofs.statements.{SelectLemmas.{apart_from_pairs, none_pass, filter_same, none_of}, UpdateLemmas.each_of}
 use Rattle.club_core.specs.After.{closed_but, member_with_quota}
 
--- ---- members
+-- Lemmas about the rows of members.
 
 used_none : (club : Club) (name : List ℕ) → AllByRecursion (λ (key : Key). bytes_eq key.member name ≡ false) club.keys → used_by club name ≡ 0
 used_none club name none =
@@ -57,7 +57,6 @@ pub facility_stored : (club : Club) (rows : Rows) → IsStoredAs club rows → (
     → IsStoredAs (after (InsertFacility facility) club) (record rows { facilities = rows.facilities ++ facility ∷ [] })
 facility_stored club rows stored facility = let facilities = ap (λ fs. fs ++ facility ∷ []) stored.facilities in search rules
 
--- a change of the keys that keeps the owner of each booking
 keys_stored : (club : Club) (rows : Rows) → IsStoredAs club rows → (change : List Key → List Key) (olders : List OlderRow)
     → ((name : List ℕ) → AllByRecursion (λ (b : Booking).
     list_any (λ (key : Key). bytes_eq key.name b.key) (filter (λ (key : Key). bytes_eq key.member name) (change club.keys)) ≡ is_key_of name club b.key)
@@ -79,7 +78,6 @@ owned_more names owns keys key other =
     ∙ (elim (owns key) as (λ b. (list_any names (filter owns keys) || list_any names (cond b (key ∷ []) [])) ≡ list_any names (filter owns keys))
     [ true ↦ rw other (or-false _) | false ↦ or-false _ ])
 
--- a new key without an older root changes no older root; an edit that keeps the keys' names changes the older root of the edited row
 older_pushed : (name : List ℕ) (keys : List Key) (key : Key) → key.older ≡ None
     → option_and_then (λ (k : Key). k.older) (find (λ (k : Key). bytes_eq k.name name) (keys ++ key ∷ []))
     ≡ option_and_then (λ (k : Key). k.older) (find (λ (k : Key). bytes_eq k.name name) keys)
@@ -160,7 +158,7 @@ rotate_stored club rows stored name root was until has =
         ((bytes_eq-Decides name n).0 same) (rw (has.1, (found (λ (k : Key). bytes_eq k.name name) club.keys has.0 has.1).1, has.2) refl)
     by_name n false other = other_name n other (key_named n club) refl
 
--- ---- slots
+-- Lemmas about the rows of slots.
 
 closed_use : (club : Club) (s : Slot) (b : Bool) → (if b then close_use (slot_use club s) else slot_use club s)
     ≡ record { taken = taken_in s club.bookings; closed = is_closed s club || (b || false) }
@@ -176,7 +174,6 @@ close_stored club rows stored slot =
     let once = slot_once slot close_use rows.slots stored.once in
     search rules
 
--- the opened slot is removed from the list, and every other slot stays in it
 none_left : {X : Type 0} (p : X → Bool) (xs : List X) → list_any p (filter (λ x. not (p x)) xs) ≡ false
 none_left p [] = refl
 none_left p (x ∷ xs) = grind (arith, none_left p xs)
@@ -211,9 +208,8 @@ open_stored club rows stored slot =
     let once = slot_once slot open_use rows.slots stored.once in
     search rules
 
--- ---- bookings
+-- Lemmas about the rows of bookings.
 
--- the rows after the bookings changed, and with them the totals of one member and one slot
 abbrev pub totals_rows : Rows → (List Booking → List Booking) → List ℕ → (ℕ → ℕ) → Slot → (ℕ → ℕ) → Rows
 totals_rows rows change member used slot taken = record rows {
   members = map (used_row member used) rows.members;
@@ -221,7 +217,6 @@ totals_rows rows change member used slot taken = record rows {
   slots = put_slot slot (take_use taken) rows.slots;
 }
 
--- an amount is added only if a test passes
 added_if : (b : Bool) (all one more : ℕ) → more ≡ all + cond b one 0 → (if b then all + one else all) ≡ more
 added_if b all one more is = grind arith
 
@@ -241,7 +236,6 @@ taken_more club booking s =
     counted : (c b : Bool) (n : ℕ) → cond (not c && b) n 0 ≡ cond b (if c then 0 else n) 0
     counted c b n = grind arith
 
--- the use of a slot after its number of persons changed
 recounted_use : (club : Club) (s : Slot) (next : ℕ → ℕ) (b : Bool) (taken : ℕ)
     → taken ≡ (if b then next (taken_in s club.bookings) else taken_in s club.bookings)
     → (if b then take_use next (slot_use club s) else slot_use club s) ≡ record { taken = taken; closed = is_closed s club }

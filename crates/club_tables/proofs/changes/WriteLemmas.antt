@@ -1,4 +1,4 @@
--- The club that is represented after statements that write, whether they succeed or fail.
+-- Lemmas about the club that a connection represents after the statements of a change.
 use Rattle.club_tables.proofs.Common.{◌≡◌, ◌<◌, length, List, [], ◌∷◌, IsTrue, Result, Ok, Err, OnOk, OnErr, inl, inr, refl, sym, subst, arith, MatchResult}
 use Rattle.club_tables.proofs.Common.{IfErr-weaker, on_err_weaker, Trees, Ghosts, Database, HasCleanDisk, Survives, Held, state, after, IsSound, FitsClub, Club}
 use Rattle.club_tables.proofs.Common.{StoreFault, HoldsClub, IsLeftOf, Represents, ChangesClub, IsChangeFault, IsRunFault, InLimits, BoundStatement, Ran}
@@ -22,7 +22,6 @@ module _ {S : Type 0} (g : Ghosts S) (all : List BoundStatement) (some : 0 < len
   held : (db : Database) → Ran g 1 all old db → HoldsClub (state g old).now club
   held db ran = subst (λ (d : Database). HoldsClub d club) (sym (represents.idle earlier (ran.was_open some))) (represents.held earlier (ran.was_open some))
 
-  -- if nothing was committed, the connection still represents the club
   kept_as : (clubs : List Club) → ((trees : Trees) (db : Database) → Ran g 1 all old db → trees ≡ db.trees → IsLeftOf trees (club ∷ clubs))
       → ((trees : Trees) → IsLeftOf trees (club ∷ others) → IsLeftOf trees (club ∷ clubs)) → IsKept (state g old) (state g new)
       → Represents (state g new) club clubs
@@ -35,7 +34,6 @@ module _ {S : Type 0} (g : Ghosts S) (all : List BoundStatement) (some : 0 < len
 
   module _ (next : Club) (Fits : Type 0) (sound_if : IsSound next → (db : Database) → HoldsClub (state g old).now club → Ran g 1 all old db
       → HoldsClub db next) (fits : (db : Database) → HoldsClub (state g old).now club → Ran g 1 all old db → Fits × HoldsClub db next) where
-    -- an applied change fits the club; after a failed change, a crash can leave its effects only if it fits the club
     pub wrote : {E : Type 0} (r : Result (Unit {0}) E) → OnOk r (IsTrue (state g new).is_open × Ran g 1 all old (state g new).committed
         × ((state g new).now ≡ (state g new).committed)) → OnErr r (IsKept (state g old) (state g new))
         → IsSettled (state g new)
@@ -55,7 +53,6 @@ module _ {S : Type 0} (g : Ghosts S) (all : List BoundStatement) (some : 0 < len
 some_statements : (change : Change) → 0 < length (statements_of change)
 some_statements change = grind arith
 
--- committed statements apply their change
 pub changes : {S : Type 0} {g : Ghosts S} → SuitingChangesKeepSound → (change : Change) → InLimits change → {old new : Held S}
     {result : Result (Unit {0}) StoreFault}
     → Commits g 1 (statements_of change) old new result → IsSettled (state g new) → ChangesClub g change old new result
@@ -91,7 +88,7 @@ changes {g = g} law change within {old = old} {new = new} {result = r} commits s
           }) (commits.fault clean);
     }
 
--- a change whose values are outside their limits is refused before any statement runs
+-- A change with values outside their limits is refused before any statement runs.
 pub refuses : {S : Type 0} {g : Ghosts S} (change : Change) → ¬ InLimits change → ((club : Club) → FitsClub change club → InLimits change) → (held : Held S)
     → ChangesClub g change held held (Err Storage)
 refuses {g = g} change out within_if_fits held = record {
@@ -108,7 +105,6 @@ refuses {g = g} change out within_if_fits held = record {
   fault_if_fits = λ clean club others represents fits. absurd (out (within_if_fits club fits));
 }
 
--- the values of a change that fits a club are within their limits
 pub member_if_fits : (member : Member) (club : Club) → FitsClub (InsertMember member) club → IsMember member
 member_if_fits member club fits = all_last IsMember club.members member (recursion_from_All IsMember (club.members ++ member ∷ []) fits.sound.rows.members)
 

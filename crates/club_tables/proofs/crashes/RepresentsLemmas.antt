@@ -1,11 +1,10 @@
--- A call that changes nothing doesn't change the represented club.
+-- Lemmas about queries: a query doesn't change the club that the connection represents.
 use Rattle.club_tables.proofs.Common.{rules, Trees, IsLeftOf, filter, IsPermutation, list_all, ◌≡◌, ℕ, ℤ, Bool, false, List, [], ◌∷◌, map, IsTrue, sym, subst}
 use Rattle.club_tables.proofs.Common.{Int, Row, Schema, Ghosts, Database, Reads, Select, Term, holds, eval_all, Query, inner, end, understood, reads_listing}
 use Rattle.club_tables.proofs.Common.{State, HasCleanDisk, Survives, Shown, Held, state, survives_then, IsPlain, command_of, reads_as, Club, club_schema}
 use Rattle.club_tables.proofs.Common.{key_values, booking_values, HoldsClub, Holds, RepresentsBy, Represents, keys_tree, bookings_tree, select, BoundStatement}
 use Rattle.club_tables.proofs.{Common.{Asked, IsKept, transaction_start}, statements.SelectLemmas.selected}
 
--- for any relation between a database and its club, the state still represents the same club if a crash leaves one of these states
 pub represents_by : (IsHeld : Database → Club → Type 0) (old new : State) → IsKept old new → (HasCleanDisk new → HasCleanDisk old) → (club : Club)
     (others next : List Club) → RepresentsBy IsHeld old club others
     → (HasCleanDisk new → (trees : Trees) → new.may_leave trees → IsLeftOf trees (club ∷ next)) → RepresentsBy IsHeld new club next
@@ -15,33 +14,28 @@ pub represents_on : (IsHeld : Database → Club → Type 0) (old new : State) �
     → RepresentsBy IsHeld old club others → RepresentsBy IsHeld new club others
 represents_on IsHeld old new kept quiet club others before = search rules
 
--- a query that returned ran on an open connection
 pub asked_open : {S : Type 0} (g : Ghosts S) (sql : List ℕ) (params : Row) (old : Held S) (rows : List Row) → Asked g sql params old rows
     → IsTrue (state g old).is_open
 unfolding Shown
 asked_open g sql params old rows asked = search rules
 
--- a query reads tables that hold the represented club
 pub asked_tables : {S : Type 0} {g : Ghosts S} {sql : List ℕ} {params : Row} {old : Held S} {rows : List Row} → Asked g sql params old rows
     → HasCleanDisk (state g old) → (club : Club) (others : List Club) → Represents (state g old) club others → HoldsClub (state g old).now club
 asked_tables {g = g} {sql = sql} {params = params} {old = old} {rows = rows} asked clean club others represents =
     let is_open = asked_open g sql params old rows asked in
     subst (λ (db : Database). HoldsClub db club) (sym (represents.idle clean is_open)) (represents.held clean is_open)
 
--- over these tables the text is this query, whose columns have these names
 pub record Asks (schema : Schema) (text : List ℕ) (query : Query) (names : List (List ℕ)) : Type 0 where
   pub is : command_of (understood schema text) ≡ Select (record { lets = []; body = query }) names
   pub plain : IsPlain (understood schema text)
   pub unlisted : reads_listing schema text ≡ false
 
--- the rows that a query over these tables returned
 pub asked_reads : {S : Type 0} {g : Ghosts S} {sql : List ℕ} {params : Row} {old : Held S} {rows : List Row} {schema : Schema} {query : Query}
     {names : List (List ℕ)} → Asked g sql params old rows → Asks schema sql query names → (state g old).now.schema ≡ schema
     → Reads (Select (record { lets = []; body = query }) names) (state g old).now params rows
 asked_reads {g = g} {sql = sql} {params = params} {old = old} {rows = rows} {schema = schema} asked asks over =
     reads_as sql params (state g (transaction_start old)) (state g asked.mid) schema over _ asks.is asks.plain asks.unlisted rows asked.shown
 
--- the rows of a query over one table show the elements that pass, in some order
 pub asked_shows : {S : Type 0} {g : Ghosts S} {sql : List ℕ} {params : Row} {old : Held S} {rows : List Row} {tree : ℕ} {tests project : List Term}
     {names : List (List ℕ)} {club : Club} → Asked g sql params old rows → Asks club_schema sql (select (inner tree end) tests project) names
     → HoldsClub (state g old).now club → {X : Type 0} (values : X → Row) (p : X → Bool) (show : X → Row)
@@ -52,7 +46,6 @@ asked_shows {g = g} {params = params} {old = old} {rows = rows} {tree = tree} {t
     show tested shown xs held =
     selected values params tests project p show tested shown tree names (state g old).now xs rows held (asked_reads asked asks tables.holds_rows.schema)
 
--- the rows of a statement, as a function of the represented club
 abbrev pub Shows : {S : Type 0} → Ghosts S → Held S → BoundStatement → (Club → List Row → Type 0) → Type 0
 Shows g old statement IsShown =
     (rows : List Row) → HasCleanDisk (state g old) → Asked g statement.0 statement.1 old rows → (club : Club) (others : List Club)
@@ -61,7 +54,6 @@ Shows g old statement IsShown =
 pub survives_none : (a b c : State) → Survives a b (λ _. ⊥) → Survives b c (λ _. ⊥) → Survives a c (λ _. ⊥)
 survives_none a b c p q = survives_then a b c (λ _. ⊥) (λ _. ⊥) (λ _. ⊥) (λ _ db none. none) (λ _ db none. none) p q
 
--- the tables hold the club's own keys and bookings
 pub keys_held : (db : Database) (club : Club) → (tables : HoldsClub db club) → Holds key_values (db.trees keys_tree) club.keys
 keys_held db club tables = subst (Holds key_values (db.trees keys_tree)) tables.storage.keys tables.holds_rows.held.keys
 

@@ -1,4 +1,4 @@
--- The states that a crash may leave during a transaction, and the properties that a call in it preserves.
+-- Lemmas about the states that a crash may leave during a transaction.
 use Rattle.club_tables.proofs.Common.{◌≡◌, ℕ, List, refl, arith, inl, Err, IsTrue, true, rules, Ghosts, Trees, Database, State, HasCleanDisk, Survives}
 use Rattle.club_tables.proofs.Common.{IsRolledBack, Shown, FailsToQuery, IsNotRun, IsTooLate, ExecutesInside, Held, state, survives_then, Row, Error}
 use Rattle.club_tables.proofs.Common.{StoreFault, BoundStatement, Ran, IsUntouched, MayCommit, IsAfterReadings, IsOpeningFault}
@@ -13,7 +13,6 @@ survives_as old new P Q s leaves = search rules
 pub kept_when_idle : (s : State) → IsUntouched s s
 kept_when_idle s rest clean is_open = (is_open, rest is_open, refl)
 
--- if nothing happened, a crash leaves what it could leave before
 pub survives_itself : (s : State) → Survives s s (λ _. ⊥)
 survives_itself s = record {
   clean = omega arith;
@@ -28,7 +27,6 @@ pub untouched_then : (a b c : State) → (HasCleanDisk c → HasCleanDisk b) →
 untouched_then a b c earlier first next rest clean is_open = search rules
 
 module _ {S : Type 0} (g : Ghosts S) (fewest : ℕ) where
-  -- a crash may leave the effects of these statements
   pub may_commit : (all : List BoundStatement) (AreStatements : List BoundStatement → Type 0) → AreStatements all → (old new : Held S)
       → Survives (state g old) (state g new) (λ trees. (db : Database) × Ran g fewest all old db × (trees ≡ db.trees))
       → Survives (state g old) (state g new) (MayCommit g fewest AreStatements old)
@@ -40,12 +38,10 @@ module _ {S : Type 0} (g : Ghosts S) (fewest : ℕ) where
       let earlier = was_clean (state g old) (state g new) _ survives clean in
       search rules)
 
-  -- a call that commits nothing
   pub commits_nothing : (AreStatements : List BoundStatement → Type 0) (old new : Held S) → Survives (state g old) (state g new) (λ _. ⊥)
       → Survives (state g old) (state g new) (MayCommit g fewest AreStatements old)
   commits_nothing AreStatements old new survives = search rules
 
-  -- a call that may commit statements, after a read
   pub commits_after : (AreStatements : List BoundStatement → Type 0) (a b c : Held S) → IsUntouched (state g a) (state g b)
       → Survives (state g a) (state g b) (λ _. ⊥)
       → Survives (state g b) (state g c) (MayCommit g fewest AreStatements b)
@@ -60,22 +56,16 @@ module _ {S : Type 0} (g : Ghosts S) (fewest : ℕ) where
       p) first next
 
 module _ {S : Type 0} (g : Ghosts S) where
-  -- reads that follow other reads
   pub after_then : (a b c : Held S) → IsAfterReadings g a b → IsAfterReadings g b c → IsAfterReadings g a c
   after_then a b c first next = search rules
 
-  -- a single read
   pub after_one : (old new : Held S) → HasCleanDisk (state g new) → IsUntouched (state g old) (state g new) → Survives (state g old) (state g new) (λ _. ⊥)
       → IsAfterReadings g old new
   after_one old new clean same survives = record { same = same; clean = clean; fault_count = survives.counts }
 
-  -- the fault of an opening after reads also counts from the state before the reads
   pub opened_after : (a b c : Held S) (fault : StoreFault) → IsAfterReadings g a b → IsOpeningFault g b c fault → IsOpeningFault g a c fault
   opened_after a b c fault first it = record { from = it.from; after = after_then a b it.from first it.after; failure = it.failure }
 
--- ---- calls in a transaction
-
--- if the connection is open, it was open before, and its committed state is the same
 abbrev pub Keeps : State → State → Type 0
 Keeps old new = IsTrue new.is_open → IsTrue old.is_open × (new.committed ≡ old.committed)
 
@@ -98,12 +88,10 @@ module _ (sql : List ℕ) (params : Row) (old new : State) where
   pub too_late_keeps : (e : Error) → IsTooLate sql params old new e → Keeps old new
   too_late_keeps e h = search rules
 
--- the transaction is dropped or rolled back
 pub then_rolled : (old mid new : State) → Keeps old mid → IsRolledBack mid new → IsTrue new.is_open → IsTrue old.is_open × (new.now ≡ old.committed)
     × (new.committed ≡ old.committed)
 then_rolled old mid new kept back is_open = search rules
 
--- a commit that fails leaves the committed state unchanged
 pub commit_keeps : (old mid new : State) (e : Error) → Keeps old mid → IsTrue mid.in_transaction → FailsToCommit mid new e → IsTrue new.is_open
     → IsTrue old.is_open × (new.now ≡ old.committed) × (new.committed ≡ old.committed)
 commit_keeps old mid new e kept inside h is_open = grind arith

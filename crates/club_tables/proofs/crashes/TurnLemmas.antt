@@ -1,4 +1,4 @@
--- Statements that run one after another.
+-- Lemmas about statements that run one after another in a transaction.
 use Rattle.club_tables.proofs.Common.{◌≡◌, ℕ, ◌+◌, ◌<◌, ◌≤◌, List, [], ◌∷◌, ◌++◌, length, map, take, get_or, zero, suc, Ok, IsTrue, inl, inr, refl, sym, subst}
 use Rattle.club_tables.proofs.Common.{add-one, arith, length-map, map-append, Ghosts, Trees, Database, HasCleanDisk, Survives, Executes, Held, state, Error}
 use Rattle.club_tables.proofs.Common.{survives_then, survives_begin, StoreFault, BoundStatement, bound_statement, Ran, RanInTurn, transaction_start, fault_by}
@@ -8,7 +8,6 @@ use Rattle.sqlite.specs.Steps.{FailsToCommit}
 use Rattle.club_tables.specs.declared.transaction.Statement.{Statement}
 
 module _ {S : Type 0} (g : Ghosts S) (fewest : ℕ) where
-  -- one more statement runs after the others
   pub turn_more : (all : List BoundStatement) (statement : BoundStatement) (a b c : Held S) (count : ℕ) → RanInTurn g fewest all a b
       → Executes statement.0 statement.1 (state g b) (state g c) (Ok count) → fewest ≤ count → IsTrue (state g b).is_open
       → RanInTurn g fewest (all ++ statement ∷ []) a c
@@ -37,7 +36,6 @@ module _ {S : Type 0} (g : Ghosts S) (fewest : ℕ) where
       → RanInTurn g fewest (map bound_statement (take at statements)) a b → RanInTurn g fewest (map bound_statement statements) a b
   turn_all statements at a b past before = subst (λ all. RanInTurn g fewest (map bound_statement all) a b) (take_all at statements past) before
 
-  -- a statement fails after the earlier ones ran
   pub fails_at : (statements : List Statement) (at : ℕ) (d : Statement) (a b c : Held S) (fault : StoreFault) → at < length statements
       → RanInTurn g fewest (map bound_statement (take at statements)) a b → StopsAt g fewest (bound_statement (get_or statements at d)) b c fault
       → FailsInTurn g fewest (map bound_statement statements) a c fault
@@ -46,14 +44,13 @@ module _ {S : Type 0} (g : Ghosts S) (fewest : ℕ) where
   fails_at (s ∷ statements) (suc at) d a b c fault within before one =
       inr (before.0, before.1, before.2, fails_at statements at d before.0 b c fault (omega arith) before.3 one, before.4, before.5)
 
-  -- all statements ran, and then the database refused their commit
   pub fails_last : (all : List BoundStatement) (a b c : Held S) (error : Error) (fault : StoreFault) → RanInTurn g fewest all a b
       → FailsToCommit (state g b) (state g c) error → fault ≡ fault_by error → FailsInTurn g fewest all a c fault
   fails_last [] a b c error fault before last is = (error, subst (λ h. FailsToCommit (state g h) (state g c) error) before last, is)
   fails_last (statement ∷ all) a b c error fault before last is =
       inr (before.0, before.1, before.2, fails_last all before.0 b c error fault before.3 last is, before.4, before.5)
 
-  -- whether or not the commit after all statements succeeds, a crash may leave their effects
+  -- A crash may leave the effects of all statements, even if the commit fails.
   pub commit_survives : (statements : List Statement) (at : ℕ) (old mid new : Held S) → length statements ≤ at
       → Survives (state g (transaction_start old)) (state g mid) (λ _. ⊥)
       → (HasCleanDisk (state g mid) → RanInTurn g fewest (map bound_statement (take at statements)) (transaction_start old) mid)

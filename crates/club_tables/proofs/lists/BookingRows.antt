@@ -1,4 +1,4 @@
--- Rows and the values that are read from them: a row decodes to the value that it was made from.
+-- Lemmas about the values that rows are decoded into.
 use Rattle.club_tables.proofs.Common.{ap, ◌≡◌, ℕ, zero, suc, ◌+◌, ◌<◌, Bool, true, false, List, [], ◌∷◌, ◌++◌, length, take, map, refl, sym, subst, ◌∙◌, arith}
 use Rattle.club_tables.proofs.Common.{inl, inr, get_or, Option, Some, None, if◌then◌else◌, ◌==◌, All, slice_index_or, option_map, AllByRecursion, take_more}
 use Rattle.club_tables.proofs.Common.{All-from_recursion, Value, Text, Blob, Row, column, truth, Booking, Club, IsBooking, Slot, SlotUse, slot_use}
@@ -17,13 +17,12 @@ truths true false h = absurd (omega arith)
 truths false true h = absurd (omega arith)
 truths false false h = refl
 
--- the text or the bytes of a value
+-- The bytes of a text or a blob.
 abbrev pub bytes : Value → List ℕ
 bytes (Text text) = text
 bytes (Blob blob) = blob
 bytes _ = []
 
--- a row decodes to only one booking
 pub one_booking : (a b : Booking) → HasValues (booking_values a) (booking_values b) → b ≡ a
 one_booking a b h =
     let r : booking_values b ≡ booking_values a = cc in
@@ -45,7 +44,6 @@ bookings_of_rows [] (b ∷ others) h = absurd h
 bookings_of_rows (a ∷ bookings) [] h = absurd h
 bookings_of_rows (a ∷ bookings) (b ∷ others) h = let first = one_booking a b h.0.1 in let more = bookings_of_rows bookings others h.1 in cc
 
--- the bookings decoded from the day's rows are the day's bookings
 pub day_of_rows : (club : Club) (day : ℕ) (rows : List Row) (bookings : List Booking) → ShowsDay club day rows → AreBookings rows bookings
     → AreRowsOf club day bookings
 day_of_rows club day rows bookings shows are =
@@ -64,7 +62,6 @@ within_limits rows bookings are = All-from_recursion IsBooking bookings (each ro
 abbrev IsOfRow : Row → Booking → Type 0
 IsOfRow row booking = IsBooking booking × HasValues row (booking_values booking)
 
--- one more row is read
 pub bookings_more : (rows : List Row) (k : ℕ) (row : Row) (bookings : List Booking) (b : Booking) → k < length rows → row ≡ slice_index_or rows k row
     → AreBookings (take k rows) bookings → IsOfRow row b
     → AreBookings (take (k + 1) rows) (bookings ++ b ∷ [])
@@ -79,21 +76,18 @@ booking_at (r ∷ rows) [] k d are low = absurd are
 booking_at (r ∷ rows) (b ∷ bookings) zero d are low = (b, are.0)
 booking_at (r ∷ rows) (b ∷ bookings) (suc k) d are low = booking_at rows bookings k d are.1 (omega arith)
 
--- rows don't decode to bookings if one of them doesn't decode to a booking
 pub no_bookings : (rows : List Row) (k : ℕ) (row : Row) → k < length rows → row ≡ slice_index_or rows k row → ((b : Booking) → ¬ (IsOfRow row b))
     → (bookings : List Booking) → ¬ (AreBookings rows bookings)
 no_bookings rows k row low is none bookings are =
     let there = booking_at rows bookings k row are low in
     none there.0 (subst (λ r. IsOfRow r there.0) (sym is) there.1)
 
--- a row decodes to only one use of a slot
 one_use : (a b : SlotUse) → HasValues (use_values a) (use_values b) → b ≡ a
 one_use a b h =
     let r : use_values b ≡ use_values a = cc in
     let closed = truths b.closed a.closed (ap (λ row. whole_in (column row 0)) r) in
     λ i. record { taken = whole_in (column (r i) 1); closed = closed i }
 
--- rows that show the use of a slot decode to that use
 pub use_is : (club : Club) (slot : Slot) (rows : List Row) (found : SlotUse) → ShowsUse club slot rows → IsUse rows found → found ≡ slot_use club slot
 use_is club slot rows found (inl there) is =
     let read : IsUse (use_values (slot_use club slot) ∷ []) found = subst (λ rs. IsUse rs found) there is in
@@ -102,7 +96,6 @@ use_is club slot rows found (inr absent) is =
     let none : IsUse [] found = subst (λ rs. IsUse rs found) absent.0 is in
     none ∙ sym absent.1
 
--- rows that were made from an optional value decode to this value
 pub first_of : {X A : Type 0} (values : X → Row) (into : X → A) (Yields : Row → A → Type 0) → ((x : X) (a : A) → Yields (values x) a → a ≡ into x)
     → (held : Option X) (rows : List Row) (found : Option A) → rows ≡ map values (option_to_list held) → IsFirst Yields rows found
     → found ≡ option_map into held
@@ -113,7 +106,6 @@ first_of {X} {A} values into Yields one held rows found is first = go held found
     go (Some x) None h = absurd h
     go (Some x) (Some a) h = ap Some (one x a h)
 
--- rows that were made from an optional value decode to it, if a row determines its whole value
 pub first_held : {X : Type 0} (values : X → Row) (Fits : X → Type 0) → ((a b : X) → HasValues (values a) (values b) → b ≡ a)
     → (held : Option X) (rows : List Row) (found : Option X) → rows ≡ map values (option_to_list held)
     → IsFirst (λ row x. Fits x × HasValues row (values x)) rows found → found ≡ held
@@ -140,7 +132,8 @@ one_member a b h =
       used = whole_in (column (r i) 3);
     }
 
--- kinds of facilities differ in their first letters
+-- The kind of a facility, from the first letter of the kind's text. No two kinds begin with the
+-- same letter.
 abbrev kind_by : ℕ → Kind
 kind_by letter = if letter == 99 then Court else if letter == 98 then Boat else Room
 
@@ -163,7 +156,6 @@ one_facility a b h =
     }
 
 module _ (key : List ℕ) (number : ℕ) where
-  -- if rows decode to a booking with this key and number, they decode to a booking
   pub unnamed : (rows : List Row) (found : Option Booking) → IsFirst (IsBookingNamed key number) rows found → IsFirst IsBookingIn rows found
   unnamed [] found h = h
   unnamed (row ∷ rows) None h = absurd h

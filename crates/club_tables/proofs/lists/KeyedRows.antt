@@ -1,4 +1,4 @@
--- Rows found by their keys, such as the rows of slots, after the row of one key is inserted or updated.
+-- Lemmas about lists with at most one row for each key, such as the rows of slots.
 use Rattle.club_tables.proofs.Common.{◌≡◌, ◌≢◌, Bool, true, false, cond, if◌then◌else◌, Option, Some, None, List, [], ◌∷◌, ◌++◌, map, refl, sym, ap, subst, ◌∙◌}
 use Rattle.club_tables.proofs.Common.{true≢false, ℤ, ◌==◌, find, option_map, AllPairs, unwrap_or, option_or, list_any, false_from_ne_true, or_parts}
 use Rattle.club_tables.proofs.Common.{find-append, list_any_at, bytes_eq, nat_list_eq_equiv, nat_eq_equiv, or-false, Value, Int, first_key, Table, conflicts}
@@ -26,7 +26,6 @@ module _ {X K : Type 0} (key_of : X → K) (same : K → K → Bool) (same_keys 
   abbrev named : K → List X → Option X
   named name rows = find (λ (x : X). same (key_of x) name) rows
 
-  -- no two rows belong to the key
   abbrev IsLone : X → X → Type 0
   IsLone a b = ¬ ((is_of a ≡ true) × (is_of b ≡ true))
 
@@ -34,12 +33,10 @@ module _ {X K : Type 0} (key_of : X → K) (same : K → K → Bool) (same_keys 
   lone rows once = apart_from_pairs IsLone rows (λ i j d less low both.
       once i j d less low (same_keys _ key both.0 ∙ sym (same_keys _ key both.1)))
 
-  -- the key's row is changed, or this row is appended if the key has no row
   module _ (changed : X → X) (kept : (x : X) → key_of (changed x) ≡ key_of x) (first : X) (of_key : key_of first ≡ key) where
     abbrev put : Bool → List X → List X
     put any rows = if any then map changed rows else rows ++ first ∷ []
 
-    -- no key has two rows
     pub put_once : (rows : List X) → AllPairs Differ rows → AllPairs Differ (put (list_any is_of rows) rows)
     put_once rows once = go (list_any is_of rows) refl
       where
@@ -51,7 +48,6 @@ module _ {X K : Type 0} (key_of : X → K) (same : K → K → Bool) (same_keys 
     found_changed : (name : K) (rows : List X) → named name (map changed rows) ≡ option_map changed (named name rows)
     found_changed name rows = find_mapped (λ (x : X). same (key_of x) name) changed rows ∙ (λ i. option_map changed (find (λ x. same (kept x i) name) rows))
 
-    -- the value shown for the found row, or for no row, changes only for this key
     module _ {V : Type 0} (shown : Option X → V) (next : V → V) (shows : (x : X) → is_of x ≡ true → shown (Some (changed x)) ≡ next (shown (Some x)))
         (stays : (x : X) → is_of x ≡ false → changed x ≡ x) (makes : shown (Some first) ≡ next (shown None)) where
       unchanged : (name : K) (rows : List X) → same key name ≡ false → (o : Option X) → named name rows ≡ o → shown (option_map changed o) ≡ shown o
@@ -83,15 +79,12 @@ module _ {X K : Type 0} (key_of : X → K) (same : K → K → Bool) (same_keys 
               ∙ makes ∙ ap (λ o. next (shown o)) (sym empty)
           go false none false other = ap shown (pushed ∙ ap (λ b. option_or (named name rows) (cond b (Some first) None)) other ∙ or_none (named name rows))
 
--- ---- rows of slots
-
 abbrev pub slot_table : Table
 slot_table = record slots_table { tree = slots_tree }
 
 abbrev pub AreApart : List SlotRow → Type 0
 AreApart = Apart (λ (a : SlotRow) (b : SlotRow). a.slot ≢ b.slot)
 
--- a row conflicts with a new one if both belong to the same slot
 pub slots_conflict : (id id' : ℤ) (a : SlotRow) (b : Slot) (v w : Value) → conflicts (Some (1 ∷ 2 ∷ 3 ∷ [])) club_schema.indexes slot_table (Int id'
     ∷ name_values b ++ v ∷ w ∷ []) (Int id ∷ slot_values a) ≡ same_slot a.slot b
 unfolding first_key
@@ -105,8 +98,6 @@ same_itself slot = rw (nat_list_eq_equiv.refl slot.facility, nat_eq_equiv.refl s
 pub not_same : (a b : Slot) → a ≢ b → same_slot a b ≡ false
 not_same a b apart = false_from_ne_true (same_slot a b) (λ same. apart (same_slots a b same))
 
--- ---- one row for each slot
-
 module _ (slot : Slot) (change : SlotUse → SlotUse) where
   abbrev pub changed : SlotRow → SlotRow
   changed row = record row { held = if same_slot row.slot slot then change row.held else row.held }
@@ -114,14 +105,13 @@ module _ (slot : Slot) (change : SlotUse → SlotUse) where
   abbrev pub new_row : SlotRow
   new_row = record { slot = slot; held = change no_slot_use }
 
-  -- the row of the slot is changed, or is inserted if it is missing
+  -- The rows of slots after the slot's row is updated, or inserted if the slot had no row.
   abbrev pub put_slot : List SlotRow → List SlotRow
   put_slot rows = if list_any (λ (row : SlotRow). same_slot row.slot slot) rows then map changed rows else rows ++ new_row ∷ []
 
   pub same_row : (row : SlotRow) → same_slot row.slot slot ≡ false → changed row ≡ row
   same_row row fails = ap (λ b. let r : SlotRow = record row { held = if b then change row.held else row.held } in r) fails
 
-  -- the use of each slot after the row is inserted or updated
   pub use_put : (s : Slot) (rows : List SlotRow)
       → stored_slot_use s (put_slot rows) ≡ (if same_slot slot s then change (stored_slot_use s rows) else stored_slot_use s rows)
   use_put s rows =
@@ -129,7 +119,6 @@ module _ (slot : Slot) (change : SlotUse → SlotUse) where
       (λ found. unwrap_or (option_map (λ (row : SlotRow). row.held) found) no_slot_use) change
       (λ row passes. ap (λ b. if b then change row.held else row.held) passes) same_row refl s rows
 
-  -- no slot has two rows
   pub slot_once : (rows : List SlotRow) → AllPairs (λ (a : SlotRow) (b : SlotRow). a.slot ≢ b.slot) rows
       → AllPairs (λ (a : SlotRow) (b : SlotRow). a.slot ≢ b.slot) (put_slot rows)
   slot_once = put_once (λ (row : SlotRow). row.slot) same_slot same_slots same_itself slot changed (λ row. refl) new_row refl

@@ -1,11 +1,9 @@
--- Lists, sums over parts of them, and the owner of a booking.
+-- Lemmas about lists and sums, and about the member to whom a booking belongs.
 use Rattle.club_tables.proofs.Common.{◌≡◌, ◌≢◌, ℕ, ◌+◌, Bool, true, false, cond, List, [], ◌∷◌, ◌++◌, map, Some, Contains, refl, sym, ap, ◌∙◌, arith, filter}
 use Rattle.club_tables.proofs.Common.{find, sum_by, AllByRecursion, list_any, bytes_eq, false_from_ne_true, sum_by-cons, sum_by_push, bytes_eq-Decides}
 use Rattle.club_tables.proofs.Common.{nat_list_eq_equiv, and_comm, or-false, option_to_list, Key, Club, IsSound, is_key_of, IsOwnedBy, all_weaker, all-map}
 use Rattle.club_tables.proofs.{Common.{all_has, has_last, has_contained}, queries.{KeyLemmas.{one_listed, one_named}, MemberLemmas.any_filtered}}
 use Rattle.club_tables.proofs.statements.SelectLemmas.{Apart}
-
--- ---- lists
 
 pub map_agree : {X Y : Type 0} (f g : X → Y) → ((x : X) → f x ≡ g x) → (xs : List X) → map f xs ≡ map g xs
 map_agree f g same xs = λ i. map (λ x. same x i) xs
@@ -23,8 +21,6 @@ not_among f xs y apart has = all_has (λ z. z ≢ y) (map f xs) y (all-map (λ z
 pub unequal : (a b : List ℕ) → a ≢ b → bytes_eq a b ≡ false
 unequal a b apart = false_from_ne_true (bytes_eq a b) (λ h. apart ((bytes_eq-Decides a b).0 h))
 
--- ---- sums
-
 sum_picked : {X : Type 0} (w : X → ℕ) (q : X → Bool) (xs : List X) → sum_by w (filter q xs) ≡ sum_by (λ x. cond (q x) (w x) 0) xs
 sum_picked w q [] = refl
 sum_picked w q (x ∷ xs) =
@@ -32,7 +28,6 @@ sum_picked w q (x ∷ xs) =
     (elim (q x) as (λ b. sum_by w (cond b (x ∷ filter q xs) (filter q xs)) ≡ cond b (w x) 0 + sum_by w (filter q xs))
     [ true ↦ sum_by-cons w x (filter q xs) | false ↦ omega arith ])
 
--- the sum over a list with one more element
 pub sum_more : {X : Type 0} (w : X → ℕ) (q : X → Bool) (xs : List X) (x : X) → sum_by w (filter q (xs ++ x ∷ [])) ≡ sum_by w (filter q xs) + cond (q x) (w x) 0
 sum_more {X} w q xs x =
     let c : X → ℕ = λ y. cond (q y) (w y) 0 in
@@ -46,7 +41,6 @@ module _ {X : Type 0} (p : X → Bool) (f : X → X) (kept : (x : X) → p x ≡
   none_changed [] h = refl
   none_changed (x ∷ xs) h = let e = kept x h.0 in let more = none_changed xs h.1 in cc
 
-  -- the sum after the only element that passes was changed
   sum_changed : (c : X → ℕ) (xs : List X) (x : X) → Apart IsAlone xs → find p xs ≡ Some x → sum_by c (map f xs) + c x ≡ sum_by c xs + c (f x)
   sum_changed c [] x alone is = absurd cc
   sum_changed c (y ∷ xs) x alone is = go (sum_changed c xs x alone.1) (p y) refl is
@@ -66,9 +60,6 @@ module _ {X : Type 0} (p : X → Bool) (f : X → X) (kept : (x : X) → p x ≡
       let c : X → ℕ = λ y. cond (q y) (w y) 0 in
       omega (arith, sum_picked w q (map f xs), sum_picked w q xs, sum_changed c xs x alone is)
 
--- ---- the owner of a booking
-
--- a key's owner is the member whose name is in the key's row
 pub owner_is : (club : Club) → IsSound club → (key member name : List ℕ) → IsOwnedBy member key club → is_key_of name club key ≡ bytes_eq name member
 owner_is club sound key member name owned =
     let names : Key → Bool = λ row. bytes_eq row.name key in

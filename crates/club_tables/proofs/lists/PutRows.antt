@@ -1,11 +1,9 @@
--- The rows after one of them is inserted or updated by its key.
+-- Lemmas about the rows after a row is inserted or updated by its key.
 use Rattle.club_tables.proofs.Common.{◌≡◌, Bool, true, List, [], ◌∷◌, ◌++◌, map, if◌then◌else◌, Row, list_any}
 
--- an element passes if it belongs to the key
 module _ {X : Type 0} (values : X → Row) (p : X → Bool) where
   abbrev pub IsLone : X → X → Type 0
   IsLone a b = ¬ ((p a ≡ true) × (p b ≡ true))
 
-  -- the element that passes is changed, or this element is appended if none passes
   abbrev pub put_among : (X → X) → X → List X → List X
   put_among change one xs = if list_any p xs then map change xs else xs ++ one ∷ []

@@ -1,4 +1,4 @@
--- A row that is appended to the rows of a list.
+-- Lemmas about appending a row to the rows of a table.
 use Rattle.club_tables.proofs.Common.{◌≡◌, ℤ, pos, ◌+ℤ◌, List, [], ◌∷◌, ◌++◌, Less, refl, sym, ap, ◌∙◌, arith, int_cmp_is, AllByRecursion, AllZip, fold, Int}
 use Rattle.club_tables.proofs.Common.{value_cmp_total, value_cmp-Int, id_in, IsRowOf, Holds}
 use Rattle.std.proofs.lemmas.Int.{ints}
@@ -7,7 +7,6 @@ use Rattle.sqlite_trees.specs.Tree.{rowid, put_row, IsTable}
 use Rattle.sqlite_trees.proofs.TreeLemmas.{IsTable-put_row}
 use Rattle.sqlite_rules.specs.Edit.{next_rowid}
 
--- the rowid is an integer
 abbrev pub IsKeyed : Row → Type 0
 IsKeyed row = (id : ℤ) × (rowid row ≡ Int id)
 
@@ -23,7 +22,6 @@ after = fold (λ _ r. id_in (rowid r) +ℤ pos 1)
 one_below : (r : Row) → IsKeyed r → value_cmp (rowid r) (Int (id_in (rowid r) +ℤ pos 1)) ≡ Less
 one_below r h = rw h.1 (value_cmp-Int h.0 (h.0 +ℤ pos 1) ∙ sym (int_cmp_is h.0 (h.0 +ℤ pos 1) Less (omega (arith, ints))))
 
--- each rowid is less than the rowid of the next inserted row
 all_below : (z : ℤ) (rows : List Row) → IsTable rows → AllByRecursion IsKeyed rows → AllByRecursion (λ r. value_cmp (rowid r) (Int (after z rows)) ≡ Less) rows
 all_below z [] table keyed = tt
 all_below z (r ∷ []) table keyed = (one_below r keyed.0, tt)
@@ -42,7 +40,6 @@ zip_more R [] (y ∷ xs) row x h one = absurd h
 zip_more R (r ∷ rows) [] row x h one = absurd h
 zip_more R (r ∷ rows) (y ∷ xs) row x h one = (h.0, zip_more R rows xs row x h.1 one)
 
--- a row that is inserted at the next rowid comes last
 pub holds_more : {X : Type 0} (values : X → Row) (rows : List Row) (xs : List X) (x : X) → Holds values rows xs
     → Holds values (put_row (Int (next_rowid rows) ∷ values x) rows) (xs ++ x ∷ [])
 holds_more values rows xs x held =

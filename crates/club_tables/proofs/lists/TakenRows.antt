@@ -1,10 +1,9 @@
--- The number of persons in a slot, from the slot's row.
+-- Lemmas about the number of persons in a slot, which is stored in the slot's row.
 use Rattle.club_tables.proofs.Common.{◌≡◌, ◌≢◌, ◌⊎◌, ℕ, Bool, true, None, Option, Some, List, [], ◌∷◌, refl, sym, ap, ◌∙◌, inl, inr, filter, option_map}
 use Rattle.club_tables.proofs.Common.{unwrap_or, slice_get, AllPairs, Has, has_kept, has_contained, Club, Slot, SlotRow, SlotUse, same_slot, taken_in, row_of}
 use Rattle.club_tables.proofs.{Common.{no_slot_use, Rows, IsStoredAs}, lists.KeyedRows.same_itself, queries.KeyLemmas.same_slots, statements.PassLemmas.found}
 use Rattle.club_tables.proofs.statements.SelectLemmas.{apart_from_pairs, find_first, only, one_passes}
 
--- a search by a slot finds the slot's only row
 pub the_slot : (slot : Slot) (rows : List SlotRow) (x : SlotRow) → AllPairs (λ (a : SlotRow) (b : SlotRow). a.slot ≢ b.slot) rows → Has rows x → x.slot ≡ slot
     → row_of slot rows ≡ Some x
 the_slot slot rows x once has same =
@@ -20,11 +19,9 @@ module _ (club : Club) (rows : Rows) (stored : IsStoredAs club rows) where
   taken_by slot o is =
       ap (λ p. (unwrap_or (option_map (λ (row : SlotRow). row.held) p) no_slot_use).taken) (sym is) ∙ ap (λ (u : SlotUse). u.taken) (stored.slots slot)
 
-  -- a slot's row has the number of persons in the slot
   pub row_taken : (row : SlotRow) → Has rows.slots row → row.held.taken ≡ taken_in row.slot club.bookings
   row_taken row has = taken_by row.slot (Some row) (the_slot row.slot rows.slots row stored.once has refl)
 
-  -- either nobody is in a slot, or the slot's row has the number of its persons
   pub slot_taken_by : (slot : Slot) → (0 ≡ taken_in slot club.bookings)
       ⊎ ((row : SlotRow) × Has rows.slots row × (row.slot ≡ slot) × (row.held.taken ≡ taken_in slot club.bookings))
   slot_taken_by slot = by (row_of slot rows.slots) refl

@@ -1,4 +1,4 @@
--- The meanings of the texts that create the tables, each over the tables created before it.
+-- Lemmas about the SQL texts that create the tables.
 use Rattle.club_tables.proofs.Common.{◌≡◌, ℕ, List, [], ◌∷◌, false, refl, sym, ap, ◌∙◌, true≢false, Ghosts, Database, ExecutesIn, Held, state, BoundStatement}
 use Rattle.club_tables.proofs.Common.{Ran, is_ok, everything, Schema, Table, created, understood, no_schema, desk_table, members_table, facilities_table}
 use Rattle.club_tables.proofs.Common.{keys_table, slots_table, bookings_table, six_tables, old_roots_table, keys_by_member, first_schema, unindexed_schema}
@@ -6,7 +6,6 @@ use Rattle.club_tables.proofs.Common.{bookings_by_key, club_schema, MAKE_DESK, M
 use Rattle.club_tables.proofs.Common.{MAKE_KEYS_BY_MEMBER, MAKE_OLD_ROOTS, MAKE_BOOKINGS_BY_KEY, DROP_BOOKINGS_BY_KEY}
 use Rattle.club_tables.proofs.statements.MeansLemmas.{Makes, MakesIndex}
 
--- each text creates a table over the tables that the earlier texts created
 abbrev pub MakesEach : Schema → List (List ℕ × Table) → Type 0
 MakesEach schema [] = Unit {0}
 MakesEach schema (one ∷ more) = Makes schema one.0 one.1 × MakesEach (created schema one.1) more
@@ -49,18 +48,17 @@ pub makes_bookings_by_key : MakesIndex unindexed_schema MAKE_BOOKINGS_BY_KEY.now
 unfolding understood everything
 makes_bookings_by_key = record { plain = (refl, refl); listed = refl; is = refl; whole = refl; defined = refl }
 
--- a batch doesn't run over tables if its first text is refused
 pub never_ran : {S : Type 0} {g : Ghosts S} {old : Held S} {db : Database} {text : List ℕ} {more : List BoundStatement} {schema : Schema}
     → Ran g 0 ((text, []) ∷ more) old db → (state g old).now.schema ≡ schema → is_ok (understood schema text) ≡ false → ⊥
 unfolding ExecutesIn
 never_ran {text = text} ran has refused = true≢false (sym (ap is_ok ran.turns.2.1.is) ∙ ap (λ s. is_ok (understood s text)) has ∙ refused)
 
--- the index can't be created twice, and can't be dropped if it doesn't exist
+-- The index of the bookings can't be created if it exists, and can't be dropped if it doesn't
+-- exist.
 pub indexes_again : (is_ok (understood club_schema MAKE_BOOKINGS_BY_KEY.now) ≡ false) × (is_ok (understood unindexed_schema DROP_BOOKINGS_BY_KEY.now) ≡ false)
 unfolding understood everything
 indexes_again = (refl, refl)
 
--- the first text is refused over the tables of version 2, with or without the index, and over the tables of version 1
 pub makes_again : (is_ok (understood club_schema MAKE_DESK.now) ≡ false) × (is_ok (understood unindexed_schema MAKE_DESK.now) ≡ false)
     × (is_ok (understood first_schema MAKE_DESK.now) ≡ false)
 unfolding understood everything

@@ -1,4 +1,5 @@
--- The batches that create the tables, migrate tables of version 1, and create the index of the bookings.
+-- Lemmas about the statements that create the tables, migrate tables of version 1, or create the
+-- index of the bookings.
 use Rattle.club_tables.proofs.Common.{◌≡◌, pos, List, [], ◌∷◌, refl, sym, ap, subst, ◌∙◌, arith, ℕ, true, inl, inr, is_ok, rules, everything, Null, Int, Ghosts}
 use Rattle.club_tables.proofs.Common.{Term, lit, col, Values, Insert, Update, Database, understood, ExecutesIn, HasCleanDisk, Survives, Held, state, inner, end}
 use Rattle.club_tables.proofs.Common.{Table, IsSound, empty_club, Club, ADD_VERSION, SET_VERSION, DROP_BOOKINGS_BY_KEY, no_schema, desk_table, club_schema}
@@ -27,7 +28,6 @@ empty_is_stored : IsStoredAs empty_club no_rows
 empty_is_stored = search rules
 
 module _ {S : Type 0} (g : Ghosts S) (old : Held S) (db : Database) (ran : Ran g 0 table_batch old db) where
-  -- over a database without tables, the batch creates the tables of the empty club
   pub made_tables : (state g old).now.schema ≡ no_schema → HoldsClub db empty_club
   made_tables has =
       let t1 = ran.turns in
@@ -77,12 +77,11 @@ module _ {S : Type 0} (g : Ghosts S) (old : Held S) (db : Database) (ran : Ran g
       subst (λ (d : Database). HoldsClub d empty_club) (sym (ran.is ∙ ap (λ h. (state g h).now) t10.3))
       (record { rows = no_rows; holds_rows = holds_rows; storage = empty_is_stored; sound = empty_is_sound })
 
-  -- the batch runs only if no version could be read
   pub makes_free : HasNoDesk (state g old).now.schema
   unfolding ExecutesIn
   makes_free = desk_made _ (ap is_ok ran.turns.2.1.is)
 
--- ---- the migration
+-- Lemmas about the migration from version 1 to version 2.
 
 abbrev version_table : Table
 version_table = record desk_table { tree = desk_tree }
@@ -95,7 +94,6 @@ unfolding understood everything
 second_means = record { is = refl; plain = (refl, refl) }
 
 module _ {S : Type 0} (g : Ghosts S) (old : Held S) (db : Database) (ran : Ran g 0 migration old db) where
-  -- the migration keeps every row, and no key has an older root
   migrated_rows : (rows : Rows) → HoldsRowsVersion1 (state g old).now rows → HoldsRows db rows
   migrated_rows rows holds_rows =
       let t1 = ran.turns in
@@ -126,7 +124,6 @@ module _ {S : Type 0} (g : Ghosts S) (old : Held S) (db : Database) (ran : Ran g
       let left : HoldsRows next rows = search rules in
       subst (λ (d : Database). HoldsRows d rows) (sym is) left
 
--- the migrated tables hold the same club
 pub holds_first : {S : Type 0} (g : Ghosts S) (old : Held S) (db : Database) → Ran g 0 migration old db → HasCleanDisk (state g old)
     → (club : Club) (others : List Club) → RepresentsVersion1 (state g old) club others → HoldsClub db club
 holds_first g old db ran clean club others first =
@@ -135,10 +132,9 @@ holds_first g old db ran clean club others first =
     let left = migrated_rows g old db ran it.rows it.holds_rows in
     search rules
 
--- ---- the index of the bookings
+-- Lemmas about creating the index of the bookings.
 
 module _ {S : Type 0} (g : Ghosts S) (old : Held S) (db : Database) (ran : Ran g 0 index_batch old db) where
-  -- the batch that creates the index keeps every row
   indexed_rows : (rows : Rows) → HoldsRowsWith unindexed_schema (state g old).now rows → HoldsRows db rows
   indexed_rows rows holds_rows =
       let t1 = ran.turns in
@@ -146,7 +142,6 @@ module _ {S : Type 0} (g : Ghosts S) (old : Held S) (db : Database) (ran : Ran g
       let is : db ≡ (state g t1.0).now = ran.is ∙ ap (λ h. (state g h).now) t1.3 in
       subst (λ (d : Database). HoldsRows d rows) (sym is) (record { schema = c1.0; held = trees_kept c1.1 holds_rows.held; database = c1.2 })
 
--- the tables with the index hold the same club
 pub holds_second : {S : Type 0} (g : Ghosts S) (old : Held S) (db : Database) → Ran g 0 index_batch old db → HasCleanDisk (state g old)
     → (club : Club) (others : List Club) → RepresentsVersion2 (state g old) club others → HoldsClub db club
 holds_second g old db ran clean club others second =
@@ -160,7 +155,6 @@ holds_second g old db ran clean club others second =
           search rules
     ]
 
--- the index exists if a statement can name it
 pub named_represents : {S : Type 0} (g : Ghosts S) (old new : Held S) → IsKept (state g old) (state g new) → Survives (state g old) (state g new) (λ _. ⊥)
     → IsUnderstood (state g old).now.schema DROP_BOOKINGS_BY_KEY.now
     → (club : Club) (others : List Club) → RepresentsVersion2 (state g old) club others → Represents (state g new) club others

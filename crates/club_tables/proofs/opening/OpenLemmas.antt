@@ -1,4 +1,4 @@
--- The tables that an opening finds, and those that it creates.
+-- Lemmas about the tables that exist before and after the database is opened.
 use Rattle.club_tables.proofs.Common.{rules, ◌≡◌, ◌⊎◌, ℕ, List, [], ◌∷◌, Result, IsTrue, true, false, true≢false, codes, inl, inr, refl, sym, subst, ap, ◌∙◌}
 use Rattle.club_tables.proofs.Common.{arith, is_ok, on_ok_weaker, on_err_weaker, everything, Row, Schema, col, inner, end, understood, listing_schema, VERSION}
 use Rattle.club_tables.proofs.Common.{HasValues, version_values, select, Ghosts, Trees, Database, State, HasCleanDisk, Shown, Held, state, Club, StoreFault}
@@ -8,16 +8,13 @@ use Rattle.club_tables.proofs.{Common.{Asked, Ran, IsKept, Commits}, crashes.Rep
 use Rattle.club_tables.proofs.{crashes.SurviveLemmas.{may_commit, was_clean}, opening.{MakesLemmas.{never_ran, makes_again}, MakingLemmas.made_tables}}
 use Rattle.club_tables.proofs.statements.SelectLemmas.{selected, short_permutation}
 
--- every crash leaves the last committed trees
 abbrev pub IsSettled : State → Type 0
 IsSettled state = IsTrue state.is_open → (trees : Trees) → state.may_leave trees → trees ≡ state.committed.trees
 
--- if the committed tables hold the club, and every crash leaves their trees, the tables represent the club
 pub settles : (now : State) (club : Club) (others : List Club) → (HasCleanDisk now → IsTrue now.is_open → HoldsClub now.committed club)
     → (HasCleanDisk now → IsTrue now.is_open) → now.now ≡ now.committed → IsSettled now → Represents now club others
 settles now club others held opens same settled = search rules
 
--- a batch that keeps the club
 module _ {S : Type 0} (g : Ghosts S) (IsHeld : Database → Club → Type 0) (statements : List BoundStatement) (old new : Held S)
     (holds : (db : Database) → Ran g 0 statements old db → HasCleanDisk (state g old) → (club : Club) (others : List Club)
     → RepresentsBy IsHeld (state g old) club others → HoldsClub db club) (result : Result (Unit {0}) StoreFault)
@@ -25,7 +22,6 @@ module _ {S : Type 0} (g : Ghosts S) (IsHeld : Database → Club → Type 0) (st
   earlier : HasCleanDisk (state g new) → HasCleanDisk (state g old)
   earlier = was_clean (state g old) (state g new) _ commits.survives
 
-  -- if the batch is refused, the tables are unchanged, and a crash leaves these tables or the tables that the batch creates
   refused : IsKept (state g old) (state g new) → (club : Club) (others : List Club) → RepresentsBy IsHeld (state g old) club others
       → RepresentsBy IsHeld (state g new) club others
   refused kept club others before =
@@ -45,7 +41,6 @@ module _ {S : Type 0} (g : Ghosts S) (IsHeld : Database → Club → Type 0) (st
     survives = may_commit g 0 statements IsOpeningBatch are old new commits.survives;
   }
 
--- after all statements of the batch ran, the tables hold the club that was found
 pub holds_found : {S : Type 0} (g : Ghosts S) (old : Held S) (db : Database) → Ran g 0 table_batch old db → HasCleanDisk (state g old)
     → (club : Club) (others : List Club) → IsFound (state g old) club others → HoldsClub db club
 holds_found g old db ran clean club others found =
@@ -58,12 +53,11 @@ holds_found g old db ran clean club others found =
       | inr (inr blank) ↦ subst (HoldsClub db) (sym blank.1) (made_tables g old db ran (ap (λ (d : Database). d.schema) now ∙ blank.0))
     ]
 
--- a database without tables has no version
+-- SQLite refuses the query for the version if the database has no tables.
 no_version : is_ok (understood no_schema VERSION.now) ≡ false
 unfolding understood listing_schema everything
 no_version = refl
 
--- over these tables, the text for the version is a query of the table that has the version
 abbrev AsksVersion : Schema → Type 0
 AsksVersion schema = Asks schema VERSION.now (select (inner desk_tree end) [] (col 1 1 ∷ [])) (codes "version" ∷ [])
 
@@ -71,7 +65,6 @@ asks_version : AsksVersion club_schema × AsksVersion unindexed_schema × AsksVe
 unfolding understood everything
 asks_version = search rules
 
--- the query for the version returns the row with the version
 version_row : {S : Type 0} (g : Ghosts S) (old : Held S) (rows : List Row) → Asked g VERSION.now [] old rows → (schema : Schema) → AsksVersion schema
     → (db : Database) → (state g old).now ≡ db → db.schema ≡ schema → (version : ℕ) → Holds version_values (db.trees desk_tree) (version ∷ [])
     → rows ≡ version_values version ∷ []
@@ -82,7 +75,6 @@ version_row g old rows asked schema asks db now over version held =
     (asked_reads asked asks (ap (λ (d : Database). d.schema) now ∙ over)) in
     short_permutation (version_values version ∷ []) rows (omega arith) same
 
--- if a version was read from a database, its tables hold the club that was found
 pub version_returned : {S : Type 0} (g : Ghosts S) (old : Held S) (rows : List Row) → HasCleanDisk (state g old) → Asked g VERSION.now [] old rows
     → (club : Club) (others : List Club) → IsFound (state g old) club others → (RepresentsVersion2 (state g old) club others × (rows ≡ version_values 2 ∷ []))
     ⊎ (RepresentsVersion1 (state g old) club others × (rows ≡ version_values 1 ∷ []))
@@ -113,7 +105,6 @@ version_returned g old rows clean asked club others found =
           absurd (true≢false (sym (ap is_ok asked.shown.1.is) ∙ none))
     ]
 
--- rows hold only one version
 pub one_version : (rows : List Row) (m n : ℕ) → rows ≡ version_values m ∷ [] → (row : Row) × (rows ≡ row ∷ []) × HasValues row (version_values n) → m ≡ n
 one_version rows m n is one = search rules
 

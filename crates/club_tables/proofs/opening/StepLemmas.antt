@@ -1,4 +1,4 @@
--- Steps of an opening that follow a read, tables that are ready, and statements that are prepared one after another.
+-- Lemmas about the steps of opening the tables.
 use Rattle.club_tables.proofs.Common.{rules, List, Result, Err, inl, inr, ◌≡◌, ℕ, [], ◌∷◌, IsTrue, All, sym, subst, ◌+◌, ◌<◌, ◌≤◌, ◌++◌, length, map, take}
 use Rattle.club_tables.proofs.Common.{get_or, zero, suc, Bor, add-one, arith, IfErr-weaker, on_ok_weaker, on_err_weaker, map-append, All-push, Ghosts, Database}
 use Rattle.club_tables.proofs.Common.{HasCleanDisk, Survives, State, Held, state, Row, Club, StoreFault, IsAfterReadings, FailsToRun, IsOpeningBatch}
@@ -6,25 +6,21 @@ use Rattle.club_tables.proofs.Common.{IsOpeningFault, Opens, YieldsRows, FoundRe
 use Rattle.club_tables.proofs.{Common.{IsUnderstood, VERSION, HasValues, version_values}, crashes.SurviveLemmas.{after_one, commits_after, was_clean}}
 use Rattle.std.proofs.Math.Seq.{take-suc, take_all}
 
--- the database refuses a batch after a read
 pub batch_failed : {S : Type 0} (g : Ghosts S) (statements : List BoundStatement) → IsOpeningBatch statements → (old mid new : Held S) (fault : StoreFault)
     → IsAfterReadings g old mid → FailsToRun g 0 statements mid new fault → IsOpeningFault g old new fault
 batch_failed g statements are old mid new fault first failed = record { from = mid; after = first; failure = inr (inl (statements, are, failed)) }
 
 module _ {S : Type 0} (g : Ghosts S) (old mid : Held S) (untouched : IsUntouched (state g old) (state g mid))
     (quiet : Survives (state g old) (state g mid) (λ _. ⊥)) where
-  -- the read keeps the club
   pub keeps_after : (IsHeld : Database → Club → Type 0) → HasCleanDisk (state g mid) → (club : Club) (others : List Club)
       → RepresentsBy IsHeld (state g old) club others → RepresentsBy IsHeld (state g mid) club others
   keeps_after IsHeld clean club others before = search rules
 
-  -- the read fails
   pub opens_not : (IsHeld : Database → Club → Type 0) {Done : Held S → Held S → Type 0} {Fails : Held S → Held S → StoreFault → Type 0} {fault : StoreFault}
       → (HasCleanDisk (state g mid) → Fails old mid fault)
       → Opens g (λ held. RepresentsBy IsHeld (state g held)) Done Fails old mid (Err fault)
   opens_not IsHeld failed = search rules
 
-  -- a step follows the read
   pub opens_after : {Before Between : Held S → Club → List Club → Type 0} {Done Next : Held S → Held S → Type 0}
       {Fails : Held S → Held S → StoreFault → Type 0} {new : Held S} {result : Result (Unit {0}) StoreFault} → Opens g Between Next Fails mid new result
       → (HasCleanDisk (state g mid) → (club : Club) (others : List Club) → Before old club others → Between mid club others)
@@ -52,29 +48,24 @@ module _ (old mid new : State) (earlier : HasCleanDisk mid) (clean : HasCleanDis
       → (IsIdle mid → All (IsUnderstood new.committed.schema) texts) → FoundReady version texts old new
   found_ready version texts rows one answered known = search rules
 
--- ---- statements that are prepared one after another
-
 abbrev pub text_at : Bor (List ℕ) → List ℕ
 text_at text = text.now
 
 pub kept_then : (a b c : State) → (HasCleanDisk c → HasCleanDisk b) → IsKept a b → IsKept b c → IsKept a c
 kept_then a b c earlier first next clean is_open = search rules
 
--- the property holds for one of the texts, at this place
 pub one_at : (P : List ℕ → Type 0) (texts : List (Bor (List ℕ))) (at : ℕ) (d : Bor (List ℕ)) → at < length texts → P (get_or texts at d).now
     → OneOf P (map text_at texts)
 one_at P [] at d within here = absurd (omega arith)
 one_at P (text ∷ texts) zero d within here = inl here
 one_at P (text ∷ texts) (suc at) d within here = inr (one_at P texts at d (omega arith) here)
 
--- a property that holds for one of these texts holds for one of more texts
 pub one_more : (P : List ℕ → Type 0) (texts others : List (List ℕ)) → OneOf P texts → OneOf P (texts ++ others)
 one_more P [] others one = absurd one
 one_more P (text ∷ texts) others (inl here) = inl here
 one_more P (text ∷ texts) others (inr there) = inr (one_more P texts others there)
 
 module _ (db : Database) (texts : List (Bor (List ℕ))) where
-  -- one more text is a statement
   pub one_understood : (at : ℕ) (d : Bor (List ℕ)) (was : Database) → was ≡ db → at < length texts → All (IsUnderstood db.schema) (map text_at (take at texts))
       → IsUnderstood was.schema (get_or texts at d).now
       → All (IsUnderstood db.schema) (map text_at (take (at + 1) texts))

@@ -1,4 +1,5 @@
--- The meanings of two SQL texts over any tables: the query for the version, and the statement that creates the version's table.
+-- Lemmas about the query for the version, and about the statement that creates the table with the
+-- version.
 use Rattle.club_tables.proofs.Common.{◌≡◌, ℕ, List, [], false, Option, None, Ok, Err, inl, inr, refl, sym, subst, ap, ◌∙◌, true≢false, ◌∷◌, Bool, true, codes}
 use Rattle.club_tables.proofs.Common.{is_ok, if◌then◌else◌, cases_Bool, option_or, everything, Schema, Row, Reads, understood, reads_listing, listing_schema}
 use Rattle.club_tables.proofs.Common.{if_select, IsSourceOf, State, Shown, VERSION, MAKE_DESK, YieldsRows, HasNoDesk, arith}
@@ -23,11 +24,9 @@ abbrev formats_by : Checked Compiled → List (List ℕ)
 formats_by (Ok c) = c.formats
 formats_by (Err e) = []
 
--- the compiled query returns nothing besides its rows, and doesn't read the time
 abbrev IsBare : Checked Compiled → Type 0
 IsBare r = (returned_by r ≡ None) × (formats_by r ≡ [])
 
--- the text for the version isn't a query over SQLite's own list of tables
 pub version_unlisted : is_ok (if_select (compiled listing_schema VERSION.now)) ≡ false
 unfolding listing_schema everything
 version_unlisted = refl
@@ -56,7 +55,6 @@ version_understood schema c h = elim (cases_Bool (reads_listing schema VERSION.n
       (unlisted, bare.0, bare.1)
 ]
 
--- the rows that SQLite returned for the version are the answer of the query
 pub version_answered : (old new : State) (rows : List Row) → Shown VERSION.now [] old new rows → YieldsRows VERSION.now old.now rows
 unfolding Shown
 version_answered old new rows h =
@@ -65,9 +63,6 @@ version_answered old new rows h =
     let db : it.0 ≡ old.now = subst (λ b. IsSourceOf b old.now it.0) bare.0 it.1 in
     (h.0, h.1.is, subst (λ d. Reads h.0.command d [] rows) db it.2)
 
--- ---- the table that has the version
-
--- the result of compiling a text, from the result of parsing it
 abbrev compiled_of : Schema → Checked Parsed → Checked Compiled
 compiled_of schema r = and_then r (λ p. and_then (planned schema p) (λ plan. Ok (with_command p plan)))
 
@@ -76,13 +71,12 @@ stopped : (shown : Checked (Option Returning)) (e : CompileError) (p : Parsed) (
     ≡ false
 stopped shown e p formats = grind arith
 
--- a text is refused if its command is refused
 unplanned : (schema : Schema) (p : Parsed) (e : CompileError) → ((base : ℕ) → command schema p.formats base p.statement ≡ Err e)
     → is_ok (compiled_of schema (Ok p)) ≡ false
 unfolding planned meaning
 unplanned schema p e refused = rw (refused _) (stopped (returning schema _ p.statement) e p _)
 
--- a query of the single table `desk`, with no WITH, UNION or LIMIT
+-- A query of the single table `desk`, without `WITH`, `UNION` or `LIMIT`.
 record AsksDesk (s : Select) : Type 0 where
   source : Source
   one : (out-Core (out-Select s).first).from ≡ source ∷ []
@@ -120,7 +114,6 @@ module _ (schema : Schema) (tables : table_named schema (codes "desk") ≡ None)
   not_compiled (Ok p) reads = unplanned schema p NoSuchTable (λ base. not_stated p.formats base p.statement reads)
   not_compiled (Err e) reads = refl
 
-  -- without the table, the version can't be queried
   version_missing : is_ok (understood schema VERSION.now) ≡ false
   unfolding understood compiled
   version_missing = elim (cases_Bool (reads_listing schema VERSION.now)) [
@@ -128,12 +121,10 @@ module _ (schema : Schema) (tables : table_named schema (codes "desk") ≡ None)
     | inr unlisted ↦ rw unlisted (not_compiled (first VERSION.now) version_reads)
   ]
 
--- the resulting command, which depends on whether an object has the name
 abbrev makes_where : Bool → Option ℕ → Option ℕ → Checked Command
 makes_where kept same other =
     if kept then Err Unsupported else and_then (creates false (codes "desk") same other) (λ is_new. if is_new then Ok CreateTable else Ok Nothing)
 
--- the text creates the table if no object has the table's name
 clubdesk_commands : (schema : Schema) (base : ℕ) → and_then (first MAKE_DESK.now) (λ p. command schema p.formats base p.statement)
     ≡ makes_where (is_attached schema (codes "desk")) (option_or (table_named schema (codes "desk")) (view_named schema (codes "desk")))
     (index_named schema (codes "desk"))
@@ -162,7 +153,6 @@ module _ (schema : Schema) where
   is_commanded (Ok p) (Err e) is h = absurd (true≢false (sym h ∙ unplanned schema p e is))
   is_commanded (Err e) (Err other) is h = absurd cc
 
-  -- if the table could be created, no object had its name, and so there is no version
   pub desk_made : is_ok (understood schema MAKE_DESK.now) ≡ true → HasNoDesk schema
   unfolding compiled
   desk_made h =

@@ -1,4 +1,4 @@
--- The query for the bookings of a day.
+-- Lemmas about the query for the bookings of a day.
 use Rattle.club_tables.proofs.Common.{◌≢◌, ◌≡◌, ℕ, ◌<◌, ◌⊎◌, inl, inr, pos, false, List, [], ◌∷◌, map, refl, sym, subst, ◌∙◌, arith, Ordering, Less, Equal}
 use Rattle.club_tables.proofs.Common.{Greater, nat_cmp, ◌==◌, not, filter, IsSorted, slice_index_or, on, then_cmp, is_gt, ordering_then, IsTotalOrder}
 use Rattle.club_tables.proofs.Common.{nat_tests, ranked, nat_cmp_total, nat_list_cmp_total, on_total, then_total, and-true, and_comm, everything, Text, Binary}
@@ -10,8 +10,6 @@ use Rattle.club_tables.proofs.statements.SelectLemmas.{whole_equal, apart_from_p
 use Rattle.std.proofs.{Common.int_cmp, lemmas.{List.Kept.AllPairs-filter, Map.Lookups.{exact_bytes, exact_unsigned}}}
 use Rattle.std.specs.Cmp.Lexicographic.{slice_cmp}
 use Rattle.club_core.specs.Sheet.{is_on, Precedes}
-
--- ---- the order of the day sheet
 
 abbrev sheet_cmp : Booking → Booking → Ordering
 sheet_cmp =
@@ -28,7 +26,6 @@ sheet_total =
 number_less : (m n : ℕ) → nat_cmp m n ≡ Less → m < n
 number_less m n h = ranked m n Less (sym h)
 
--- two values are compared by their first parts and, if those are equal, by their other parts
 by_parts : {A B C : Type 0} (o p : Ordering) → (o ≡ Less → A) → (o ≡ Equal → B) → (B → is_gt p ≡ false → C) → is_gt (ordering_then o p) ≡ false
     → A ⊎ (B × C)
 by_parts Less p f g h fails = inl (f refl)
@@ -38,7 +35,6 @@ by_parts Greater p f g h fails = absurd cc
 abbrev Differ : Booking → Booking → Type 0
 Differ a b = ¬ ((a.key ≡ b.key) × (a.number ≡ b.number))
 
--- if two bookings have different keys or numbers, the first precedes the second unless it compares as greater
 precedes : (a b : Booking) → is_gt (sheet_cmp a b) ≡ false → Differ a b → Precedes a b
 precedes a b fails differ =
     by_parts _ _ (λ h. h) (exact_bytes a.slot.facility b.slot.facility) (λ _.
@@ -46,9 +42,7 @@ precedes a b fails differ =
     by_parts _ _ (λ h. h) (exact_bytes a.key b.key) (λ key last.
     let apart : a.number ≢ b.number = λ number. differ (key, number) in grind (arith, nat_tests)))) fails
 
--- ---- the statement
-
--- the sort key of the day sheet
+-- The values by which the day sheet is sorted.
 abbrev sheet_key : Booking → Row
 sheet_key b = Text b.slot.facility ∷ whole b.slot.hour ∷ Text b.key ∷ whole b.number ∷ []
 

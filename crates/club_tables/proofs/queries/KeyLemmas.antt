@@ -1,4 +1,4 @@
--- The queries for rows by name, by slot, by key and number, and by key alone.
+-- Lemmas about the queries that read a row by its key.
 use Rattle.club_tables.proofs.Common.{◌≡◌, ℕ, ◌≤◌, List, [], ◌∷◌, length, map, codes, Option, Some, None, cond, subst, false, Bool, true, ◌&&◌, ◌≢◌, slice_get}
 use Rattle.club_tables.proofs.Common.{refl, sym, ap, ◌∙◌, arith, pos, not, ◌==◌, inl, inr, filter, find, option_map, AllPairs, IsPermutation, unwrap_or}
 use Rattle.club_tables.proofs.Common.{length-map, option_to_list, bytes_eq, bytes_eq-Decides, and-true, and_assoc, unsigned_Decides, and_parts, everything}
@@ -23,7 +23,6 @@ same_names name a b p q = (bytes_eq-Decides a name).0 p ∙ sym ((bytes_eq-Decid
 pub both_tests : (a a' b b' : Bool) → a ≡ a' → b ≡ b' → (a && (b && true)) ≡ (a' && b')
 both_tests a a' b b' p q = let e = and-true b in cc
 
--- if at most one element passes, filtering the list gives the same element as searching it
 pub one_listed : {X : Type 0} (p : X → Bool) (xs : List X) → length (filter p xs) ≤ 1 → filter p xs ≡ option_to_list (find p xs)
 one_listed {X} p xs low = short (filter p xs) low ∙ ap option_to_list (sym (find_first p xs))
   where
@@ -32,14 +31,12 @@ one_listed {X} p xs low = short (filter p xs) low ∙ ap option_to_list (sym (fi
     short (y ∷ []) low = refl
     short (y ∷ z ∷ ys) low = absurd (omega arith)
 
--- if at most one element passes, the query returns the row of the first element that does
 pub first_returned : {X : Type 0} (show : X → Row) (p : X → Bool) (xs : List X) (rows : List Row) → length (filter p xs) ≤ 1
     → IsPermutation (map show (filter p xs)) rows → rows ≡ map show (option_to_list (find p xs))
 first_returned show p xs rows low same =
     short_permutation (map show (filter p xs)) rows (omega (arith, length-map (filter p xs) show)) same
     ∙ ap (map show) (one_listed p xs low)
 
--- if names are unique, at most one element has this name
 pub one_named : {X : Type 0} (name_of : X → List ℕ) (name : List ℕ) (xs : List X) → AllPairs (λ a b. name_of a ≢ name_of b) xs
     → length (filter (λ x. bytes_eq (name_of x) name) xs) ≤ 1
 one_named {X} name_of name xs unique =
@@ -117,7 +114,6 @@ same_slots a b h =
     ∙ ap (λ d. let s : Slot = record b { day = d; hour = a.hour } in s) ((unsigned_Decides a.day b.day).0 two.1)
     ∙ ap (λ h. let s : Slot = record b { hour = h } in s) ((unsigned_Decides a.hour b.hour).0 one.1)
 
--- the use of a slot, whether its row was found or not
 shows_by : (club : Club) (slot : Slot) (found : Option SlotRow) (rows : List Row) → rows ≡ map (λ (row : SlotRow). use_values row.held) (option_to_list found)
     → unwrap_or (option_map (λ (row : SlotRow). row.held) found) no_slot_use ≡ slot_use club slot → ShowsUse club slot rows
 shows_by club slot (Some row) rows is same = inl (is ∙ ap (λ held. use_values held ∷ []) same)
@@ -146,7 +142,6 @@ booking_terms = map (col 1) (1 ∷ 2 ∷ 3 ∷ 4 ∷ 5 ∷ 6 ∷ 7 ∷ 8 ∷ 9 �
 abbrev pub booking_names : List (List ℕ)
 booking_names = map codes ("pass_key" ∷ "number" ∷ "facility" ∷ "day" ∷ "hour" ∷ "guests" ∷ "charge" ∷ "remains" ∷ "cancelled" ∷ "refund" ∷ [])
 
--- no two bookings have the same key and number
 abbrev pub AreBookingsOnce : List Booking → Type 0
 AreBookingsOnce = AllPairs (λ (a : Booking) (b : Booking). ¬ ((a.key ≡ b.key) × (a.number ≡ b.number)))
 

@@ -1,4 +1,4 @@
--- The queries over the bookings of all keys of a member.
+-- Lemmas about the queries for the bookings of a member.
 use Rattle.club_tables.proofs.Common.{◌≡◌, ◌≢◌, ℕ, ◌+◌, ◌*◌, ◌/◌, ◌<◌, ◌≤◌, ◌^◌, pos, Bool, true, false, not, cond, ◌&&◌, ◌||◌, List, [], ◌∷◌, map, codes}
 use Rattle.club_tables.proofs.Common.{length, refl, sym, ap, ◌∙◌, arith, filter, flat_map, slice_index_or, nat_lt, nat_le, AllPairs, IsPermutation, list_any}
 use Rattle.club_tables.proofs.Common.{bytes_eq, is_gt, is_ge, int_cmp, and_parts, lt-ltb, false_from_ne_true, nat_tests, length-map, All-filter, filter_agree}
@@ -11,7 +11,6 @@ use Rattle.club_tables.proofs.{queries.KeyLemmas.no_truth, statements.JoinLemmas
 use Rattle.club_tables.proofs.statements.SelectLemmas.{apart_from_pairs, from_truth_is, text_equal, whole_equal, filter_same}
 use Rattle.club_values.specs.Slot.{start_of}
 
--- the condition that the booking is under this key
 abbrev under_it : Term
 under_it = op2 (Compare Eq Binary) (col 1 1) (col 2 1)
 
@@ -28,28 +27,23 @@ from_day = op2 (Compare Ge Binary) (col 2 4) (col 0 2)
 abbrev open_tests : List Term
 open_tests = under_it ∷ is_given 2 0 ∷ is_uncancelled ∷ begins_later ∷ from_day ∷ []
 
--- ---- numbers
-
--- the result of `>` for two whole numbers
 pub whole_above : (m n : ℕ) → is_true (binary (Compare Gt Binary) (Int (pos m)) (Int (pos n))) ≡ nat_lt n m
 unfolding binary
 whole_above m n =
     let same : is_gt (int_cmp (pos m) (pos n)) ≡ nat_lt n m = grind (arith, nat_tests) in from_truth_is _ ∙ ap is_gt (value_cmp-Int (pos m) (pos n)) ∙ same
 
--- the result of `>=` for two whole numbers
 whole_from : (m n : ℕ) → is_true (binary (Compare Ge Binary) (Int (pos m)) (Int (pos n))) ≡ nat_le n m
 unfolding binary
 whole_from m n =
     let same : is_ge (int_cmp (pos m) (pos n)) ≡ nat_le n m = grind (arith, nat_tests) in from_truth_is _ ∙ ap is_ge (value_cmp-Int (pos m) (pos n)) ∙ same
 
--- a slot that begins after a moment is on the moment's day or a later one
+-- A slot that begins after a moment is on the same day as the moment, or on a later day.
 day_after : (moment day hour : ℕ) → hour < 24 → nat_lt moment (day * 1440 + hour * 60) ≡ true → nat_le (moment / 1440) day ≡ true
 day_after moment day hour low later =
     let after : moment < day * 1440 + hour * 60 = grind (arith, nat_tests) in
     let reached : moment / 1440 ≤ day = omega arith in
     grind (arith, nat_tests)
 
--- the result of a multiplication that fits in 64 bits; the next lemma is for an addition
 product : (m n : ℕ) → m * n < 2 ^ 63 → binary (Arith Mul) (Int (pos m)) (Int (pos n)) ≡ Int (pos (m * n))
 unfolding binary
 product m n low = rw (lt-ltb (m * n) (2 ^ 63) low) refl
@@ -70,9 +64,8 @@ start_value_is b row =
     let both = total (b.slot.day * 1440) (b.slot.hour * 60) (omega arith) in
     cc
 
--- ---- the bookings of a member, found by the member's keys
-
--- the booking is under the key, the key belongs to the member, and the booking passes a test
+-- The booking was made with the key, the key belongs to the member, and the booking passes the
+-- test.
 abbrev pub is_owned : List ℕ → (Booking → Bool) → Key → Booking → Bool
 is_owned member test key booking = bytes_eq key.name booking.key && (bytes_eq key.member member && test booking)
 
@@ -91,7 +84,6 @@ other_key member test a b apart booking h =
     let mine = (bytes_eq-Decides a.name booking.key).0 (and_parts _ _ h).0 in
     false_from_ne_true _ (λ k. apart (mine ∙ sym ((bytes_eq-Decides b.name booking.key).0 (and_parts _ _ k).0)))
 
--- there are as many pairs of a member's key and a booking under that key as the member has bookings
 owned_count : (member : List ℕ) (test : Booking → Bool) (show : Booking → Row) (club : Club) (rows : List Row)
     → AllPairs (λ (a : Key) (b : Key). a.name ≢ b.name) club.keys
     → IsPermutation (flat_map (λ key. map show (filter (is_owned member test key) club.bookings)) club.keys) rows
@@ -107,20 +99,15 @@ owned_count member test show club rows unique h =
     other_key member test (slice_index_or club.keys i d) (slice_index_or club.keys j d) (unique i j d less low)))
     ∙ ap length (each ∙ sym (filter_filter test among club.bookings))
 
--- ---- the statements
-
--- the statement's test that a booking's slot is still to come
 abbrev comes : ℕ → Booking → Bool
 comes moment b =
     not b.cancelled
     && (is_true (binary (Compare Gt Binary) (start_value b) (whole moment)) && is_true (binary (Compare Ge Binary) (whole b.slot.day) (whole (moment / 1440))))
 
--- if one test implies another, testing both equals testing the first
 both_if_first : (a b : Bool) → (a ≡ true → b ≡ true) → (a && b) ≡ a
 both_if_first true b follows = follows refl
 both_if_first false b follows = refl
 
--- the bound on the day excludes no booking whose slot is still to come
 comes_is : (moment : ℕ) (b : Booking) → IsBooking b → comes moment b ≡ is_to_come moment b
 comes_is moment b row =
     let later = ap (λ v. is_true (binary (Compare Gt Binary) v (whole moment))) (start_value_is b row) ∙ whole_above (start_of b.slot) moment in

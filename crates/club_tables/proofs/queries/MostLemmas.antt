@@ -1,4 +1,4 @@
--- The highest number of persons in a slot of a facility, from rows and from bookings.
+-- Lemmas about the query for the highest number of persons in a slot of a facility.
 use Rattle.club_tables.proofs.Common.{◌≡◌, ◌≤◌, ◌+◌, ◌<◌, ℕ, Bool, true, false, ◌&&◌, not, None, Option, Some, List, [], ◌∷◌, ◌++◌, length, get_or, take, map}
 use Rattle.club_tables.proofs.Common.{refl, sym, ap, ◌∙◌, subst, filter, fold, max, sum_by, option_map, unwrap_or, bytes_eq, bytes_eq-Decides, and_parts, inl}
 use Rattle.club_tables.proofs.Common.{inr, arith, everything, Text, Row, column, select, is_given, inner, end, col, codes, IsPermutation, All-get_or, Has}
@@ -9,8 +9,6 @@ use Rattle.club_tables.proofs.{crashes.RepresentsLemmas.{Asks, Shows, asked_tabl
 use Rattle.club_tables.proofs.{queries.KeyLemmas.same_slots, statements.SelectLemmas.text_equal}
 use Rattle.club_rows.specs.Limits.{places_limit}
 use Rattle.std.proofs.lemmas.List.{take_more, Folds.fold-map, Sorted.{Contains-permutation, IsPermutation-sym}, Sums.fold-append}
-
--- ---- the maximum of a number and the values of a function over a list
 
 module _ {X : Type 0} (f : X → ℕ) where
   abbrev pub greatest : ℕ → List X → ℕ
@@ -37,8 +35,6 @@ module _ {X : Type 0} (f : X → ℕ) where
       let two = below_all n (greatest n xs) ys (from_first n xs) (λ x h. each_below n xs x (had x h)) in
       omega (arith, one, two)
 
--- ---- the highest number of persons, from the rows of the slots
-
 module _ (club : Club) (rows : Rows) (stored : IsStoredAs club rows) (facility : List ℕ) where
   abbrev is_of : SlotRow → Bool
   is_of row = bytes_eq row.slot.facility facility
@@ -55,7 +51,6 @@ module _ (club : Club) (rows : Rows) (stored : IsStoredAs club rows) (facility :
   abbrev most : ℕ
   most = most_taken_in facility club.bookings
 
-  -- if somebody is in a slot of the facility, there is a booking of the slot
   few_in : (slot : Slot) → bytes_eq slot.facility facility ≡ true → taken_in slot club.bookings ≤ most
   few_in slot of = by (filter (is_in slot) club.bookings) refl
     where
@@ -84,7 +79,6 @@ module _ (club : Club) (rows : Rows) (stored : IsStoredAs club rows) (facility :
       few_by b.slot (has_filtered (is_at facility) club.bookings b has).1) in
       omega (arith, one, two)
 
-  -- the highest number in the statement's rows is the highest number of persons
   pub most_by_answer : (answer : List Row) → IsPermutation (map shown (filter is_of rows.slots)) answer → most_in answer ≡ most
   most_by_answer answer same =
       let value = λ (row : Row). whole_in (column row 0) in
@@ -101,8 +95,6 @@ taken_shown g old facility rows clean asked club others represents =
     most_by_answer club tables.rows tables.storage facility rows
     (asked_shows asked asks tables slot_values (is_of club tables.rows tables.storage facility) (shown club tables.rows tables.storage facility) (λ id row.
     and-true _ ∙ text_equal row.slot.facility facility) (λ id row. refl) tables.rows.slots tables.holds_rows.held.slots)
-
--- ---- a loop over the rows that computes the maximum
 
 pub most_more : (rows : List Row) (at : ℕ) (row : Row) → at < length rows → row ≡ get_or rows at row
     → most_in (take (at + 1) rows) ≡ max (most_in (take at rows)) (whole_in (column row 0))

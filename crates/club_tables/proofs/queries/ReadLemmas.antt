@@ -1,22 +1,19 @@
--- Lemmas on a read and its faults.
+-- Lemmas about the results and the faults of reads.
 use Rattle.club_tables.proofs.Common.{List, Result, IfOk, IfErr, inl, inr, arith, IfErr-weaker, IfOk-weaker, Row, Ghosts, HasCleanDisk, Survives, Held, state}
 use Rattle.club_tables.proofs.Common.{StoreFault, Club, FailsAtReading, FailsToRead, IsAfterReadings, IsReadFault, Reading, CanRead, reading_statement}
 use Rattle.club_tables.proofs.{Common.{ReadsClub, Asked, IsKept, BoundStatement, HoldsClub}, crashes.RepresentsLemmas.{Shows, represents_on}}
 use Rattle.club_tables.proofs.crashes.SurviveLemmas.{kept_when_idle}
 use Rattle.club_tables.specs.Answers.{Answers}
 
--- the state of a connection before any read
 pub at_once : {S : Type 0} (g : Ghosts S) (held : Held S) → HasCleanDisk (state g held) → IsAfterReadings g held held
 at_once g held clean = record { same = kept_when_idle (state g held); clean = clean; fault_count = omega arith }
 
--- a read that fails also fails if it can decode fewer rows
 pub fewer_read : {S : Type 0} (g : Ghosts S) (statement : BoundStatement) (P Q : List Row → Type 0) (old new : Held S) (fault : StoreFault)
     → ((rows : List Row) → Q rows → P rows) → FailsToRead g statement P old new fault → FailsToRead g statement Q old new fault
 fewer_read g statement P Q old new fault through (inl failed) = inl failed
 fewer_read g statement P Q old new fault through (inr it) =
     inr (record { rows = it.rows; query = it.query; unread = λ q. it.unread (through it.rows q); fault_is = it.fault_is })
 
--- the result of a read is correct for the current club if it is correct for the rows of the read's statement
 pub read_by : {S A : Type 0} (g : Ghosts S) (reading : Reading) (IsAnswer : List Row → A → Type 0) (old new : Held S) (result : Result A StoreFault)
     {IsShown : Club → List Row → Type 0} {IsReturned : Club → A → Type 0} → IsKept (state g old) (state g new)
     → Survives (state g old) (state g new) (λ _. ⊥)
@@ -38,7 +35,6 @@ read_by {A = A} g reading IsAnswer old new result {IsReturned = IsReturned} kept
           record { from = old; after = at_once g old (earlier clean); reading = reading; failure = failed }) (fails clean);
     }
 
--- an answer is correct for the current club if it is correct for the rows of its statement
 pub read_answer : {S A : Type 0} {g : Ghosts S} (reading : Reading) {IsAnswer : List Row → A → Type 0} {old new : Held S} {result : Result A StoreFault}
     {IsShown : Club → List Row → Type 0} {IsReturned : Club → A → Type 0} → Answers g (reading_statement reading) IsAnswer old new result
     → IsKept (state g old) (state g new) → Survives (state g old) (state g new) (λ _. ⊥)

@@ -1,4 +1,4 @@
--- An INSERT of one row, and CREATE TABLE.
+-- Lemmas about the statements INSERT, CREATE TABLE and CREATE INDEX.
 use Rattle.club_tables.proofs.Common.{◌≡◌, ◌≢◌, ◌⊎◌, ◌≤◌, inl, inr, ℕ, ◌/◌, Bool, true, false, cond, None, Some, Option, Ok, Err, Result, List, [], ◌∷◌, length}
 use Rattle.club_tables.proofs.Common.{map, slice_get, refl, sym, ap, subst, subst₂, ◌∙◌, append-nil, arith, MatchBool, drop, unwrap_or, length-map}
 use Rattle.club_tables.proofs.Common.{AllByRecursion, Value, Null, Int, Row, Trees, put_row, Term, Schema, Table, Values, Command, Insert, CreateTable}
@@ -12,7 +12,6 @@ use Rattle.sqlite_schema.specs.declared.schema.Index.{Index}
 use Rattle.sqlite_catalog.specs.Change.{indexed}
 use Rattle.sqlite_rules.specs.Action.{Writes as ActionWrites}
 
--- if a part returned a value, it didn't stop early
 pub went : {B E R : Type 0} {b : B} {Stops : E → Type 0} → ((stop : E) × Stops stop × (Ok b ≡ Err stop)) ⊎ R → R
 went (inl stopped) = absurd (let e = stopped.2 in cc)
 went (inr on) = on
@@ -32,11 +31,10 @@ pub cast_int : (n : _) → cast Integer (Int n) ≡ Int n
 unfolding unary
 cast_int n = either _ (Int n)
 
--- a table without AUTOINCREMENT keeps no counter
 uncounts : (b x : Bool) (Y G : Type 0) → b ≡ false → MatchBool (cond b x false) Y G → G
 uncounts b x Y G none h = subst (λ b. MatchBool (cond b x false) Y G) none h
 
--- CREATE TABLE makes an empty table, and keeps the others
+-- CREATE TABLE creates an empty table, and doesn't change the other tables.
 pub creates : {schema : Schema} {text : List ℕ} {table : Table} → Makes schema text table → (old new : State) → old.now.schema ≡ schema
     → (count : ℕ) → Executes text [] old new (Ok count)
     → (is_used schema table.name ≡ false) × (new.now.schema ≡ created schema table) × (new.now.trees (next_tree schema) ≡ [])
@@ -57,7 +55,7 @@ creates {schema = schema} {text = text} {table = table} makes old new has count 
           (subst (λ (s : Schema). KeepsRows s.tables old.now.trees first.0.trees) has made.others),
     )
 
--- CREATE INDEX keeps the rows
+-- CREATE INDEX doesn't change the rows of any table.
 pub indexes : {schema : Schema} {text : List ℕ} {at : ℕ} {table : Table} {index : Index} → MakesIndex schema text at table index → (old new : State)
     → old.now.schema ≡ schema → (count : ℕ) → Executes text [] old new (Ok count)
     → (new.now.schema ≡ indexed schema table index) × KeepsRows schema.tables old.now.trees new.now.trees × IsDatabase new.now
@@ -76,9 +74,6 @@ indexes {schema = schema} {text = text} {at = at} {table = table} {index = index
       w.sound,
     )
 
--- ---- a statement that writes rows of one table
-
--- the effect of a statement that writes rows of one table
 pub record Leaves (schema : Schema) (new : State) (count : ℕ) (one : Written) : Type 0 where
   pub schema_is : new.now.schema ≡ schema
   pub trees_are : new.now.trees ≡ one.trees
@@ -115,7 +110,6 @@ wrote_rows {schema = schema} {text = text} {command = command} means at listed o
       done.1,
     )
 
--- if an edit triggers no foreign key, the statement changes nothing else
 pub edited_alone : {schema : Schema} (old : State) {new : State} {count : ℕ} {one : Written} → Leaves schema new count one → (edit : Edit) (next : Trees)
     → works schema Enforced 0 edit.table.tree (taken_by old.now.trees edit) edit.news ≡ [] → ActionWrites schema Enforced old.now.trees edit (Ok next)
     → one.trees ≡ next → Wrote schema old.now new.now edit.table.tree × (new.now.trees edit.table.tree ≡ edited old.now.trees edit)
@@ -131,7 +125,7 @@ edited_alone {schema = schema} old left edit next still writes is =
       ap (λ (t : Trees). t edit.table.tree) whole ∙ applied.rows,
     )
 
--- INSERT puts a row at the next rowid, and keeps the other tables
+-- INSERT adds a row at the next rowid, and doesn't change the other tables.
 pub inserts : {schema : Schema} {text : List ℕ} {at width : ℕ} {terms : List Term} → Means schema text (Insert at (Values terms width)) → (table : Table)
     → slice_get schema.tables at ≡ Some table → table.is_counted ≡ false → table.stamps ≡ record { places = []; terms = []; formats = [] }
     → ((row : Row) → works schema Enforced 0 table.tree [] (row ∷ []) ≡ [])

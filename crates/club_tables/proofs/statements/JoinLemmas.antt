@@ -1,4 +1,4 @@
--- The result of a query over two joined tables, or over one table with EXISTS over another.
+-- Lemmas about queries of two joined tables, and about queries with EXISTS.
 use Rattle.club_tables.proofs.Common.{◌≡◌, ℕ, ℤ, Bool, true, false, cond, ◌||◌, ◌&&◌, List, [], ◌∷◌, map, refl, ap, subst, ◌∙◌, ◌≤◌, pos, min, length, arith}
 use Rattle.club_tables.proofs.Common.{filter, flat_map, IsPermutation, AllByRecursion, list_all, list_any, length-map, Int, Row, Term, Env, holds, eval_all}
 use Rattle.club_tables.proofs.Common.{inner, end, IsAnswer, output, counted, Select, Database, Reads, Answers, map-map, map-flat_map, flat_map-map}
@@ -6,8 +6,6 @@ use Rattle.club_tables.proofs.Common.{flat_map_same_on, filter-filter, filter_ag
 use Rattle.club_tables.proofs.{Common.{Has, has_filtered, has_kept, inl, inr}, statements.PassLemmas.{as_many, each_row}}
 use Rattle.club_tables.proofs.statements.SelectLemmas.{Apart, pick_by_if, plain_answer, picked, none_of, shown_of, row_of, paired as with_rowids}
 use Rattle.std.proofs.lemmas.List.Filters.{length-filter_both}
-
--- ---- lists
 
 pub filter_filter : {X : Type 0} (p q : X → Bool) (xs : List X) → filter p (filter q xs) ≡ filter (λ x. q x && p x) xs
 filter_filter p q [] = refl
@@ -19,7 +17,6 @@ only_second : (a b : Bool) → (a ≡ true → b ≡ false) → ((a || b) && not
 only_second true b apart = sym (apart refl)
 only_second false b apart = and-true b
 
--- the number of elements that pass one of two tests, if no element passes both
 either_counts : {X : Type 0} (p s : X → Bool) → ((x : X) → p x ≡ true → s x ≡ false) → (xs : List X)
     → length (filter (λ x. p x || s x) xs) ≡ length (filter p xs) + length (filter s xs)
 either_counts {X} p s apart xs =
@@ -28,7 +25,6 @@ either_counts {X} p s apart xs =
     let first = filter-filter p either (λ x h. rw h refl) xs in
     omega (arith, length-filter_both p (λ x. not (p x)) (λ x. refl) (filter either xs), ap length first, ap length rest)
 
--- if no two xs are paired with the same y, there are as many pairs as ys that are paired
 module _ {X Y : Type 0} (paired : X → Y → Bool) where
   abbrev pub IsElsewhere : X → X → Type 0
   IsElsewhere a b = (y : Y) → paired a y ≡ true → paired b y ≡ false
@@ -44,8 +40,6 @@ module _ {X Y : Type 0} (paired : X → Y → Bool) where
       let either = either_counts (paired x) (λ y. list_any (λ other. paired other y) xs) (λ y h. none_else x y h xs apart.0) ys in
       omega (arith, length-append (filter (paired x) ys) (flat_map (λ other. filter (paired other) ys) xs), either, pairs_counted xs ys apart.1)
 
--- ---- a query of two tables
-
 module _ (params : Row) (tests : List Term) (project : List Term) where
   abbrev pub joins : Row → Row → Bool
   joins a b = list_all (holds (params ∷ a ∷ b ∷ [])) tests
@@ -53,7 +47,6 @@ module _ (params : Row) (tests : List Term) (project : List Term) where
   abbrev pub shows_both : Row → Row → Row
   shows_both a b = eval_all project (params ∷ a ∷ b ∷ [])
 
-  -- the answer has the values shown for each pair that passes, in some order
   pub answered_both : (outer inside : ℕ) (db : Database) (rows : List Row)
       → Answers db (record { lets = []; body = select (inner outer (inner inside end)) tests project }) params rows
       → IsPermutation (flat_map (λ a. map (shows_both a) (filter (joins a) (db.trees inside))) (db.trees outer)) rows
@@ -74,7 +67,6 @@ module _ (params : Row) (tests : List Term) (project : List Term) where
 module _ {X Y : Type 0} (outer_values : X → Row) (values : Y → Row) (params : Row) (tests : List Term) (project : List Term) (p : X → Y → Bool) (show : Y → Row)
     (tested : (i j : ℤ) (x : X) (y : Y) → list_all (holds (params ∷ (Int i ∷ outer_values x) ∷ (Int j ∷ values y) ∷ [])) tests ≡ p x y)
     (shown : (i j : ℤ) (x : X) (y : Y) → eval_all project (params ∷ (Int i ∷ outer_values x) ∷ (Int j ∷ values y) ∷ []) ≡ show y) where
-  -- the answer has the values shown for each pair of elements that passes, in some order
   pub selected_both : (outer inside : ℕ) (names : List (List ℕ)) (db : Database) (xs : List X) (ys : List Y) (rows : List Row)
       → Holds outer_values (db.trees outer) xs → Holds values (db.trees inside) ys
       → Reads (Select (record { lets = []; body = select (inner outer (inner inside end)) tests project }) names) db params rows
@@ -89,9 +81,6 @@ module _ {X Y : Type 0} (outer_values : X → Row) (values : Y → Row) (params 
       ∙ sym (ap (flat_map show_of) it.xs_are ∙ flat_map-map show_of (λ q. q.1) it.pairs) in
       subst (λ zs. IsPermutation zs rows) all (answered_both params tests project outer inside db rows h)
 
--- ---- a query of one table with EXISTS over another
-
--- whether there is a row, from a count that stops at one
 abbrev pub is_counted : ℕ → Bool
 is_counted n = is_true (Int (pos (min 1 n)))
 
@@ -106,7 +95,6 @@ module _ (params : Row) (inside_tests tests project : List Term) where
   abbrev pub passes_inside : Row → Row → Bool
   passes_inside row other = list_all (holds (params ∷ row ∷ other ∷ [])) inside_tests
 
-  -- a row of the outer table, with the count of the other table's rows
   abbrev pub with_count : ℕ → Row → Env
   with_count n row = params ∷ row ∷ (Int (pos (min 1 n)) ∷ []) ∷ []
 
@@ -119,7 +107,6 @@ module _ (params : Row) (inside_tests tests project : List Term) where
   abbrev pub shown : List Row → Row → Row
   shown others row = eval_all project (with_count (count_in others row) row)
 
-  -- the answer has the values shown for each row that passes, in some order
   pub answered_counted : (outer inside : ℕ) (db : Database) (rows : List Row)
       → Answers db (record { lets = []; body = select (inner outer (counted 1 (inner inside end) inside_tests end)) tests project }) params rows
       → IsPermutation (map (shown (db.trees inside)) (filter (passes (db.trees inside)) (db.trees outer))) rows
@@ -140,13 +127,10 @@ module _ (params : Row) (inside_tests tests project : List Term) where
       subst (λ ys. IsPermutation ys rows) (map-map (λ env. (output query env).1) each (filter (passes others) (db.trees outer)))
       (shown_of a (map each (filter (passes others) (db.trees outer))) staged a.distinct a.shown)
 
-  -- if the inner table holds a list and its test doesn't read the outer row, the count is the number of elements that pass
   pub counts_elements : {X : Type 0} (values : X → Row) (p : X → Bool) → ((id : ℤ) (row : Row) (x : X) → passes_inside row (Int id ∷ values x) ≡ p x)
       → (others : List Row) (xs : List X) → Holds values others xs → (row : Row) → count_in others row ≡ length (filter p xs)
   counts_elements values p tested others xs held row =
       as_many (passes_inside row) p others xs (each_row values (passes_inside row) p (λ id x. tested id row x) others xs held.same)
-
--- ---- a query of one table with EXISTS over another, and with EXISTS over two joined tables
 
 has_some : {X : Type 0} (xs : List X) (x : X) → Has xs x → 1 ≤ length xs
 has_some [] x has = absurd has
@@ -160,7 +144,6 @@ lengths_alike f g same (x ∷ xs) =
     let here = same x in
     omega (arith, length-append (f x) (flat_map f xs), length-append (g x) (flat_map g xs))
 
--- if some pair passes, its two elements are in the lists
 pub pair_found : {X Y : Type 0} (p : X → Y → Bool) (xs : List X) (ys : List Y) → 1 ≤ length (flat_map (λ x. filter (p x) ys) xs)
     → (x : X) × Has xs x × (y : Y) × Has ys y × (p x y ≡ true)
 pair_found p [] ys some = absurd (omega arith)
@@ -184,7 +167,6 @@ pair_counts p (z ∷ xs) ys x y (inl is) there passes =
 pair_counts p (z ∷ xs) ys x y (inr has) there passes =
     omega (arith, pair_counts p xs ys x y has there passes, length-append (filter (p z) ys) (flat_map (λ w. filter (p w) ys) xs))
 
--- the number of pairs of rows that pass equals the number of pairs of elements that pass
 pub as_many_pairs : {X Y : Type 0} (hit : Row → Row → Bool) (p : X → Y → Bool) (others : List Row) (ys : List Y) (rows : List Row) (xs : List X)
     → AllZip (λ row x. length (filter (hit row) others) ≡ length (filter (p x) ys)) rows xs
     → length (flat_map (λ row. filter (hit row) others) rows) ≡ length (flat_map (λ x. filter (p x) ys) xs)
@@ -204,7 +186,6 @@ module _ (params : Row) (inside_tests pair_tests tests project : List Term) wher
   abbrev counts : ℕ → Row
   counts n = Int (pos (min 1 n)) ∷ []
 
-  -- a row of the outer table, with both counts
   abbrev pub with_counts : ℕ → ℕ → Row → Env
   with_counts n m row = params ∷ row ∷ counts n ∷ counts m ∷ []
 
@@ -223,7 +204,6 @@ module _ (params : Row) (inside_tests pair_tests tests project : List Term) wher
   abbrev pub shown_both : List Row → List Row → List Row → Row → Row
   shown_both others ones twos row = eval_all project (with_counts (count_of others row) (pairs_in ones twos (count_of others row) row) row)
 
-  -- the answer has the values shown for each row that passes, in some order
   pub answered_counted_both : (outer inside one two : ℕ) (db : Database) (rows : List Row)
       → Answers db (record {
         lets = [];

@@ -1,4 +1,4 @@
--- The meaning of a text for SQLite, and the tables after a statement that wrote to one of them.
+-- Lemmas about the commands that SQLite compiles SQL texts into.
 use Rattle.club_tables.proofs.Common.{◌≡◌, ◌≢◌, ℕ, List, Ok, Some, slice_get, false, Bool, true, ◌==◌, if◌then◌else◌, [], ◌∷◌, refl, sym, subst, ◌∙◌}
 use Rattle.club_tables.proofs.Common.{true≢false, ◌≤◌, AllByRecursion, unsigned_Decides, Table, Database, IsDatabase, Schema, Command, CreateTable, CreateIndex}
 use Rattle.club_tables.proofs.Common.{created, understood, IsPlain, command_of, statement_of, Trees, State, Executes, Facility, Key, Booking, club_schema}
@@ -9,12 +9,12 @@ use Rattle.sqlite.specs.{Compile.table_defined_by, Does.lacks_sequence}
 use Rattle.sqlite_resolve.specs.Compile.{index_defined_by}
 use Rattle.sqlite_schema.specs.declared.schema.Index.{Index}
 
--- over these tables the text is this command
+-- SQLite compiles the SQL text into this command for a database with this schema.
 pub record Means (schema : Schema) (text : List ℕ) (command : Command) : Type 0 where
   pub is : command_of (understood schema text) ≡ command
   pub plain : IsPlain (understood schema text)
 
--- the text creates the table
+-- The SQL text creates this table.
 pub record Makes (schema : Schema) (text : List ℕ) (table : Table) : Type 0 where
   pub plain : IsPlain (understood schema text)
   pub is : command_of (understood schema text) ≡ CreateTable
@@ -22,7 +22,7 @@ pub record Makes (schema : Schema) (text : List ℕ) (table : Table) : Type 0 wh
   pub defined : table_defined_by text ≡ Ok table
   pub uncounted : lacks_sequence (created schema table) ≡ false
 
--- the text creates the index
+-- The SQL text creates this index.
 pub record MakesIndex (schema : Schema) (text : List ℕ) (at : ℕ) (table : Table) (index : Index) : Type 0 where
   pub plain : IsPlain (understood schema text)
   pub listed : slice_get schema.tables at ≡ Some table
@@ -30,18 +30,16 @@ pub record MakesIndex (schema : Schema) (text : List ℕ) (at : ℕ) (table : Ta
   pub whole : statement_of text (understood schema text) ≡ text
   pub defined : index_defined_by table text ≡ Ok index
 
--- a statement wrote to the table of this tree, and kept the other tables
+-- A statement changed only the table with this B-tree.
 pub record Wrote (tables : Schema) (old new : Database) (tree : ℕ) : Type 0 where
   pub schema : new.schema ≡ tables
   pub others : AllByRecursion (λ (t : Table). t.tree ≢ tree → new.trees t.tree ≡ old.trees t.tree) tables.tables
   pub sound : IsDatabase new
 
--- over tables that hold the first rows, the statement writes a row and leaves tables that hold the second rows
 abbrev pub Steps : BoundStatement → Rows → Rows → Type 1
 Steps statement rows next =
     (old new : State) (count : ℕ) → HoldsRows old.now rows → Executes statement.0 statement.1 old new (Ok count) → HoldsRows new.now next × (1 ≤ count)
 
--- tables whose trees are unchanged have the same rows
 pub trees_kept : {number : ℕ} {old new : Trees} {rows : Rows} → AllByRecursion (λ (t : Table). new t.tree ≡ old t.tree) club_schema.tables
     → HoldsTrees number old rows → HoldsTrees number new rows
 trees_kept {number = number} {rows = rows} kept held = record {
@@ -54,7 +52,6 @@ trees_kept {number = number} {rows = rows} kept held = record {
   olders = subst (λ rs. Holds older_values rs rows.olders) (sym kept.1.1.1.1.1.1.0) held.olders;
 }
 
--- the new trees, but with the old tree of one table
 abbrev pub but : ℕ → Trees → Trees → Trees
 but tree old new at = if at == tree then old at else new at
 
@@ -81,7 +78,6 @@ module _ {old new : Database} {rows : Rows} (holds_rows : HoldsRows old rows) wh
     database = wrote.sound;
   }
 
-  -- the rows of one table changed
   pub on_members : Wrote club_schema old new members_tree → {members : List MemberRow} → Holds member_values (new.trees members_tree) members
       → HoldsRows new (record rows { members = members })
   on_members wrote held =

@@ -1,11 +1,10 @@
--- The row that an UPDATE changed, if it wrote one.
+-- Lemmas about the row that an UPDATE statement changes.
 use Rattle.club_tables.proofs.Common.{◌≡◌, ◌≤◌, ℤ, Contains, Bool, true, false, ◌||◌, cond, Some, List, [], ◌∷◌, length, refl, sym, ap, ◌∙◌, not, arith}
 use Rattle.club_tables.proofs.Common.{true≢false, slice_get, suc, ◌==◌, nat_tests, filter, find, AllByRecursion, AllZip, list_any, list_any_at, Int, Row}
 use Rattle.club_tables.proofs.Common.{filter-filter, has_found, has_kept, contains_had, all_from, Has, false_from_ne_true, inl, inr, IsRowOf}
 use Rattle.club_tables.proofs.statements.SelectLemmas.{find_first, filter_same, only}
 use Rattle.std.proofs.lemmas.{List.Filters.length-filter_both, Option.slice_get_within}
 
--- a row passes a test of its columns if and only if the row's element passes
 pub each_row : {X : Type 0} (values : X → Row) (hit : Row → Bool) (p : X → Bool) → ((id : ℤ) (x : X) → hit (Int id ∷ values x) ≡ p x) → (rows : List Row)
     (xs : List X) → AllZip (λ row x. IsRowOf (values x) row) rows xs → AllZip (λ row x. hit row ≡ p x) rows xs
 each_row values hit p tested [] [] same = tt
@@ -14,7 +13,6 @@ each_row values hit p tested (r ∷ rows) [] same = absurd same
 each_row values hit p tested (r ∷ rows) (x ∷ xs) same =
     (ap hit same.0.1 ∙ tested same.0.0 x, each_row values hit p tested rows xs same.1)
 
--- the number of rows that pass equals the number of elements that pass
 pub as_many : {X : Type 0} (hit : Row → Bool) (p : X → Bool) (rows : List Row) (xs : List X) → AllZip (λ row x. hit row ≡ p x) rows xs
     → length (filter hit rows) ≡ length (filter p xs)
 as_many hit p [] [] same = refl
@@ -24,7 +22,6 @@ as_many hit p (r ∷ rows) (x ∷ xs) same =
     rw same.0 (elim (p x) as (λ b. length (cond b (r ∷ filter hit rows) (filter hit rows)) ≡ length (cond b (x ∷ filter p xs) (filter p xs)))
     [ true ↦ ap suc (as_many hit p rows xs same.1) | false ↦ as_many hit p rows xs same.1 ])
 
--- if some element passes, a search finds the first element that passes
 pub find_some : {X : Type 0} (p : X → Bool) (xs : List X) → 1 ≤ length (filter p xs) → (x : X) × (find p xs ≡ Some x)
 find_some {X} p xs some = go (filter p xs) (find_first p xs) some
   where
@@ -43,7 +40,6 @@ any_counts p xs any = let is = any_filtered_is p xs in grind (arith, nat_tests)
 pub contains_counts : {X : Type 0} (p : X → Bool) (xs : List X) (one : X) → Contains xs one → p one ≡ true → 1 ≤ length (filter p xs)
 contains_counts p xs one has passes = any_counts p xs (list_any_at p xs has.0 one has.1 (ap p has.2 ∙ passes))
 
--- every element that passes the first test passes the second
 abbrev pub Implies : {X : Type 0} → (X → Bool) → (X → Bool) → Type 0
 Implies {X} p q = (x : X) → p x ≡ true → q x ≡ true
 
@@ -55,7 +51,6 @@ fewer p q implies xs =
     let parts = length-filter_both p (λ x. not (p x)) (λ x. refl) (filter q xs) in
     omega (arith, parts, ap length (filter-filter p q implies xs))
 
--- if at most one element passes the wider test, and some element passes the narrower test, both tests pass the same elements
 pub agree : {X : Type 0} (p q : X → Bool) → Implies p q → (xs : List X) (one : X) → length (filter q xs) ≤ 1 → find p xs ≡ Some one
     → AllByRecursion (λ x. p x ≡ q x) xs
 agree {X} p q implies xs one low is = all_from (λ x. p x ≡ q x) xs (λ x has. go x has (q x) refl)
@@ -67,10 +62,8 @@ agree {X} p q implies xs one low is = all_from (λ x. p x ≡ q x) xs (λ x has.
         let lone = only (filter q xs) one low (has_kept q xs one it.0 (implies one it.1)) in
         elim (rw lone at (has_kept q xs x has passes)) [ inl same ↦ ap p same ∙ it.1 | inr other ↦ absurd other ]
 
--- two tests that agree on all elements find the same element
 pub found_by_both : {X : Type 0} (p q : X → Bool) (xs : List X) → AllByRecursion (λ x. p x ≡ q x) xs → find p xs ≡ find q xs
 found_by_both p q xs same = find_first p xs ∙ ap (λ ys. slice_get ys 0) (filter_same p q xs same) ∙ sym (find_first q xs)
 
--- an element that a search finds is in the list and passes
 pub found : {X : Type 0} (p : X → Bool) (xs : List X) (x : X) → find p xs ≡ Some x → Contains xs x × (p x ≡ true)
 found p xs x h = let it = has_found p xs x h in (contains_had xs x it.0, it.1)

@@ -1,4 +1,4 @@
--- The effect of a statement that inserts or updates a row by its key: an INSERT with ON CONFLICT DO UPDATE.
+-- Lemmas about statements of the form `INSERT .. ON CONFLICT .. DO UPDATE`.
 use Rattle.club_tables.proofs.Common.{◌≡◌, ◌≤◌, inl, inr, ℕ, ◌/◌, ℤ, Bool, true, false, None, Some, Option, Ok, List, [], ◌∷◌, ◌++◌, length, map, slice_get}
 use Rattle.club_tables.proofs.Common.{refl, sym, ap, subst, ◌∙◌, append-nil, arith, not, ◌==◌, filter, IsPermutation, is_eq, ordering_reverse, tied_itself}
 use Rattle.club_tables.proofs.Common.{filter_agree, value_cmp_total, has_rowid, IsTable, Trees, put_row, rowid, filter-map, all_from_map, all_has, has_kept}
@@ -16,17 +16,14 @@ use Rattle.sqlite_schema.specs.declared.{command.{Conflict.TheVariants.Abort, Up
 use Rattle.sqlite_schema.specs.declared.schema.Reference.{Reference}
 use Rattle.sqlite_rules.specs.Action.{Writes as ActionWrites}
 
--- whether all elements of a list with one more element pass
 list_all_more : {X : Type 0} (p : X → Bool) (xs : List X) (y : X) → list_all p (xs ++ y ∷ []) ≡ (list_all p xs && p y)
 list_all_more p [] y = and-true (p y)
 list_all_more p (x ∷ xs) y = ap (λ b. p x && b) (list_all_more p xs y) ∙ sym (and_assoc (p x) (list_all p xs) (p y))
 
--- the result of `=` for two rowids
 pub id_equal : (a b : ℤ) → is_true (binary (Compare Eq Binary) (Int a) (Int b)) ≡ is_eq (value_cmp (Int a) (Int b))
 unfolding binary
 id_equal a b = from_truth_is _
 
--- no two rows of a table have the same rowid
 pub one_at : (id : ℤ) (rows : List Row) (row : Row) → IsTable rows → Has rows row → has_rowid id row ≡ true → filter (has_rowid id) rows ≡ row ∷ []
 one_at id rows row rising has is =
     only (filter (has_rowid id) rows) row (one_passes Below (has_rowid id) rows (λ r s p q less.
@@ -35,7 +32,7 @@ one_at id rows row rising has is =
     let other = ap ordering_reverse ((Equal-is (value_cmp (rowid s) (Int id))).0 q) in
     absurd cc) rising) (has_kept (has_rowid id) rows row has is)
 
--- the test that a row has a parameter as its rowid
+-- The condition that the rowid of a row equals a parameter.
 abbrev pub is_there : ℕ → Term
 is_there at = op2 (Compare Eq Binary) (col 1 0) (col 0 at)
 
@@ -48,11 +45,9 @@ module _ (name : List ℕ) (columns : List Column) (keys : List (List ℕ)) (che
     abbrev table : Table
     table = record (table_of name columns keys checks references) { tree = tree }
 
-    -- the conflicting row gets new values if it passes the clause's further tests
     abbrev pub sets_by : List Term → ℕ → List Term → Option Program
     sets_by more at sets = Some (record { lets = []; body = select (inner tree end) (more ++ is_there at ∷ []) sets })
 
-    -- the text inserts a row of these terms, and its ON CONFLICT clause updates a conflicting row
     pub record PutsRow (at : ℕ) (text : List ℕ) (terms more sets : List Term) (width there_at : ℕ) (clause : Upsert) : Type 0 where
       pub is : command_of (understood club_schema text) ≡ InsertOr at Abort (Values terms width) (clause ∷ [])
       pub plain : IsPlain (understood club_schema text)
@@ -82,7 +77,6 @@ module _ (name : List ℕ) (columns : List Column) (keys : List (List ℕ)) (che
       abbrev Meeting : List Row → Written → Type 0
       Meeting found one = Meets task (Upserts task Abort new_row db []) new_row db clause found (Ok one)
 
-      -- the conflicting row of a statement that ran, and the statement's effect
       record Ran (count : ℕ) : Type 0 where
         one : Written
         leaves : Leaves club_schema new count one
@@ -124,7 +118,6 @@ module _ (name : List ℕ) (columns : List Column) (keys : List (List ℕ)) (che
             meets = it.2;
           }
 
-      -- a row without a conflict is added to the others
       put_new : filter hit (db tree) ≡ [] → (count : ℕ) → Ran count
           → Wrote club_schema old.now new.now tree × (new.now.trees tree ≡ put_row new_row (db tree)) × (1 ≤ count)
       put_new none count it = go it.found it.conflict it.meets
@@ -146,7 +139,6 @@ module _ (name : List ℕ) (columns : List Column) (keys : List (List ℕ)) (che
               let there = are.sound x (inl refl) in
               absurd (rw none at (has_kept hit (db tree) there.0 there.1 there.2))
 
-      -- the conflicting row gets the values of the ON CONFLICT clause
       put_old : (row : Row) → filter hit (db tree) ≡ row ∷ [] → (count : ℕ) → Ran count
           → (there : Row) × (rowid there ≡ rowid row) × Updates old new table (select (inner tree end) (more ++ is_there there_at ∷ []) sets) (env there) count
       put_old row lone count it = go it.found it.conflict it.meets
@@ -167,17 +159,14 @@ module _ (name : List ℕ) (columns : List Column) (keys : List (List ℕ)) (che
           → change x ≡ x) (first : X) (hit_is : (id : ℤ) (x : X) → hit (Int id ∷ values x) ≡ p x)
           (casts : (id : ℤ) (x : X) → cast_row table (Int id ∷ values x) ≡ Int id ∷ values x) (xs : List X) (held : Holds values (db tree) xs)
           (lone : Apart (IsLone values p) xs) where
-        -- the element passes the further tests of the ON CONFLICT clause
         abbrev pub Allows : Row → ℤ → X → Type 0
         Allows there id x = list_all (holds (env there ∷ (Int id ∷ values x) ∷ [])) more ≡ true
 
-        -- the values that the ON CONFLICT clause computes for each element that passes
         abbrev pub Yields : X → Type 0
         Yields x =
             (id : ℤ) (there : Row) → p x ≡ true
             → Allows there id x × (eval_all sets (env there ∷ (Int id ∷ values x) ∷ []) ≡ Int id ∷ Int id ∷ values (change x))
 
-        -- the ON CONFLICT clause finds the row of the element if the element passes the further tests
         hit_by : (there : Row) → (ps : List (ℤ × X)) → db tree ≡ map (row_of values) ps → (one : ℤ × X) → column (env there) there_at ≡ Int one.0
             → Has (db tree) (row_of values one)
             → filter (test (env there) (more ++ is_there there_at ∷ []) sets) (db tree)
@@ -198,7 +187,6 @@ module _ (name : List ℕ) (columns : List Column) (keys : List (List ℕ)) (che
         abbrev IsPut : ℕ → List X → Type 0
         IsPut count left = Wrote club_schema old.now new.now tree × Holds values (new.now.trees tree) left × (1 ≤ count)
 
-        -- the row of the element that passes is changed
         change_old : ((there : Row) → column (env there) there_at ≡ rowid there) → (count : ℕ) → Ran count → (ps : List (ℤ × X))
             → db tree ≡ map (row_of values) ps → AllByRecursion (λ q. Yields q.1) ps → (one : ℤ × X) → filter (λ q. p q.1) ps ≡ one ∷ []
             → filter hit (db tree) ≡ row_of values one ∷ [] → IsPut count (map change (map (λ q. q.1) ps))
@@ -223,7 +211,6 @@ module _ (name : List ℕ) (columns : List Column) (keys : List (List ℕ)) (che
               omega (arith, up.2.counted, ap length row),
             )
 
-        -- the row is inserted or updated, whether or not there was one
         pub row_put : (list_any p xs ≡ false → source ≡ values first) → ((there : Row) → column (env there) there_at ≡ rowid there) → AllByRecursion Yields xs
             → (count : ℕ) → Executes text params old new (Ok count)
             → Wrote club_schema old.now new.now tree × Holds values (new.now.trees tree) (put_among values p change first xs) × (1 ≤ count)
@@ -249,7 +236,6 @@ module _ (name : List ℕ) (columns : List Column) (keys : List (List ℕ)) (che
                 (all_from_map Yields (λ (q : ℤ × X). q.1) with_ids.pairs (subst (AllByRecursion Yields) with_ids.xs_are yields)) one alone hits))
             go it with_ids (one ∷ other ∷ ones) alone hits low any = absurd (omega arith)
 
-        -- if a row is written, an existing element that passes also passes the further tests of the clause
         pub row_allowed : ((there : Row) → column (env there) there_at ≡ rowid there) → (allows : X → Bool)
             → ((id : ℤ) (there : Row) (x : X) → list_all (holds (env there ∷ (Int id ∷ values x) ∷ [])) more ≡ allows x)
             → (count : ℕ) → Executes text params old new (Ok count) → 1 ≤ count → (x : X) → find p xs ≡ Some x → allows x ≡ true

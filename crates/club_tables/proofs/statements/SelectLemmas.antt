@@ -1,4 +1,4 @@
--- The result of a SELECT over one table that holds a list, with or without ORDER BY.
+-- Lemmas about SELECT queries of one table, with and without ORDER BY.
 use Rattle.club_tables.proofs.Common.{◌≡◌, ◌≤◌, ℕ, suc, ◌-◌, ◌^◌, ℤ, pos, Bool, true, false, cond, ◌==◌, None, Some, List, [], ◌∷◌, ◌++◌, length, map}
 use Rattle.club_tables.proofs.Common.{slice_get, refl, sym, ap, subst, ◌∙◌, arith, inl, inr, ◌+◌, filter, find, flat_map, AllPairs, IsPermutation, nat_le}
 use Rattle.club_tables.proofs.Common.{unwrap_or, IsSorted, AllByRecursion, AllZip, list_all, bytes_eq, is_eq, int_cmp, is_lt, nat_tests, IsPermutation-map}
@@ -15,29 +15,22 @@ pub use Rattle.sqlite_trees.proofs.ListLemmas.{filter_same, filter_none as none_
 use Rattle.std.specs.declared.cmp.Ordering.{Ordering}
 use Rattle.sqlite_value.specs.declared.keys.Key.{Key}
 
--- ---- tests
-
 pub from_truth_is : (b : Bool) → is_true (from_truth (Some b)) ≡ b
 from_truth_is true = refl
 from_truth_is false = refl
 
--- the result of `=` for two texts
 pub text_equal : (a b : List ℕ) → is_true (binary (Compare Eq Binary) (Text a) (Text b)) ≡ bytes_eq a b
 unfolding binary
 text_equal a b = from_truth_is _ ∙ ap is_eq (value_cmp-Text a b) ∙ is_eq-slice_cmp a b
 
--- the result of `=` for two blobs
 pub blob_equal : (a b : List ℕ) → is_true (binary (Compare Eq Binary) (Blob a) (Blob b)) ≡ bytes_eq a b
 unfolding binary
 blob_equal a b = from_truth_is _ ∙ ap is_eq (value_cmp-Blob a b) ∙ is_eq-slice_cmp a b
 
--- the result of `=` for two whole numbers
 pub whole_equal : (m n : ℕ) → is_true (binary (Compare Eq Binary) (Int (pos m)) (Int (pos n))) ≡ (m == n)
 unfolding binary
 whole_equal m n =
     let same : is_eq (int_cmp (pos m) (pos n)) ≡ (m == n) = grind (arith, nat_tests) in from_truth_is _ ∙ ap is_eq (value_cmp-Int (pos m) (pos n)) ∙ same
-
--- ---- lists
 
 pub pick_by_if : {A B : Type 0} (test : A → Bool) (f : A → B) (xs : List A) → flat_map (λ x. cond (test x) (f x ∷ []) []) xs ≡ map f (filter test xs)
 pick_by_if test f [] = refl
@@ -54,8 +47,6 @@ find_first {X} p (x ∷ xs) =
 pub none_of : {X : Type 0} (xs : List X) → filter (λ x. false) xs ≡ []
 none_of xs = none_pass (λ _. false) xs (all_of _ (λ _. refl) xs)
 
--- ---- a query of one table
-
 no_overlay : (db : Trees) (tree : ℕ) → overlay db [] tree ≡ db tree
 no_overlay db tree = elim (nat_le (2 ^ 31) tree) as (λ b. unwrap_or (cond b (slice_get (let none : List (List Row) = [] in none) (tree - 2 ^ 31)) None)
     (db tree) ≡ db tree) [ true ↦ refl | false ↦ refl ]
@@ -65,7 +56,6 @@ pub plain_answer : {query : Query} {db : Database} {params : Row} {rows : List R
 plain_answer {query = query} {db = db} {params = params} {rows = rows} h =
     subst (λ trees. IsAnswer query trees params rows) (λ i tree. no_overlay db.trees tree i) (h.answer Null)
 
--- the answer has the values shown for the environments that passed, in some order
 pub shown_of : {query : Query} {trees : Trees} {params : Row} {rows : List Row} (a : IsAnswer query trees params rows) (staged : List Env) → a.staged ≡ staged
     → a.kept ≡ map (output query) a.staged → rows ≡ map (λ (o : Output). o.1) a.ordered → IsPermutation (map (λ env. (output query env).1) staged) rows
 shown_of {query = query} {rows = rows} a staged is kept shown =
@@ -80,7 +70,6 @@ module _ (params : Row) (tests : List Term) (project : List Term) where
   abbrev pub shows : Row → Row
   shows row = eval_all project (params ∷ row ∷ [])
 
-  -- the answer has the values shown for each row that passes, in some order
   pub answered : (tree : ℕ) (db : Database) (rows : List Row) → Answers db (record { lets = []; body = select (inner tree end) tests project }) params rows
       → IsPermutation (map shows (filter test (db.trees tree))) rows
   answered tree db rows h =
@@ -91,13 +80,10 @@ module _ (params : Row) (tests : List Term) (project : List Term) where
       subst (λ ys. IsPermutation ys rows) (map-map (λ env. (output query env).1) each (filter test (db.trees tree)))
       (shown_of a (map each (filter test (db.trees tree))) staged a.distinct a.shown)
 
--- ---- a table that holds a list
-
--- the row of an element, with its rowid
+-- The row of an element: its rowid, and then its values.
 abbrev pub row_of : {X : Type 0} → (X → Row) → ℤ × X → Row
 row_of values q = Int q.0 ∷ values q.1
 
--- the table's rows are those of the elements, each with its rowid
 pub record Paired {X : Type 0} (values : X → Row) (rows : List Row) (xs : List X) : Type 0 where
   pub pairs : List (ℤ × X)
   pub rows_are : rows ≡ map (row_of values) pairs
@@ -111,7 +97,6 @@ paired values (r ∷ rows) (x ∷ xs) h =
     let more = paired values rows xs h.1 in
     record { pairs = (h.0.0, x) ∷ more.pairs; rows_are = ap₂ ◌∷◌ h.0.1 more.rows_are; xs_are = ap (λ ys. x ∷ ys) more.xs_are }
 
--- the rows that pass show the values of the elements that pass
 pub picked : {X B : Type 0} (values : X → Row) (p : X → Bool) (show : X → B) (passes : Row → Bool) (shown : Row → B)
     → ((id : ℤ) (x : X) → passes (Int id ∷ values x) ≡ p x) → ((id : ℤ) (x : X) → shown (Int id ∷ values x) ≡ show x) → (rows : List Row) (xs : List X)
     → AllZip (λ row x. IsRowOf (values x) row) rows xs → map shown (filter passes rows) ≡ map show (filter p xs)
@@ -124,7 +109,6 @@ picked values p show passes shown tested yields rows xs held =
 module _ {X : Type 0} (values : X → Row) (params : Row) (tests : List Term) (project : List Term) (p : X → Bool) (show : X → Row)
     (tested : (id : ℤ) (x : X) → list_all (holds (params ∷ (Int id ∷ values x) ∷ [])) tests ≡ p x)
     (shown : (id : ℤ) (x : X) → eval_all project (params ∷ (Int id ∷ values x) ∷ []) ≡ show x) where
-  -- the answer has the values shown for each element that passes, in some order
   pub selected : (tree : ℕ) (names : List (List ℕ)) (db : Database) (xs : List X) (rows : List Row) → Holds values (db.trees tree) xs
       → Reads (Select (record { lets = []; body = select (inner tree end) tests project }) names) db params rows → IsPermutation (map show (filter p xs)) rows
   selected tree names db xs rows held h =
@@ -132,9 +116,6 @@ module _ {X : Type 0} (values : X → Row) (params : Row) (tests : List Term) (p
       held.same)
       (answered params tests project tree db rows h)
 
--- ---- at most one element passes
-
--- R holds for each pair of an element and a later element
 abbrev pub Apart : {X : Type 0} → (X → X → Type 0) → List X → Type 0
 Apart = IsAscending
 
@@ -149,11 +130,9 @@ pub pairs_from_apart : {X : Type 0} (R : X → X → Type 0) (xs : List X) → A
 pairs_from_apart R [] apart = λ i j d less low. absurd (omega arith)
 pairs_from_apart R (x ∷ xs) apart = AllPairs-cons R x xs (All-from_recursion (R x) xs apart.0) (pairs_from_apart R xs apart.1)
 
--- R holds for the mapped values of each element and each later element
 pub pairs_mapped : {X Y : Type 0} (R : Y → Y → Type 0) (f : X → Y) (back : Y → X) (xs : List X) → AllPairs (λ a b. R (f a) (f b)) xs → AllPairs R (map f xs)
 pairs_mapped R f back xs pairs = pairs_from_apart R (map f xs) (ascending-map R f xs (apart_from_pairs (λ a b. R (f a) (f b)) xs pairs))
 
--- if no two elements of a list pass a test, at most one element passes it
 pub one_passes : {X : Type 0} (R : X → X → Type 0) (p : X → Bool) (xs : List X) → ((x y : X) → p x ≡ true → p y ≡ true → ¬ R x y) → Apart R xs
     → length (filter p xs) ≤ 1
 one_passes {X} R p xs same apart = short (filter p xs) (recursion_from_All _ _ (filter_passes p xs)) (ascending-filter R p xs apart)
@@ -163,7 +142,6 @@ one_passes {X} R p xs same apart = short (filter p xs) (recursion_from_All _ _ (
     short (y ∷ []) pass apart = omega arith
     short (y ∷ z ∷ ys) pass apart = absurd (same y z pass.0 pass.1.0 apart.0.0)
 
--- a list of at most one element that contains `x` consists of `x` alone
 pub only : {X : Type 0} (xs : List X) (x : X) → length xs ≤ 1 → Has xs x → xs ≡ x ∷ []
 only [] x low has = absurd has
 only (y ∷ []) x low (inl is) = ap (λ z. z ∷ []) (sym is)
@@ -176,8 +154,6 @@ short_permutation [] (y ∷ ys) low h = absurd (omega (arith, length_permutation
 short_permutation (x ∷ []) ys low h = one_permutation x ys h
 short_permutation (x ∷ x' ∷ xs) ys low h = absurd (omega arith)
 
--- ---- sorted lists
-
 IsSorted-from_map : {X Y : Type 0} (cmp : Y → Y → Ordering) (f : X → Y) (xs : List X) → IsSorted cmp (map f xs) → IsSorted (λ a b. cmp (f a) (f b)) xs
 IsSorted-from_map cmp f xs sorted k d low high =
     rw (get_or-map f xs (k + 1) d (f d) high, get_or-map f xs k d (f d) (omega arith)) at (sorted k (f d) low (rw length-map high))
@@ -187,7 +163,6 @@ reverse_is_gt Less = refl
 reverse_is_gt Equal = refl
 reverse_is_gt Greater = refl
 
--- no earlier element is greater than a later one
 pub none_greater : {X : Type 0} (cmp : X → X → Ordering) → IsTotalOrder cmp → (xs : List X) → IsSorted cmp xs → AllPairs (λ a b. is_gt (cmp a b) ≡ false) xs
 none_greater cmp total xs sorted i j d less low =
     ap is_gt (total.antisymm _ _) ∙ reverse_is_gt _ ∙ sorted_far (λ x y. is_lt (cmp x y)) (ranks_by total (λ x. x)) xs sorted i j d (omega arith) low
@@ -196,7 +171,6 @@ module _ {X : Type 0} (R : X → X → Type 0) (symmetric : (x y : X) → R x y 
   abbrev Stays : List X → List X → Type 0
   Stays xs ys = IsPermutation xs ys × (Apart R xs → Apart R ys)
 
-  -- if R holds for each pair of elements, it holds for each pair in any other order of the list
   pub apart-permutation : (xs ys : List X) → IsPermutation xs ys → Apart R xs → Apart R ys
   apart-permutation xs ys same = (along_permutation Stays
       (λ xs. (IsPermutation-refl xs, λ apart. apart))
@@ -204,9 +178,8 @@ module _ {X : Type 0} (R : X → X → Type 0) (symmetric : (x y : X) → R x y 
       (λ x y xs. (IsPermutation-middle (x ∷ []) y xs, λ apart. ((symmetric x y apart.0.0, apart.1.0), (apart.0.1, apart.1.1))))
       (λ xs ys zs h k. (IsPermutation-trans xs ys zs h.0 k.0, λ apart. k.1 (h.1 apart))) xs ys same).1
 
--- ---- a query of one table with ORDER BY
+-- Lemmas about a query of one table with ORDER BY.
 
--- the rows are those of the elements, in a sorted order
 pub record InOrder {X : Type 0} (show : X → Row) (cmp : X → X → Ordering) (xs : List X) (rows : List Row) : Type 0 where
   pub ordered : List X
   pub same : IsPermutation xs ordered
@@ -229,7 +202,6 @@ module _ {X : Type 0} (values : X → Row) (params : Row) (tests project : List 
   yields : (tree : ℕ) (id : ℤ) (x : X) → output (query tree) (each (Int id ∷ values x)) ≡ out x
   yields tree id x = let k = keyed id x in let s = shown id x in λ i. (k i, s i)
 
-  -- the answer has the values shown for each element that passes, sorted by the query's order
   pub selected_in_order : (tree : ℕ) (names : List (List ℕ)) (db : Database) (xs : List X) (rows : List Row) → Holds values (db.trees tree) xs
       → Reads (Select (record { lets = []; body = query tree }) names) db params rows
       → InOrder show (λ x y. key_cmp 0 (map (λ k. k.1) order) (sort x) (sort y)) (filter p xs) rows

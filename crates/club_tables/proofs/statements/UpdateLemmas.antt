@@ -1,4 +1,4 @@
--- An UPDATE that changes at most one row, and the list that the table then holds.
+-- Lemmas about UPDATE statements that change at most one row.
 use Rattle.club_tables.proofs.Common.{◌≡◌, ◌≤◌, ℕ, ℤ, ◌==◌, Bool, true, false, Some, Ok, List, [], ◌∷◌, length, map, slice_get, refl, sym, ap, subst, ◌∙◌}
 use Rattle.club_tables.proofs.Common.{arith, not, cond, subst₂, inl, Less, Greater, flat_map, filter, find, drop, IsPermutation, length-map, length_permutation}
 use Rattle.club_tables.proofs.Common.{cast_row, AllByRecursion, AllZip, filter_map, Int, Term, Row, value_cmp, Query, inner, end, Table, Update, Given, edit_of}
@@ -29,7 +29,6 @@ module _ {X : Type 0} (values : X → Row) (p : X → Bool) (change : X → X) (
   abbrev pub passes : ℤ × X → Bool
   passes q = p q.1
 
-  -- the row of an element after the change
   abbrev pub next : ℤ × X → Row
   next q = Int q.0 ∷ values (change q.1)
 
@@ -42,7 +41,6 @@ module _ {X : Type 0} (values : X → Row) (p : X → Bool) (change : X → X) (
       go true is some more = absurd cc
       go false is none more = ap₂ ◌∷◌ (ap (λ x. Int q.0 ∷ values x) (sym (kept q.1 is))) (more none)
 
-  -- removing the row of the only element that passes, and inserting its changed row, gives the rows of the changed list
   put_again : (ps : List (ℤ × X)) (one : ℤ × X) → IsTable (map (row_of values) ps) → filter passes ps ≡ one ∷ []
       → put_row (next one) (without_rowid one.0 (map (row_of values) ps)) ≡ map next ps
   put_again [] one table is = absurd cc
@@ -79,11 +77,9 @@ module _ {X : Type 0} (values : X → Row) (p : X → Bool) (change : X → X) (
     abbrev Left : Type 0
     Left = Holds values (edited db.trees (edit_of db.trees table (ids_of rows) Given 1 rows)) (map change (map (λ q. q.1) ps))
 
-    -- a statement whose terms compute `change` leaves a table that holds the changed list
     pub replaced : (one : ℤ × X) → filter passes ps ≡ one ∷ [] → rows ≡ (Int one.0 ∷ next one) ∷ [] → cast_row table (next one) ≡ next one → Left
     replaced one lone row casts = rw (row, casts, is, put_again ps one rising lone) (holds_next ps rising)
 
-    -- if at most one element passes, its row is replaced
     replaced_if_any : (shown : Row → Row) (Q : X → Type 0) → AllByRecursion (λ q. Q q.1) ps
         → ((id : ℤ) (x : X) → Q x → p x ≡ true → shown (Int id ∷ values x) ≡ Int id ∷ Int id ∷ values (change x))
         → ((id : ℤ) (x : X) → cast_row table (Int id ∷ values x) ≡ Int id ∷ values x)
@@ -101,14 +97,13 @@ module _ {X : Type 0} (values : X → Row) (p : X → Bool) (change : X → X) (
   hits_of hit wide [] h = tt
   hits_of hit wide (q ∷ ps) h = (h.0, hits_of hit wide ps h.1)
 
--- no foreign key of the club's tables makes a change of one table change other rows
+-- In the club's tables, no foreign key propagates an update to another table.
 pub no_works : (tree : ℕ) (olds news : List Row) → works club_schema Enforced 0 tree olds news ≡ []
 no_works tree olds news =
     elim (length news == 0) as (λ b. flat_map (λ child. filter_map (λ ref.
     work_by 0 tree (pairs olds news) child ref (deed_for Enforced b ref) (parent_key club_schema.tables ref)) child.references) club_schema.tables ≡ [])
     [ true ↦ refl | false ↦ refl ]
 
--- the statement removes the rows that a query returns, and inserts them with their new values
 pub record Updates (old new : State) (table : Table) (query : Query) (params : Row) (count : ℕ) : Type 0 where
   pub rows : List Row
   pub answers : Answers (record { schema = club_schema; trees = old.now.trees }) (record { lets = []; body = query }) params rows
@@ -142,7 +137,6 @@ pub updates : {text : List ℕ} {at : ℕ} {query : Query} → Means club_schema
 updates {at = at} means table listed {old = old} {new = new} {params = params} {count = count} has h =
     let it = wrote_rows means at listed old new params count (λ w. w) (λ out does. does) has h in update_leaves old params table it.1 it.2
 
--- an UPDATE of a table that holds a list, which changes the elements that pass a test
 pub record Finds {X : Type 0} (values : X → Row) (p : X → Bool) (xs : List X) (shown : Row → Row) (old new : State) (table : Table) (count : ℕ) : Type 0
   where
     pub rows : List Row
@@ -154,7 +148,6 @@ pub record Finds {X : Type 0} (values : X → Row) (p : X → Bool) (xs : List X
     pub left : new.now.trees table.tree ≡ edited old.now.trees (edit_of old.now.trees table (ids_of rows) Given 1 rows)
     pub counted : count ≡ length rows
 
--- a query of only that table, whose tests read the table's columns
 pub finds : {X : Type 0} (values : X → Row) (p : X → Bool) (xs : List X) {table : Table} {tests project : List Term} {old new : State} {params : Row}
     {count : ℕ} → Updates old new table (select (inner table.tree end) tests project) params count → Holds values (old.now.trees table.tree) xs
     → ((id : ℤ) (x : X) → test params tests project (Int id ∷ values x) ≡ p x)
@@ -176,15 +169,12 @@ module _ {X : Type 0} {values : X → Row} {p : X → Bool} {xs : List X} {shown
   written = length_permutation _ it.rows it.answer ∙ length-map (filter it.hit (old.now.trees table.tree)) shown
       ∙ as_many it.hit p (old.now.trees table.tree) xs it.hits
 
-  -- if a row is written, some element passes
   pub passes_one : 1 ≤ count → (x : X) × (find p xs ≡ Some x)
   passes_one some = find_some p xs (omega (arith, some, it.counted, written))
 
-  -- if some element passes, a row is written
   pub writes_one : 1 ≤ length (filter p xs) → 1 ≤ count
   writes_one passing = omega (arith, passing, it.counted, written)
 
-  -- if another test passes the same elements, and at most one element passes, the table holds the changed list
   pub changes_one : (q : X → Bool) → AllByRecursion (λ x. p x ≡ q x) xs → (change : X → X) → ((x : X) → q x ≡ false → change x ≡ x) → (Q : X → Type 0)
       → AllByRecursion Q xs → ((id : ℤ) (x : X) → Q x → q x ≡ true → shown (Int id ∷ values x) ≡ Int id ∷ Int id ∷ values (change x))
       → ((id : ℤ) (x : X) → cast_row table (Int id ∷ values x) ≡ Int id ∷ values x) → length (filter q xs) ≤ 1

@@ -16,7 +16,6 @@ returns-in-Err-clause-gives g c =
     let gives = rw (c.params-to_sql.ensures, c.params-to_sql-2.ensures, c.as_str.ensures.value, c.get.ensures.value) at c.in-Err.ensures.gives in
     record {
       success = λ clean. tt;
-      -- if rows decode to no booking, they decode to no booking with this key and number
       failure = λ clean. fewer_read g.S.Store _ _ _ c.args.self.now c.answer.new.self _ (λ rows can.
           (can.0, unnamed c.args.key.now c.args.number rows can.0 can.1)) (gives.failure clean);
     }

@@ -3,7 +3,6 @@ use Rattle.club_tables.proofs.Common.{EnsuresIndex, Understands, texts_by_key, i
 use Rattle.club_tables.proofs.{crashes.SurviveLemmas.opened_after, opening.StepLemmas.{keeps_after, opens_after, opens_not, kept_then}}
 use Rattle.club_tables.proofs.tables.Tables.complete.Goals as goal
 
--- each row was read by its key, and then the index was found or created
 ensured_after : {S : Type 0} (g : Ghosts S) (old mid new : Held S) → HasCleanDisk (state g mid) → HasCleanDisk (state g new) → IsTrue (state g new).is_open
     → IsKept (state g old) (state g mid)
     → (IsTrue (state g mid).is_open → Understands g texts_by_key mid)

@@ -8,7 +8,6 @@ use Rattle.club_tables.proofs.tables.Tables.open.Goals as goal
 
 module _ {S : Type 0} (g : Ghosts S) (old mid new : Held S) (rows : List Row) (earlier : HasCleanDisk (state g mid)) (rest : IsIdle (state g old))
     (kept : IsKept (state g old) (state g mid)) (answered : YieldsRows VERSION.now (state g old).now rows) where
-  -- if a batch ran, tables of the version that was read existed before it
   upgraded : (version : ℕ) (texts : List (List ℕ)) (statements : List BoundStatement) → (row : Row) × (rows ≡ row ∷ []) × HasValues row (version_values version)
       → HasRunOver texts statements g mid new → Upgrade version texts statements g old new
   upgraded version texts statements one it =
@@ -26,21 +25,18 @@ module _ {S : Type 0} (g : Ghosts S) (old mid new : Held S) (rows : List Row) (e
         ran = it.5;
       }
 
-  -- tables of version 2 existed, and the index existed or was created
   ensured : HasCleanDisk (state g new) → IsTrue (state g new).is_open → (row : Row) × (rows ≡ row ∷ []) × HasValues row (version_values 2)
       → EnsuresIndex g mid new → AcceptsTables g old new
   ensured clean is_open one (inl it) =
       inl (found_ready (state g old) (state g mid) (state g new) earlier clean is_open rest kept (λ _. it.0) 2 indexed_texts rows one answered (λ _. it.1))
   ensured clean is_open one (inr it) = inr (inl (upgraded 2 texts_by_key index_batch one it))
 
--- a connection is idle after a read that left it unchanged
 rests : {S : Type 0} (g : Ghosts S) (old new : Held S) → HasCleanDisk (state g new) → IsKept (state g old) (state g new) → IsIdle (state g new)
 rests g old new clean kept opened = let k = kept clean opened in k.1 ∙ sym k.2
 
 abbrev HoldsVersion : List Row → ℕ → Type 0
 HoldsVersion rows version = (row : Row) × (rows ≡ row ∷ []) × HasValues row (version_values version)
 
--- the rows hold either version 2 or version 1
 by_version : {Second First : Type 0} (rows : List Row) → (Second × (rows ≡ version_values 2 ∷ [])) ⊎ (First × (rows ≡ version_values 1 ∷ []))
     → (HoldsVersion rows 2 → Second) × (HoldsVersion rows 1 → First)
 by_version rows (inl second) =

@@ -7,7 +7,6 @@ use Rattle.club_core.specs.declared.store.StoreFault.TheVariants.{Storage}
 use Rattle.club_tables.specs.declared.transaction.Statement.{Statement}
 use Rattle.club_tables.proofs.tables.Tables.run_on_rows.Goals as goal
 
--- a statement failed, and the transaction was dropped
 stopped : {S : Type 0} (g : Ghosts S) (fewest : ℕ) (statements : List Statement) (at : ℕ) (d : Statement) (old was mid new : Held S) (fault : StoreFault)
     → at < length statements → Survives (state g (transaction_start old)) (state g was) (λ _. ⊥)
     → (HasCleanDisk (state g was) → RanInTurn g fewest (map bound_statement (take at statements)) (transaction_start old) was)
