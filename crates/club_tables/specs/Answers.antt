@@ -133,8 +133,7 @@ LacksMemory g _ old fault = ⊥
 abbrev pub FailsAtReading : {S : Type 0} → Ghosts S → Reading → Held S → Held S → StoreFault → Type 0
 FailsAtReading g reading old new fault = FailsToRead g (reading_statement reading) (CanRead reading) old new fault ⊎ LacksMemory g reading old fault
 
--- Between the old and the new state, the connection was only used to read. If no write was pending,
--- the connection is unchanged.
+-- The connection after reads. If no write was pending, the reads leave the connection unchanged.
 pub record IsAfterReadings {S : Type 0} (g : Ghosts S) (old new : Held S) : Type 0 where
   pub same : IsUntouched (state g old) (state g new)
   pub clean : HasCleanDisk (state g new)

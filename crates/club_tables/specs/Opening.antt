@@ -139,7 +139,7 @@ abbrev pub AcceptsTables : {S : Type 0} → Ghosts S → Held S → Held S → T
 AcceptsTables g old new =
     FoundReady 2 indexed_texts (state g old) (state g new) ⊎ (AddsIndex g old new ⊎ (Migrated g old new ⊎ MadeAll g old new))
 
--- The property is true for at least one of the texts.
+-- At least one of the texts has the property.
 abbrev pub OneOf : (List ℕ → Type 0) → List (List ℕ) → Type 0
 OneOf P [] = ⊥
 OneOf P (text ∷ texts) = P text ⊎ OneOf P texts
@@ -153,7 +153,8 @@ pub record FailsToPrepareOne {S : Type 0} (g : Ghosts S) (texts : List (List ℕ
 -- The tables can't be opened in these cases:
 -- - Memory runs out while the version is read, or while the text that tests for the index is
 --   prepared.
--- - The database refuses the statements that create the tables, migrate them, or create the index.
+-- - The database refuses the statements that create the tables, migrate the tables, or create the
+--   index.
 -- - The database refuses one of the statements that read a row by its key.
 -- - The version is neither 1 nor 2.
 abbrev pub FailsToTake : {S : Type 0} → Ghosts S → Held S → Held S → StoreFault → Type 0
@@ -173,13 +174,14 @@ pub record IsOpeningFault {S : Type 0} (g : Ghosts S) (old new : Held S) (fault 
 abbrev pub WhenIdle : {S : Type 0} → Ghosts S → (Held S → Held S → Type 0) → Held S → Held S → Type 0
 WhenIdle g Done old new = IsTrue (state g new).is_open → IsIdle (state g old) → Done old new
 
--- One step of opening the tables, which represent a club as `Before` describes.
+-- One step of opening the tables. Before the step, the tables represent a club as `Before`
+-- describes.
 -- - After success, the tables represent the same club with the index of the bookings. `Done`
 --   relates the old state to the new state.
 -- - After a failure, the tables still represent the club as `Before` describes. `Fails` describes
 --   the fault.
--- - After a crash, the state was possible before the step, or is the result of the statements of a
---   step.
+-- - A crash may leave a state that was possible before the step. It may also leave the result of
+--   statements that satisfy `IsOpeningBatch`.
 pub record Opens {S : Type 0} (g : Ghosts S) (Before : Held S → Club → List Club → Type 0) (Done : Held S → Held S → Type 0)
     (Fails : Held S → Held S → StoreFault → Type 0) (old new : Held S) (result : Result (Unit {0}) StoreFault) : Type 0
   where

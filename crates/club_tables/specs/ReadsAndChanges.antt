@@ -27,9 +27,9 @@ version_2_in g held = RepresentsVersion2 (state g held)
 abbrev pub found_in : {S : Type 0} → Ghosts S → Held S → Club → List Club → Type 0
 found_in g held = IsFound (state g held)
 
--- A call that only reads. Its result is correct for the current club, and the club and its possible
--- crash states are unchanged. A failed call returns the fault of the database's error, or `Storage`
--- if the rows can't be decoded.
+-- A call that only reads. Its result is correct for the current club. The club and its possible
+-- crash states are unchanged. If no write was pending, the connection is unchanged. A failed call
+-- returns the fault of the database's error, or `Storage` if the rows can't be decoded.
 pub record ReadsClub {S A : Type 0} (g : Ghosts S) (old new : Held S) (result : Result A StoreFault) (IsReturned : Club → A → Type 0) : Type 0 where
   pub returns : HasCleanDisk (state g new) → Returns (represents_in g) old result IsReturned
   pub kept : HasCleanDisk (state g new) → KeepsClub (represents_in g) old new
@@ -37,7 +37,7 @@ pub record ReadsClub {S A : Type 0} (g : Ghosts S) (old new : Held S) (result : 
   pub survives : Survives (state g old) (state g new) (λ _. ⊥)
   pub fault : HasCleanDisk (state g new) → IfErr result (IsReadFault g old new)
 
--- The transaction failed with this fault, perhaps after reads.
+-- A transaction of these statements failed with this fault, perhaps after reads.
 pub record IsRunFault {S : Type 0} (g : Ghosts S) (fewest : ℕ) (statements : List BoundStatement) (old new : Held S) (fault : StoreFault) : Type 0 where
   pub from : Held S
   pub after : IsAfterReadings g old from
@@ -65,9 +65,9 @@ InLimits (MarkCancelled booking member refund) = refund ≤ booking.charge
 abbrev pub IsChangeFault : {S : Type 0} → Ghosts S → Change → Held S → Held S → StoreFault → Type 0
 IsChangeFault g change old new fault = IsRunFault g 1 (statements_of change) old new fault ⊎ ((¬ InLimits change) × (fault ≡ Storage))
 
--- A call that applies a change. If the call succeeds, the change fits the club and is applied. A
--- failed call leaves the committed state unchanged. A crash may still leave the effects of the
--- change's statements, if each statement wrote a row.
+-- A call that applies a change. If the call succeeds, the change fits the club and is applied. If
+-- no write was pending, a failed call leaves the connection unchanged. Even after a failed call, a
+-- crash may leave the effects of the change's statements, if each statement wrote a row.
 pub record ChangesClub {S : Type 0} (g : Ghosts S) (change : Change) (old new : Held S) (result : Result (Unit {0}) StoreFault) : Type 0 where
   pub was_clean : HasCleanDisk (state g new) → HasCleanDisk (state g old)
   pub effect : HasCleanDisk (state g new) → Changes (represents_in g) change old new result

@@ -13,7 +13,7 @@ use club_rows::{
 };
 use club_values::Slot;
 
-/// The highest number of free places after a booking, which has at least one person.
+/// The highest number of free places in a slot after a booking. A booking takes at least one place.
 const MAX_LEFT: u32 = MAX_PLACES - 1;
 
 pub(crate) fn is_member(member: &Member) -> bool
@@ -36,7 +36,7 @@ pub(crate) fn is_facility(facility: &Facility) -> bool
         && u32::from(facility.shuts) <= LAST_HOUR
 }
 
-/// Returns whether each number is within its limits for a facility.
+/// Returns whether a facility's places, price and hours are all within their limits.
 pub(crate) fn are_numbers(places: u8, price: u16, opens: u8, shuts: u8) -> bool
     ensures { result ≡ are_limits places price opens shuts }
 {
@@ -47,7 +47,7 @@ pub(crate) fn are_numbers(places: u8, price: u16, opens: u8, shuts: u8) -> bool
         && u32::from(shuts) <= LAST_HOUR
 }
 
-/// A key's values are within their limits, because their types allow no others.
+/// Proves that a key's values are within their limits. The types of the values allow no others.
 pub(crate) fn key_within(key: &Key)
     ensures { IsKey key.now }
 {
@@ -60,7 +60,7 @@ pub(crate) fn key_within(key: &Key)
     }
 }
 
-/// A slot's values are within their limits, because their types allow no others.
+/// Proves that a slot's values are within their limits. The types of the values allow no others.
 pub(crate) fn slot_within(slot: &Slot)
     ensures { IsSlot slot.now }
 {
@@ -69,7 +69,8 @@ pub(crate) fn slot_within(slot: &Slot)
     let _hour = slot.hour.number();
 }
 
-/// A rotation's new root and moment are within their limits, because their types allow no others.
+/// Proves that a rotation's new root and moment are within their limits. The types of these values
+/// allow no others.
 pub(crate) fn rotation_within(rotation: &Rotation)
     ensures root { IsRoot rotation.now.root }
     ensures until { IsMoment rotation.now.older.until }

@@ -1,4 +1,5 @@
-//! Finds the highest number of persons in rows. Returns `None` if a number is outside its limits.
+//! Decodes rows into the highest number of persons in a slot. Decoding returns `None` if a number
+//! is outside its limits.
 
 use crate::row::{FromRows, number_within};
 use club_rows::MAX_PLACES;
@@ -9,7 +10,7 @@ impl FromRows for u32 {
 
     ghost holds = { IsMostIn };
 
-    /// Returns the highest `taken` of the rows, or 0 if there are no rows.
+    /// Returns the highest number in the column `taken`, or 0 if there are no rows.
     fn from_rows(rows: &[Row]) -> Option<u32> {
         let mut most = 0u32;
         for row in rows {

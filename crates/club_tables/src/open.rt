@@ -24,14 +24,14 @@ const VERSION: u8 = 2;
 /// The first version, which has no table of older roots.
 const FIRST_VERSION: u8 = 1;
 
-/// Makes statements without parameters from these texts.
+/// Converts SQL texts into statements without parameters.
 macro_rules! statements {
     ($($text:expr),* $(,)?) => {
         [$(Statement { text: $text, params: &[] }),*]
     };
 }
 
-/// The statements that make the tables of an empty club.
+/// The statements that create the tables of an empty club.
 const TABLE_STATEMENTS: [Statement<'static>; 10] = statements![
     texts::MAKE_DESK,
     texts::MAKE_MEMBERS,
@@ -45,7 +45,7 @@ const TABLE_STATEMENTS: [Statement<'static>; 10] = statements![
     texts::ADD_VERSION,
 ];
 
-/// Returns whether there is exactly one row, which holds this version.
+/// Returns whether there is exactly one row and this row contains the version.
 fn is_version(rows: &[Row], version: u8) -> bool
     ensures one { rows.now ≡ version_values version ∷ [] → IsTrue result }
     ensures only { IsTrue result → (row : _) × (rows.now ≡ row ∷ []) × HasValues row
@@ -58,8 +58,8 @@ fn is_version(rows: &[Row], version: u8) -> bool
 }
 
 impl<S: Alter> Tables<S> {
-    /// Returns the rows that hold the version of the tables. If the call succeeds, the club is
-    /// represented by tables of that version.
+    /// Returns the rows that contain the version of the tables. If the call succeeds, tables of
+    /// that version represent the club.
     fn version(&mut self) -> Result<Vec<Row>, StoreFault>
         ensures ok { HasCleanDisk (state S.Store self.new) → IfOk result
             (λ rows. YieldsVersion S.Store self.old self.new rows.items) }
@@ -81,8 +81,7 @@ impl<S: Alter> Tables<S> {
         self.run(&TABLE_STATEMENTS)
     }
 
-    /// Prepares each text, and fails unless every text is a statement over the tables. Changes
-    /// nothing.
+    /// Prepares each text. Fails if a text isn't a statement over the tables. Changes nothing.
     fn prepare_all(&mut self, texts: &[&str]) -> Result<(), StoreFault>
         ensures kept { IsUntouched (state S.Store self.old) (state S.Store self.new) }
         ensures understood { HasCleanDisk (state S.Store self.new) → OnOk result

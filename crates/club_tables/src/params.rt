@@ -49,7 +49,7 @@ pub(crate) fn of_facility(facility: &Facility) -> [ValueRef<'_>; 6]
     ]
 }
 
-/// Returns a facility's name, and its new places, price and hours.
+/// Returns a facility's name, followed by its new places, price and hours.
 pub(crate) fn of_numbers(
     facility: &Name,
     places: u8,
@@ -80,7 +80,7 @@ pub(crate) fn of_key(key: &Key) -> [ValueRef<'_>; 4]
     ]
 }
 
-/// A key's new root, and its former root with the moment until which the former root is valid.
+/// The new root of a key, the former root, and the moment until which the former root is valid.
 #[derive(Clone, Copy)]
 pub struct Rotation {
     pub key: Name,
@@ -129,7 +129,7 @@ pub(crate) fn of_booking(booking: &Booking) -> [ValueRef<'_>; 10]
     ]
 }
 
-/// Returns a member's name, and the points to add to its credit or to subtract from it.
+/// Returns a member's name, and a number of points to add or subtract.
 pub(crate) fn of_credit(member: &Name, points: u32) -> [ValueRef<'_>; 2]
     ensures { bound result ≡ TextValue member.now ∷ whole points ∷ [] }
 {
@@ -172,7 +172,7 @@ pub(crate) fn of_open(member: &Name, moment: Moment) -> [ValueRef<'_>; 3]
     ]
 }
 
-/// Returns a member's name, the cost of a booking, and the booking's key and slot.
+/// Returns a member's name and the cost of a booking, followed by the booking's key and slot.
 pub(crate) fn of_charge<'a>(member: &'a Name, booking: &'a Booking) -> [ValueRef<'a>; 6]
     ensures { bound result ≡ charge_values member.now (cost_of booking.now) booking.now.key
         booking.now.slot }
@@ -188,8 +188,8 @@ pub(crate) fn of_charge<'a>(member: &'a Name, booking: &'a Booking) -> [ValueRef
     ]
 }
 
-/// Returns a member's name, a negated refund, and the booking's key. Adding the negated refund
-/// lowers the points that the member has spent.
+/// Returns a member's name, a negated refund, and the booking's key. The statement that adds the
+/// negated refund lowers the points that the member has spent.
 pub(crate) fn of_return<'a>(
     member: &'a Name,
     booking: &'a Booking,
@@ -217,7 +217,7 @@ fn of_persons(slot: &Slot, persons: i64) -> [ValueRef<'_>; 4]
     ]
 }
 
-/// Returns a booking's slot, and its number of persons, which is 0 if the booking is cancelled.
+/// Returns a booking's slot and its number of persons. For a cancelled booking, the number is 0.
 pub(crate) fn of_places(booking: &Booking) -> [ValueRef<'_>; 4]
     ensures { bound result ≡ name_values booking.now.slot ++ IntValue
         (pos (persons_taken booking.now)) ∷ [] }
@@ -239,7 +239,7 @@ pub(crate) fn of_freed(booking: &Booking) -> [ValueRef<'_>; 4]
     of_persons(&booking.slot, -persons)
 }
 
-/// Returns the columns of a booking before its cancellation, and its refund.
+/// Returns the columns that a booking has before it is cancelled, and the refund.
 pub(crate) fn of_refund(booking: &Booking, refund: u32) -> [ValueRef<'_>; 11]
     ensures { bound result ≡ booking_values booking.now ++ whole refund ∷ [] }
 {

@@ -1,5 +1,5 @@
-//! Reads the rows of the club. These calls change nothing. They fail with `Storage` if a row's
-//! value is outside its limits.
+//! Reads the rows of the club. The functions in this file change nothing. They return `Storage` if
+//! a row contains a value outside its limits.
 
 ghost use Rattle.std.specs.Prelude.{◌≡◌, ◌↔◌, List, All, IsTrue, IfOk, IfErr, IfSome, option_map};
 ghost use Rattle.sqlite_value.specs.Order.{Row as Values};
@@ -30,7 +30,8 @@ use sqlite::types::ValueRef;
 use sqlite::{Alter, params};
 use std::alloc::Global;
 
-/// Returns whether the booking has this key and number; `true` also if no booking was found.
+/// Returns `true` if the found booking has this key and number. Also returns `true` if no booking
+/// was found.
 fn is_named(found: &Option<Booking>, key: &Name, number: BookingNumber) -> bool
     ensures { IsTrue result ↔ IfSome found.now
         (λ booking. (booking.key ≡ key.now) × (booking.number ≡ number)) }
@@ -60,7 +61,7 @@ impl<S: Alter> Tables<S> {
         }
     }
 
-    /// Returns the row of the key with this name; `None` if no key has this name.
+    /// Returns the row of the key with this name, or `None` if no key has this name.
     pub fn key(&mut self, name: &Name) -> Result<Option<KeyRow>, StoreFault>
         ensures reads { ReadsClub S.Store self.old self.new result
             (λ club key. key ≡ option_map row_of_key (key_named name.now club)) }
@@ -71,7 +72,7 @@ impl<S: Alter> Tables<S> {
         self.answer(texts::KEY, &[ValueRef::Text(name.as_bytes())])
     }
 
-    /// Returns the older root of the key with this name; `None` if the key was never rotated.
+    /// Returns the older root of the key with this name, or `None` if the key was never rotated.
     pub fn older_root(&mut self, key: &Name) -> Result<Option<OlderRoot>, StoreFault>
         ensures reads { ReadsClub S.Store self.old self.new result
             (λ club older. older ≡ older_root_of key.now club) }
@@ -95,7 +96,7 @@ impl<S: Alter> Tables<S> {
         self.answer(texts::MEMBER, &[ValueRef::Text(name.as_bytes())])
     }
 
-    /// Returns the facility with this name; `None` if no facility has this name.
+    /// Returns the facility with this name, or `None` if no facility has this name.
     pub fn facility(&mut self, name: &Name) -> Result<Option<Facility>, StoreFault>
         ensures reads { ReadsClub S.Store self.old self.new result
             (λ club facility. facility ≡ facility_named name.now club) }
@@ -116,8 +117,8 @@ impl<S: Alter> Tables<S> {
         self.answer(texts::SLOT, &of_slot(slot))
     }
 
-    /// Returns the highest number of persons in any slot of the facility with this name, on any
-    /// day. Returns 0 if nobody booked such a slot.
+    /// Returns the highest number of persons in any slot of the facility with this name. Returns 0
+    /// if nobody has booked a slot of the facility.
     pub fn most_taken(&mut self, facility: &Name) -> Result<u32, StoreFault>
         ensures reads { ReadsClub S.Store self.old self.new result
             (λ club most. most ≡ most_taken_in facility.now club.bookings) }
@@ -127,8 +128,8 @@ impl<S: Alter> Tables<S> {
         self.answer(texts::TAKEN, &[ValueRef::Text(facility.as_bytes())])
     }
 
-    /// Returns a key's booking with this number; `None` if the key has no such booking. Fails with
-    /// `Storage` also if SQLite returns another booking's row.
+    /// Returns a key's booking with this number, or `None` if the key has no booking with this
+    /// number. Fails with `Storage` if SQLite returns another booking's row.
     pub fn booking(
         &mut self,
         key: &Name,
@@ -156,7 +157,7 @@ impl<S: Alter> Tables<S> {
         }
     }
 
-    /// Returns the day's bookings that aren't cancelled, in the order of the day sheet: by
+    /// Returns the day's bookings that aren't cancelled. The order is that of the day sheet: by
     /// facility, hour, key and number.
     pub fn day(&mut self, alloc: Global, day: Day) -> Result<Vec<Booking>, StoreFault>
         ensures reads { ReadsClub S.Store self.old self.new result
@@ -186,7 +187,8 @@ impl<S: Alter> Tables<S> {
         self.answer(texts::COSTS_UNDER_KEY, &[ValueRef::Text(key.as_bytes())])
     }
 
-    /// Returns the number of a member's bookings that aren't cancelled and begin after the moment.
+    /// Returns the number of a member's open bookings. A booking is open if it isn't cancelled and
+    /// begins after the moment.
     pub fn open_count(&mut self, member: &Name, moment: Moment) -> Result<u64, StoreFault>
         ensures reads { ReadsClub S.Store self.old self.new result
             (λ club count. count ≡ count_to_come moment (bookings_of member.now club)) }

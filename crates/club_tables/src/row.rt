@@ -1,5 +1,5 @@
-//! Decodes rows of the tables into rows of the club. Decoding returns `None` if a value has another
-//! type or is outside its limits.
+//! Decodes rows of the tables. Decoding returns `None` if a value has the wrong type or is outside
+//! its limits.
 
 ghost use Rattle.std.specs.Prelude.{◌≡◌, ◌≤◌, [], ◌∷◌, List, Err, None, Some, IfOk, option_map};
 ghost use Rattle.sqlite_value.specs.Order.{column};
@@ -19,11 +19,12 @@ use sqlite::Row;
 use sqlite::types::ValueRef;
 use std::alloc::Global;
 
-/// A member, with the points that the member has spent on bookings.
+/// A member, and the points that the member has spent on bookings.
 #[derive(Clone, Copy)]
 pub struct MemberRow {
     pub member: Member,
-    /// Charges minus refunds: 0 to 999,999,999 points, and at most the credited points.
+    /// The member's charges minus refunds, from 0 to 999,999,999 points. The number is at most the
+    /// member's credited points.
     pub used: u32,
 }
 
@@ -54,7 +55,7 @@ pub(crate) fn integer_at(row: &Row, at: usize) -> Option<i64>
     }
 }
 
-/// Returns the whole number in a column, if it is from 0 to `high`.
+/// Returns the number in a column, if it is an integer from 0 to `high`.
 pub(crate) fn number_within(row: &Row, at: usize, high: u32) -> Option<u32>
     ensures { Reads (λ n. (n ≤ high) × (column row.now at ≡ whole n)) result }
 {
@@ -62,8 +63,8 @@ pub(crate) fn number_within(row: &Row, at: usize, high: u32) -> Option<u32>
     if number <= high { Some(number) } else { None }
 }
 
-/// Decodes the use of a slot from the columns `closed` and `taken`. The number of persons is at
-/// most the highest number of places that a facility may have.
+/// Decodes the use of a slot from the columns `closed` and `taken`. Returns `None` if there are
+/// more persons than the highest number of places that a facility may have.
 fn slot_use_in(row: &Row) -> Option<SlotUse>
     ensures { Reads (IsUseIn row.now) result }
 {
@@ -80,10 +81,10 @@ pub(crate) trait FromRow: Sized {
     ghost use Rattle.sqlite_value.specs.Order.{Row as Values};
     ghost use Rattle.club_values.specs.Reading.{Reads};
 
-    // the row holds this value
+    // The row decodes to this value.
     ghost yields: { Values → Self → Type 0 };
 
-    /// Decodes the row. Returns `None` if a value has another type or is outside its limits.
+    /// Decodes the row. Returns `None` if a value has the wrong type or is outside its limits.
     fn from_row(row: &Row) -> Option<Self>
         ensures { Reads (yields row.now) result };
 }
@@ -94,7 +95,7 @@ pub(crate) trait FromRows: Sized {
     ghost use Rattle.sqlite_value.specs.Order.{Row as Values};
     ghost use Rattle.club_values.specs.Reading.{Reads};
 
-    // the rows hold this value
+    // The rows decode to this value.
     ghost holds: { List Values → Self → Type 0 };
 
     /// Decodes the rows. Returns `None` if they can't be decoded.
@@ -124,7 +125,7 @@ impl FromRows for SlotUse {
 
     ghost holds = { IsUse };
 
-    /// Returns the use of a slot. Without a row, the slot is open and has no persons.
+    /// Decodes the use of a slot. Without a row, the slot is open and nobody has booked it.
     fn from_rows(rows: &[Row]) -> Option<SlotUse> {
         match rows {
             [] => Some(SlotUse {
@@ -142,7 +143,7 @@ impl FromRow for MemberRow {
 
     ghost yields = { IsMemberIn };
 
-    /// Returns a member's row from the columns `name`, `credited`, `quota` and `used`.
+    /// Decodes a member's row from the columns `name`, `credited`, `quota` and `used`.
     fn from_row(row: &Row) -> Option<MemberRow> {
         let member = Member::from_columns(
             text_at(row, 0)?,
@@ -174,7 +175,7 @@ impl FromRow for OlderRoot {
 
     ghost yields = { IsOlderRootIn };
 
-    /// Returns the older root of a key from the columns `root` and `until`.
+    /// Decodes the older root of a key from the columns `root` and `until`.
     fn from_row(row: &Row) -> Option<OlderRoot> {
         let root = Root::new(bytes_at(row, 0)?)?;
         let until = Moment::from_number(number_within(row, 1, u32::MAX)?)?;
@@ -222,7 +223,8 @@ impl FromRow for Booking {
     }
 }
 
-/// Decodes each row into a booking, in order. Fails with `Storage` if a row is outside its limits.
+/// Decodes each row into a booking, in order. Fails with `Storage` if a row contains a value
+/// outside its limits.
 pub(crate) fn bookings_in(alloc: Global, rows: &[Row]) -> Result<Vec<Booking>, StoreFault>
     ensures are { IfOk result (λ bookings. AreBookings rows.now bookings.items) }
     ensures storage { result ≡ Err StoreFault.Storage → (bookings : List BookingRow) → ¬

@@ -1,4 +1,5 @@
-//! Adds up the costs in rows. Returns `None` if a number is outside its limits.
+//! Decodes rows into the total cost of bookings. Decoding returns `None` if a number is outside its
+//! limits.
 
 ghost use Rattle.club_values.specs.Reading.{Reads};
 ghost use Rattle.club_tables.specs.Columns.{IsCostIn};
@@ -7,8 +8,8 @@ use crate::row::{FromRows, number_within};
 use club_rows::MAX_CHARGE;
 use sqlite::Row;
 
-/// Returns a row's charge minus its refund. Requires a charge within its limit, and a refund of at
-/// most the charge.
+/// Returns a row's charge minus its refund. Returns `None` if the charge is outside its limit, or
+/// if the refund is more than the charge.
 fn cost_of(row: &Row) -> Option<u32>
     ensures { Reads (IsCostIn row.now) result }
 {
@@ -22,7 +23,7 @@ impl FromRows for u64 {
 
     ghost holds = { AreCosts };
 
-    /// Returns the total cost of rows that consist of a charge and a refund.
+    /// Returns the total cost of the rows. Each row consists of a charge and a refund.
     fn from_rows(rows: &[Row]) -> Option<u64> {
         let mut sum = 0u64;
         for row in rows {

@@ -1,5 +1,5 @@
-//! Calls on the tables over a connection: they run a query, prepare a statement, or run statements
-//! that write in one transaction.
+//! Queries the tables over a connection, prepares statements, and runs statements in one
+//! transaction.
 
 ghost use Rattle.std.specs.Prelude.{◌≡◌, false, map, IfOk, IfErr, OnOk};
 ghost use Rattle.sqlite.specs.{Held.state, State.{HasCleanDisk, Survives}, Values.bound};
@@ -12,8 +12,8 @@ use sqlite::types::ValueRef;
 use sqlite::{Alter, Connection, Row};
 use std::marker::Model;
 
-/// The tables of a club over a connection. Between calls, the connection isn't in a transaction.
-/// Contracts describe the tables by their connection.
+/// The tables of a club over a connection. Between calls, the connection isn't in a transaction. In
+/// contracts, a value of this type is represented by its connection.
 #[derive(Drop)]
 pub struct Tables<S: Alter> {
     connection: Connection<S>,
@@ -53,7 +53,7 @@ impl<S: Alter> Tables<S> {
     ///
     /// # Errors
     ///
-    /// Fails if the database refuses the query; `fault_of` maps the database's error.
+    /// Fails if the database refuses the query. `fault_of` maps the database's error to the fault.
     pub fn ask(&mut self, sql: &str, params: &[ValueRef<'_>]) -> Result<Vec<Row>, StoreFault>
         ensures asked { IfOk result (λ rows. HasCleanDisk (state S.Store self.new) →
             Asked S.Store sql.now (bound params.now) self.old rows.items) }
@@ -75,7 +75,8 @@ impl<S: Alter> Tables<S> {
     ///
     /// # Errors
     ///
-    /// Fails if the text isn't a statement or the database refuses it; `fault_of` maps the error.
+    /// Fails if the text isn't a statement or the database refuses it. `fault_of` maps the
+    /// database's error to the fault.
     pub fn prepare(&mut self, sql: &str) -> Result<(), StoreFault>
         ensures understood { HasCleanDisk (state S.Store self.new) → OnOk result
             (IsUnderstood (state S.Store self.old).now.schema sql.now) }
@@ -97,8 +98,9 @@ impl<S: Alter> Tables<S> {
     ///
     /// # Errors
     ///
-    /// Fails if the database refuses a statement or the commit; `fault_of` maps the error. The
-    /// committed state is unchanged, but a crash may still leave the effects of all statements.
+    /// Fails if the database refuses a statement or the commit. `fault_of` maps the database's
+    /// error to the fault. A failed call leaves the committed state unchanged. A crash after a
+    /// failed call may still leave the effects of all statements.
     pub fn run(&mut self, statements: &[Statement<'_>]) -> Result<(), StoreFault>
         ensures commits { Commits S.Store 0 (map bound_statement statements.now)
             self.old self.new result }
@@ -106,11 +108,12 @@ impl<S: Alter> Tables<S> {
         self.run_on_rows(statements, 0)
     }
 
-    /// Runs statements as `run` does. Each statement must insert or update a row.
+    /// Runs statements in order, in one transaction, and commits them. Each statement must insert
+    /// or update a row.
     ///
     /// # Errors
     ///
-    /// Fails with `Storage` if a statement inserts or updates no row. Also fails as `run` does.
+    /// Fails with `Storage` if a statement inserts or updates no row. Also fails if `run` fails.
     pub fn write(&mut self, statements: &[Statement<'_>]) -> Result<(), StoreFault>
         ensures commits { Commits S.Store 1 (map bound_statement statements.now)
             self.old self.new result }
@@ -118,7 +121,8 @@ impl<S: Alter> Tables<S> {
         self.run_on_rows(statements, 1)
     }
 
-    /// Runs statements as `run` does. Each statement must insert or update at least `fewest` rows.
+    /// Runs statements in one transaction. Each statement must insert or update at least `fewest`
+    /// rows.
     fn run_on_rows(&mut self, statements: &[Statement<'_>], fewest: usize) -> Result<(), StoreFault>
         ensures commits { Commits S.Store fewest (map bound_statement statements.now)
             self.old self.new result }

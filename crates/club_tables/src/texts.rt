@@ -1,6 +1,6 @@
 //! The SQL texts that create the tables, and the SQL texts that read and write their rows.
 
-/// Creates the table whose only row has the version of the tables.
+/// Creates the table for the version of the tables. This table has exactly one row.
 pub(crate) const MAKE_DESK: &str = "CREATE TABLE desk (version INTEGER NOT NULL) STRICT";
 
 pub(crate) const MAKE_MEMBERS: &str = "\
@@ -54,7 +54,8 @@ pub(crate) const MAKE_BOOKINGS: &str = "\
         PRIMARY KEY (pass_key, number)\
     ) STRICT";
 
-/// Creates the table of older roots: the roots that keys had before their last rotation.
+/// Creates the table of older roots. An older root is the root of a key before the key's last
+/// rotation.
 pub(crate) const MAKE_OLD_ROOTS: &str = "\
     CREATE TABLE old_roots (\
         pass_key TEXT NOT NULL PRIMARY KEY REFERENCES keys (name), \
@@ -62,21 +63,23 @@ pub(crate) const MAKE_OLD_ROOTS: &str = "\
         until INTEGER NOT NULL CHECK (until BETWEEN 15778080 AND 68374079)\
     ) STRICT";
 
-/// Creates an index that finds a member's keys without a scan over all keys.
+/// Creates an index of keys by member, so that SQLite needn't scan all keys to find a member's
+/// keys.
 pub(crate) const MAKE_KEYS_BY_MEMBER: &str = "CREATE INDEX keys_by_member ON keys (member)";
 
-/// Creates an index on bookings. Sums over a key's bookings read only this index, and skip bookings
-/// that are cancelled or have begun.
+/// Creates an index of bookings by key. Sums over a key's bookings need only this index, and the
+/// query for open bookings skips cancelled bookings and bookings of earlier days.
 pub(crate) const MAKE_BOOKINGS_BY_KEY: &str = "\
     CREATE INDEX bookings_by_key \
     ON bookings (pass_key, cancelled, day, hour, number, charge, refund)";
 
-/// SQLite prepares this text only if the index exists. An opening never runs the statement.
+/// Drops the index of the bookings. SQLite prepares this text only if the index exists. The text is
+/// never run.
 pub(crate) const DROP_BOOKINGS_BY_KEY: &str = "DROP INDEX bookings_by_key";
 
 pub(crate) const ADD_VERSION: &str = "INSERT INTO desk (version) VALUES (2)";
 
-/// Sets version 2 in tables of version 1, after the table of older roots was created.
+/// Sets the version to 2, after the table of older roots was created.
 pub(crate) const SET_VERSION: &str = "UPDATE desk SET version = 2";
 
 pub(crate) const VERSION: &str = "SELECT version FROM desk";
@@ -124,9 +127,11 @@ pub(crate) const TAKE_CREDIT: &str = "\
 /// Sets the highest number of open bookings that a member may have.
 pub(crate) const SET_QUOTA: &str = "UPDATE members SET quota = ?2 WHERE name = ?1";
 
-/// Charges a member for a booking, after the booking was written and its persons were added to its
-/// slot. Changes no row unless the booking's key is the member's, the member has the points, and
-/// the slot's persons are at most the facility's places.
+/// Charges a member for a booking. The booking must already be inserted, and its persons must
+/// already be added to its slot. Updates no row in these cases:
+/// - The booking's key isn't the member's.
+/// - The member has too few points.
+/// - The slot has more persons than the facility has places.
 pub(crate) const CHARGE: &str = "\
     UPDATE members \
     SET used = used + ?2 \
@@ -136,8 +141,8 @@ pub(crate) const CHARGE: &str = "\
     WHERE slots.facility = ?4 AND slots.day = ?5 AND slots.hour = ?6 \
     AND slots.taken <= facilities.places)";
 
-/// Adds to the points that a member has spent, if the booking's key is the member's. A negative
-/// number refunds points.
+/// Adds a number to the points that a member has spent, if the booking's key is the member's. The
+/// number is negative for a refund.
 pub(crate) const ADD_USED: &str = "\
     UPDATE members \
     SET used = used + ?2 \
@@ -147,7 +152,8 @@ pub(crate) const ADD_FACILITY: &str = "\
     INSERT INTO facilities (name, kind, places, price, opens, shuts) \
     VALUES (?1, ?2, ?3, ?4, ?5, ?6)";
 
-/// Sets a facility's places, price and hours, if no slot has more persons than the new places.
+/// Sets a facility's places, price and hours. Updates no row if a slot of the facility has more
+/// persons than the new places.
 pub(crate) const SET_NUMBERS: &str = "\
     UPDATE facilities \
     SET places = ?2, price = ?3, opens = ?4, shuts = ?5 \
@@ -160,17 +166,17 @@ pub(crate) const ADD_KEY: &str = "\
 
 pub(crate) const REVOKE_KEY: &str = "UPDATE keys SET revoked = 1 WHERE name = ?1";
 
-/// Inserts the older root of a key, or replaces the one that is stored.
+/// Inserts the older root of a key, or replaces the stored older root.
 pub(crate) const PUT_OLDER_ROOT: &str = "\
     INSERT INTO old_roots (pass_key, root, until) \
     VALUES (?1, ?2, ?3) \
     ON CONFLICT (pass_key) \
     DO UPDATE SET root = ?2, until = ?3";
 
-/// Sets a key's root, if the last parameter is its current root.
+/// Sets a key's root. Updates no row if the last parameter isn't the key's current root.
 pub(crate) const SET_ROOT: &str = "UPDATE keys SET root = ?2 WHERE name = ?1 AND root = ?3";
 
-/// Closes a slot that is open.
+/// Closes a slot. Updates no row if the slot is already closed.
 pub(crate) const CLOSE_SLOT: &str = "\
     INSERT INTO slots (facility, day, hour, closed, taken) \
     VALUES (?1, ?2, ?3, 1, 0) \
@@ -184,8 +190,8 @@ pub(crate) const OPEN_SLOT: &str = "\
     ON CONFLICT (facility, day, hour) \
     DO UPDATE SET closed = 0";
 
-/// Adds to the number of persons in a slot. A cancellation adds a negative number. A slot that had
-/// no row is open.
+/// Adds a number to the persons in a slot. The number is negative for a cancellation. If the slot
+/// has no row, the inserted row describes an open slot.
 pub(crate) const ADD_TAKEN: &str = "\
     INSERT INTO slots (facility, day, hour, closed, taken) \
     VALUES (?1, ?2, ?3, 0, ?4) \
@@ -197,8 +203,8 @@ pub(crate) const ADD_BOOKING: &str = "\
     cancelled, refund) \
     VALUES (?1, ?2, ?3, ?4, ?5, ?6, ?7, ?8, ?9, ?10)";
 
-/// Marks a booking as cancelled, if its row has the values of the first ten parameters and isn't
-/// cancelled yet.
+/// Marks a booking as cancelled. Updates no row if the stored booking differs from the first ten
+/// parameters or is already cancelled.
 pub(crate) const CANCEL_BOOKING: &str = "\
     UPDATE bookings \
     SET cancelled = 1, refund = ?11 \
@@ -214,7 +220,8 @@ pub(crate) const DAY: &str = "\
     WHERE day = ?1 AND cancelled = 0 \
     ORDER BY facility, hour, pass_key, number";
 
-/// The last parameter is the moment's day, since slots of earlier days have begun.
+/// Returns the numbers of a member's open bookings after a moment. The last parameter is the
+/// moment's day, because all slots of earlier days have begun.
 pub(crate) const OPEN: &str = "\
     SELECT number \
     FROM keys JOIN bookings ON name = pass_key \

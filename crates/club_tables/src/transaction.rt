@@ -7,7 +7,8 @@ use club_core::StoreFault;
 use sqlite::types::ValueRef;
 use sqlite::{Error, ErrorCode};
 
-/// Maps a database error to a fault: `Memory` if the database ran out of memory, else `Storage`.
+/// Maps a database error to a fault: `Memory` if the database ran out of memory, and `Storage` for
+/// any other error.
 pub fn fault_of(error: Error) -> StoreFault
     ensures { result ≡ fault_by error }
 {

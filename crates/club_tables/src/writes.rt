@@ -1,4 +1,4 @@
-//! Writes the changes of a club, each in its own transaction.
+//! Writes the changes of a club. Each change has its own transaction.
 
 ghost use Rattle.std.specs.Prelude.{◌≡◌, ◌≤◌, [], ◌∷◌, None, Err, true, false};
 ghost use Rattle.club_rows.specs.{Limits.quota_limit, Rows.{IsMember, IsFacility, IsBooking}};
@@ -125,8 +125,8 @@ impl<S: Alter> Tables<S> {
         self.write_one(texts::ADD_CREDIT, &params::of_credit(member, points))
     }
 
-    /// Subtracts points from a member's credit. Fails without effect if the member doesn't exist,
-    /// or has fewer unspent points.
+    /// Subtracts points from a member's credit. Fails without effect if the member doesn't exist or
+    /// has fewer unspent points.
     pub fn take_credit(&mut self, member: &Name, points: u32) -> Result<(), StoreFault>
         ensures commits { Commits S.Store 1 (taking_credit member.now points)
             self.old self.new result }
@@ -163,8 +163,8 @@ impl<S: Alter> Tables<S> {
         self.write_one(texts::REVOKE_KEY, &[ValueRef::Text(key.as_bytes())])
     }
 
-    /// Sets a key's root. The former root becomes the older root, and replaces any earlier one.
-    /// Fails without effect if the given former root isn't the key's current root.
+    /// Sets a key's root. The former root becomes the key's older root and replaces any earlier
+    /// older root. Fails without effect if the given former root isn't the key's current root.
     pub fn replace_root(&mut self, rotation: &Rotation) -> Result<(), StoreFault>
         ensures commits { Commits S.Store 1
             (replacing_root rotation.now.key rotation.now.root rotation.now.older)
@@ -247,9 +247,15 @@ impl<S: Alter> Tables<S> {
     }
 
     /// Inserts a booking under one of the member's keys. Adds its persons to its slot, and its
-    /// charge to the points that the member has spent. Fails without effect if a value is outside
-    /// its limits, or the key has a booking with this number. Also fails without effect if the key
-    /// is another member's, or if points or places are missing.
+    /// charge to the points that the member has spent.
+    ///
+    /// # Errors
+    ///
+    /// Fails without effect in these cases:
+    /// - A value is outside its limits.
+    /// - The key already has a booking with this number.
+    /// - The key belongs to another member.
+    /// - The member has too few points, or the slot has too few free places.
     pub fn insert_booking(&mut self, booking: &Booking, member: &Name) -> Result<(), StoreFault>
         ensures commits { IsBooking booking.now
             → Commits S.Store 1 (adding_booking booking.now member.now) self.old self.new result }
@@ -296,10 +302,16 @@ impl<S: Alter> Tables<S> {
         ])
     }
 
-    /// Marks a booking as cancelled, stores its refund, pays the refund to the member, and frees
-    /// the slot's places. Fails without effect if the refund is more than the charge, or no stored
-    /// booking has these values. Also fails without effect if the booking is already cancelled, or
-    /// its key is another member's.
+    /// Marks a booking as cancelled and stores its refund. Subtracts the refund from the points
+    /// that the member has spent, and frees the booking's places.
+    ///
+    /// # Errors
+    ///
+    /// Fails without effect in these cases:
+    /// - The refund is more than the charge.
+    /// - No stored booking has these values.
+    /// - The booking is already cancelled.
+    /// - The booking's key belongs to another member.
     pub fn cancel_booking(
         &mut self,
         booking: &Booking,
