@@ -1,4 +1,4 @@
-//! Caches the 64 derived keys that were used last. Each one is stored with its root.
+//! Caches the 64 derived keys that were used last. Each derived key is stored with its root.
 #![tactic(auto)]
 
 use club_rows::Root;
@@ -9,10 +9,10 @@ use std::alloc::Global;
 use std::marker::Model;
 use std::num::NonZeroUsize;
 
-/// The maximum number of entries in the cache.
+/// The highest number of derived keys in the cache.
 pub const MAX_KEPT_KEYS: usize = 64;
 
-/// A root together with its derived key. Contracts see a `DerivedKey` as its root.
+/// A root together with its derived key. In contracts, a `DerivedKey` is represented by its root.
 #[derive(Clone, Copy)]
 pub struct DerivedKey {
     root: Root,
@@ -36,7 +36,7 @@ impl DerivedKey {
     ghost use Rattle.std.specs.Prelude.{◌≡◌};
     ghost use Rattle.pass_mac.specs.Chain.{derived_key};
 
-    /// Derives the key of a root.
+    /// Computes the derived key of a root.
     fn of(root: &Root) -> DerivedKey
         ensures { result ≡ root.now }
     {
@@ -54,8 +54,9 @@ impl DerivedKey {
     }
 }
 
-/// A cache of at most 64 derived keys, which are found by the names of their keys. It stores those
-/// that were used last. If no memory can be allocated for the cache, it stays empty.
+/// A cache of at most 64 derived keys. It finds a derived key by the name of the key, and stores
+/// the derived keys that were used last. If no memory can be allocated for the cache, it stays
+/// empty.
 #[derive(Drop)]
 pub struct KeptKeys {
     cache: Option<LruCache<Name, DerivedKey>>,
@@ -77,7 +78,7 @@ impl KeptKeys {
         }
     }
 
-    /// Returns the cached key of this name, if it is derived from this root.
+    /// Returns the derived key that is cached under this name, if it was derived from this root.
     fn kept(&self, name: &Name, root: &Root) -> Option<DerivedKey>
         ensures { IfSome result (λ key. key ≡ root.now) }
     {
@@ -88,8 +89,8 @@ impl KeptKeys {
         Some(*kept)
     }
 
-    /// Returns the derived key of a root. It comes from the cache, or is computed if the cache
-    /// lacks it. `name` is the name of the key with this root. The cache is unchanged.
+    /// Returns the derived key of a root. Computes the derived key if it isn't in the cache. `name`
+    /// is the name of the key with this root. The cache is unchanged.
     pub fn derived(&self, name: &Name, root: &Root) -> DerivedKey
         ensures { result ≡ root.now }
     {
@@ -97,8 +98,8 @@ impl KeptKeys {
             .unwrap_or_else(|| DerivedKey::of(root))
     }
 
-    /// Caches a derived key under this name and replaces any older one. The key then counts as the
-    /// most recently used one. If an allocation fails, the cache is unchanged.
+    /// Stores a derived key under this name, and replaces any older derived key. The stored key
+    /// becomes the most recently used key. If memory runs out, the cache is unchanged.
     pub fn keep(&mut self, name: &Name, key: DerivedKey) {
         if let Some(cache) = &mut self.cache {
             let _ = cache.put(*name, key);

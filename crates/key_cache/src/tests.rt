@@ -4,7 +4,8 @@ use super::*;
 use std::fmt::Debug;
 use std::process::Abort;
 
-// Two roots and their derived keys, by libmacaroons' method. An independent program computed them.
+// Two roots and their derived keys. An independent program computed the derived keys by
+// libmacaroons' method.
 const ROOT: &[u8; 16] = b"\x00\x11\x22\x33\x44\x55\x66\x77\x88\x99\xaa\xbb\xcc\xdd\xee\xff";
 
 const DERIVED: &[u8; 32] =
@@ -35,7 +36,7 @@ fn expect_derived(rt: &impl Abort, keys: &KeptKeys, name: &Name, root: &Root, wa
     expect_eq(rt, keys.derived(name, root).bytes(), want);
 }
 
-// Looks up a key and caches it, as the desk does for a root that a pass is signed under.
+// Looks up a derived key and then caches it. The desk does the same if a root has signed a pass.
 fn derive_and_keep(
     rt: &impl Abort,
     keys: &mut KeptKeys,
@@ -48,7 +49,7 @@ fn derive_and_keep(
     keys.keep(name, key);
 }
 
-// The key for this root isn't cached, so it is computed and then cached.
+// Checks that the derived key of this root isn't cached. Then computes and caches the derived key.
 fn is_derived_anew(
     rt: &impl Abort,
     keys: &mut KeptKeys,
@@ -61,7 +62,7 @@ fn is_derived_anew(
     expect_kept(rt, keys, name, root, Some(*want));
 }
 
-// A root and its derived key, then another root and its key, then the first root and key again.
+// Pairs of a root and its derived key. The third pair equals the first pair.
 static IN_TURN: [(&[u8; 16], &[u8; 32]); 3] = [
     (ROOT, DERIVED),
     (OTHER_ROOT, OTHER_DERIVED),
@@ -79,7 +80,7 @@ fn are_derived_anew(
     }
 }
 
-// A key cached for one root isn't used for another root. The last cached key stays.
+// A derived key that is cached for one root isn't used for another root. The last cached key stays.
 #[test]
 fn keeps_a_key_beside_its_root(rt: HostRuntime) {
     are_derived_anew(&rt, &IN_TURN);
@@ -93,7 +94,7 @@ fn derive_many(rt: &impl Abort, keys: &mut KeptKeys, root: &Root, count: u8) {
     }
 }
 
-// Of 65 keys, the least recently used one is evicted. It must be computed again.
+// If 65 keys are cached, the least recently used key is evicted and must be computed again.
 #[test]
 fn keeps_the_last_of_many_keys(rt: HostRuntime) {
     let root = root(&rt, ROOT);
@@ -103,7 +104,7 @@ fn keeps_the_last_of_many_keys(rt: HostRuntime) {
     is_derived_anew(&rt, &mut keys, &name(&rt, b"00"), &root, DERIVED);
 }
 
-// Of 65 keys, the first one is used again and stays cached. The second one is evicted.
+// The first of 65 keys is used again and stays in the cache. The second key is evicted.
 #[test]
 fn keeps_a_key_that_is_used_again(rt: HostRuntime) {
     let root = root(&rt, ROOT);
@@ -115,8 +116,8 @@ fn keeps_a_key_that_is_used_again(rt: HostRuntime) {
     expect_kept(&rt, &keys, &name(&rt, b"01"), &root, None);
 }
 
-// A lookup alone doesn't cache a key, and doesn't evict the cached one. So after a rotation, the
-// older root's key stays until a pass is signed under the new root.
+// A lookup alone neither caches a key nor evicts a key. So the derived key of the older root stays
+// in the cache after a rotation, until the new root signs a pass.
 #[test]
 fn keeps_a_key_until_another_is_kept(rt: HostRuntime) {
     let (root, older) = (root(&rt, ROOT), root(&rt, OTHER_ROOT));
