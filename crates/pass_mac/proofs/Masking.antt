@@ -1,7 +1,6 @@
--- Replacing the elements of a list in place, one after another, gives the mapped list.
+-- Lemmas about replacing the elements of a list one after another.
 use Rattle.std.proofs.Common.{◌≡◌, ℕ, zero, suc, ◌+◌, ◌<◌, List, [], ◌∷◌, ◌++◌, length, map, take, drop, get_or, set, refl, ap, arith}
 
--- If the elements before `i` are already mapped, mapping element `i` maps all elements before `i + 1`.
 pub map_in_place : (f : ℕ → ℕ) (xs : List ℕ) (i : ℕ) → i < length xs →
     set (map f (take i xs) ++ drop i xs) i (f (get_or (map f (take i xs) ++ drop i xs) i 0)) ≡ map f (take (i + 1) xs) ++ drop (i + 1) xs
 map_in_place f [] i h = absurd (omega arith)

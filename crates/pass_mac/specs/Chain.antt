@@ -1,8 +1,9 @@
--- The signature chain of a macaroon with first-party caveats, as libmacaroons computes it.
+-- This file defines the chain of signatures of a macaroon with first-party caveats, as libmacaroons
+-- computes it.
 use Rattle.std.specs.Prelude.{◌≡◌, ℕ, List, [], ◌∷◌, ◌++◌, fold, codes}
 use Rattle.pass_mac.specs.Hmac.{hmac}
 
--- The key for the HMAC that derives a key from a root, as in libmacaroons.
+-- The HMAC key with which libmacaroons derives a key from a root.
 abbrev pub derivation_key : List ℕ
 derivation_key = codes "macaroons-key-generator"
 
@@ -10,20 +11,22 @@ derivation_key = codes "macaroons-key-generator"
 unfoldable pub derived_key : List ℕ → List ℕ
 derived_key root = hmac derivation_key root
 
--- The signature after more caveats. Each caveat's HMAC has the signature before it as its key.
+-- The signature after more caveats are added. The key of each caveat's HMAC is the previous
+-- signature.
 abbrev pub extended_signature : List ℕ → List (List ℕ) → List ℕ
 extended_signature signature caveats = fold hmac signature caveats
 
--- the signature of an identifier and its caveats under a derived key
+-- The signature of an identifier and its caveats under a derived key.
 abbrev pub chain : List ℕ → List ℕ → List (List ℕ) → List ℕ
 chain key identifier caveats = extended_signature (hmac key identifier) caveats
 
--- One more caveat at the end adds one HMAC. Its key is the signature before it.
+-- Adding a caveat at the end adds one HMAC to the chain. The key of this HMAC is the previous
+-- signature.
 abbrev pub GrowsByOneHmac : Type 0
 GrowsByOneHmac = (key identifier : List ℕ) (caveats : List (List ℕ)) (caveat : List ℕ) →
     chain key identifier (caveats ++ caveat ∷ []) ≡ hmac (chain key identifier caveats) caveat
 
--- The signature after some caveats is enough to compute the signature after more caveats. The derived key isn't needed.
+-- A signature is enough to add more caveats. The derived key isn't needed.
 abbrev pub NarrowsWithoutTheKey : Type 0
 NarrowsWithoutTheKey = (key identifier signature : List ℕ) (caveats more : List (List ℕ)) →
     signature ≡ chain key identifier caveats → extended_signature signature more ≡ chain key identifier (caveats ++ more)

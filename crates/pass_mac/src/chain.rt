@@ -1,11 +1,12 @@
-//! The signature chain of a pass.
+//! Computes the chain of signatures of a pass.
 
 ghost use Rattle.std.specs.Prelude.{◌≡◌, []};
 
 use crate::mac::{derive, hmac};
 use std::marker::Model;
 
-/// A signature that changes by one HMAC with each caveat. Contracts see a `Chain` as its 32 bytes.
+/// The signature of a pass while caveats are added. Each caveat replaces the signature by a new
+/// HMAC. In contracts, a `Chain` is represented by its 32 bytes.
 #[derive(Drop)]
 pub struct Chain {
     signature: [u8; 32],
@@ -24,14 +25,15 @@ impl Chain {
     ghost use Rattle.pass_mac.specs.Hmac as spec;
     ghost use Rattle.pass_mac.specs.Chain.{derived_key, chain};
 
-    /// Returns the chain of an identifier, before any caveat. Derives the key from the root.
+    /// Starts a chain: derives the key from the root, and signs the identifier with the derived
+    /// key.
     pub fn start(root: &[u8], identifier: &[u8]) -> Chain
         ensures { result ≡ chain (derived_key root.now) identifier.now [] }
     {
         Chain::from_key(&derive(root), identifier)
     }
 
-    /// Returns the chain of an identifier under a derived key, before any caveat.
+    /// Starts a chain: signs the identifier with a derived key.
     pub fn from_key(derived: &[u8; 32], identifier: &[u8]) -> Chain
         ensures { result ≡ chain derived.now identifier.now [] }
     {
@@ -40,14 +42,14 @@ impl Chain {
         }
     }
 
-    /// Continues a chain from its current signature.
+    /// Continues a chain from a signature.
     pub fn resume(signature: [u8; 32]) -> Chain
         ensures { result ≡ signature }
     {
         Chain { signature }
     }
 
-    /// Adds a caveat. Its HMAC, with the current signature as the key, is the new signature.
+    /// Adds a caveat. The new signature is the caveat's HMAC, whose key is the current signature.
     pub fn add(&mut self, caveat: &[u8])
         ensures { self.new ≡ spec.hmac self.old caveat.now }
     {

@@ -1,5 +1,5 @@
-//! Message authentication for passes: HMAC-SHA-256, key derivation, and a macaroon's signature
-//! chain. No function allocates memory, and none fails.
+//! Computes HMAC-SHA-256, derived keys, and the chain of signatures of a macaroon. The functions in
+//! this crate allocate no memory and never fail.
 #![tactic(auto)]
 
 mod chain;

@@ -1,4 +1,4 @@
-//! HMAC-SHA-256, key derivation, and the comparison of signatures.
+//! Computes HMAC-SHA-256 and derived keys, and compares signatures.
 
 ghost use Rattle.std.specs.{Prelude.{◌≡◌, ◌↔◌, IsTrue}, Str.bytes_eq};
 ghost use Rattle.pass_mac.specs.Hmac as spec;
@@ -37,7 +37,7 @@ fn masked_block(block: &[u8; BLOCK_LEN], pad: u8) -> [u8; BLOCK_LEN]
     bytes
 }
 
-/// Returns the HMAC-SHA-256 (RFC 2104) of a text, 32 bytes. The key may have any length.
+/// Returns the HMAC-SHA-256 of a text (RFC 2104). The key may have any length.
 #[tactic(auto, unfolding(crate::specs::Hmac::hmac))]
 pub fn hmac(key: &[u8], text: &[u8]) -> [u8; 32]
     ensures { result ≡ spec.hmac key.now text.now }
@@ -52,7 +52,7 @@ pub fn hmac(key: &[u8], text: &[u8]) -> [u8; 32]
     outer.finalize()
 }
 
-/// Returns the 32-byte key that libmacaroons derives from a root, which may have any length.
+/// Returns the 32-byte key that libmacaroons derives from a root. The root may have any length.
 #[tactic(auto, unfolding(crate::specs::Chain::derived_key))]
 pub fn derive(root: &[u8]) -> [u8; 32]
     ensures { result ≡ derived_key root.now }
@@ -60,7 +60,8 @@ pub fn derive(root: &[u8]) -> [u8; 32]
     hmac(DERIVATION_KEY, root)
 }
 
-/// Returns whether two signatures are equal. The running time may depend on their bytes.
+/// Returns whether two signatures are equal. The running time may depend on the bytes of the
+/// signatures.
 pub fn same(a: &[u8; 32], b: &[u8; 32]) -> bool
     ensures value { result ≡ bytes_eq a.now b.now }
     ensures equal { IsTrue result ↔ (a.now ≡ b.now) }

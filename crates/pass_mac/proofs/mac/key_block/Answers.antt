@@ -1,4 +1,3 @@
--- A key that isn't longer than a block is used unchanged.
 use Rattle.std.proofs.{Common.{◌≡◌, length, false, ltb, arith, refl}, lemmas.{Bool.le-ltb, List.drop-replicate}}
 use Rattle.pass_mac.specs.Hmac.{key_block}
 use Rattle.pass_mac.proofs.mac.key_block.Goals as goal

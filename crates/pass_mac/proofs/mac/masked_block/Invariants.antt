@@ -1,4 +1,3 @@
--- The bytes before the index are masked, and the bytes from the index on are unchanged.
 use Rattle.std.proofs.Common.{◌≡◌, ◌++◌, take, drop}
 use Rattle.pass_mac.specs.Hmac as spec
 use Rattle.pass_mac.proofs.mac.masked_block.Given as goal
