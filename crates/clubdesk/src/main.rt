@@ -1,5 +1,5 @@
-//! The program `clubdesk`, a club's facilities desk. It runs `clubdesk_commands` on the process's
-//! arguments and standard streams, with databases in files.
+//! The program `clubdesk`, which runs a club's facilities desk. It calls `clubdesk_commands` with
+//! the arguments and standard streams of the process. Databases are stored in files.
 #![tactic(auto)]
 
 use club_http::WriteOutlet;
@@ -16,8 +16,9 @@ fn main(rt: HostRuntime) -> ExitCode {
     ExitCode::from(run_over_files(&rt, Program { rt: &rt }))
 }
 
-// Runs the program on the arguments and streams of the process. This type is also the process
-// itself, since a call that takes the runtime twice can't be proved.
+// Runs the program with the arguments and standard streams of the process. This type also
+// implements the traits of the process, because a call that passes the runtime twice can't be
+// proved.
 #[derive(Drop)]
 struct Program<'a> {
     rt: &'a HostRuntime,
@@ -42,7 +43,7 @@ impl DatabasesUser for Program<'_> {
     }
 }
 
-// The contract promises nothing about the process's arguments.
+// The contract makes no promise about the arguments of the process.
 impl GivenArguments for Program<'_> {
     ghost given = { λ _ _. Unit {0} };
 
@@ -51,7 +52,7 @@ impl GivenArguments for Program<'_> {
     }
 }
 
-// The contract promises nothing about the printed text.
+// The contract makes no promise about the printed text.
 impl FaultLines for Program<'_> {
     ghost asked = { λ _ _. Unit {0} };
 
