@@ -1,5 +1,5 @@
-//! The program `passtool`. It runs `passtool_commands` on the process's arguments, standard input
-//! and standard output.
+//! The program `passtool`. It calls `passtool_commands` with the arguments, standard input and
+//! standard output of the process.
 #![tactic(auto)]
 
 use passtool_commands::run_process;
