@@ -11,7 +11,7 @@ use Rattle.club_rows.specs.{Key.key_of_row, Limits.places_limit, Rows.{IsFacilit
 use Rattle.club_rows.specs.declared.{facility.Facility.Facility, key.{KeyRow.KeyRow, OlderRoot.OlderRoot}}
 use Rattle.club_core.specs.declared.{slot_use.SlotUse.SlotUse, store.StoreFault.{StoreFault, TheVariants.{Memory, Storage}}}
 
--- The row contains the columns of this value, and the value is within its limits.
+-- The row contains the columns of this key, and the key's values are within their limits.
 abbrev pub IsKeyIn : Row → KeyRow → Type 0
 IsKeyIn row key = IsKeyRow key × HasValues row (key_values (key_of_row key None))
 
@@ -34,13 +34,14 @@ IsBookingNamed key number row booking = IsBookingIn row booking × ((booking.key
 abbrev pub IsUseIn : Row → SlotUse → Type 0
 IsUseIn row found = (found.taken ≤ places_limit) × HasValues row (use_values found)
 
--- The optional value is decoded from the first row. It is `None` if and only if there is no row.
+-- The optional value is decoded from the first row. The value is `None` if and only if there is no
+-- row.
 abbrev pub IsFirst : {A : Type 0} → (Row → A → Type 0) → List Row → Option A → Type 0
 IsFirst Yields [] found = found ≡ None
 IsFirst Yields (row ∷ rows) found = IsSomeAnd found (Yields row)
 
--- The rows decode to this use of a slot. Without a row, the slot is open and nobody has booked it.
--- Two or more rows can't be decoded.
+-- The rows decode to this use of a slot. If there is no row, the slot is open and nobody has booked
+-- it. Two or more rows can't be decoded.
 abbrev pub IsUse : List Row → SlotUse → Type 0
 IsUse [] found = found ≡ no_slot_use
 IsUse (row ∷ []) found = IsUseIn row found

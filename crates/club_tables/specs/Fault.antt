@@ -5,7 +5,8 @@ use Rattle.sqlite.specs.{Steps.FailsToCommit, Store.Ghosts, declared.error.Error
 use Rattle.club_core.specs.declared.store.StoreFault.{StoreFault, TheVariants.Storage}
 use Rattle.club_tables.specs.Transaction.{BoundStatement, Ran, IsKept, transaction_start, fault_by}
 
--- The database refused a query, and the fault corresponds to the database's error.
+-- The database refused a query with an error, and the fault is the one that corresponds to this
+-- error.
 pub record FailsToAsk {S : Type 0} (g : Ghosts S) (statement : BoundStatement) (old new : Held S) (fault : StoreFault) : Type 0 where
   pub mid : Held S
   pub error : Error
@@ -13,7 +14,8 @@ pub record FailsToAsk {S : Type 0} (g : Ghosts S) (statement : BoundStatement) (
   pub fault_count : (state g mid).faults ≤ (state g new).faults
   pub fault_is : fault ≡ fault_by error
 
--- The database refused to prepare an SQL text, and the fault corresponds to the database's error.
+-- The database refused to prepare an SQL text, and the fault is the one that corresponds to the
+-- database's error.
 pub record FailsToPrepare {S : Type 0} (g : Ghosts S) (sql : List ℕ) (old new : Held S) (fault : StoreFault) : Type 0 where
   pub mid : Held S
   pub error : Error
@@ -39,7 +41,7 @@ FailsInTurn {S} g fewest (statement ∷ more) old new fault =
     ⊎ ((mid : Held S) × (count : ℕ) × Executes statement.0 statement.1 (state g old) (state g mid) (Ok count) × FailsInTurn g fewest more mid new fault
     × (fewest ≤ count) × IsTrue (state g old).is_open)
 
--- A transaction of these statements failed. Either a statement failed, or the database refused the
+-- A transaction of these statements failed, because a statement failed or the database refused the
 -- commit.
 pub record FailsToRun {S : Type 0} (g : Ghosts S) (fewest : ℕ) (all : List BoundStatement) (old new : Held S) (fault : StoreFault) : Type 0 where
   pub mid : Held S

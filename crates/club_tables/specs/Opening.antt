@@ -21,8 +21,8 @@ first_texts = KEY.now ∷ MEMBER.now ∷ FACILITY.now ∷ SLOT.now ∷ BOOKING.n
 abbrev pub texts_by_key : List (List ℕ)
 texts_by_key = KEY.now ∷ MEMBER.now ∷ FACILITY.now ∷ SLOT.now ∷ BOOKING.now ∷ OLDER_ROOT.now ∷ []
 
--- SQLite accepts this text only if the index of the bookings exists. The call that opens the tables
--- prepares the text, and never runs it.
+-- SQLite accepts this text only if the index of the bookings exists. The text is prepared when the
+-- tables are opened, but it is never run.
 abbrev pub index_text : List ℕ
 index_text = DROP_BOOKINGS_BY_KEY.now
 
@@ -74,7 +74,7 @@ pub record YieldsVersion {S : Type 0} (g : Ghosts S) (old new : Held S) (rows : 
 abbrev pub Understands : {S : Type 0} → Ghosts S → List (List ℕ) → Held S → Type 0
 Understands g texts held = All (IsUnderstood (state g held).committed.schema) texts
 
--- The database has tables of this version: one row contains the version, and SQLite accepts each of
+-- The database has tables of this version. One row contains the version, and SQLite accepts each of
 -- these texts.
 pub record IsReady (version : ℕ) (texts : List (List ℕ)) (db : Database) : Type 0 where
   pub version_row : (row : Row) × YieldsRows VERSION.now db (row ∷ []) × HasValues row (version_values version)
@@ -111,15 +111,16 @@ HasMigrated g old new = HasRunOver first_texts migration g old new
 abbrev pub AddsIndex : {S : Type 0} → Ghosts S → Held S → Held S → Type 0
 AddsIndex g old new = Upgrade 2 texts_by_key index_batch g old new
 
--- Either the index of the bookings existed and nothing was changed, or the index was created after
--- a read.
+-- Either the index of the bookings existed and nothing was changed, or the statement that creates
+-- the index ran.
 abbrev pub HasOrGetsIndex : {S : Type 0} → Ghosts S → Held S → Held S → Type 0
 HasOrGetsIndex {S} g old new =
     (IsUnderstood (state g old).now.schema index_text × IsKept (state g old) (state g new))
     ⊎ ((from : Held S) × HasCleanDisk (state g from) × IsKept (state g old) (state g from) × Ran g 0 index_batch from (state g new).committed)
 
--- Either all texts were accepted, including the text that tests for the index, and nothing was
--- changed. Or the other texts were accepted, and the index was created.
+-- The tables have the index of the bookings for one of two reasons:
+-- - SQLite accepted all texts, including the text that tests for the index. Nothing was changed.
+-- - SQLite accepted the statements that read a row by its key. Then the index was created.
 abbrev pub EnsuresIndex : {S : Type 0} → Ghosts S → Held S → Held S → Type 0
 EnsuresIndex g old new =
     (IsKept (state g old) (state g new) × Understands g indexed_texts new) ⊎ HasRunOver texts_by_key index_batch g old new
@@ -170,7 +171,7 @@ pub record IsOpeningFault {S : Type 0} (g : Ghosts S) (old new : Held S) (fault 
   pub after : IsAfterReadings g old from
   pub failure : FailsToTake g from new fault
 
--- The relation holds if the connection had no pending write before, and is open now.
+-- If no write was pending before and the connection is open now, the relation `Done` holds.
 abbrev pub WhenIdle : {S : Type 0} → Ghosts S → (Held S → Held S → Type 0) → Held S → Held S → Type 0
 WhenIdle g Done old new = IsTrue (state g new).is_open → IsIdle (state g old) → Done old new
 

@@ -13,8 +13,8 @@ use Rattle.club_tables.specs.{Tables.{Represents, RepresentsVersion1, Represents
 abbrev pub represents_in : {S : Type 0} → Ghosts S → Held S → Club → List Club → Type 0
 represents_in g held = Represents (state g held)
 
--- The connection represents the club. This club is sound, and so is each club that a crash may
--- leave.
+-- The connection represents the club. This club is sound, and each club that a crash may leave is
+-- sound too.
 abbrev pub sound_in : {S : Type 0} → Ghosts S → Held S → Club → List Club → Type 0
 sound_in g held club others = All IsSound (club ∷ others) × Represents (state g held) club others
 

@@ -52,8 +52,8 @@ stored_slot_use slot rows = unwrap_or (option_map (λ (row : SlotRow). row.held)
 abbrev pub older_by : List ℕ → List OlderRow → Option OlderRoot
 older_by name rows = option_map (λ (row : OlderRow). row.older) (find (λ (row : OlderRow). bytes_eq row.key name) rows)
 
--- The rows are the rows of the club, and each stored total equals the sum over the bookings. The
--- rows of slots and older roots may be in any order.
+-- The rows match the club, and each stored total equals the sum over the bookings. The rows of
+-- slots and older roots may be in any order.
 pub record IsStoredAs (club : Club) (rows : Rows) : Type 0 where
   pub members : rows.members ≡ map (member_row club) club.members
   pub facilities : rows.facilities ≡ club.facilities

@@ -110,10 +110,10 @@ IsLeftOf trees (club ∷ others) = ((db : Database) × (db.trees ≡ trees) × H
 -- A connection represents a club under three conditions:
 -- - The committed state contains the club.
 -- - No write is pending.
--- - A crash leaves this club or one of `others`.
+-- - A crash leaves this club or one of the clubs in `others`.
 --
 -- The first two conditions apply only to an open connection. No condition applies if the disk
--- returned bytes other than those that were written.
+-- returned bytes that differ from the written bytes.
 pub record RepresentsBy (IsHeld : Database → Club → Type 0) (state : State) (club : Club) (others : List Club) : Type 0 where
   pub held : HasCleanDisk state → IsTrue state.is_open → IsHeld state.committed club
   pub idle : HasCleanDisk state → IsTrue state.is_open → state.now ≡ state.committed

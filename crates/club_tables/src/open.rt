@@ -1,5 +1,5 @@
-//! Opens the tables of a database. Migrates version 1, adds a missing index of the bookings, and
-//! creates all tables if there are none.
+//! Opens the tables of a database. Migrates tables of version 1, adds the index of the bookings if
+//! it is missing, and creates all tables if there are none.
 
 ghost use Rattle.std.specs.Prelude.{◌≡◌, [], ◌∷◌, map, IsTrue, IfOk, IfErr, OnOk, OnErr};
 ghost use Rattle.sqlite.specs.{Held.state, State.{HasCleanDisk, Survives}};

@@ -1,5 +1,5 @@
-//! Reads the rows of the club. The functions in this file change nothing. They return `Storage` if
-//! a row contains a value outside its limits.
+//! Reads the rows of the club. The functions in this file change nothing. The functions return
+//! `Storage` if a row contains a value outside its limits.
 
 ghost use Rattle.std.specs.Prelude.{◌≡◌, ◌↔◌, List, All, IsTrue, IfOk, IfErr, IfSome, option_map};
 ghost use Rattle.sqlite_value.specs.Order.{Row as Values};

@@ -98,7 +98,7 @@ pub(crate) trait FromRows: Sized {
     // The rows decode to this value.
     ghost holds: { List Values → Self → Type 0 };
 
-    /// Decodes the rows. Returns `None` if they can't be decoded.
+    /// Decodes the rows. Returns `None` if the rows can't be decoded.
     fn from_rows(rows: &[Row]) -> Option<Self>
         ensures { Reads (holds rows.now) result };
 }

@@ -54,8 +54,8 @@ pub(crate) const MAKE_BOOKINGS: &str = "\
         PRIMARY KEY (pass_key, number)\
     ) STRICT";
 
-/// Creates the table of older roots. An older root is the root of a key before the key's last
-/// rotation.
+/// Creates the table of older roots. A key's older root is the root that the key had before its
+/// last rotation.
 pub(crate) const MAKE_OLD_ROOTS: &str = "\
     CREATE TABLE old_roots (\
         pass_key TEXT NOT NULL PRIMARY KEY REFERENCES keys (name), \
@@ -63,8 +63,8 @@ pub(crate) const MAKE_OLD_ROOTS: &str = "\
         until INTEGER NOT NULL CHECK (until BETWEEN 15778080 AND 68374079)\
     ) STRICT";
 
-/// Creates an index of keys by member, so that SQLite needn't scan all keys to find a member's
-/// keys.
+/// Creates an index of keys by member. With this index, SQLite finds a member's keys without a scan
+/// of all keys.
 pub(crate) const MAKE_KEYS_BY_MEMBER: &str = "CREATE INDEX keys_by_member ON keys (member)";
 
 /// Creates an index of bookings by key. Sums over a key's bookings need only this index, and the
@@ -153,7 +153,7 @@ pub(crate) const ADD_FACILITY: &str = "\
     VALUES (?1, ?2, ?3, ?4, ?5, ?6)";
 
 /// Sets a facility's places, price and hours. Updates no row if a slot of the facility has more
-/// persons than the new places.
+/// persons than the facility's new places.
 pub(crate) const SET_NUMBERS: &str = "\
     UPDATE facilities \
     SET places = ?2, price = ?3, opens = ?4, shuts = ?5 \

@@ -1,4 +1,4 @@
-//! A statement that writes to the tables, and the mapping of database errors to faults.
+//! Statements that write to the tables, and the faults that correspond to database errors.
 
 ghost use Rattle.std.specs.Prelude.{◌≡◌};
 ghost use Rattle.club_tables.specs.Transaction.{fault_by};

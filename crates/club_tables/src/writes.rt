@@ -33,7 +33,7 @@ use sqlite::Alter;
 use sqlite::types::ValueRef;
 
 impl<S: Alter> Tables<S> {
-    /// Runs one statement, which must insert or update a row.
+    /// Runs one statement. The statement must insert or update a row.
     fn write_one(&mut self, text: &str, params: &[ValueRef<'_>]) -> Result<(), StoreFault>
         ensures commits { Commits S.Store 1 ((text.now, bound params.now) ∷ [])
             self.old self.new result }
@@ -274,8 +274,8 @@ impl<S: Alter> Tables<S> {
         self.run_booking(&row, &taken, &charge)
     }
 
-    /// Marks a booking as cancelled. Subtracts its refund from the points that its member has
-    /// spent, and its persons from its slot.
+    /// Marks a booking as cancelled. Subtracts the refund from the points that the member has
+    /// spent, and the booking's persons from the slot's persons.
     fn run_cancellation(
         &mut self,
         booking: &[ValueRef<'_>],

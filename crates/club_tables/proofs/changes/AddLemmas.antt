@@ -129,7 +129,7 @@ module _ {text : List ℕ} {terms more sets : List Term} {at : ℕ} (puts : Puts
   abbrev is_of_slot : SlotRow → Bool
   is_of_slot row = same_slot row.slot slot
 
-  -- The values that the ON CONFLICT clause can read: the parameters, the rowid of the existing row,
+  -- The values that an ON CONFLICT clause can read: the parameters, the rowid of the existing row,
   -- and the new row.
   abbrev sees : Row → ℤ → Row
   sees there id = params ++ rowid there ∷ shown slot_table (Int id ∷ name_values slot ++ closed ∷ taken ∷ [])
@@ -156,7 +156,8 @@ module _ {text : List ℕ} {terms more sets : List Term} {at : ℕ} (puts : Puts
       (only_found is_of_slot rows.slots (one_passes _ is_of_slot rows.slots (λ x y a b apart. apart (a, b)) alone))) count executed in
       (on_slots holds_rows left.0 left.1, left.2)
 
-  -- If the statement writes a row, the existing row meets the conditions of the ON CONFLICT clause.
+  -- If an INSERT statement with an ON CONFLICT clause writes a row, the existing row meets the
+  -- conditions of the clause.
   slot_allowed : ((there : Row) (next : ℤ) → column (sees there next) at ≡ rowid there) → (allows : SlotRow → Bool)
       → ((id next : ℤ) (there : Row) (x : SlotRow) → list_all (holds (sees there next ∷ (Int id ∷ slot_values x) ∷ [])) more ≡ allows x)
       → (old new : State) (count : ℕ) → HoldsRows old.now rows → Executes text params old new (Ok count) → 1 ≤ count
@@ -186,7 +187,7 @@ close_puts = record { is = refl; plain = (refl, refl); aims = refl; by = refl }
 abbrev pub close_use : SlotUse → SlotUse
 close_use held = record held { closed = true }
 
--- The statement's condition for an open slot is true if and only if the slot is open.
+-- The SQL condition for an open slot is true if and only if the slot is open.
 open_is : (held : SlotUse) → (is_true (binary (Compare Eq Binary) (flag held.closed) (whole 0)) && true) ≡ not held.closed
 open_is held = and-true _ ∙ whole_equal (truth held.closed) 0 ∙ not_closed held.closed
   where
@@ -202,7 +203,7 @@ slot_closed rows once slot is_open =
     slot_put close_puts rows once slot (name_values slot) (whole 1) (whole 0) refl (cast_int (pos 1)) (cast_int (pos 0)) close_use (λ _. refl)
     (λ there next. refl) (λ x is id next there. (open_is x.held ∙ ap not (ap (λ o. (use_by o).closed) (sym is) ∙ is_open), refl))
 
--- If the statement writes a row, the slot was open.
+-- If the statement that closes a slot writes a row, the slot was open.
 pub slot_was_open : (rows : Rows) → AllPairs (λ (a : SlotRow) (b : SlotRow). a.slot ≢ b.slot) rows.slots → (slot : Slot) → (old new : State) (count : ℕ)
     → HoldsRows old.now rows → Executes CLOSE_SLOT.now (name_values slot) old new (Ok count) → 1 ≤ count
     → (stored_slot_use slot rows.slots).closed ≡ false

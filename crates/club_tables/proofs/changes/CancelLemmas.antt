@@ -95,7 +95,8 @@ module _ (rows : Rows) (once : AreBookingsOnce rows.bookings) (booking : Booking
       let low = one_numbered booking.key booking.number rows.bookings once in
       search rules
 
-  -- If the statement writes a row, the table contains a booking with the given values.
+  -- If the statement that cancels a booking writes a row, the table contains a booking with the
+  -- given values.
   pub cancel_found : WhenRan (CANCEL_BOOKING.now, params) rows (λ old new count.
       1 ≤ count → (booking_under booking.key booking.number rows.bookings ≡ Some booking) × (booking.cancelled ≡ false))
   cancel_found old new count holds_rows ran some =

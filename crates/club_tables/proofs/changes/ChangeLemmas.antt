@@ -20,7 +20,7 @@ pub wider_is : {X : Type 0} (p q : X → Bool) → Implies p q → (xs : List X)
     → (find q xs ≡ Some x) × (p x ≡ true)
 wider_is p q wide xs low x is = (sym (found_by_both p q xs (agree p q wide xs x low is)) ∙ is, (found p xs x is).1)
 
--- The relation holds after the statement has run on tables that contain these rows.
+-- The relation `P` holds after the statement has run on tables that contain these rows.
 abbrev pub WhenRan : BoundStatement → Rows → (State → State → ℕ → Type 0) → Type 1
 WhenRan statement rows P =
     (old new : State) (count : ℕ) → HoldsRows old.now rows → Executes statement.0 statement.1 old new (Ok count) → P old new count
@@ -33,7 +33,6 @@ pub record FindsOne {X : Type 0} (values : X → Row) (p q : X → Bool) (xs : L
 
 module _ {X : Type 0} {values : X → Row} {p q : X → Bool} {xs : List X} {shown : Row → Row} {old new : State} {table : Table} {count : ℕ}
     (it : FindsOne values p q xs shown old new table count) where
-  -- If the statement writes a row, the element exists and passes the test.
   pub one_found : 1 ≤ count → (x : X) × (find q xs ≡ Some x) × (p x ≡ true)
   one_found some =
       let one = passes_one it.finds some in
@@ -145,7 +144,8 @@ module _ (rows : Rows) (once : AreNamedOnce rows.members) (name : List ℕ) wher
         let wide : Implies is_credited is_named = λ row passes. sym (text_equal (name_of row) name) ∙ (and_parts _ _ passes).0 in
         search (rules, low_named)
 
-    -- If the statement writes a row, the member exists and the new credit is at most the maximum.
+    -- If the statement that adds credit writes a row, the member exists and the new credit is at
+    -- most the maximum.
     pub credit_found : WhenRan (ADD_CREDIT.now, credit_params) rows (λ old new count. 1 ≤ count → (row : MemberRow) × StoresMember name rows.members row
         × (is_true (binary (Compare Le Binary) (binary (Arith Add) (whole row.member.credited) (whole points)) (whole 999_999_999)) ≡ true))
     credit_found old new count holds_rows ran some =
@@ -173,7 +173,7 @@ module _ (rows : Rows) (once : AreNamedOnce rows.members) (name : List ℕ) wher
         (λ id row. and-true _ ∙ text_equal (name_of row) name) in
         search (rules, low_named)
 
-    -- If the statement writes a row, the member exists.
+    -- If the statement that sets a quota writes a row, the member exists.
     pub quota_found : WhenRan (SET_QUOTA.now, quota_params) rows (λ old new count. 1 ≤ count → (row : MemberRow) × StoresMember name rows.members row)
     quota_found old new count holds_rows ran some =
         let one = one_found (quota_finds old new count holds_rows ran) some in
@@ -219,7 +219,8 @@ module _ (rows : Rows) (once : AreNamedOnce rows.members) (name : List ℕ) wher
         let wide : Implies is_owner is_named = λ row passes. (and_parts (is_named row) is_owned passes).0 in
         search (rules, low_named)
 
-    -- If the statement writes a row, the key belongs to the member.
+    -- If the statement that changes the spent points of a member writes a row, the key belongs to
+    -- the member.
     pub owner_found : AreKeysOnce rows.keys
         → WhenRan (ADD_USED.now, used_params) rows (λ old new count. 1 ≤ count → (k : Key) × StoresKey key rows.keys k × (k.member ≡ name))
     owner_found unique old new count holds_rows ran some =
@@ -294,7 +295,8 @@ module _ (rows : Rows) (once : AreKeysOnce rows.keys) (name : List ℕ) where
         let wide : Implies has_root has_name = λ key passes. (and_parts (has_name key) _ passes).0 in
         search (rules, low_keys)
 
-    -- If the statement writes a row, the key had the former root.
+    -- If the statement that sets a key's root writes a row, the given former root was the key's
+    -- root.
     pub root_found : WhenRan (SET_ROOT.now, root_params) rows (λ old new count.
         1 ≤ count → (key : Key) × StoresKey name rows.keys key × (key.root ≡ was))
     root_found old new count holds_rows ran some =

@@ -51,7 +51,8 @@ module _ (rows : Rows) (once : AreNamedOnce rows.members) (name : List ℕ) (poi
       let low = one_named name_of name rows.members once in
       search rules
 
-  -- If the statement writes a row, the member exists and has enough unspent points.
+  -- If the statement that subtracts credit writes a row, the member exists and has enough unspent
+  -- points.
   pub debit_found : WhenRan (TAKE_CREDIT.now, debit_params) rows (λ old new count.
       1 ≤ count → (row : MemberRow) × StoresMember name rows.members row × (leaves points row ≡ true))
   debit_found old new count holds_rows ran some =
