@@ -54,9 +54,9 @@ impl DerivedKey {
     }
 }
 
-/// A cache of at most 64 derived keys. It finds a derived key by the name of the key, and stores
-/// the derived keys that were used last. If no memory can be allocated for the cache, it stays
-/// empty.
+/// A cache of at most 64 derived keys. The cache finds a derived key by the name of the key, and
+/// stores the derived keys that were used last. If no memory can be allocated for the cache, it
+/// stays empty.
 #[derive(Drop)]
 pub struct KeptKeys {
     cache: Option<LruCache<Name, DerivedKey>>,
