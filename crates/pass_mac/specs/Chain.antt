@@ -26,7 +26,7 @@ abbrev pub GrowsByOneHmac : Type 0
 GrowsByOneHmac = (key identifier : List ℕ) (caveats : List (List ℕ)) (caveat : List ℕ) →
     chain key identifier (caveats ++ caveat ∷ []) ≡ hmac (chain key identifier caveats) caveat
 
--- A signature is enough to add more caveats. The derived key isn't needed.
+-- A signature is enough to add more caveats to a pass. The derived key isn't needed.
 abbrev pub NarrowsWithoutTheKey : Type 0
 NarrowsWithoutTheKey = (key identifier signature : List ℕ) (caveats more : List (List ℕ)) →
     signature ≡ chain key identifier caveats → extended_signature signature more ≡ chain key identifier (caveats ++ more)
