@@ -1,5 +1,6 @@
-//! The program `clubdesk`, which runs a club's facilities desk. It calls `clubdesk_commands` with
-//! the arguments and standard streams of the process. Databases are stored in files.
+//! The program `clubdesk`, which runs a club's facilities desk. The program calls
+//! `clubdesk_commands` with the arguments and standard streams of the process. Databases are stored
+//! in files.
 #![tactic(auto)]
 
 use club_http::WriteOutlet;
