@@ -1,5 +1,5 @@
-//! The program `passtool`. It calls `passtool_commands` with the arguments, standard input and
-//! standard output of the process.
+//! The program `passtool`. The program calls `passtool_commands` with the arguments, standard input
+//! and standard output of the process.
 #![tactic(auto)]
 
 use passtool_commands::run_process;
