@@ -1,4 +1,4 @@
--- If each answer and each command has the same effect on two desks, so does a server.
+-- Lemmas for comparing the servers of two desks.
 use Rattle.std.proofs.Common.{◌≡◌, ℕ, List, ◌∷◌, Option, Some, None, Result, Ok, Err, refl}
 use Rattle.jiff_core.specs.declared.timestamp.Timestamp.{Timestamp}
 use Rattle.club_core.specs.declared.{reply.Reply.Reply, request.Request.Request}
@@ -13,8 +13,7 @@ use Rattle.desk_server.specs.declared.log.LogEvent.{LogEvent, TheVariants.{Absen
 use Rattle.desk_server.specs.declared.office.{Answer.Answer, Carried.Carried}
 use Rattle.desk_server.specs.Served as served
 
--- `Alike old new Gives` states that a change of one desk from `old` to `new` matches a change of the other desk by `Gives`. An unchanged desk matches an
--- unchanged desk. If two steps each have a match, so do both steps together.
+-- A change of one desk from `old` to `new` matches a change of another desk by `Gives`.
 module _ {D E : Type 0} (Alike : D → D → (E → E → Type 0) → Type 0)
     (same : (old new : D) (Gives : E → E → Type 0) → new ≡ old → ((e : E) → Gives e e) → Alike old new Gives)
     (after : (old mid new : D) (First Second Wanted : E → E → Type 0) → Alike old mid First → Alike mid new Second
@@ -46,8 +45,6 @@ module _ {D E : Type 0} (Alike : D → D → (E → E → Type 0) → Type 0)
         → Alike old new (λ e next. IsCarriedOut Carries' e carried next)
     carried_out None kept = same _ _ _ kept (λ e. refl)
     carried_out (Some carried) (bytes, answer, carries, is) = so _ _ _ _ (commanded bytes _ answer _ carries) (λ e next carries. (bytes, answer, carries, is))
-
-    -- ---- a server
 
     module _ {Clock : Type 0} (Given : GivesMoment Clock) where
       are_commanded : (clock : Clock) (old : D) (events : List LogEvent) (clock' : Clock) (new : D)

@@ -1,4 +1,4 @@
--- Joining the pieces of a command into bytes, and splitting the bytes into pieces again.
+-- Lemmas for encoding a command as bytes and for decoding the bytes.
 use Rattle.std.proofs.Common.{rules, arith, ◌≡◌, ℕ, suc, ◌+◌, ◌%◌, ◌^◌, ◌<◌, ◌≤◌, List, [], ◌∷◌, ◌++◌, length, take, map, refl, sym, ap, subst, ◌∙◌}
 use Rattle.std.proofs.{Common.{append_assoc, append-nil, decimal, get_or, slice_index_or, remove}, lemmas.Fmt.{decimal_by_steps, IsAscii-decimal}}
 use Rattle.std.proofs.lemmas.{Grind.elements, List.{length-append, take_more}, Str.{IsUtf8-append, IsUtf8-from_ascii, IsUtf8-nil}}
@@ -23,9 +23,6 @@ module _ {X : Type 0} (text : X → Text) where
   all_more [] x all is = (is, tt)
   all_more (y ∷ ys) x all is = (all.0, all_more ys x all.1 is)
 
--- ---- bytes determine the arguments that were joined
-
--- if no byte of a text is zero, the text can't begin with an argument and its zero byte
 no_zero : (argument more rest : List ℕ) → LacksByte 0 rest → rest ≡ argument ++ (0 ∷ more) → ⊥
 no_zero [] more rest lacks is = let lack : LacksByte 0 (0 ∷ more) = rw is at lacks in lack 0 (omega arith) refl
 no_zero (byte ∷ argument) more rest lacks is =
@@ -41,7 +38,6 @@ same_word (x ∷ a) (y ∷ b) m n la lb e =
     let same = same_word a b m n (λ k below. la (suc k) (omega arith)) (λ k below. lb (suc k) (omega arith)) more in
     let tails : a ≡ b = same.0 in (cc, same.1)
 
--- if two lists of pieces and a rest without zero bytes have the same bytes, the lists are the same and the rest is empty
 same_pieces : (xs ys : List Text) (rest : List ℕ) → AllByRecursion (LacksByte 0) xs → AllByRecursion (LacksByte 0) ys → LacksByte 0 rest
     → pieces xs ++ rest ≡ pieces ys → (xs ≡ ys) × (rest ≡ [])
 same_pieces [] [] rest lx ly lacks e = (refl, e)
@@ -56,8 +52,6 @@ same_pieces (x ∷ xs) (y ∷ ys) rest lx ly lacks e =
 lack_zeros : (arguments : List Text) → AllByRecursion IsPieceText arguments → AllByRecursion (LacksByte 0) arguments
 lack_zeros [] all = tt
 lack_zeros (argument ∷ arguments) all = (all.0.1, lack_zeros arguments all.1)
-
--- ---- the bytes of a command
 
 many_pieces : (arguments : List Text) → length arguments ≤ length (pieces arguments)
 many_pieces [] = omega arith
@@ -77,7 +71,6 @@ pieces_utf8 [] all = IsUtf8-nil
 pieces_utf8 (argument ∷ arguments) all =
     IsUtf8-append (piece argument) (pieces arguments) (IsUtf8-append argument (0 ∷ []) all.0.0 (search rules)) (pieces_utf8 arguments all.1)
 
--- a slice has fewer than 2 ^ 64 bytes
 module _ (bytes : List ℕ) (root : Text) (arguments : List Text) (command : SpellsCommand bytes root arguments) (fits : length bytes < 2 ^ 64) where
   abbrev texts : List Text
   texts = decimal (length arguments) ∷ root ∷ arguments
@@ -92,7 +85,6 @@ module _ (bytes : List ℕ) (root : Text) (arguments : List Text) (command : Spe
   pub command_utf8 : IsUtf8 bytes
   command_utf8 = subst IsUtf8 (sym command.spelled) (pieces_utf8 texts all_texts)
 
-  -- the bytes of a command have no other arguments, and nothing follows them
   pub same_order : (xs : List Text) (rest : List ℕ) → AllByRecursion IsPieceText xs → LacksByte 0 rest → bytes ≡ pieces xs ++ rest
       → (xs ≡ texts) × (rest ≡ [])
   same_order xs rest all lacks is = same_pieces xs texts rest (lack_zeros xs all) (lack_zeros texts all_texts) lacks (sym is ∙ command.spelled)
@@ -100,7 +92,6 @@ module _ (bytes : List ℕ) (root : Text) (arguments : List Text) (command : Spe
   pub same_words : (xs : List Text) → AllByRecursion IsPieceText xs → bytes ≡ pieces xs → xs ≡ texts
   same_words xs all is = (same_order xs [] all (λ k none. omega arith) (is ∙ sym (append-nil (pieces xs)))).0
 
--- removing the first element twice leaves the list after its first two elements
 pub taken_off : {X : Type 0} (xs xs1 xs2 : List X) (x y : X) → 1 < length xs → x ≡ slice_index_or xs 0 x → xs1 ≡ remove xs 0
     → y ≡ slice_index_or xs1 0 y → xs2 ≡ remove xs1 0 → xs ≡ x ∷ y ∷ xs2
 taken_off [] xs1 xs2 x y some first rest second more = absurd (omega arith)

@@ -1,4 +1,4 @@
--- A server changes its store as the machine changes the club that the store represents.
+-- Lemmas for comparing a server over a store with a server over a club.
 use Rattle.std.proofs.Common.{◌≡◌, ◌≢◌, ◌⊎◌, ℕ, false, List, ◌∷◌, Option, Some, None, Result, Ok, Err, inl, inr, refl, ap}
 use Rattle.std.specs.{Prelude.String, declared.alloc.Global.Global}
 use Rattle.clap.specs.Words.{Text}
@@ -23,7 +23,6 @@ use Rattle.desk_server.specs.declared.{log.LogEvent.TheVariants.{Absent, Overrun
 use Rattle.desk_server.specs.Served as served
 use Rattle.club_clock.specs.Moments.{GivesMoment}
 
--- a step of the machine is also a step of a store that is the club itself
 machine_steps : (club next : Club) (event : Event) (response : Response OfficeReply) → IsStep desk_presentation club event response next
     → Steps IsItself club next event response
 machine_steps club next event response (inl answered) now others same =
@@ -36,7 +35,8 @@ is_other (Refused Unavailable) h = absurd (h refl)
 is_other reply h = refl
 
 module _ {S : Type 0} (Clean : S → Type 0) (Represents : S → Club → List Club → Type 0) where
-  -- Each club that the store represented has become a club that the store now represents. `Gives` relates the two.
+  -- Each club that the old store represents changes by `Gives` into a club that the new store
+  -- represents.
   pub record Simulates (old new : S) (Gives : Club → Club → Type 0) : Type 0 where
     pub was_clean : Clean new → Clean old
     pub follows : Clean new → (club : Club) (others : List Club) → Represents old club others
@@ -48,7 +48,6 @@ module _ {S : Type 0} (Clean : S → Type 0) (Represents : S → Club → List C
     follows = λ clean club others represents. (club, others, rw is represents, gives club);
   }
 
-  -- a simulation by one relation is also a simulation by any weaker relation
   so : {old new : S} {Gives Wanted : Club → Club → Type 0} → Simulates old new Gives → ((club next : Club) → Gives club next → Wanted club next)
       → Simulates old new Wanted
   so simulates wants = record {
@@ -58,7 +57,6 @@ module _ {S : Type 0} (Clean : S → Type 0) (Represents : S → Club → List C
         (next.0, next.1, next.2, wants club next.0 next.3);
   }
 
-  -- two simulations, one after the other, make one simulation
   after : {old mid new : S} {First Second Wanted : Club → Club → Type 0} → Simulates old mid First → Simulates mid new Second
       → ((club now next : Club) → First club now → Second now next → Wanted club next) → Simulates old new Wanted
   after first second wants = record {
@@ -68,8 +66,6 @@ module _ {S : Type 0} (Clean : S → Type 0) (Represents : S → Club → List C
         let next = second.follows clean now.0 now.1 now.2 in
         (next.0, next.1, next.2, wants club now.0 next.0 now.3 next.3);
   }
-
-  -- ---- an event
 
   one_step : (new : S) (club : Club) (others : List Club) (event : Event) (response : Response OfficeReply)
       → IsAnsweredBy Represents new club others event response ⊎ IsRefusedBy Represents new club others event response
@@ -89,8 +85,6 @@ module _ {S : Type 0} (Clean : S → Type 0) (Represents : S → Club → List C
     was_clean = was;
     follows = λ clean club others represents. one_step new club others event response (steps clean club others represents);
   }
-
-  -- ---- a request
 
   one_request : (new : S) (club : Club) (others : List Club) (words : Words) (moment : ℕ) (reply : Reply)
       → IsDecidedBy Represents new club others (verdict_in club words moment) reply ⊎ HasFailed Represents new club others (verdict_in club words moment) reply
@@ -115,8 +109,6 @@ module _ {S : Type 0} (Clean : S → Type 0) (Represents : S → Club → List C
         let next = one_request _ club others seen.0 moment reply (seen.2 club others represents) in
         (next.0, next.1, next.2, (seen.0, seen.1, next.3));
   }
-
-  -- ---- a command
 
   answered : (command : Command) (IsText : List ℕ → Type 0) (answer : Result (List ℕ) Fault) {old new : S}
       → IsAnswered Clean Represents command IsText answer old new → Simulates old new (λ club next. IsAnswered Always IsItself command IsText answer club next)
@@ -178,7 +170,6 @@ module _ {S : Type 0} (Clean : S → Type 0) (Represents : S → Club → List C
   module _ {Machine : Type 0} (Shows : Machine → Option Timestamp → Type 0) (machine : Machine) (Fails : Option Change → S → StoreFault → S → Type 0)
       (service : Service) (turns : List Turn) (store left : S) (Noted : List Turn → Type 0)
     where
-      -- a server over a store is also a server over the club that the store represents, with the same turns
       pub follows_machine : (result : Result Unit Fault)
           → RunsServer Shows machine (AnswersBy Clean Represents Fails) (CarriesOutBy Clean Represents (Shows machine)) service turns store left Noted result
           → FollowsMachine Clean Represents Shows machine service turns store left Noted result

@@ -1,4 +1,4 @@
--- The second argument of a command is its name.
+-- Lemmas about the name of a command, which is the second argument.
 use Rattle.std.proofs.Common.{◌≡◌, List, [], ◌∷◌, map, Option, Some, None, option_copied, option_map, slice_get, string_bytes, ap, sym, ◌∙◌, arith}
 use Rattle.std.proofs.lemmas.Option.{slice_get-map, slice_get_past}
 use Rattle.std.specs.{Borrow.Bor, Prelude.String, Slice.IsItemAt}

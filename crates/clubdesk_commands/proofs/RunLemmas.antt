@@ -1,4 +1,4 @@
--- Lemmas on the job that arguments ask for, on the bytes handed to a server, and on how work ends.
+-- Lemmas for the proof of `run`.
 use Rattle.std.proofs.Common.{◌≡◌, ℕ, List, Option, Result, Ok, Err, subst, ◌∙◌, inl, inr, refl}
 use Rattle.clap.specs.Words.{Text}
 use Rattle.jiff_core.specs.declared.timestamp.Timestamp.{Timestamp}
@@ -11,21 +11,17 @@ use Rattle.command_line.specs.declared.job.Asked.{Asked, TheVariants.Perform}
 use Rattle.clubdesk_commands.specs.{HandedCommand.command_bytes, Output.{EndsWork, Stream}, Run.{Announces, IsHandedOver, IsReply, Serves}}
 use Rattle.clubdesk_commands.specs.Run as spec
 
--- if parsing the arguments gave this job, the arguments ask for the job's work
 pub asks_for : (given arguments : List Text) (read : Asked JobModel) (job whole : JobModel) (work : Work) → given ≡ arguments → ReadsArguments given (Ok read)
     → read ≡ Perform whole → job ≡ whole → job.work ≡ work → AskFor arguments job.file work
 asks_for given arguments read job whole work same reads is as_whole asked =
     let as_asked : read ≡ Perform (record { file = job.file; work = work }) = is ∙ rw (← as_whole, ← asked) refl in
     subst (λ (it : Asked JobModel). ReadsArguments arguments (Ok it)) as_asked (subst (λ (texts : List Text). ReadsArguments texts (Ok read)) same reads)
 
--- if a server was given the bytes of this command, it was given this command
 pub handed_reply : {V : Type 0} (Gives : Giving V) (visit : V) (root : Text) (arguments : List Text) (given bytes : List ℕ) (reply : Option (ℕ × List ℕ))
     (answer : Result (List ℕ) Fault) → given ≡ bytes → bytes ≡ command_bytes root arguments → Gives visit given reply → IsReply reply answer
     → IsHandedOver Gives visit root arguments answer
 handed_reply Gives visit root arguments given bytes reply answer same made gives is =
     spec.handed reply (subst (λ (text : List ℕ). Gives visit text reply) (same ∙ made) gives) is
-
--- ---- how work ends
 
 pub not_opened : (Unwritten : Type 0) (fault : StoreFault) (result : Result Unit Fault) → result ≡ Err (fault_of_opening fault) → Unwritten
     → EndsWork Unwritten result

@@ -1,4 +1,4 @@
--- A server over connections of any kind is also a server over sockets, since contracts promise less about sockets.
+-- Lemmas for servers whose connections are sockets.
 use Rattle.std.proofs.Common.{ℕ, List}
 use Rattle.club_clock.specs.Moments.{GivesMoment}
 use Rattle.club_http.specs.Replied.{AnswerRelation}

@@ -1,4 +1,4 @@
--- The effect of the office's tasks on a desk (ours).
+-- Defines how each task of the office changes a desk, and which answer it has.
 use Rattle.std.specs.{Prelude.{◌≡◌, ℕ, List, [], ◌∷◌, ◌++◌, codes, Option, MatchOption, Result, Ok, Err, IfOk, String}, String.string_bytes}
 use Rattle.std.specs.declared.alloc.Global.{Global}
 use Rattle.club_core.specs.{Club.Club, Run.ToOffice, Sheet.IsSheet, Store.KeepsClub, declared.command.Command.Command}
@@ -16,46 +16,49 @@ use Rattle.clubdesk_arguments.specs.declared.task.Task.TheVariants.{Give, Key, S
 use Rattle.club_clock.specs.Moments.{IsMomentOf}
 use Rattle.jiff_core.specs.declared.timestamp.Timestamp.{Timestamp}
 
--- the command for the desk that gives this root to a key, which is added if it is a new key
+-- The desk's command that adds a key with this root, or that gives this root to an existing key.
 abbrev pub key_command : List ℕ → KeyChange → List ℕ → Command
 key_command name (Add member) root = office.AddKey name member root
 key_command name (Rotate until) root = office.RotateKey name root until
 
--- The line is the text of a key's pass in this form, followed by a line feed. It exists only if the text is within the limits.
+-- The line consists of the text of a key's pass in this form and a line feed. There is such a line
+-- only if the text is within the size limits of a pass.
 pub record IsPassLine (name root : List ℕ) (form : Form) (line : List ℕ) : Type 0 where
   pub text : List ℕ
   pub is : IsWritableText (IsTextIn form) (key_pass name (minted_signature name root)) text
   pub ends : line ≡ text ++ 10 ∷ []
 
--- the program's fault for a fault of the desk
+-- The program's fault for a fault of the desk.
 abbrev pub fault_of_desk : DeskFault → Fault
 fault_of_desk (desk.Refused refusal) = Refused refusal
 fault_of_desk (desk.Store failure) = fault_of_opening failure
 
--- The answer for the desk's reply to a command. It is a fault if the desk refused the command, else this text.
+-- The answer is a fault if the desk refused the command. Otherwise, the answer is this text.
 abbrev pub GivesReply : List ℕ → Result (List ℕ) Fault → OfficeReply → Type 0
 GivesReply text answer (replies.Refused fault) = answer ≡ Err (fault_of_desk fault)
 GivesReply text answer reply = answer ≡ Ok text
 
--- the answer for the result of a listing or of a sheet
+-- The program's answer for a listing or a sheet that the desk returned.
 abbrev pub answer_of_desk : {Z : Type 0} → Result (String Z) DeskFault → Result (List ℕ) Fault
 answer_of_desk (Ok text) = Ok (string_bytes text)
 answer_of_desk (Err fault) = Err (fault_of_desk fault)
 
 module _ {S : Type 0} (Clean : S → Type 0) (Represents : S → Club → List Club → Type 0) where
-  -- The desk got a command, and its reply became the answer. The answer is this text, or the fault if the command was refused.
+  -- The desk received a command and replied. The answer is this text, or a fault if the desk
+  -- refused the command.
   pub record IsGiven (command : Command) (text : List ℕ) (answer : Result (List ℕ) Fault) (old new : S) : Type 0 where
     pub reply : OfficeReply
     pub was_clean : Clean new → Clean old
     pub steps : Clean new → Steps Represents old new (machine.Commanded command) (ToOffice reply)
     pub answers : GivesReply text answer reply
 
-  -- The text was made first, and then the desk got the command. If there was no memory for the text, the desk got no command.
+  -- The program makes the text of the answer before the desk receives the command. If memory for
+  -- the text runs out, the desk receives no command.
   pub data IsAnswered (command : Command) (IsText : List ℕ → Type 0) (answer : Result (List ℕ) Fault) (old new : S) : Type 0 where
     out_of_memory : answer ≡ Err Memory → new ≡ old → IsAnswered command IsText answer old new
     command_given : (text : List ℕ) → IsText text → IsGiven command text answer old new → IsAnswered command IsText answer old new
 
-  -- The desk returned a listing or a sheet, which is the answer. The club is unchanged.
+  -- The answer is a listing or a sheet that the desk returned. The club is unchanged.
   pub record DeskShows (Shows : Club → Result (String Global) DeskFault → Type 0) (answer : Result (List ℕ) Fault) (old new : S) : Type 0 where
     pub was_clean : Clean new → Clean old
     pub kept : Clean new → KeepsClub Represents old new
@@ -63,7 +66,8 @@ module _ {S : Type 0} (Clean : S → Type 0) (Represents : S → Club → List C
     pub shows : OfItsClub Clean Represents old new (λ club. Shows club returned)
     pub is : answer ≡ answer_of_desk returned
 
-  -- The answer to a task of the office, and the task's effect on a store by its trait. `Given` states which instants the machine's clock may show.
+  -- The answer to a task of the office, and the effect of the task on a store. `Given` states which
+  -- instants the machine's clock can show.
   abbrev pub Does : (Option Timestamp → Type 0) → Task → Result (List ℕ) Fault → S → S → Type 0
   Does Given (Give given) answer old new = IsAnswered given (λ line. line ≡ codes "done\n") answer old new
   Does Given (Key given root) answer old new =

@@ -1,10 +1,11 @@
--- The bytes with which a command is handed to a server (ours).
+-- Defines the bytes that encode a command for a server.
 use Rattle.std.specs.{List.AllByRecursion, Prelude.{◌≡◌, ◌≢◌, ℕ, List, [], ◌∷◌, ◌++◌, length, map, Option, Some, None, decimal}, Str.{IsUtf8, Iter.LacksByte}}
 use Rattle.std.specs.String.{string_bytes}
 use Rattle.clap.specs.Words.{Text}
 use Rattle.clubdesk_commands.specs.declared.handed_command.HandedCommand.{HandedCommand}
 
--- a text and a zero byte that ends it; no argument has a zero byte
+-- A text followed by a zero byte. An argument has no zero byte, so the zero byte marks the end of
+-- the argument.
 abbrev pub piece : Text → List ℕ
 piece text = text ++ 0 ∷ []
 
@@ -12,11 +13,12 @@ abbrev pub pieces : List Text → List ℕ
 pieces [] = []
 pieces (text ∷ texts) = piece text ++ pieces texts
 
--- The number of arguments, then the root from standard input, then the arguments. The root is an empty text if none was read.
+-- The encoding of a command. It consists of the number of arguments, the root from standard input,
+-- and the arguments. The root is an empty text if the program read no root.
 abbrev pub command_bytes : Text → List Text → List ℕ
 command_bytes root arguments = piece (decimal (length arguments)) ++ (piece root ++ pieces arguments)
 
--- a text that can be an argument or a root, since it has no zero byte
+-- The text is valid UTF-8 without zero bytes, so it can be an argument or a root.
 abbrev pub IsPieceText : Text → Type 0
 IsPieceText text = IsUtf8 text × LacksByte 0 text
 
@@ -26,16 +28,16 @@ pub record SpellsCommand (bytes : List ℕ) (root : Text) (arguments : List Text
   pub root_piece : IsPieceText root
   pub all_pieces : AllByRecursion IsPieceText arguments
 
--- no command has these bytes
+-- The bytes encode no command.
 abbrev pub SpellsNoCommand : List ℕ → Type 0
 SpellsNoCommand bytes = (root : Text) (arguments : List Text) → SpellsCommand bytes root arguments → ⊥
 
--- the bytes are pieces, and after these come one or more bytes that aren't zero
+-- After the last zero byte, the bytes continue with at least one more byte.
 abbrev pub EndsWithoutZero : List ℕ → Type 0
 EndsWithoutZero bytes =
     (arguments : List Text) × (rest : List ℕ) × AllByRecursion IsPieceText arguments × LacksByte 0 rest × (rest ≢ []) × (bytes ≡ pieces arguments ++ rest)
 
--- the bytes are those of this command; for `None`, no command has these bytes
+-- The bytes encode this command. `None` means that the bytes encode no command.
 abbrev pub IsCommandOf : List ℕ → Option HandedCommand → Type 0
 IsCommandOf bytes (Some command) = SpellsCommand bytes (string_bytes command.root) (map string_bytes command.arguments.items)
 IsCommandOf bytes None = SpellsNoCommand bytes

@@ -1,4 +1,4 @@
--- The effect of a command that a server's desk was handed (ours).
+-- Defines how a command changes the desk of a server that receives the command.
 use Rattle.std.specs.{Prelude.{◌≡◌, ◌⊎◌, ℕ, List, [], ◌++◌, take, slice_get, codes, IfSome, Option, Some, None, Result, Ok, Err}, String.string_bytes}
 use Rattle.clap.specs.{Words.Text, declared.error.Error.Error}
 use Rattle.jiff_core.specs.declared.timestamp.Timestamp.{Timestamp}
@@ -11,35 +11,39 @@ use Rattle.clubdesk_arguments.specs.declared.{fault.Fault.TheVariants.{Arguments
 use Rattle.clubdesk_arguments.specs.declared.task.{Task.TheVariants.Key, Work.TheVariants.{Office, Rootless, Serve}}
 use Rattle.clubdesk_commands.specs.{Does.Does, HandedCommand.{SpellsCommand, SpellsNoCommand}, Input.root_in_input}
 
--- The status and the text of an answer. The text of a fault is its line. If memory for the line is refused, the status is 4.
+-- The status and the text of an answer. The text of a fault is the fault's line. If memory for the
+-- line runs out, the status is 4.
 abbrev pub AnswersWith : Result (List ℕ) Fault → Answer → Type 0
 AnswersWith (Ok text) answer = (answer.carried.status ≡ 0) × (string_bytes answer.text ≡ text)
 AnswersWith (Err fault) answer =
     ((answer.carried.status ≡ fault_status fault) × IfSome (fault_line fault) (λ line. string_bytes answer.text ≡ line))
     ⊎ (answer.carried.status ≡ 4)
 
--- the words that the log gets for a command with this name: `office` and the name's first 24 bytes
+-- The log's words for a command with this name. The words are `office` and the first 24 bytes of
+-- the name.
 abbrev pub named_line : Option Text → List ℕ
 named_line (Some name) = codes "office " ++ take 24 name ++ codes " "
 named_line None = []
 
--- the words that the log gets for a command with this answer; none if `clap` refused the arguments, since it found no command's name
+-- The log's words for a command with this answer. If `clap` refused the arguments, the log has no
+-- words, because `clap` found no name of a command.
 abbrev pub logged_line : Result (List ℕ) Fault → Option Text → List ℕ
 logged_line (Err (Arguments error)) name = []
 logged_line answer name = named_line name
 
--- the answer has this status, and no words for the log
+-- The answer has this status, and the log has no words for the command.
 abbrev pub IsUnnamed : ℕ → Answer → Type 0
 IsUnnamed status answer = (answer.carried.status ≡ status) × (answer.carried.line ≡ [])
 
--- the arguments ask for help, the version or a server, which aren't commands of the office
+-- The arguments ask for help, the version or a server. None of these is a command of the office.
 pub data AskOther (arguments : List Text) : Type 0 where
   text_asked : (text : Error) → ReadsArguments arguments (Ok (ShowText text)) → AskOther arguments
   server_asked : (file : Text) (service : Service) → AskFor arguments file (Serve service) → AskOther arguments
 
 module _ {Store : Type 0} (Clean : Store → Type 0) (Represents : Store → Club → List Club → Type 0) (Given : Option Timestamp → Type 0) where
-  -- The effect of a command with these arguments. If they are valid, the command is carried out as in a run without a server. It uses this root if the
-  -- arguments leave the root to the input. If the arguments or the root aren't valid, nothing is done.
+  -- The effect of a command with these arguments. If the arguments are valid, the desk carries out
+  -- the command in the same way as a run without a server. If the arguments contain no root, the
+  -- command takes this root. If the arguments or the root are invalid, the store is unchanged.
   pub data DoesArguments (root : Text) (arguments : List Text) (answer : Result (List ℕ) Fault) (old new : Store) : Type 0 where
     task_done : (file : Text) (task : Task) → AskFor arguments file (Office task) → Does Clean Represents Given task answer old new
         → DoesArguments root arguments answer old new
@@ -50,8 +54,9 @@ module _ {Store : Type 0} (Clean : Store → Type 0) (Represents : Store → Clu
     arguments_refused : (fault : ArgumentsFault Unit) → ReadsArguments arguments (Err fault) → answer ≡ Err (of_arguments fault) → new ≡ old
         → DoesArguments root arguments answer old new
 
-  -- The effect of the bytes of a command. The command is carried out once, and the log gets its name, which is the second argument. Nothing is done if the
-  -- bytes aren't those of a command, or if the arguments ask for no command of the office.
+  -- The effect of the bytes that a server receives. If the bytes encode a command of the office,
+  -- the desk carries out the command once. The log gets the name of the command, which is the
+  -- second argument. If the bytes encode no command of the office, the store is unchanged.
   pub data CarriesOutBy (bytes : List ℕ) (old : Store) (answer : Answer) (new : Store) : Type 0 where
     command_done : (root : Text) (arguments : List Text) (result : Result (List ℕ) Fault) → SpellsCommand bytes root arguments
         → DoesArguments root arguments result old new
@@ -61,13 +66,13 @@ module _ {Store : Type 0} (Clean : Store → Type 0) (Represents : Store → Clu
         → CarriesOutBy bytes old answer new
     no_memory : IsUnnamed 4 answer → new ≡ old → CarriesOutBy bytes old answer new
 
--- ---- desks that consist of a store and the machine's clock, which never changes
-
--- the replies of a desk with a store and a clock, which the store alone determines
+-- The replies of a desk with a store and a clock. The replies depend only on the store, and the
+-- clock never changes.
 abbrev pub answers_with_clock : {S C : Type 0} → (ℕ → AnswerRelation S) → ℕ → AnswerRelation (S × C)
 answers_with_clock Answers moment text request old reply new = Answers moment text request old.0 reply new.0 × (new.1 ≡ old.1)
 
--- the effect of a command on a desk with a store and a clock, given the instants that the clock may show
+-- The effect of a command on a desk with a store and a clock. The clock never changes, and the
+-- command's time is an instant that the clock can show.
 abbrev pub carries_out_with_clock : {S C : Type 0} → (C → Option Timestamp → Type 0) → ((Option Timestamp → Type 0) → CommandRelation S)
     → CommandRelation (S × C)
 carries_out_with_clock Shows Carries bytes old answer new = Carries (Shows old.1) bytes old.0 answer new.0 × (new.1 ≡ old.1)

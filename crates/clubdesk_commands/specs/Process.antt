@@ -1,4 +1,4 @@
--- The effect of a process that runs the program (ours).
+-- Defines the effect of a process that runs the program.
 use Rattle.std.specs.Prelude.{◌≡◌, ℕ, List, Option, Result, Ok, Err, IfErr}
 use Rattle.clap.specs.Words.{Text}
 use Rattle.clap.specs.declared.error.kind.ErrorKind.TheVariants as kinds
@@ -9,19 +9,22 @@ use Rattle.desk_server.specs.declared.databases.{Databases.Ghosts as DatabasesWo
 use Rattle.clubdesk_arguments.specs.{Fault.{fault_output, fault_status, of_arguments}, declared.fault.Fault.Fault}
 use Rattle.clubdesk_commands.specs.{Output.{LogChange, Stream}, Run.Runs}
 
--- the exit status of a run
+-- The exit status of a run with this result.
 abbrev pub exit_status : Result Unit Fault → ℕ
 exit_status (Ok done) = 0
 exit_status (Err fault) = fault_status fault
 
--- the exit status is that of the run's result, and the text of a fault was printed
+-- The exit status matches the run's result. If the run failed, the program printed the text of the
+-- fault.
 abbrev pub EndsWith : (Option (List ℕ) → Type 0) → Result Unit Fault → ℕ → Type 0
 EndsWith Asked ended status = (status ≡ exit_status ended) × IfErr ended (λ fault. Asked (fault_output fault))
 
 module _ {D S R V Machine : Type 0} (databases : DatabasesWords D S R V) (visits : VisitWords V) (stores : StoreWords S)
     (Shows : Machine → Option Timestamp → Type 0) (machine : Machine) (Given : List Text → Type 0) (Asked : Option (List ℕ) → Type 0)
   where
-    -- The process ran on its arguments. Or an argument isn't UTF-8 or memory for the arguments was refused, and the process did nothing.
+    -- The effect of a process. The process runs the program on its arguments. If an argument isn't
+    -- valid UTF-8, or if memory for the arguments runs out, the process does nothing else than
+    -- print the fault.
     pub data RunsProcess (given : Stream) (old new : D) (written : Stream) (log : LogChange) (status : ℕ) : Type 0 where
       process_ran : (arguments : List Text) (ended : Result Unit Fault) → Given arguments
           → Runs databases visits stores Shows machine arguments given old new written log ended → EndsWith Asked ended status

@@ -1,4 +1,4 @@
--- The effect of a run of the program (ours).
+-- Defines the effect of a run of the program.
 use Rattle.std.specs.Io.KnownBytes.{Appends}
 use Rattle.std.specs.Prelude.{◌≡◌, ◌≢◌, ◌⊎◌, ℕ, ◌≤◌, List, [], ◌∷◌, ◌++◌, Option, Some, None, Result, Ok, Err, IfErr, true, false, codes, decimal}
 use Rattle.std.specs.String.{string_bytes}
@@ -19,24 +19,25 @@ use Rattle.clubdesk_commands.specs.{Does.Does, HandedCommand.command_bytes, Inpu
 use Rattle.clubdesk_commands.specs.{OfficeDesk.CarriesOutBy, Output.{EndsWork, LogChange, Prints, Stream}}
 use Rattle.jiff_core.specs.declared.timestamp.Timestamp.{Timestamp}
 
--- ---- the server
-
--- No contract says which bytes a socket reads or writes. So any outcome of an exchange over a socket is possible.
+-- An exchange over a socket can have any outcome, because no contract states which bytes a socket
+-- reads or writes.
 abbrev pub over_socket : Ends
 over_socket bytes written outcome = Unit {0}
 
--- if a log is asked for, it noted these turns
+-- If the service asks for a log, the log noted these turns.
 abbrev pub IfLogged : Service → (List Turn → Type 0) → List Turn → Type 0
 IfLogged service Noted turns = service.log ≡ true → Noted turns
 
--- the result of a server that listened, from the result of its service
+-- The result of a server that listened. The argument is the result of serving the clients.
 abbrev pub outcome_of_server : Result Unit ClockFault → Result Unit Fault
 outcome_of_server (Ok done) = Ok done
 outcome_of_server (Err stopped) = Err ClockOutOfRange
 
--- The end of a server. Either it served as many clients as it was asked to, or it stopped because the clock failed. Each client had a moment of the server's
--- clock, which may be the machine's. The server carried out the commands that came before and between the clients, and its log noted all turns. Or the server
--- couldn't listen or write its address. Then it served and noted nothing.
+-- The effect of a server. A server that listens serves clients until it reaches the requested
+-- number of clients, or until the clock fails. The server takes the time of each client from its
+-- clock, which may be the machine's clock. Between clients, the server carries out the office's
+-- commands. The log notes all turns. A server that can't listen or can't write its address serves
+-- no client, and its log notes no turn.
 pub data RunsServer {Desk Machine : Type 0} (Shows : Machine → Option Timestamp → Type 0) (machine : Machine)
     (Answers : ℕ → AnswerRelation Desk) (Carries : served.CommandRelation Desk) (service : Service) (turns : List Turn) (old new : Desk)
     (Noted : List Turn → Type 0) (result : Result Unit Fault) : Type 0 where
@@ -46,26 +47,28 @@ pub data RunsServer {Desk Machine : Type 0} (Shows : Machine → Option Timestam
   not_listened : (result ≡ Err Memory) ⊎ (result ≡ Err InputOutput) → turns ≡ [] → new ≡ old → Noted []
       → RunsServer Shows machine Answers Carries service turns old new Noted result
 
--- the line that a server writes when it listens at this port of the loopback address
+-- The line that a server writes when it listens on this port of the loopback address.
 abbrev pub listening_line : ℕ → List ℕ
 listening_line port = codes "listening on 127.0.0.1:" ++ decimal port ++ 10 ∷ []
 
--- the port at which a server listens: the requested port, or any port if 0 was requested
+-- The server listens on the requested port. If the requested port is 0, the server listens on any
+-- port.
 abbrev pub IsPortFor : ℕ → ℕ → Type 0
 IsPortFor asked port = (port ≤ 65_535) × ((asked ≡ 0) ⊎ (port ≡ asked))
 
--- the server listens, and wrote its address and nothing else
+-- The server listens on a port, and has written only its address.
 abbrev pub IsAnnounced : ℕ → Stream → Type 0
 IsAnnounced asked written = (port : ℕ) × IsPortFor asked port × Appends written.before written.after (listening_line port)
 
--- The server doesn't listen, and wrote nothing. If the writer failed, it may have written a prefix of the line.
+-- The server doesn't listen and writes nothing. If the writer failed, the server may have written a
+-- prefix of the line with its address.
 abbrev pub StopsBefore : ℕ → Stream → Fault → Type 0
 StopsBefore asked written InputOutput =
     written.no_change ⊎ ((port : ℕ) × IsPortFor asked port × AppendsFront written.before written.after (listening_line port))
 StopsBefore asked written Memory = written.no_change
 StopsBefore asked written fault = ⊥
 
--- the output that a server writes at its start
+-- The output of a server before it serves its first client.
 abbrev pub Announces : ℕ → Stream → Result Unit Fault → Type 0
 Announces asked written (Ok done) = IsAnnounced asked written
 Announces asked written (Err ClockOutOfRange) = IsAnnounced asked written
@@ -74,43 +77,45 @@ Announces asked written (Err fault) = StopsBefore asked written fault
 module _ {Store Machine : Type 0} (Clean : Store → Type 0) (Represents : Store → Club → List Club → Type 0)
     (Shows : Machine → Option Timestamp → Type 0) (machine : Machine)
   where
-    -- If the disk stayed clean, the server is also a server over the club itself, with the same turns. Each reply and each answer is the machine's, and failed
-    -- events changed nothing. At the end, the store represents the machine's club.
+    -- If the disk stayed clean, a server over the club has the same turns as the server over the
+    -- store. Each reply and each answer is the machine's. Failed events change nothing. At the end,
+    -- the store represents the machine's club.
     abbrev pub FollowsMachine : Service → List Turn → Store → Store → (List Turn → Type 0) → Result Unit Fault → Type 0
     FollowsMachine service turns store left Noted result =
         Clean left → (club : Club) (others : List Club) → Represents store club others
         → (last : Club) × (still : List Club) × Represents left last still
         × RunsServer Shows machine machine_answers (machine_commands (Shows machine)) service turns club last Noted result
 
--- ---- a command that a server is handed
-
--- the root of a task in hexadecimal, which the arguments may lack
+-- The root of a task in hexadecimal, for arguments that leave the root to standard input.
 abbrev pub handed_root : Task → Text
 handed_root (Key command root) = encode_lower root
 handed_root task = []
 
--- the answer to a command, from the server's reply; without a reply it is the fault `NoAnswer`
+-- The answer to a command that a server received. The answer is the server's reply, or the fault
+-- `NoAnswer` if the server sent no reply.
 abbrev pub IsReply : Option (ℕ × List ℕ) → Result (List ℕ) Fault → Type 0
 IsReply reply (Ok text) = reply ≡ Some (0, text)
 IsReply reply (Err NoAnswer) = reply ≡ None
 IsReply reply (Err (Answered status line)) = (status ≢ 0) × (reply ≡ Some (status, string_bytes line))
 IsReply reply (Err fault) = ⊥
 
--- A server was handed a command with these arguments and this root, and its reply is the answer. Or
--- memory was refused, and no server was handed a command.
+-- The program sends a command with these arguments and this root to a server, and the server's
+-- reply is the answer. If memory for the bytes runs out, the program sends nothing.
 pub data IsHandedOver {Visit : Type 0} (Gives : Giving Visit) (visit : Visit) (root : Text) (arguments : List Text)
     (answer : Result (List ℕ) Fault) : Type 0 where
   not_handed : answer ≡ Err Memory → IsHandedOver Gives visit root arguments answer
   handed : (reply : Option (ℕ × List ℕ)) → Gives visit (command_bytes root arguments) reply → IsReply reply answer
       → IsHandedOver Gives visit root arguments answer
 
--- ---- a run of the program
-
 module _ {D S R V Machine : Type 0} (databases : DatabasesWords D S R V) (visits : VisitWords V) (stores : StoreWords S)
     (Shows : Machine → Option Timestamp → Type 0) (machine : Machine)
   where
-    -- A task of the office on the database with this name. Either the arguments and the task's root were handed to the database's server, and its reply was
-    -- written. Or the database was opened, the task done, the database closed, and the answer written. Or the database couldn't be reached.
+    -- The effect of a task of the office on the database with this name. There are three cases:
+    -- - A server has the database open. The program sends the arguments and the root to the server,
+    --   and writes the server's reply.
+    -- - The program opens the database, carries out the task, closes the database, and writes the
+    --   answer.
+    -- - The program can't reach the database.
     pub data Performs (arguments : List Text) (file : Text) (task : Task) (old new : D) (written : Stream) (result : Result Unit Fault) : Type 0 where
       not_reached : (fault : StoreFault) → databases.reaches old file (Err fault) new → result ≡ Err (fault_of_opening fault) → written.no_change
           → Performs arguments file task old new written result
@@ -121,8 +126,11 @@ module _ {D S R V Machine : Type 0} (databases : DatabasesWords D S R V) (visits
           → IsHandedOver visits.gives visit (handed_root task) arguments answer → Prints answer written result
           → Performs arguments file task old new written result
 
-    -- A server over the database with this name. Either it opened the database, served clients and commands at one desk over the store, and closed the store at
-    -- the end. Or its door couldn't be made, and it closed the database. Or it couldn't open the database.
+    -- The effect of a server for the database with this name. There are three cases:
+    -- - The server opens the database, serves clients and commands at one desk, and closes the
+    --   database at the end.
+    -- - The server can't make the door of the database, and closes the database.
+    -- - The server can't open the database.
     pub data Serves (file : Text) (service : Service) (old new : D) (written : Stream) (Noted : List Turn → Type 0) (result : Result Unit Fault) : Type 0 where
       not_opened : (fault : StoreFault) → databases.opens old file (Err fault) new → result ≡ Err (fault_of_opening fault) → written.no_change → Noted []
           → Serves file service old new written Noted result
@@ -136,22 +144,24 @@ module _ {D S R V Machine : Type 0} (databases : DatabasesWords D S R V) (visits
 
     -- The effect of a run with these arguments.
     pub data Runs (arguments : List Text) (given : Stream) (old new : D) (written : Stream) (log : LogChange) (result : Result Unit Fault) : Type 0 where
-      -- The arguments have a fault, or memory was refused. Nothing was done.
+      -- The arguments have a fault, or memory runs out. The run does nothing.
       arguments_refused : (fault : ArgumentsFault Unit) → ReadsArguments arguments (Err fault) → result ≡ Err (of_arguments fault) → given.no_change → new ≡ old
           → written.no_change → log.no_change → Runs arguments given old new written log result
-      -- The arguments ask for help or the version. No database was opened.
+      -- The arguments ask for help or the version. The run opens no database.
       text_shown : (text : Error) → ReadsArguments arguments (Ok (ShowText text)) → IfErr result (λ fault. fault ≡ InputOutput) → given.no_change → new ≡ old
           → log.no_change → Runs arguments given old new written log result
       task_asked : (file : Text) (task : Task) → AskFor arguments file (Office task) → Performs arguments file task old new written result
           → EndsWork written.no_change result → given.no_change → log.no_change → Runs arguments given old new written log result
-      -- The root of a key is left to the input, and was read before the database was reached.
+      -- The arguments leave the root of a key to standard input. The program reads the root before
+      -- it opens the database.
       key_asked : (file : Text) (command : KeyCommand) (root : List ℕ) → AskFor arguments file (Rootless command) → TakesRoot given.before given.after (Ok root)
           → Performs arguments file (Key command root) old new written result → EndsWork written.no_change result → log.no_change
           → Runs arguments given old new written log result
-      -- The input couldn't be read, or it isn't a root. Nothing was done.
+      -- The program can't read the input, or the input isn't a root. The run does nothing else.
       root_refused : (file : Text) (command : KeyCommand) (fault : Fault) → AskFor arguments file (Rootless command)
           → TakesRoot given.before given.after (Err fault)
           → result ≡ Err fault → new ≡ old → written.no_change → log.no_change → Runs arguments given old new written log result
-      -- A server was asked for. It writes a log only if the arguments ask for one.
+      -- The arguments ask for a server. The server writes a log only if the arguments ask for a
+      -- log.
       server_asked : (file : Text) (service : Service) → AskFor arguments file (Serve service) → Serves file service old new written log.notes result
           → EndsWork written.no_change result → given.no_change → (service.log ≡ false → log.no_change) → Runs arguments given old new written log result

@@ -1,4 +1,4 @@
-//! The bytes with which a command is handed to a server.
+//! Encodes a command for a server as bytes, and decodes the bytes.
 
 ghost use Rattle.std.specs.List.{AllByRecursion};
 ghost use Rattle.std.specs.Prelude.{◌≡◌, ◌++◌, ◌∷◌, [], IfOk, MatchOption, OnOk, map};
@@ -9,8 +9,8 @@ use std::alloc::{AllocError, Global};
 use std::convert::AsStr;
 use std::str;
 
-/// A command that is handed to a server: the root from standard input, and the arguments. The root
-/// is empty if none was read. The first argument is the program's name.
+/// A command that the program sends to a server: the root from standard input, and the arguments.
+/// The root is empty if the program read no root. The first argument is the program's name.
 #[derive(Drop)]
 pub struct HandedCommand {
     pub root: String,
@@ -21,7 +21,7 @@ pub struct HandedCommand {
 ///
 /// # Errors
 ///
-/// Fails if memory for the bytes is refused.
+/// Fails if memory for the bytes runs out.
 pub fn command_bytes<S: AsStr>(
     alloc: Global,
     root: &str,
@@ -57,12 +57,13 @@ fn push_piece(bytes: &mut Vec<u8>, text: &str) -> Result<(), AllocError>
     Ok(())
 }
 
-/// Decodes a command, or returns `None` if no command has these bytes. The root and the arguments
-/// must be UTF-8 without zero bytes. The number of arguments must be the encoded one.
+/// Decodes a command, or returns `None` if the bytes encode no command. The root and the arguments
+/// must be valid UTF-8 without zero bytes. The bytes must contain as many arguments as their first
+/// number states.
 ///
 /// # Errors
 ///
-/// Fails if memory for the command is refused.
+/// Fails if memory for the command runs out.
 pub fn read_command(alloc: Global, bytes: &[u8]) -> Result<Option<HandedCommand>, AllocError>
     ensures { IfOk result (λ command. spec.IsCommandOf bytes.now command) }
 {
@@ -86,7 +87,8 @@ pub fn read_command(alloc: Global, bytes: &[u8]) -> Result<Option<HandedCommand>
     }
 }
 
-// Returns the arguments that a text's pieces spell, or `None` if bytes follow the last piece.
+// Splits a text into arguments, each of which a zero byte ends. Returns `None` if bytes remain
+// after the last zero byte.
 fn split_arguments(alloc: Global, text: &str) -> Result<Option<Vec<String>>, AllocError>
     ensures { IfOk result (λ arguments. MatchOption arguments (spec.EndsWithoutZero text.now)
         (λ arguments. (text.now ≡ spec.pieces (map string_bytes arguments.items))

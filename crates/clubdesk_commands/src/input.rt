@@ -8,14 +8,15 @@ use clubdesk_arguments::{Fault, root_of};
 use command_line::{fill, without_line_feed};
 use std::io::Read;
 
-/// One byte more than the longest root in hexadecimal and a line feed.
+/// The most bytes that the program reads: one more than the longest root in hexadecimal with a line
+/// feed.
 const MAX_READ: usize = 130;
 
-/// Reads a root in hexadecimal, which one line feed may follow.
+/// Reads a root in hexadecimal. A line feed after the root is ignored.
 ///
 /// # Errors
 ///
-/// Fails with `BadValue` if the input isn't a root, and with `InputOutput` if the reader failed.
+/// Fails with `BadValue` if the input isn't a root, and with `InputOutput` if the reader fails.
 pub(crate) fn read_root<R: Read>(reader: &mut R) -> Result<Root, Fault>
     ensures { spec.TakesRoot (R.remaining reader.old) (R.remaining reader.new) result }
 {
@@ -26,7 +27,7 @@ pub(crate) fn read_root<R: Read>(reader: &mut R) -> Result<Root, Fault>
     }
 }
 
-/// Decodes a root from hexadecimal, after removing a line feed from the end.
+/// Decodes a root from hexadecimal. A line feed at the end is ignored.
 pub(crate) fn root_in(bytes: &[u8]) -> Option<Root>
     ensures { result ≡ spec.root_in_input bytes.now }
 {

@@ -1,5 +1,5 @@
-//! The commands of `clubdesk`. A run carries out its command on a database, or hands it to the
-//! server that has the database open.
+//! The commands of `clubdesk`. A run carries out its command on a database. If a server has the
+//! database open, the run sends the command to the server.
 #![tactic(auto)]
 
 mod handed_command;

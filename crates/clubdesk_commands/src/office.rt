@@ -14,14 +14,14 @@ use pass_forms::Form;
 use pass_json::write_any;
 use std::alloc::Global;
 
-/// Carries out a task at a desk, and returns the text of its answer.
+/// Carries out a task at a desk, and returns the text of the answer.
 ///
 /// # Errors
 ///
-/// Fails with `Refused`, `Memory` or `Storage` if the desk does. Fails with `Memory` before the
-/// desk gets a command if there is no memory for the answer. Fails with `ClockOutOfRange` if a
-/// listing needs the moment and the clock shows none. After any of these faults the club is
-/// unchanged.
+/// The club is unchanged after each of these faults:
+/// - `Refused`, `Memory` or `Storage`, if the desk fails.
+/// - `Memory`, if memory for the answer runs out. The desk has received no command.
+/// - `ClockOutOfRange`, if a listing needs the time and the clock shows no minute of the club.
 pub(crate) fn carry_out<C: Instants, S: ClubStore>(
     alloc: Global,
     machine: &C,
@@ -53,7 +53,7 @@ pub(crate) fn carry_out<C: Instants, S: ClubStore>(
     }
 }
 
-// Gives a command to the desk, and returns a text if it is carried out.
+// Sends a command to the desk, and returns the text if the desk carries out the command.
 fn give<S: ClubStore>(desk: &mut Desk<S>, command: &Command, text: String) -> Result<String, Fault>
     ensures given { spec.IsGiven S.disk_is_clean S.represents command.now (string_bytes text)
         (text_of result) desk.old desk.new }
@@ -65,7 +65,7 @@ fn give<S: ClubStore>(desk: &mut Desk<S>, command: &Command, text: String) -> Re
     }
 }
 
-// Returns the line of a key's pass, or `None` if memory ran out. A pass without caveats is short
+// Returns the line with a key's pass, or `None` if memory runs out. A pass without caveats is short
 // enough for each form.
 fn pass_line(alloc: Global, name: &Name, root: &Root, form: Form) -> Option<String>
     ensures { IfSome result (λ line. spec.IsPassLine name.now root.now form
@@ -91,7 +91,7 @@ fn key_command(name: Name, change: KeyChange, root: Root) -> Command
     }
 }
 
-// Returns the answer for a result of the desk.
+// Converts a result of the desk to the program's answer.
 fn answer_of_desk(returned: Result<String, club_gate::Fault>) -> Result<String, Fault>
     ensures is { text_of result ≡ spec.answer_of_desk returned }
     ensures worked { IfErr result IsWorkFault }
@@ -102,7 +102,7 @@ fn answer_of_desk(returned: Result<String, club_gate::Fault>) -> Result<String, 
     }
 }
 
-// Returns the program's fault for a fault of the desk.
+// Converts a fault of the desk to a fault of the program.
 fn fault_of_desk(returned: club_gate::Fault) -> Fault
     ensures is { result ≡ spec.fault_of_desk returned }
     ensures worked { IsWorkFault result }

@@ -1,4 +1,4 @@
-//! The desk of a server. It answers requests, and carries out the office's commands.
+//! The desk of a server. The desk answers requests, and carries out the office's commands.
 
 ghost use Rattle.std.specs.Prelude.{◌≡◌, map, MatchOption, Err, option_copied, option_map};
 ghost use Rattle.std.specs.String.{string_bytes};
@@ -20,20 +20,20 @@ use http_response::Line;
 use std::alloc::Global;
 use std::marker::Model;
 
-/// The status of a command that was carried out.
+/// The status of a command that the desk carried out.
 const DONE: u8 = 0;
 
-/// The status of bytes that aren't a command of the office.
+/// The status of bytes that don't encode a command of the office.
 const NO_COMMAND: u8 = 2;
 
-/// The status of a command if memory for its answer was refused.
+/// The status of a command if memory for the answer runs out.
 const OUT_OF_MEMORY: u8 = 4;
 
-/// The number of letters that are logged of a command's name. No command's name is longer.
+/// The most bytes of a command's name that the log gets. No command's name is longer.
 const MAX_NAME_LEN: usize = 24;
 
-/// A desk over an open store. It also has the memory and the machine's clock that the office's
-/// commands need. In contracts it is the pair of store and clock.
+/// A desk over an open store. The desk also has the memory and the machine's clock for the office's
+/// commands. In contracts, a desk is the pair of the store and the clock.
 #[derive(Drop)]
 pub struct OfficeDesk<'a, S: ClubStore, C> {
     desk: Desk<S>,
@@ -50,7 +50,7 @@ impl<'a, S: ClubStore, C> Model for OfficeDesk<'a, S, C> {
 impl<'a, S: ClubStore, C: Instants> OfficeDesk<'a, S, C> {
     ghost use Rattle.std.specs.Prelude.{◌≡◌};
 
-    /// Returns a desk over this store.
+    /// Makes a desk over this store.
     pub fn new(alloc: Global, machine: &'a C, store: S) -> OfficeDesk<'a, S, C>
         ensures { result ≡ (store, machine.now) }
     {
@@ -61,7 +61,7 @@ impl<'a, S: ClubStore, C: Instants> OfficeDesk<'a, S, C> {
         }
     }
 
-    /// Returns the store.
+    /// Returns the store, and drops the desk.
     pub fn into_store(self) -> S
         ensures { result ≡ self.entry.0 }
     {
@@ -101,8 +101,7 @@ impl<S: ClubStore, C: Instants> Office for OfficeDesk<'_, S, C> {
     }
 }
 
-// Carries out a command. Returns `None` if its arguments ask for help, the version or a server
-// instead.
+// Carries out a command. Returns `None` if the arguments ask for help, the version or a server.
 fn answer_command<S: ClubStore, C: Instants>(
     alloc: Global,
     machine: &C,
@@ -131,7 +130,7 @@ fn answer_command<S: ClubStore, C: Instants>(
     }
 }
 
-// Returns the answer with this status and text. The log gets only the command's name.
+// Makes an answer with this status and this text. The log gets only the name of the command.
 fn answer_of(status: u8, name: Option<&String>, text: String) -> Answer
     ensures status { result.carried.status ≡ status }
     ensures line { result.carried.line ≡ spec.named_line
@@ -152,7 +151,7 @@ fn answer_of(status: u8, name: Option<&String>, text: String) -> Answer
     }
 }
 
-// Returns the answer with a fault's status and line.
+// Makes an answer with the status and the line of a fault.
 fn refusal_of(alloc: Global, fault: &Fault, name: Option<&String>) -> Answer
     ensures answers { AnswersWith (Err fault.now) result }
     ensures line { result.carried.line ≡ spec.logged_line (Err fault.now)

@@ -1,4 +1,4 @@
-//! A run of the program on given arguments, a reader, a writer and a log.
+//! Runs the program on given arguments, a reader, a writer and a log.
 
 ghost use Rattle.std.specs.Prelude.{◌≡◌, IfErr, IfOk, map};
 ghost use Rattle.clubdesk_commands.specs.{HandedCommand.command_bytes, Output.EndsWork};
@@ -19,22 +19,27 @@ use std::convert::AsStr;
 use std::io::{Read, Write};
 
 /// Runs the program on its arguments. The first argument is the program's name. `machine` is the
-/// clock for timeouts and, without `--at`, for the moments of requests to a server.
+/// clock for timeouts. Without `--at`, it is also the clock for the times of requests to a server.
 ///
-/// The arguments are checked before a database is reached. A server opens its database once, and
-/// closes it at the end. While it runs, other runs hand their commands to it. A run without a
-/// server opens the database once, and closes it before writing the output. The only input is a
-/// root in hexadecimal, which `--root-stdin` asks for. It is read before the database is reached,
-/// and a line feed at its end is ignored. Help and the version are written as `clap` makes them.
-/// Only `serve --log` logs each client and each command.
+/// The program checks the arguments before it opens a database. A server opens the database once,
+/// and closes the database at the end. While a server runs, other runs send their commands to the
+/// server. A run without a server opens the database once, and closes the database before it writes
+/// the output. The program reads standard input only for `--root-stdin`. The input must be a root
+/// in hexadecimal, and a line feed at the end is ignored. The program reads the input before it
+/// opens the database. The texts of help and of the version come from `clap`. Only `serve --log`
+/// logs clients and commands.
 ///
 /// # Errors
 ///
-/// Fails with `Arguments` or `BadValue` if the arguments are wrong, and with `BadValue` if the
-/// input isn't a root. Fails with `Refused` if a rule forbids the command, and with `Memory` if
-/// memory is refused. Fails with `Storage` if the database fails or can't be opened. After all
-/// these faults nothing was written. Before `ClockOutOfRange` or `InputOutput`, a part of the
-/// output may have been written, but nothing if the input couldn't be read.
+/// The run has written nothing when it fails with one of these faults:
+/// - `Arguments`, if the arguments are wrong.
+/// - `BadValue`, if an argument is invalid or the input isn't a root.
+/// - `Refused`, if a rule forbids the command.
+/// - `Memory`, if memory runs out.
+/// - `Storage`, if the database fails or can't be opened.
+///
+/// The run may have written a part of the output when it fails with `ClockOutOfRange` or
+/// `InputOutput`. If reading the input failed, the run has written nothing.
 pub fn run<C: Instants + MonotonicClock, D: Databases, S: AsStr, R: Read, W: Write, G: Log>(
     rt: &HostRuntime,
     machine: &C,
@@ -84,9 +89,9 @@ pub fn run<C: Instants + MonotonicClock, D: Databases, S: AsStr, R: Read, W: Wri
     }
 }
 
-// Carries out a task of the office: by the server that has the database open, or on the database
-// itself. It closes the database before it writes the answer. So a blocked writer doesn't keep the
-// database open.
+// Carries out a task of the office. If a server has the database open, the server carries out the
+// task. Otherwise, the function closes the database before it writes the answer, so that a blocked
+// writer doesn't keep the database open.
 fn perform<C: Instants, D: Databases, S: AsStr, W: Write>(
     alloc: Global,
     machine: &C,
@@ -113,7 +118,7 @@ fn perform<C: Instants, D: Databases, S: AsStr, W: Write>(
     }
 }
 
-// Hands a command to a server, and returns the server's answer.
+// Sends a command to a server, and returns the server's answer.
 fn hand_over<V: Visit + Drop, S: AsStr>(
     alloc: Global,
     visit: V,
@@ -135,8 +140,8 @@ fn hand_over<V: Visit + Drop, S: AsStr>(
     }
 }
 
-// Returns the bytes of a command with these arguments and the root of its task. The root is empty
-// if the task has none.
+// Encodes a command with these arguments and the root of the task. The root is empty if the task
+// has no root.
 fn handed_bytes<S: AsStr>(
     alloc: Global,
     arguments: &[S],
@@ -154,7 +159,7 @@ fn handed_bytes<S: AsStr>(
     }
 }
 
-// Writes the text of an answer, or returns its fault.
+// Writes the text of an answer, or returns the fault of the answer.
 fn print<W: Write>(answer: Result<String, Fault>, writer: &mut W) -> Result<(), Fault>
     ensures prints { Prints (text_of answer) (stream W.contents writer.old writer.new) result }
     ensures ends { IfErr answer IsWorkFault → EndsWork (writer.new ≡ writer.old) result }
@@ -168,7 +173,7 @@ fn print<W: Write>(answer: Result<String, Fault>, writer: &mut W) -> Result<(), 
     }
 }
 
-// Writes the text of help or of the version, which no clause states.
+// Writes the text of help or of the version. No contract states this text.
 fn show<W: Write>(text: &clap::Error, writer: &mut W) -> Result<(), Fault>
     ensures { IfErr result (λ fault. fault ≡ Fault.InputOutput) }
 {

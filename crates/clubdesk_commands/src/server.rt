@@ -20,16 +20,17 @@ use std::net::TcpListener;
 use std::os::unix::net::UnixListener;
 use std::time::Duration;
 
-/// The address at which the server listens.
+/// The address on which the server listens.
 const LOOPBACK: &str = "127.0.0.1";
 
-/// Serves the database with this name. Opens the database before writing the address, and closes it
-/// at the end. Meanwhile the office's commands come through the database's door.
+/// Serves the database with this name. The server opens the database before it writes the address,
+/// and closes the database at the end. Meanwhile, the office's commands come through the database's
+/// door.
 ///
 /// # Errors
 ///
-/// Fails in the same cases as `serve`. Fails also with `Storage` or `Memory` if the database can't
-/// be opened or its door can't be made. Then nothing was written.
+/// Fails in the same cases as `serve`. Fails with `Storage` or `Memory` if the server can't open
+/// the database or can't make the door. The server has then written nothing.
 pub fn serve_file<C: Instants + MonotonicClock, D: Databases, W: Write, G: Log>(
     rt: &HostRuntime,
     machine: &C,
@@ -72,15 +73,19 @@ pub fn serve_file<C: Instants + MonotonicClock, D: Databases, W: Write, G: Log>(
 }
 
 /// Listens on the loopback address, and writes the address and the port. Then serves clients, and
-/// the commands that come through the door. A client is served at the service's fixed moment, or at
-/// the moment of the machine's clock in the service's zone. The machine's clock also measures the
-/// timeout for a client. If a log is asked for, it notes each client and each command.
+/// carries out the commands that come through the door.
+///
+/// If the service has a fixed time, the server uses it for each client. Otherwise, the server takes
+/// the time from the machine's clock, in the service's zone. The machine's clock also measures the
+/// timeout of a client. If the service asks for a log, the log notes each client and each command.
 ///
 /// # Errors
 ///
-/// Fails with `InputOutput` if the server can't listen or the writer failed, and with `Memory` if
-/// memory is refused. Then nobody was served. Fails with `ClockOutOfRange` if the clock shows no
-/// moment within the club's years when a client comes. This ends the server.
+/// - Fails with `InputOutput` if the server can't listen or the writer fails. The server has served
+///   no client.
+/// - Fails with `Memory` if memory runs out. The server has served no client.
+/// - Fails with `ClockOutOfRange` if a client comes when the clock shows no minute within the
+///   club's years. This fault ends the server.
 pub fn serve<D: Office, C: Instants + MonotonicClock, W: Write, G: Log>(
     rt: &HostRuntime,
     machine: &C,
@@ -118,8 +123,8 @@ pub fn serve<D: Office, C: Instants + MonotonicClock, W: Write, G: Log>(
     }
 }
 
-// Before the first request, listens, allocates all memory that the server needs, and writes the
-// address and the port.
+// Listens on the port, allocates all memory that the server needs, and writes the address and the
+// port. All this happens before the first request.
 fn listen<W: Write>(
     rt: &HostRuntime,
     port: u16,
@@ -145,8 +150,8 @@ fn listen<W: Write>(
     }
 }
 
-// Listens at a port of the loopback address, and returns the port. If the port is 0, the system
-// chooses a free one.
+// Listens on a port of the loopback address, and returns the port. If the port is 0, the system
+// chooses a free port.
 fn bind(rt: &HostRuntime, port: u16) -> io::Result<(TcpListener, u16)>
     ensures { IfOk result (λ bound. spec.IsPortFor port bound.1) }
 {
@@ -159,7 +164,7 @@ fn bind(rt: &HostRuntime, port: u16) -> io::Result<(TcpListener, u16)>
     Ok((listener, chosen))
 }
 
-// Returns the program's result for the result of a server.
+// Converts the result of a server to the result of the program.
 fn outcome_of(outcome: Result<(), ClockOutOfRange>) -> Result<(), Fault>
     ensures { result ≡ spec.outcome_of_server outcome }
 {

@@ -1,4 +1,4 @@
--- The bytes so far are the pieces of the arguments so far.
+-- After each step, the loop has written the pieces of the arguments before the current argument.
 use Rattle.std.proofs.Common.{◌≡◌, ◌++◌, take, map}
 use Rattle.clubdesk_commands.specs.HandedCommand.{pieces}
 use Rattle.clubdesk_commands.proofs.handed_command.push_pieces.Given as goal

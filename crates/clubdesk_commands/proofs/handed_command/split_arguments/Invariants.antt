@@ -1,4 +1,5 @@
--- The pieces of the arguments so far and the rest of the text make up the whole text.
+-- At each step, the pieces of the decoded arguments and the rest of the text make up the whole
+-- text.
 use Rattle.std.proofs.Common.{◌≡◌, ◌++◌, map, length}
 use denote.Text.{Utf8}
 use denote.Shadow.{shadow}

@@ -16,7 +16,7 @@ module _ {Desk Machine : Type 0} (Shows : Machine → Option Timestamp → Type 
   abbrev Serves : Result Unit Fault → Type 0
   Serves result = (turns : List Turn) × RunsServer Shows machine Answers Carries service turns old new Noted result
 
-  -- the server listens, and its notes count only if a log was asked for
+  -- The server listens and serves clients.
   serves : (Ended : Ends) (last : Clock × Machine) (failures : ℕ) (Besides : List Turn → Type 0)
       → ((turns : List Turn) → Besides turns → IfLogged service Noted turns) → (outcome : Result Unit ClockFault)
       → served.Serves (showing Shows) Answers Carries Ended service.count (service.clock, machine) old 0 outcome last new failures Besides
@@ -31,7 +31,7 @@ module _ {Desk Machine : Type 0} (Shows : Machine → Option Timestamp → Type 
     }) (gives it.all it.besides),
   )
 
-  -- the server doesn't listen, and serves nobody
+  -- The server can't listen and serves no client.
   serves_nobody : (written : Stream) (fault : Fault) → new ≡ old → Noted [] → StopsBefore service.port written fault → Serves (Err fault)
   serves_nobody written Memory kept nothing stops = ([], spec.not_listened (inl refl) refl kept nothing)
   serves_nobody written InputOutput kept nothing stops = ([], spec.not_listened (inr refl) refl kept nothing)
