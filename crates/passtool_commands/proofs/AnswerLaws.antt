@@ -1,4 +1,4 @@
--- Laws of the commands' answers.
+-- Proofs of the laws about the answers of commands.
 use Rattle.std.proofs.Common.{◌≡◌, ◌∙◌, ℕ, ◌+◌, nat_lt, List, length, Result, Ok, Err, MatchResult, refl, sym, ap, subst, codes, inl, inr}
 use Rattle.std.proofs.lemmas.{Bool.cases_Bool, List.Sums.fold-append}
 use Rattle.std.specs.Io.BufRead.{strip_last}
@@ -25,8 +25,6 @@ narrowing_keeps_signed root caveats pass narrowed_pass signed made =
 
 pub mint_signs : MintSigns
 mint_signs minting pass made = narrowing_keeps_signed minting.root minting.caveats (new_pass minting) pass refl made
-
--- ---- a command has at most one answer to an input
 
 one_verdict : (root : List ℕ) (pass : Plain) → HasOne (IsVerdict root pass)
 one_verdict root pass (Ok (Done, text)) (Ok (NotSigned, other)) p q = absurd (q.0 p.0)

@@ -1,4 +1,4 @@
--- Only one test tells caveats from other texts, so arguments ask for at most one command.
+-- Lemmas for the proof that arguments ask for at most one command.
 use Rattle.std.proofs.{Common.{◌≡◌, ◌↔◌, Bool, true, false, IsTrue, is_some, List, Option, Some, None, Result, refl, sym, ap, subst}, Math.Path.fun_ext}
 use Rattle.clap.specs.Words.{Row, Text}
 use Rattle.command_line.specs.{Job.Answers, JobLaws.{RowsAnswerOnce, ReadsOnce}, declared.errors.ArgumentsFault.ArgumentsFault}
@@ -11,7 +11,6 @@ same_test true b P h k = sym (k.1 (h.0 refl))
 same_test false true P h k = h.1 (k.0 refl)
 same_test false false P h k = refl
 
--- the test in the code is a caveat test, as the definition requires
 pub is_test : ReadsWhatIsUnderstood → IsCaveatTest is_understood
 is_test reads text = (found (caveat_of text) refl, λ is. ap is_some ((reads text is.0).0 is.1))
   where
@@ -19,12 +18,10 @@ is_test reads text = (found (caveat_of text) refl, λ is. ap is_some ((reads tex
     found (Some caveat) same is = (caveat, (reads text caveat).1 same)
     found None same is = cc
 
--- the result of reading a row's values with this test is one that the definition allows
 pub values_read : ReadsWhatIsUnderstood → (name : Name) (rows : List Row) (result : Result Command (ArgumentsFault OurBadValue))
     → Answers (command_of is_understood name rows) result → ReadsCommand name rows result
 values_read reads name rows result is = record { is_understood = is_understood; is_test = is_test reads; answers = is }
 
--- a row's values are read as at most one command
 pub reads_once : RowsAnswerOnce Command OurBadValue → ReadsOnce ReadsCommand
 reads_once once name rows command result one other =
     let Reads : (Text → Bool) → Type 0 = λ test. Answers (command_of test name rows) result in

@@ -1,10 +1,9 @@
--- Lemmas on the output of `show`.
+-- Lemmas for the output of `show`.
 use Rattle.std.proofs.Common.{◌≡◌, ◌∙◌, ℕ, ◌+◌, ◌<◌, ◌≤◌, List, ◌∷◌, ◌++◌, length, map, drop, ap, ap₂, sym, append_assoc, Global}
 use Rattle.std.proofs.{Math.ListN.drop_of_length-le, lemmas.List.{append-nil, drop_more}}
 use Rattle.std.specs.{Fmt.decimal, List.slice_index_or, Prelude.{Vec, codes}}
 use Rattle.passtool_commands.specs.Listing.{caveat_lines, escaped_text, escaped_byte, value_line}
 
--- after one more byte is written, the bytes written and those remaining still make up the whole text
 pub byte_written : (bytes : List ℕ) (i d : ℕ) (old new whole : List ℕ) → i < length bytes → new ≡ old ++ escaped_byte (slice_index_or bytes i d)
     → old ++ escaped_text (drop i bytes) ≡ whole → new ++ escaped_text (drop (i + 1) bytes) ≡ whole
 byte_written bytes i d old new whole within is before =
@@ -13,12 +12,9 @@ byte_written bytes i d old new whole within is before =
 pub none_left : (bytes : List ℕ) (i : ℕ) (old whole : List ℕ) → length bytes ≤ i → old ++ escaped_text (drop i bytes) ≡ whole → old ≡ whole
 none_left bytes i old whole most same = sym (append-nil old) ∙ rw (drop_of_length-le bytes most) at same
 
--- ---- the lines of caveats
-
 abbrev pub items : List (Vec ℕ Global) → List (List ℕ)
 items = map (λ caveat. caveat.items)
 
--- after one more caveat's line is written, the bytes written and the remaining lines still make up the whole text
 pub caveat_written : (caveats : List (Vec ℕ Global)) (i : ℕ) (item : Vec ℕ Global) (value name old new whole : List ℕ) → i < length caveats
     → item ≡ slice_index_or caveats i item → value ≡ item.items → name ≡ codes "caveat " ++ decimal (i + 1) → new ≡ old ++ value_line name value
     → old ++ caveat_lines (i + 1) (items (drop i caveats)) ≡ whole → new ++ caveat_lines (i + 1 + 1) (items (drop (i + 1) caveats)) ≡ whole

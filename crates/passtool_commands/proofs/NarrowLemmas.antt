@@ -1,4 +1,4 @@
--- Lemmas on adding caveats one after another.
+-- Lemmas for adding caveats to a pass one by one.
 use Rattle.std.proofs.Common.{◌≡◌, ◌∙◌, ℕ, ◌+◌, ◌<◌, ◌≤◌, List, [], ◌∷◌, length, map, drop, Result, Ok, Err, IsOk, inl, inr, ap, sym, refl, append_assoc, arith}
 use Rattle.std.proofs.{Math.ListN.drop_of_length-le, lemmas.{Bool.{cases_lt, le-ltb, lt-ltb}, List.{append-nil, drop_more, length-append, length-map}}}
 use Rattle.std.specs.{Borrow.Bor, List.slice_index_or}
@@ -6,7 +6,6 @@ use Rattle.pass_forms.specs.{Pass.Plain, Reading.{UnlessMemory, max_caveats}, Wr
 use Rattle.pass_forms.specs.declared.fault.FormFault.TheVariants.{TooMany, Memory}
 use Rattle.passtool_commands.specs.Answer.{narrowing, with_caveats}
 
--- adding a list of caveats is the same as adding its first caveat and then the others
 first_added : (caveat : List ℕ) (caveats : List (List ℕ)) (pass : Plain) → with_caveats caveats (with_caveat caveat pass) ≡ with_caveats (caveat ∷ caveats) pass
 first_added caveat caveats pass = ap (λ (all : List (List ℕ)). record (with_caveats (caveat ∷ caveats) pass) { caveats = all })
     (append_assoc pass.caveats (caveat ∷ []) caveats)
@@ -14,7 +13,6 @@ first_added caveat caveats pass = ap (λ (all : List (List ℕ)). record (with_c
 abbrev pub texts : List (Bor (List ℕ)) → List (List ℕ)
 texts = map (λ text. text.now)
 
--- adding one of the remaining caveats first, and then the others, gives the same pass
 pub one_added : (xs : List (Bor (List ℕ))) (i : ℕ) (d : Bor (List ℕ)) (caveat : List ℕ) (pass now : Plain) → i < length xs
     → caveat ≡ (slice_index_or xs i d).now → now ≡ with_caveat caveat pass
     → with_caveats (texts (drop (i + 1) xs)) now ≡ with_caveats (texts (drop i xs)) pass
@@ -22,7 +20,6 @@ one_added xs i d caveat pass now within is added =
     rw (added, is) (first_added (slice_index_or xs i d).now (texts (drop (i + 1) xs)) pass
     ∙ ap (λ (left : List (Bor (List ℕ))). with_caveats (texts left) pass) (sym (drop_more xs i d within)))
 
--- adding no caveats changes nothing
 none_added : (pass : Plain) → with_caveats [] pass ≡ pass
 none_added pass = ap (λ (all : List (List ℕ)). record pass { caveats = all }) (append-nil pass.caveats)
 
@@ -35,7 +32,6 @@ module _ (xs : List (Bor (List ℕ))) (i : ℕ) (pass now : Plain) (counted : le
       let made : with_caveats (texts xs) pass ≡ now = sym same ∙ rw (drop_of_length-le xs most) (none_added now) in
       rw (le-ltb max_caveats (length pass.caveats + length (texts xs)) total) (ap Ok made)
 
-  -- if the pass has 64 caveats already, adding another one fails
   too_many : max_caveats ≤ length now.caveats → i < length xs → narrowing (texts xs) pass ≡ Err TooMany
   unfolding narrowing
   too_many full within =
@@ -48,7 +44,6 @@ module _ (xs : List (Bor (List ℕ))) (i : ℕ) (pass now : Plain) (counted : le
   one_refused Memory h full within = tt
   one_refused _ h full within = absurd h
 
--- if adding a caveat succeeded, the pass had fewer than 64 before
 pub counted_on : (r : Result Unit FormFault) (n : ℕ) → IsOk r → (max_caveats ≤ n → r ≡ Err TooMany) → n < max_caveats
 counted_on (Ok x) n ok full = elim (cases_lt n max_caveats) [ inl less ↦ less | inr least ↦ let bad : Ok x ≡ Err TooMany = full least in cc ]
 counted_on (Err e) n ok full = cc ok

@@ -1,10 +1,9 @@
--- Lemmas on the values that clap found for a command's options.
+-- Lemmas for the values of a command's options.
 use Rattle.std.proofs.{Common.{◌≡◌, ◌∙◌, ◌+◌, Bool, cond, not, List, [], ◌∷◌, map, Option, option_map, unwrap_or, ap, refl}, lemmas.List.length-map}
 use Rattle.std.specs.{Borrow.Bor, List.{position, prefix_len}}
 use Rattle.clap.specs.{Words.{Text, all_of, matched_of, raw_values, rows_of}, declared.parser.matches.Found.Found}
 use Rattle.clap.proofs.WalkLemmas.{raw_values-rows}
 
--- the code reads the same values of an argument as the definition
 pub values_read : (options : Found) (id : Text) (given : Option (List Text)) → given ≡ option_map raw_values (matched_of options id)
     → unwrap_or given [] ≡ unwrap_or (all_of id (rows_of options)) []
 values_read options id given is = ap (λ o. unwrap_or o []) (is ∙ raw_values-rows options id)
@@ -13,6 +12,5 @@ prefix_map : (p : Text → Bool) (xs : List (Bor Text)) → prefix_len p (map (�
 prefix_map p [] = refl
 prefix_map p (x ∷ xs) = ap (λ n. cond (p x.now) (1 + n) 0) (prefix_map p xs)
 
--- a text has the same position in a list of texts as its reference has in a list of references
 pub place_map : (p : Text → Bool) (xs : List (Bor Text)) → position p (map (λ text. text.now) xs) ≡ position (λ text. p text.now) xs
 place_map p xs = rw (length-map xs (λ text. text.now), prefix_map (λ text. not (p text)) xs) refl

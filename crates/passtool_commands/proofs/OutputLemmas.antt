@@ -1,4 +1,4 @@
--- Lemmas on writing a pass.
+-- Lemmas for writing a pass.
 use Rattle.std.proofs.{Common.{◌≡◌, ℕ, List, Ok, Err, ap, sym, arith}, lemmas.Grind.common_steps}
 use Rattle.std.specs.Io.BufRead.{strip_last}
 use Rattle.pass_forms.specs.{Pass.Plain, Reading.UnlessMemory, Writing.{IsV1Text, IsV2Text, IsWritableText, IsWriteFault, IsWriting}}
@@ -7,7 +7,6 @@ use Rattle.pass_json.specs.{AnyForm.{IsAnyReading, IsRefusedIn, IsTextIn}, JsonW
 use Rattle.passtool_commands.specs.{Answer.{AnswersText, OutcomeText, WritesPass}, Listing.with_line_feed, declared.answer.Outcome.TheVariants.Done}
 use Rattle.passtool_commands.proofs.StepLemmas.{fails}
 
--- a writer's fault is a possible result of writing the pass, unless memory ran out
 fault_of_writing : (IsText : Plain → List ℕ → Type 0) (pass : Plain) (fault : FormFault) → IsWriteFault IsText pass fault
     → UnlessMemory (IsWriting IsText pass) (Err fault)
 fault_of_writing IsText pass TooLong is = is

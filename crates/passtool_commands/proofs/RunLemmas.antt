@@ -1,4 +1,4 @@
--- A command writes its answer, and a run performs the command that its arguments ask for.
+-- Lemmas for the proof of `run`.
 use Rattle.std.proofs.Common.{◌≡◌, ℕ, List, Option, Result, Ok, Err, inl, inr, refl, ap₂, subst, sym}
 use Rattle.std.specs.Io.KnownBytes.{Appends}
 use Rattle.clap.specs.Words.{Text}
@@ -27,7 +27,6 @@ module _ (command : Command) (left left' held held' : Option (List ℕ)) (bytes 
         → Performs command left left' held held' (Ok outcome)
     performed outcome text outcome_is text_is appends = (text, written outcome text text outcome_is text_is appends)
 
-    -- if the writer fails, a prefix of the answer was written
     pub begun : (text : List ℕ) → text ≡ ending.1 → AppendsFront held held' text → WritesFront command left left' held held'
     begun text text_is appends = ((ending.0, text), appends.0, appends.1, written ending.0 text appends.0 refl text_is appends.2)
 
@@ -37,7 +36,6 @@ module _ (command : Command) (left left' held held' : Option (List ℕ)) (bytes 
   failed fault is = (bytes, reads, is)
 
 module _ (once : AskForOneCommand) (arguments : List Text) (command : Command) (ask : AskForCommand arguments command) where
-  -- the arguments allow the result of the command that they ask for
   pub performs_arguments : (left left' held held' : Option (List ℕ)) (result : Result Outcome Fault) → Performs command left left' held held' result
       → AnswersArguments arguments result
   performs_arguments left left' held held' (Ok Done) is = inl (command, ask)
@@ -47,7 +45,6 @@ module _ (once : AskForOneCommand) (arguments : List Text) (command : Command) (
   performs_arguments left left' held held' (Err (Pass fault)) is = (command, ask)
   performs_arguments left left' held held' result is = absurd is
 
-  -- if the arguments ask for another command too, it is the same command
   pub performs_alone : (left left' held held' : Option (List ℕ)) (result : Result Outcome Fault) (other : Command) → AskForCommand arguments other
       → Performs command left left' held held' result → Performs other left left' held held' result
   performs_alone left left' held held' result other asked is = elim (once arguments other (Ok (Perform command)) asked ask) [
@@ -62,7 +59,6 @@ refused_arguments arguments (BadValue Root) is = is
 refused_arguments arguments _ is = is
 
 module _ (once : AskForOneCommand) (arguments : List Text) (fault : ArgumentsFault OurBadValue) (read : ReadsArguments arguments (Err fault)) where
-  -- if arguments with a fault also ask for a command, the fault is that memory ran out
   pub refused_alone : (left left' held held' : Option (List ℕ)) (command : Command) → AskForCommand arguments command
       → Performs command left left' held held' (Err (of_arguments fault))
   refused_alone left left' held held' command ask = elim (once arguments command (Err fault) ask read) [

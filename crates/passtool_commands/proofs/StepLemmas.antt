@@ -1,20 +1,18 @@
--- Lemmas on a step that may fail, followed by another one.
+-- Lemmas for two steps in a row, each of which may fail.
 use Rattle.std.proofs.Common.{◌≡◌, ◌∙◌, Result, Ok, Err, MatchResult, refl, sym, subst}
 use Rattle.pass_forms.specs.{Reading.UnlessMemory, declared.fault.FormFault.{FormFault, TheVariants.Memory}}
 use Rattle.passtool_commands.specs.Answer.{IsOnly, Results, ◌>>=◌}
 
 module _ {A B : Type 0} (step : Results A) (rest : A → Results B) where
-  -- if the first step fails, both steps together fail with its fault
   pub fails : (fault : FormFault) → UnlessMemory step (Err fault) → UnlessMemory (step >>= rest) (Err fault)
   fails Memory is = tt
   fails fault is = (Err fault, is, refl)
 
-  -- if the first step returns a value, both steps together have the result of the rest for this value
   pub goes_on : (value : A) (answer : Result B FormFault) → step (Ok value) → UnlessMemory (rest value) answer → UnlessMemory (step >>= rest) answer
   goes_on value (Err Memory) is next = tt
   goes_on value answer is next = (Ok value, is, next)
 
--- the step has at most one result
+-- The step has at most one result.
 abbrev pub HasOne : {A : Type 0} → Results A → Type 0
 HasOne {A} step = (one other : Result A FormFault) → step one → step other → one ≡ other
 

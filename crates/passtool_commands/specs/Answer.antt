@@ -1,4 +1,4 @@
--- The answers of the commands (ours).
+-- Defines the answer of each command to its input.
 use Rattle.std.specs.Io.BufRead.{strip_last}
 use Rattle.std.specs.Prelude.{◌≡◌, ℕ, ◌+◌, Bool, true, false, nat_lt, if◌then◌else◌, List, ◌++◌, length, codes, Result, Ok, Err, MatchResult}
 use Rattle.pass_mac.specs.Chain.{extended_signature}
@@ -9,32 +9,34 @@ use Rattle.pass_json.specs.AnyForm.{IsAnyReading, IsTextIn}
 use Rattle.passtool_commands.specs.{Minting.Minting, Listing.{with_line_feed, listing_text}, declared.answer.Outcome.{Outcome, TheVariants.{Done, NotSigned}}}
 use Rattle.passtool_commands.specs.declared.command.Command.{Command, TheVariants.{Mint, Show, Narrow, Convert, Verify}}
 
--- the outcome of a command, with the text that it wrote
+-- The outcome of a command, and the text that the command writes.
 abbrev pub OutcomeText : Type 0
 OutcomeText = Outcome × List ℕ
 
--- the results that a step may have
+-- A set of possible results of a step.
 abbrev pub Results : Type 0 → Type 1
 Results A = Result A FormFault → Type 0
 
--- the step whose only possible result is this one
+-- The set with this result as its only element.
 abbrev pub IsOnly : {A : Type 0} → Result A FormFault → Results A
 IsOnly expected result = expected ≡ result
 
--- The bind operator, like `?` in code. Its result is the first step's fault, or a result of the rest for the first step's value.
+-- Two steps in a row, like `?` in code. If the first step fails, both steps together fail with the
+-- same fault. Otherwise, the second step gets the value of the first step.
 infixl 10 ◌>>=◌
 abbrev pub ◌>>=◌ : {A B : Type 0} → Results A → (A → Results B) → Results B
 step >>= rest = λ answer. (result : Result _ FormFault) × step result × MatchResult result (λ value. rest value answer) (λ fault. answer ≡ Err fault)
 
--- reading the input's form and pass, after a line feed at the end is removed
+-- The possible results of reading a form and a pass from the input. A line feed at the end of the
+-- input is ignored.
 abbrev pub ReadsPass : List ℕ → Results (Form × Plain)
 ReadsPass bytes = IsAnyReading (strip_last 10 bytes)
 
--- the answer of a command that succeeded: it writes this text and a line feed
+-- The answer of a successful command that writes this text and a line feed.
 abbrev pub done_with : List ℕ → Result OutcomeText FormFault
 done_with text = Ok (Done, with_line_feed text)
 
--- the answer is this text, which can be read back as the same form and pass
+-- The answer is this text. Reading the text returns the same form and the same pass.
 abbrev pub AnswersText : Form → Plain → List ℕ → Results OutcomeText
 AnswersText form pass text result = (done_with text ≡ result) × ReadsPass (with_line_feed text) (Ok (form, pass))
 
@@ -43,7 +45,7 @@ WritesPass form pass = do
   text ← IsWriting (IsTextIn form) pass
   AnswersText form pass text
 
--- the pass after more caveats are added, where each caveat is signed with the signature before it
+-- The pass with more caveats. The signature before each caveat is the key that signs the caveat.
 abbrev pub with_caveats : List (List ℕ) → Plain → Plain
 with_caveats caveats pass = record {
   location = pass.location;
@@ -52,24 +54,25 @@ with_caveats caveats pass = record {
   signature = extended_signature pass.signature caveats;
 }
 
--- the pass after more caveats are added, or the fault `TooMany`
+-- The pass with more caveats, or the fault `TooMany` if the pass would have more than 64 caveats.
 unfoldable pub narrowing : List (List ℕ) → Plain → Result Plain FormFault
 narrowing caveats pass =
     if nat_lt max_caveats (length pass.caveats + length caveats) then Err TooMany
     else Ok (with_caveats caveats pass)
 
--- a new pass that is signed under a root and has no caveats
+-- A new pass without caveats, signed under the root of `mint`.
 abbrev pub new_pass : Minting → Plain
 new_pass minting = passes.minted_pass minting.root minting.location minting.identifier
 
--- the answer of `verify`, which says whether the pass is signed under the root
+-- The answer of `verify`: `signed` if the pass is signed under the root, and `not signed`
+-- otherwise.
 abbrev pub IsVerdict : List ℕ → Plain → Results OutcomeText
 IsVerdict root pass (Ok (Done, text)) = IsSigned root pass × (text ≡ with_line_feed (codes "signed"))
 IsVerdict root pass (Ok (NotSigned, text)) = (¬ IsSigned root pass) × (text ≡ with_line_feed (codes "not signed"))
 IsVerdict root pass (Err fault) = ⊥
 
--- The answer of each command to its input. It is an outcome with the text that the command writes,
--- or the fault of a pass. The law `AnswersOnce` says that a command has at most one answer.
+-- The answer of a command is its outcome and the text that it writes, or a fault of the pass. By
+-- the law `AnswersOnce`, a command has at most one answer to an input.
 
 abbrev pub MintsPass : Minting → Results OutcomeText
 MintsPass minting = do
@@ -104,7 +107,7 @@ IsAnswer (Narrow caveats) bytes = NarrowsPass caveats bytes
 IsAnswer (Convert form) bytes = ConvertsPass form bytes
 IsAnswer (Verify root) bytes = VerifiesPass root bytes
 
--- whether the command reads input, as every command but `mint` does
+-- True if the command reads its input. Only `mint` reads no input.
 abbrev pub reads_input : Command → Bool
 reads_input (Mint minting) = false
 reads_input _ = true

@@ -1,4 +1,4 @@
--- The program's commands and options, in the terms of `clap` (ours).
+-- Defines the program's commands and options for `clap`.
 use Rattle.std.specs.Prelude.{[], ◌∷◌, codes}
 use Rattle.clap.specs.Words.{Rule}
 use Rattle.command_line.specs.{Application.{as_required, flag_named, form_option, form_or_v2, option_named, positionals_named}, Table.Table}
@@ -16,19 +16,23 @@ location_option = option_named (codes "location")
 abbrev pub required_form : Rule
 required_form = as_required form_option
 
--- the flag `--any`
+-- The flag `--any`.
 abbrev pub any_flag : Rule
 any_flag = flag_named (codes "any")
 
--- the positional arguments with caveats, of any number
+-- The positional arguments of a command, each of which is a caveat.
 abbrev pub caveat_positionals : Rule
 caveat_positionals = positionals_named (codes "caveat")
 
 abbrev pub required_caveats : Rule
 required_caveats = as_required caveat_positionals
 
--- The commands are `mint --root HEX --id TEXT [--location TEXT] [--form F] [CAVEAT]...`, `show`,
--- `narrow [--any] CAVEAT...`, `convert --form F` and `verify --root HEX`.
+-- The program's commands:
+-- - `mint --root HEX --id TEXT [--location TEXT] [--form F] [CAVEAT]...`
+-- - `show`
+-- - `narrow [--any] CAVEAT...`
+-- - `convert --form F`
+-- - `verify --root HEX`
 unfoldable pub passtool : Table Name
 passtool = record {
   title = codes "passtool";

@@ -1,4 +1,4 @@
--- The command that arguments ask for (ours).
+-- Defines the command for which arguments ask.
 use Rattle.std.specs.Option.{ok_or}
 use Rattle.std.specs.Prelude.{◌↔◌, ℕ, ◌+◌, Bool, IsTrue, not, if◌then◌else◌, List, [], Option, Some, None, Result, Ok, Err, codes, position, unwrap_or}
 use Rattle.clap.specs.Words.{Row, Text, all_of}
@@ -12,7 +12,7 @@ use Rattle.passtool_commands.specs.declared.table.Name.TheVariants as name
 abbrev pub root_in : List Row → Result (List ℕ) (Refusal BadValue)
 root_in rows = ok_or (root_of (value_in (codes "root") rows)) (bad_value Root)
 
--- the caveats among the arguments
+-- The caveats in the arguments.
 abbrev pub caveats_in : List Row → List Text
 caveats_in rows = unwrap_or (all_of (codes "caveat") rows) []
 
@@ -20,24 +20,26 @@ abbrev pub unless_unknown : Option ℕ → List Text → Result (List Text) (Ref
 unless_unknown None caveats = Ok caveats
 unless_unknown (Some place) caveats = Err (bad_value (Caveat (place + 1)))
 
--- the text spells a caveat of the language
+-- The text is a caveat of the caveat language.
 abbrev pub IsCaveatText : Text → Type 0
 IsCaveatText text = (caveat : ACaveat) × Understood text caveat
 
--- The test is true for a text if and only if the text spells a caveat. So all such tests agree.
+-- The test returns true for a text if and only if the text is a caveat of the caveat language.
 abbrev pub IsCaveatTest : (Text → Bool) → Type 0
 IsCaveatTest is_understood = (text : Text) → IsTrue (is_understood text) ↔ IsCaveatText text
 
 module _ (is_understood : Text → Bool) where
-  -- the index of the first text that doesn't spell a caveat
+  -- The index of the first text that isn't a caveat of the caveat language.
   abbrev pub first_unknown : List Text → Option ℕ
   first_unknown texts = position (λ text. not (is_understood text)) texts
 
-  -- the caveats if `--any` was given or all are understood, else a fault for the first unknown one
+  -- Returns the caveats if `--any` is given. Without `--any`, fails for the first caveat that isn't
+  -- in the caveat language.
   unfoldable pub checked_caveats : Bool → List Text → Result (List Text) (Refusal BadValue)
   checked_caveats any caveats = if any then Ok caveats else unless_unknown (first_unknown caveats) caveats
 
-  -- The command of a row with its values, or the first fault. The form is checked first, then the root, then the caveats.
+  -- The command that a row of the table and its values ask for, or the first fault. The form is
+  -- checked first, then the root, then the caveats.
   abbrev pub command_of : JobOf Name Command BadValue
   command_of name.Mint rows = do
     form ← form_given rows
@@ -60,13 +62,13 @@ module _ (is_understood : Text → Bool) where
     root ← root_in rows
     Ok (Verify root)
 
--- the results that reading the values of a row may have
+-- The possible results of reading the values of a row.
 pub record ReadsCommand (name : Name) (rows : List Row) (result : Result Command (ArgumentsFault BadValue)) : Type 0 where
   pub is_understood : Text → Bool
   pub is_test : IsCaveatTest is_understood
   pub answers : Answers (command_of is_understood name rows) result
 
--- the results that parsing the arguments may have
+-- The possible results of parsing the arguments.
 abbrev pub ReadsArguments : List Text → Result (Asked Command) (ArgumentsFault BadValue) → Type 0
 ReadsArguments arguments result = ReadsJob passtool ReadsCommand arguments result
 

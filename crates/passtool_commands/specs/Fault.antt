@@ -1,4 +1,4 @@
--- The exit status of each outcome and fault, and the line of each fault (ours).
+-- Defines the exit status of each outcome and each fault, and the line of each fault.
 use Rattle.std.specs.{Fmt.{decimal, with_newline}, Prelude.{ℕ, List, ◌++◌, Option, Some, None, Result, Ok, Err, codes}}
 use Rattle.command_line.specs.declared.errors.ArgumentsFault.{ArgumentsFault}
 use Rattle.command_line.specs.declared.errors.ArgumentsFault.TheVariants as arguments
@@ -20,12 +20,12 @@ fault_status (CaveatNotUnderstood number) = 5
 fault_status BadRoot = 6
 fault_status InputOutput = 7
 
--- the exit status of a run
+-- The exit status of a run with this result.
 abbrev pub exit_status : Result Outcome Fault → ℕ
 exit_status (Ok outcome) = outcome_status outcome
 exit_status (Err fault) = fault_status fault
 
--- the number that the line of a pass's fault has; running out of memory has none
+-- The number in the line for a fault of a pass. The fault `Memory` has no number.
 abbrev pub form_number : FormFault → Option ℕ
 form_number form.TooLong = Some 1
 form_number form.Malformed = Some 2
@@ -33,12 +33,12 @@ form_number form.ThirdParty = Some 3
 form_number form.TooMany = Some 4
 form_number form.Memory = None
 
--- the line for a fault of a pass: its number, if it has one, and its text
+-- The line for a fault of a pass. The number comes before the text, if the fault has a number.
 abbrev pub with_number : Option ℕ → List ℕ → List ℕ
 with_number None text = text
 with_number (Some number) text = codes "fault " ++ (decimal number ++ (codes ": " ++ text))
 
--- the fault's line on standard error, or none for a text of clap, which no definition states
+-- The line of a fault on standard error. For a fault from `clap`, no definition states the text.
 abbrev pub fault_line : Fault → Option (List ℕ)
 fault_line (Arguments error) = None
 fault_line (Pass fault) = Some (with_number (form_number fault) (fault_text fault))
@@ -46,12 +46,13 @@ fault_line (CaveatNotUnderstood number) = Some (codes "caveat " ++ (decimal numb
 fault_line BadRoot = Some (codes "bad root")
 fault_line InputOutput = Some (codes "input or output failed")
 
--- the bytes printed on standard error, or none for a text of clap, which no definition states
+-- The bytes that the program prints on standard error. For a fault from `clap`, no definition
+-- states the bytes.
 abbrev pub fault_output : Fault → Option (List ℕ)
 fault_output (Arguments error) = None
 fault_output fault = with_newline (fault_line fault)
 
--- the program's fault for a fault of the arguments
+-- The program's fault for a fault of the arguments.
 abbrev pub of_arguments : ArgumentsFault BadValue → Fault
 of_arguments (arguments.Refused error) = Arguments error
 of_arguments (arguments.BadValue Root) = BadRoot

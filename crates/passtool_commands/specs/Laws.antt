@@ -1,4 +1,4 @@
--- Laws of the commands, their arguments and their answers.
+-- States the laws of the commands, their arguments and their answers.
 use Rattle.std.specs.Prelude.{◌≡◌, ◌↔◌, ℕ, List, Result, Ok, codes}
 use Rattle.pass_forms.specs.{Pass.{IsSigned, Plain}, declared.{fault.FormFault.FormFault, form.Form.Form}}
 use Rattle.passtool_commands.specs.{Answer.{IsAnswer, OutcomeText, ReadsPass, narrowing, new_pass}, Application.passtool, Arguments.ReadsCommand}
@@ -6,7 +6,7 @@ use Rattle.passtool_commands.specs.{Minting.Minting, Listing.with_line_feed, dec
 use Rattle.passtool_commands.specs.declared.command.Command.TheVariants.{Verify}
 use Rattle.command_line.specs.JobLaws.{AskOnce}
 
--- If arguments ask for a command, each result of parsing them is this command, or out of memory.
+-- If arguments ask for a command, parsing them returns this command or runs out of memory.
 abbrev pub AskForOneCommand : Type 0
 AskForOneCommand = AskOnce passtool ReadsCommand
 
@@ -15,16 +15,16 @@ abbrev pub AnswersOnce : Type 0
 AnswersOnce = (command : Command) (bytes : List ℕ) (one other : Result OutcomeText FormFault)
     → IsAnswer command bytes one → IsAnswer command bytes other → one ≡ other
 
--- `verify` answers `signed` if and only if the pass that it read is signed under the root.
+-- `verify` answers `signed` if and only if the input's pass is signed under the root.
 abbrev pub VerifyDecidesSigned : Type 0
 VerifyDecidesSigned = (root bytes : List ℕ) (form : Form) (pass : Plain) → ReadsPass bytes (Ok (form, pass))
     → IsAnswer (Verify root) bytes (Ok (Done, with_line_feed (codes "signed"))) ↔ IsSigned root pass
 
--- The pass that `mint` makes is signed under its root.
+-- The pass that `mint` makes is signed under the root of `mint`.
 abbrev pub MintSigns : Type 0
 MintSigns = (minting : Minting) (pass : Plain) → narrowing minting.caveats (new_pass minting) ≡ Ok pass → IsSigned minting.root pass
 
--- A pass that is signed under a root stays signed under it when caveats are added.
+-- If a pass is signed under a root, it stays signed under this root after adding caveats.
 abbrev pub NarrowingKeepsSigned : Type 0
 NarrowingKeepsSigned = (root : List ℕ) (caveats : List (List ℕ)) (pass narrowed_pass : Plain) → IsSigned root pass
     → narrowing caveats pass ≡ Ok narrowed_pass → IsSigned root narrowed_pass

@@ -1,14 +1,15 @@
--- The text that `show` writes (ours).
+-- Defines the text that `show` writes.
 use Rattle.std.specs.{Fmt.decimal, List.flat_map, Prelude.{ℕ, ◌+◌, ◌==◌, ◌&&◌, nat_le, List, [], ◌∷◌, ◌++◌, codes, if◌then◌else◌}}
 use Rattle.hex.specs.Hex.{encode_lower}
 use Rattle.pass_forms.specs.{Pass.Plain, declared.form.Form.Form}
 use Rattle.command_line.specs.FormName.{form_name}
 
--- the text, followed by a line feed
+-- The text followed by a line feed.
 abbrev pub with_line_feed : List ℕ → List ℕ
 with_line_feed text = text ++ 10 ∷ []
 
--- A byte as `show` prints it. A backslash is doubled, and other printable ASCII is unchanged. Any other byte is `\x` with two hexadecimal digits.
+-- A byte in the output of `show`. A backslash is doubled. Other printable ASCII characters are
+-- unchanged. Any other byte is `\x` and two hexadecimal digits.
 unfoldable pub escaped_byte : ℕ → List ℕ
 escaped_byte byte =
     if byte == 92 then codes "\\\\"
@@ -17,11 +18,11 @@ escaped_byte byte =
 abbrev pub escaped_text : List ℕ → List ℕ
 escaped_text bytes = flat_map escaped_byte bytes
 
--- the line with a name, a space and an escaped value
+-- A line that consists of a name, a space and an escaped value.
 abbrev pub value_line : List ℕ → List ℕ → List ℕ
 value_line name bytes = with_line_feed (name ++ 32 ∷ escaped_text bytes)
 
--- the lines of caveats, numbered from this number
+-- The lines of the caveats. `n` is the number of the first line.
 unfoldable pub caveat_lines : ℕ → List (List ℕ) → List ℕ
 caveat_lines number [] = []
 caveat_lines number (caveat ∷ caveats) =

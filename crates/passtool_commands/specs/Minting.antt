@@ -1,4 +1,4 @@
--- The values from which `mint` makes a pass (ours).
+-- Defines the values from which `mint` makes a pass.
 use Rattle.std.specs.Prelude.{ℕ, List}
 use Rattle.pass_forms.specs.declared.form.Form.{Form}
 

@@ -1,4 +1,4 @@
--- The effect of a process that runs the program (ours).
+-- Defines the effect of a process that runs the program.
 use Rattle.std.specs.Prelude.{◌≡◌, ◌≢◌, ℕ, List, Option, Result, Err, IfErr}
 use Rattle.clap.specs.Words.{Text}
 use Rattle.clap.specs.declared.error.kind.ErrorKind.TheVariants as kinds
@@ -6,20 +6,22 @@ use Rattle.command_line.specs.{Arguments.IsOfKind, declared.errors.ArgumentsFaul
 use Rattle.passtool_commands.specs.{Arguments.AskForCommand, Fault.{fault_output, of_arguments, exit_status}, Run.{AnswersArguments, AskForNoInput, Performs}}
 use Rattle.passtool_commands.specs.declared.{answer.{BadValue.BadValue, Fault.{Fault, TheVariants.InputOutput}, Outcome.Outcome}, command.Command.Command}
 
--- `Unread` and `Unwritten` state that the reader and the writer are unchanged
+-- `Unread` states that the reader is unchanged. `Unwritten` states that the writer is unchanged.
 module _ (left left' held held' : Option (List ℕ)) (Unread Unwritten : Type 0) where
-  -- the effect of a run on these arguments, which has a part for each clause of `run`
+  -- The effect of a run on these arguments. Each field corresponds to a clause of `run`.
   pub record RunsOn (arguments : List Text) (ended : Result Outcome Fault) : Type 0 where
     pub answers : AnswersArguments arguments ended
     pub performs : (command : Command) → AskForCommand arguments command → Performs command left left' held held' ended
     pub unread : AskForNoInput arguments → Unread
     pub silent : IfErr ended (λ fault. fault ≢ InputOutput → Unwritten)
 
--- the exit status is that of the run's result, and the text of a fault was printed
+-- The exit status matches the run's result. If the run failed, the program printed the text of the
+-- fault.
 abbrev pub EndsWith : (Option (List ℕ) → Type 0) → Result Outcome Fault → ℕ → Type 0
 EndsWith Asked ended status = (status ≡ exit_status ended) × IfErr ended (λ fault. Asked (fault_output fault))
 
--- The process ran on its arguments. Or an argument isn't UTF-8 or memory for the arguments was refused, and the process neither read nor wrote.
+-- The effect of a process. The process runs the program on its arguments. If an argument isn't
+-- valid UTF-8, or if memory for the arguments runs out, the process reads and writes nothing.
 pub data RunsProcess (Given : List Text → Type 0) (Asked : Option (List ℕ) → Type 0) (left left' held held' : Option (List ℕ)) (Unread Unwritten : Type 0)
     (status : ℕ) : Type 0 where
   process_ran : (arguments : List Text) (ended : Result Outcome Fault) → Given arguments

@@ -1,4 +1,4 @@
--- The effect of a run of the program on its reader and its writer (ours).
+-- Defines the effect of a run of the program on its reader and its writer.
 use Rattle.std.specs.{Io.{StartsWith, KnownBytes.{Appends, Keeps}}, Prelude.{◌≡◌, ◌⊎◌, ℕ, List, [], Option, Result, Ok, Err, Bool, false, true}}
 use Rattle.clap.specs.Words.{Text}
 use Rattle.pass_forms.specs.declared.fault.FormFault.TheVariants.{Memory}
@@ -8,25 +8,26 @@ use Rattle.passtool_commands.specs.declared.answer.{Fault.TheVariants.{Arguments
 use Rattle.passtool_commands.specs.declared.{answer.Outcome.TheVariants.{Done, NotSigned}, command.Command.Command}
 use Rattle.command_line.specs.{Arguments.HasText, Input.ReadsAtMost, Table.refusals, declared.errors.ArgumentsFault.TheVariants.{Refused, BadValue}}
 
--- A command that reads its input reads all that the reader has left, up to 8,194 bytes. Other commands read nothing.
+-- A command that reads input reads up to 8,194 bytes of it.
 abbrev pub ReadsInput : Bool → Option (List ℕ) → Option (List ℕ) → List ℕ → Type 0
 ReadsInput true left left' bytes = ReadsAtMost 8194 left left' bytes
 ReadsInput false left left' bytes = bytes ≡ []
 
--- A command read its input, its answer is `ending`, and the bytes `written` were added to the output.
+-- The command reads its input and appends the bytes `written` to the output. The command's answer
+-- is `ending`.
 pub record Writes (command : Command) (left left' held held' : Option (List ℕ)) (ending : OutcomeText) (written : List ℕ) : Type 0 where
   pub bytes : List ℕ
   pub reads : ReadsInput (reads_input command) left left' bytes
   pub answers : IsAnswer command bytes (Ok ending)
   pub appends : Appends held held' written
 
--- A prefix of the answer, or all of it, was written.
+-- The command reads its input and writes a prefix of its answer.
 abbrev pub WritesFront : Command → Option (List ℕ) → Option (List ℕ) → Option (List ℕ) → Option (List ℕ) → Type 0
 WritesFront command left left' held held' =
     (ending : OutcomeText) × (front : List ℕ) × StartsWith ending.1 front × Writes command left left' held held' ending front
 
--- A command reads its input and writes exactly its answer. It may run out of memory. If the reader
--- or the writer fails, either nothing was written, or a prefix of the answer to the whole input.
+-- A command reads its input and writes exactly its answer, unless memory runs out. If the reader or
+-- the writer fails, the command writes a prefix of the answer, or nothing.
 abbrev pub Performs : Command → Option (List ℕ) → Option (List ℕ) → Option (List ℕ)
     → Option (List ℕ) → Result Outcome Fault → Type 0
 Performs command left left' held held' (Ok outcome) = (text : List ℕ) × Writes command left left' held held' (outcome, text) text
@@ -36,15 +37,15 @@ Performs command left left' held held' (Err (Pass fault)) =
 Performs command left left' held held' (Err InputOutput) = Keeps held held' ⊎ WritesFront command left left' held held'
 Performs command left left' held held' (Err fault) = ⊥
 
--- the arguments ask for a command
+-- The arguments ask for a command.
 abbrev pub AskForAny : List Text → Type 0
 AskForAny arguments = (command : Command) × AskForCommand arguments command
 
--- the arguments ask for no command that reads input
+-- If the arguments ask for a command, the command reads no input.
 abbrev pub AskForNoInput : List Text → Type 0
 AskForNoInput arguments = (command : Command) → AskForCommand arguments command → reads_input command ≡ false
 
--- the arguments allow a run with this result
+-- A run with these arguments can have this result.
 abbrev pub AnswersArguments : List Text → Result Outcome Fault → Type 0
 AnswersArguments arguments (Ok NotSigned) = AskForAny arguments
 AnswersArguments arguments (Ok Done) = AskForAny arguments ⊎ HasText (refusals passtool arguments)

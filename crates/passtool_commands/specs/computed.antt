@@ -1,3 +1,4 @@
--- Computes what `IsCaveatText` states. The law `reads_what_is_understood` of `pass_caveats` says that both agree.
+-- Computes the definition `IsCaveatText`. By the law `reads_what_is_understood` of `pass_caveats`,
+-- the computed result agrees with the definition.
 
 pub mod Arguments

@@ -1,4 +1,4 @@
-//! The result of a run, which is an outcome or a fault. A fault has an exit status and a line.
+//! The result of a run, which is an outcome or a fault.
 
 ghost use Rattle.std.specs.{Prelude.{◌≡◌}, String.string_bytes};
 ghost use Rattle.passtool_commands.specs.Fault.{form_number};
@@ -31,8 +31,8 @@ impl Outcome {
     }
 }
 
-/// The answer of a command: its outcome and the text that it writes. In contracts it is the pair of
-/// both.
+/// The answer of a command: its outcome and the text that the command writes. In contracts, an
+/// answer is the pair of the outcome and the text.
 #[derive(Drop)]
 pub struct Answer {
     outcome: Outcome,
@@ -76,29 +76,32 @@ impl Answer {
 pub enum BadValue {
     /// The root isn't 1 to 64 bytes in hexadecimal.
     Root,
-    /// The caveat with this number, counted from 1, isn't one of the language.
+    /// The caveat isn't in the caveat language. The number is the caveat's position, counted from
+    /// 1.
     Caveat(usize),
 }
 
-/// Why a command failed. Its `Display` is the line for standard error.
+/// The reason why a command failed. The `Display` implementation writes the line for standard
+/// error.
 #[derive(Debug, Drop)]
 pub enum Fault {
-    /// `clap` refused the arguments, or `--form` names no form.
+    /// `clap` refused the arguments, or `--form` names an unknown form.
     Arguments(clap::Error),
     /// The input isn't a pass, the pass can't be narrowed or written, or memory ran out.
     Pass(FormFault),
-    /// The caveat with this number, counted from 1, isn't one of the language.
+    /// The caveat isn't in the caveat language. The number is the caveat's position, counted from
+    /// 1.
     CaveatNotUnderstood(usize),
     /// The root isn't 1 to 64 bytes in hexadecimal.
     BadRoot,
-    /// Reading the input or writing the output failed.
+    /// The program failed to read its input or to write its output.
     InputOutput,
 }
 
 impl Fault {
     ghost use Rattle.passtool_commands.specs.Fault.{fault_status};
 
-    /// Returns the exit status: 2 for arguments, 3 for the pass, 4 to 7 for all other faults.
+    /// Returns the exit status, which is between 2 and 7.
     pub fn status(&self) -> u8
         ensures { result ≡ fault_status self.now }
     {
@@ -132,7 +135,7 @@ impl fmt::Display for Fault {
     }
 }
 
-// The number that the line of a pass's fault has, from 1 to 4.
+// Returns the number from 1 to 4 in the line for a fault of a pass.
 fn fault_number(fault: FormFault) -> Option<u8>
     ensures { result ≡ form_number fault }
 {

@@ -1,4 +1,4 @@
-//! Caveats that are arguments of a command.
+//! The caveats in the arguments of a command.
 
 ghost use Rattle.std.specs.Prelude.{◌≡◌, IfOk, map, not, position};
 ghost use Rattle.passtool_commands.specs.Arguments as spec;
@@ -23,7 +23,7 @@ impl<'a> Model for Caveats<'a> {
 }
 
 impl<'a> Caveats<'a> {
-    /// Copies the list of references to these texts.
+    /// Copies the list of references to the caveats.
     pub fn new(alloc: Global, texts: &[&'a str]) -> Result<Caveats<'a>, AllocError>
         ensures { IfOk result (λ caveats. caveats ≡ map (λ text. text.now) texts.now) }
     {
@@ -31,14 +31,15 @@ impl<'a> Caveats<'a> {
         Ok(Caveats { texts })
     }
 
-    /// Returns the texts in their order.
+    /// Returns the caveats in the order of the arguments.
     pub fn as_slice(&self) -> &[&'a str]
         ensures { map (λ text. text.now) result.now ≡ self.now }
     {
         self.texts.as_slice()
     }
 
-    /// Returns the index, counted from 0, of the first text that isn't a caveat of the language.
+    /// Returns the index, counted from 0, of the first text that isn't a caveat of the caveat
+    /// language.
     pub fn first_unknown(&self) -> Option<usize>
         ensures { result ≡ spec.first_unknown is_understood self.now }
     {

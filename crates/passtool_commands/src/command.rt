@@ -53,7 +53,7 @@ impl<'a> Job<'a> for Command<'a> {
     ) -> Result<Command<'a>, ArgumentsFault<BadValue>>
         ensures { ReadsCommand name (rows_of (found_of options.now)) result }
     {
-        // By this law, the code's test of caveats agrees with the definition.
+        // By this law, the code's test for caveats agrees with the definition.
         reads_what_is_understood();
         match name {
             Name::Mint => mint_of(alloc, options),
@@ -96,14 +96,14 @@ impl<'a> Command<'a> {
     ghost use Rattle.passtool_commands.specs.Answer as spec;
     ghost use Rattle.passtool_commands.specs.Run.{Performs, ReadsInput};
 
-    /// Returns whether the command reads its input.
+    /// Returns true if the command reads its input.
     pub fn reads_input(&self) -> bool
         ensures { result ≡ spec.reads_input self.now }
     {
         !matches!(self, Command::Mint(_))
     }
 
-    /// Reads the input if the command needs it, and writes the command's answer.
+    /// Reads the input if the command needs input, and writes the command's answer.
     pub fn perform<R: Read, W: Write>(
         &self,
         alloc: Global,
@@ -123,7 +123,7 @@ impl<'a> Command<'a> {
         Ok(answer.outcome())
     }
 
-    // Reads the input if the command needs it, and returns the number of bytes read.
+    // Reads the input if the command needs input. Returns the number of bytes read.
     fn read_input<R: Read>(&self, reader: &mut R, buffer: &mut [u8; MAX_READ]) -> io::Result<usize>
         ensures bytes { IfOk result (λ count. (count ≤ length buffer.new)
             × ReadsInput (spec.reads_input self.now) (R.remaining reader.old)
@@ -137,7 +137,7 @@ impl<'a> Command<'a> {
         }
     }
 
-    // Returns the command's answer to these bytes of input.
+    // Returns the command's answer to this input.
     fn answer(&self, alloc: Global, bytes: &[u8]) -> Result<Answer, FormFault>
         ensures { UnlessMemory (spec.IsAnswer self.now bytes.now) result }
     {
@@ -151,7 +151,7 @@ impl<'a> Command<'a> {
     }
 }
 
-// Returns the caveats if `--any` was given, or if all of them are caveats of the language.
+// Returns the caveats if `--any` is given, or if all of them are in the caveat language.
 #[tactic(auto, unfolding(crate::specs::Arguments::checked_caveats))]
 fn checked_caveats(caveats: Caveats<'_>, any: bool) -> Result<Caveats<'_>, ArgumentsFault<BadValue>>
     ensures { Answers (checked_caveats is_understood any caveats.entry) result }

@@ -9,7 +9,7 @@ use crate::output::written;
 use pass_forms::{Form, FormFault};
 use std::alloc::Global;
 
-/// Returns the pass from the input, written in this form.
+/// Reads a pass from the input, and returns the pass in this form.
 pub fn convert(alloc: Global, form: Form, bytes: &[u8]) -> Result<Answer, FormFault>
     ensures { UnlessMemory (spec.ConvertsPass form bytes.now) result }
 {

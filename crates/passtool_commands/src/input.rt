@@ -9,10 +9,11 @@ use pass_forms::{Form, FormFault, Pass};
 use pass_json::read_any;
 use std::alloc::Global;
 
-/// One byte more than a pass's longest text and a line feed, so that a longer text is noticed.
+/// One byte more than the longest text of a pass with a line feed. The additional byte shows that a
+/// text is too long.
 pub const MAX_READ: usize = 8194;
 
-/// Parses the form and the pass of the input, after removing a line feed from its end.
+/// Reads a form and a pass from the input. A line feed at the end is ignored.
 pub fn read_pass(alloc: Global, bytes: &[u8]) -> Result<(Form, Pass), FormFault>
     ensures read { UnlessMemory (ReadsPass bytes.now) result }
     ensures few { IfOk result (λ read. length read.1.caveats ≤ max_caveats) }

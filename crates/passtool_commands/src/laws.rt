@@ -1,5 +1,5 @@
-//! Laws of the definitions. Each law is the contract of a function, whose body only calls the laws
-//! that the proof needs.
+//! Laws of the definitions. Each law is the contract of a function. The function's body only calls
+//! other laws that the proof needs.
 
 ghost use Rattle.passtool_commands.specs.Laws.{AnswersOnce, AskForOneCommand, MintSigns};
 ghost use Rattle.passtool_commands.specs.Laws.{NarrowingKeepsSigned, VerifyDecidesSigned};
@@ -9,7 +9,7 @@ use crate::command::Command;
 use command_line::laws::{arguments_ask_once, rows_answer_once};
 use pass_json::laws::{one_reading_for_each_text, one_writing_for_each_form};
 
-/// Arguments that ask for a command ask for no other command, and have no fault.
+/// If arguments ask for a command, they ask for no other command and have no fault.
 pub fn ask_for_one_command()
     ensures { AskForOneCommand }
 {
@@ -25,20 +25,20 @@ pub fn answers_once()
     one_writing_for_each_form();
 }
 
-/// `verify` prints `signed` if and only if the pass is signed under the root.
+/// `verify` prints `signed` if and only if the input's pass is signed under the root.
 pub fn verify_decides_signed()
     ensures { VerifyDecidesSigned }
 {
     one_reading_for_each_text();
 }
 
-/// The pass that `mint` makes is signed under its root.
+/// The pass that `mint` makes is signed under the root of `mint`.
 #[tactic(auto, using(crate::proofs::AnswerLaws::mint_signs))]
 pub fn mint_signs()
     ensures { MintSigns }
 {}
 
-/// A pass stays signed under its root after `narrow` adds any caveats.
+/// If a pass is signed under a root, it stays signed under this root after `narrow` adds caveats.
 #[tactic(auto, using(crate::proofs::AnswerLaws::narrowing_keeps_signed))]
 pub fn narrowing_keeps_signed()
     ensures { NarrowingKeepsSigned }

@@ -38,7 +38,7 @@ impl<'a> Model for Mint<'a> {
 }
 
 impl<'a> Mint<'a> {
-    /// Makes these values.
+    /// Collects the values for a new pass.
     pub fn new(
         root: Root,
         identifier: &'a str,
@@ -63,7 +63,7 @@ impl<'a> Mint<'a> {
         }
     }
 
-    /// Returns the new pass, written in its form.
+    /// Returns the new pass in its form.
     pub fn answer(&self, alloc: Global) -> Result<Answer, FormFault>
         ensures { UnlessMemory (spec.MintsPass self.now) result }
     {
@@ -72,7 +72,7 @@ impl<'a> Mint<'a> {
         written(alloc, self.form, &pass)
     }
 
-    // Returns the new pass before its caveats are added.
+    // Makes the new pass without its caveats.
     fn new_pass(&self, alloc: Global) -> Result<Pass, AllocError>
         ensures { IfOk result (λ pass. pass ≡ spec.new_pass self.now) }
     {

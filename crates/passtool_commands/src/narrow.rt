@@ -11,7 +11,8 @@ use crate::output::written;
 use pass_forms::{FormFault, Pass};
 use std::alloc::Global;
 
-/// Returns the input's pass with the caveats added in order, written in the form of the input.
+/// Reads a pass from the input, and adds the caveats in order. Returns the new pass in the form of
+/// the input.
 pub fn narrow(alloc: Global, caveats: &Caveats<'_>, bytes: &[u8]) -> Result<Answer, FormFault>
     ensures { UnlessMemory (spec.NarrowsPass caveats.now bytes.now) result }
 {
@@ -20,7 +21,7 @@ pub fn narrow(alloc: Global, caveats: &Caveats<'_>, bytes: &[u8]) -> Result<Answ
     written(alloc, form, &pass)
 }
 
-/// Adds caveats to a pass one by one. A pass that was read or minted has at most 64 caveats.
+/// Adds caveats to a pass one by one. A pass from `mint` or from the input has at most 64 caveats.
 pub fn narrowed_pass(alloc: Global, mut pass: Pass, caveats: &[&str]) -> Result<Pass, FormFault>
     requires { length pass.caveats ≤ max_caveats }
     ensures { UnlessMemory

@@ -1,4 +1,4 @@
-//! A run of the whole program, from the process's arguments to its exit status.
+//! Runs the whole program, from the process's arguments to the exit status.
 
 ghost use Rattle.std.specs.Prelude.{◌≡◌, IfErr};
 ghost use Rattle.passtool_commands.specs.Fault.{fault_output, exit_status};

@@ -12,7 +12,7 @@ use command_line::form_name;
 use pass_forms::{Form, FormFault, Pass};
 use std::alloc::{AllocError, Global};
 
-/// Returns the fields of the input's pass, one per line.
+/// Reads a pass from the input, and returns its fields, one per line.
 pub fn show(alloc: Global, bytes: &[u8]) -> Result<Answer, FormFault>
     ensures { UnlessMemory (ShowsPass bytes.now) result }
 {
@@ -49,7 +49,7 @@ fn push_caveats(alloc: Global, text: &mut String, caveats: &[Vec<u8>]) -> Result
     Ok(())
 }
 
-// Adds a line with a name, a space and a value.
+// Adds a line that consists of a name, a space and a value.
 fn push_line(alloc: Global, text: &mut String, name: &str, value: &[u8]) -> Result<(), AllocError>
     ensures { OnOk result
         (string_bytes text.new ≡ string_bytes text.old ++ spec.value_line name.now value.now) }

@@ -1,4 +1,4 @@
-//! A run of the program on given arguments, a reader and a writer.
+//! Runs the program on given arguments, a reader and a writer.
 
 ghost use Rattle.std.specs.Prelude.{◌≡◌, ◌≢◌, IfErr, MatchResult, map};
 ghost use Rattle.passtool_commands.specs.Arguments.{AskForCommand};
@@ -15,34 +15,37 @@ use std::io::{Read, Write};
 
 /// Runs the program on its arguments. The first argument is the program's name.
 ///
-/// The arguments are checked before the input is read: first by `clap`, then the form, the root and
-/// the caveats. The input is read to its end, or up to 8,194 bytes. `mint` reads no input. The
-/// answer is complete before any of it is written. Help and the version are written as `clap` makes
-/// them.
+/// The program checks the arguments before it reads the input. `clap` checks the arguments first.
+/// Then the program checks the form, the root and the caveats. The program reads at most 8,194
+/// bytes of the input. `mint` reads no input. The program writes nothing before the answer is
+/// complete. The texts of help and of the version come from `clap`.
 ///
 /// # Errors
 ///
-/// Fails with `Arguments` if `clap` refuses the arguments or the form is unknown. Fails with
-/// `BadRoot`, or with `CaveatNotUnderstood` and the caveat's number. Fails with `Pass` and the
-/// fault of the pass, or with `Memory` only if an allocation fails. In all these cases nothing was
-/// written. Fails with `InputOutput` if the reader or the writer failed. Then nothing was written,
-/// or a prefix of the answer to the whole input, of help or of the version.
+/// The run has written nothing when it fails with one of these faults:
+/// - `Arguments`, if `clap` refuses the arguments or the form is unknown.
+/// - `BadRoot`, if the root isn't 1 to 64 bytes in hexadecimal.
+/// - `CaveatNotUnderstood`, with the number of the first caveat that isn't in the caveat language.
+/// - `Pass`, with the fault of the pass. The fault is `Memory` if memory runs out.
+///
+/// The run fails with `InputOutput` if the reader or the writer fails. The run has then written a
+/// prefix of its output, or nothing.
 pub fn run<S: AsStr, R: Read, W: Write>(
     alloc: Global,
     arguments: &[S],
     reader: &mut R,
     writer: &mut W,
 ) -> Result<Outcome, Fault>
-    // The result is a fault of the arguments, or a result of the command that they ask for.
+    // The result is a fault of the arguments, or a result of the command in the arguments.
     ensures arguments { AnswersArguments (map S.text arguments.now) result }
-    // If the arguments ask for a command, it read its input and wrote its answer. If the reader or
-    // the writer failed, it wrote nothing or a prefix of the answer.
+    // If the arguments ask for a command, the command reads its input and writes its answer. If the
+    // reader or the writer fails, the command writes a prefix of the answer, or nothing.
     ensures command { (command : CommandOf) → AskForCommand (map S.text arguments.now) command
         → Performs command (R.remaining reader.old) (R.remaining reader.new)
         (W.contents writer.old) (W.contents writer.new) result }
-    // If the arguments ask for no command that reads input, nothing is read.
+    // If the arguments ask for no command that reads input, the program reads nothing.
     ensures unread { AskForNoInput (map S.text arguments.now) → reader.new ≡ reader.old }
-    // After any other fault, nothing was written.
+    // If the program fails with any other fault than `InputOutput`, it writes nothing.
     ensures silent { IfErr result (λ fault. fault ≢ Fault.InputOutput
         → writer.new ≡ writer.old) }
 {
@@ -56,7 +59,7 @@ pub fn run<S: AsStr, R: Read, W: Write>(
     command.perform(alloc, reader, writer)
 }
 
-// Writes the text of help or of the version, which no clause states.
+// Writes the text of help or of the version. No contract states this text.
 fn show<W: Write>(text: &clap::Error, writer: &mut W) -> Result<Outcome, Fault>
     ensures { MatchResult result (λ outcome. outcome ≡ Outcome.Done)
         (λ fault. fault ≡ Fault.InputOutput) }

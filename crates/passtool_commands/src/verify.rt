@@ -1,4 +1,4 @@
-//! The command `verify`, which checks whether the input's pass is signed under a root.
+//! The command `verify`, which checks if the input's pass is signed under a root.
 
 ghost use Rattle.std.specs.Prelude.{IfOk, Ok};
 ghost use Rattle.pass_forms.specs.Reading.{UnlessMemory};
@@ -10,7 +10,7 @@ use command_line::Root;
 use pass_forms::{FormFault, Pass};
 use std::alloc::{AllocError, Global};
 
-/// Returns whether the input's pass is signed under the root.
+/// Checks if the input's pass is signed under the root.
 pub fn verify(alloc: Global, root: &Root, bytes: &[u8]) -> Result<Answer, FormFault>
     ensures { UnlessMemory (spec.VerifiesPass root.now bytes.now) result }
 {

@@ -1,4 +1,5 @@
--- Adding the remaining caveats to the pass so far gives the same pass as adding all caveats to the original pass.
+-- Adding the remaining caveats to the current pass has the same result as adding all caveats to the
+-- original pass.
 use Rattle.std.proofs.Common.{◌≡◌, ◌≤◌, ◌+◌, length, drop}
 use Rattle.pass_forms.specs.Reading.{max_caveats}
 use Rattle.passtool_commands.specs.Answer.{with_caveats}

@@ -1,4 +1,4 @@
--- The text so far and the lines of the remaining caveats make up the whole text.
+-- The current text and the lines of the remaining caveats make up the whole text.
 use Rattle.std.proofs.Common.{◌≡◌, ◌+◌, ◌++◌, drop}
 use Rattle.std.specs.String.{string_bytes}
 use Rattle.passtool_commands.specs.Listing.{caveat_lines}

@@ -1,4 +1,4 @@
--- The text so far and the remaining bytes, escaped, make up the whole text.
+-- The current text and the escaped remaining bytes make up the whole text.
 use Rattle.std.proofs.Common.{◌≡◌, ◌++◌, drop}
 use Rattle.std.specs.String.{string_bytes}
 use Rattle.passtool_commands.specs.Listing.{escaped_text}
