@@ -1,16 +1,16 @@
--- Attempts that are made one after another (ours).
+-- Defines a number of attempts in a row.
 use Rattle.std.specs.Prelude.{ℕ, ◌+◌, ◌<◌, Option, Some, None, MatchOption}
 
--- the results that an attempt may have, given the state before and after it
+-- The possible results of an attempt, given the state before and after the attempt.
 abbrev pub Gains : Type 0 → Type 0 → Type 1
 Gains Trier Gain = Trier → Option Gain → Trier → Type 0
 
--- this many attempts were made, and all failed
+-- This number of attempts was made, and all attempts failed.
 pub data AreInVain {Trier Gain : Type 0} (Gained : Gains Trier Gain) (first : Trier) : ℕ → Trier → Type 0 where
   no_attempt : AreInVain Gained first 0 first
   one_more : (n : ℕ) (before after : Trier) → AreInVain Gained first n before → Gained before None after → AreInVain Gained first (n + 1) after
 
--- The first gain of at most `most` attempts. There is none if this many attempts failed.
+-- The result of the first successful attempt, or `None` if `most` attempts failed.
 abbrev pub GainsWithin : {Trier Gain : Type 0} → Gains Trier Gain → ℕ → Trier → Option Gain → Trier → Type 0
 GainsWithin Gained most first result last = MatchOption result
     (AreInVain Gained first most last)

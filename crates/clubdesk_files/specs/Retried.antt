@@ -1,21 +1,22 @@
--- A command that is handed to one server after another, until one carries it out (ours).
+-- Defines how a command is sent to one server after another, until a server carries it out.
 use Rattle.std.specs.Prelude.{◌≡◌, ℕ, List, Option, IsSomeAnd}
 
--- The effect of handing a command to the next server: from the servers before and the command's bytes to the answer's status and text and the servers after.
+-- The effect of sending a command to the next server. The arguments are the servers before the
+-- call, the command's bytes, the answer, and the servers after the call.
 abbrev pub Handing : Type 0 → Type 1
 Handing Servers = Servers → List ℕ → Option (ℕ × List ℕ) → Servers → Type 0
 
--- The status of the answer is 9, which means that nothing was done.
+-- The status of the answer is 9. This status means that no server has carried out the command.
 abbrev pub IsNothingDone : Option (ℕ × List ℕ) → Type 0
 IsNothingDone answer = IsSomeAnd answer (λ told. told.0 ≡ 9)
 
--- The command was handed over any number of times. Each answer said that nothing was done.
+-- The program has sent the command any number of times, and each answer had status 9.
 pub data IsHandedInVain {Servers : Type 0} (Hands : Handing Servers) (command : List ℕ) (first : Servers) : Servers → Type 0 where
   not_yet : IsHandedInVain Hands command first first
   once_more : (told : Option (ℕ × List ℕ)) (mid last : Servers) → IsHandedInVain Hands command first mid → Hands mid command told last
       → IsNothingDone told → IsHandedInVain Hands command first last
 
--- The command was handed over and got this answer. All answers before it said that nothing was done.
+-- The program has sent the command and received this answer. All earlier answers had status 9.
 pub record IsHandedOn {Servers : Type 0} (Hands : Handing Servers) (command : List ℕ) (first : Servers) (answer : Option (ℕ × List ℕ))
     (last : Servers) : Type 0 where
   pub mid : Servers

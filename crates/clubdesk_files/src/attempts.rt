@@ -1,32 +1,33 @@
-//! Repeats an attempt, with short sleeps between the tries.
+//! Repeats an attempt, and sleeps briefly after each failure.
 
 ghost use Rattle.clubdesk_files.specs.Attempts.{GainsWithin};
 
 use std::thread;
 use std::time::{Clock, Duration};
 
-/// The sleep after a failed attempt, in milliseconds.
+/// The time to sleep after a failed attempt, in milliseconds.
 pub(crate) const SLEEP_MILLIS: u64 = 10;
 
-/// The number of attempts in a second.
+/// The number of attempts in one second.
 pub const ATTEMPTS_A_SECOND: u32 = 100;
 
-/// A resource that another program may be using, and that a caller tries to get repeatedly.
+/// A resource that another program may be using, so that a caller may need several attempts to get
+/// it.
 pub trait Attempts {
     type Gain;
 
     ghost use Rattle.clubdesk_files.specs.Attempts.{Gains};
 
-    // the results that an attempt may have, given the state before and after it
+    // The possible results of an attempt, given the state before and after the attempt.
     ghost gains: { Gains Self Self.Gain };
 
-    /// Tries once, and returns `None` if the try failed.
+    /// Tries once to get the resource. Returns `None` if the attempt fails.
     fn attempt(&mut self) -> Option<Self::Gain>
         ensures { gains self.old result self.new };
 }
 
-/// Tries at most `most` times, and sleeps after each failed try. Returns the first gain, or `None`
-/// if all tries failed.
+/// Makes at most `most` attempts, and sleeps after each failed attempt. Returns the result of the
+/// first successful attempt, or `None` if all attempts fail.
 pub fn gain<A: Attempts, C: Clock>(attempts: &mut A, clock: &C, most: u32) -> Option<A::Gain>
     ensures { GainsWithin A.gains most attempts.old result attempts.new }
 {

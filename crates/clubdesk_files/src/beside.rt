@@ -12,24 +12,24 @@ use std::os::unix::fs::{FileTypeExt, MetadataExt, OpenOptionsExt};
 use std::path::Path;
 use std::{fs, io};
 
-/// The mode of new files: only their owner may read and write them.
+/// The mode of new files. Only the owner of a file can read and write it.
 pub(crate) const OWNERS_MODE: u32 = 0o600;
 
-/// The name of a database in memory, which has no files.
+/// The name of a database in memory. Such a database has no files.
 pub(crate) const IN_MEMORY: &str = ":memory:";
 
-/// The current folder.
+/// The path of the current folder.
 const HERE: &str = ".";
 
-/// The suffix that makes a door's name from a database's name.
+/// The suffix that turns a database's name into the name of the door.
 const OFFICE: &str = "-office";
 
-/// The user id of the user root.
+/// The user id of root.
 const ROOT: u32 = 0;
 
-/// The opened folder of a database, and the database's name in the folder, after links were
-/// resolved. A path through the folder's descriptor is short enough for a socket's address. The
-/// folder's own path may be too long.
+/// The opened folder of a database, and the database's name in the folder after resolving links. A
+/// path through the folder's descriptor is short enough for a socket's address, while the folder's
+/// own path may be too long.
 #[derive(Drop)]
 pub(crate) struct Place {
     folder: File,
@@ -38,7 +38,7 @@ pub(crate) struct Place {
 
 impl Place {
     /// Returns the place of the database at this path. A missing file has a place if its folder
-    /// exists, since a server that has the file open goes on serving.
+    /// exists, because a server can still have the removed file open.
     pub fn find(rt: &HostRuntime, file: &str) -> io::Result<Place> {
         match fs::canonicalize(rt, file) {
             Ok(whole) => Place::of(rt, whole.as_path()),
@@ -65,14 +65,14 @@ impl Place {
         self.path(rt, OFFICE)
     }
 
-    // Returns the path of the database's name followed by this suffix.
+    // Returns the database's path with this suffix.
     fn path(&self, rt: &HostRuntime, ending: &str) -> Result<String, AllocError> {
         let descriptor = self.folder.as_raw_fd();
         let name = self.name.as_str();
         format!(in rt.alloc(); "/proc/self/fd/{descriptor}/{name}{ending}")
     }
 
-    // Returns the user id of the database's owner, or the caller's if the file is missing.
+    // Returns the user id of the database's owner, or the caller's user id if the file is missing.
     fn owner(&self, rt: &HostRuntime) -> io::Result<u32> {
         let path = self.path(rt, "")?;
         match fs::symlink_metadata(rt, path.as_str()) {
@@ -82,12 +82,12 @@ impl Place {
         }
     }
 
-    /// Returns whether a socket has the door's name, made by a user who may make the door.
+    /// Returns true if the door exists, which means that a socket has the door's name.
     ///
     /// # Errors
     ///
-    /// Fails with `InvalidData` if something else has the name, or if the socket belongs to a user
-    /// who may not make the door.
+    /// Fails with `InvalidData` if another kind of file has the door's name, or if the socket
+    /// belongs to a user who may not make the door.
     pub fn has_door(&self, rt: &HostRuntime) -> io::Result<bool> {
         let path = self.door(rt)?;
         match fs::symlink_metadata(rt, path.as_str()) {
@@ -105,16 +105,16 @@ impl Place {
     }
 }
 
-/// Returns whether a user may make the door of a database. Its owner, the caller and root may.
-/// Without this check, anyone who can write to the folder could put a socket there, and would get
-/// the commands.
+/// Returns true if a user may make the door of a database. The database's owner, the caller and
+/// root may make the door. Otherwise, anyone who can write to the folder could put a socket there,
+/// and would receive the office's commands.
 pub fn may_make_door(user: u32, owner: u32, caller: u32) -> bool
     ensures { IsTrue result ↔ ((user ≡ owner) ⊎ (user ≡ caller) ⊎ (user ≡ ROOT)) }
 {
     user == owner || user == caller || user == ROOT
 }
 
-/// Returns the fault for a door that can't be made or used.
+/// Returns the store's fault for a door that can't be made or used.
 pub(crate) fn fault_of(error: &io::Error) -> StoreFault {
     match error.kind() {
         ErrorKind::OutOfMemory => StoreFault::Memory,
@@ -122,8 +122,8 @@ pub(crate) fn fault_of(error: &io::Error) -> StoreFault {
     }
 }
 
-/// The file of a socket, identified by its inode number. No other file gets this number while a
-/// listener has the socket open.
+/// The file of a socket, identified by its inode number. No other file gets this inode number while
+/// a listener has the socket open.
 #[derive(Clone, Copy, Drop)]
 pub(crate) struct SocketFile {
     inode: u64,
@@ -147,7 +147,7 @@ impl SocketFile {
     }
 }
 
-/// Creates an empty file that only its owner may read and write, unless the file exists.
+/// Creates an empty file that only its owner can read and write. An existing file stays as it is.
 pub(crate) fn make_private(rt: &HostRuntime, file: &str) {
     if file != IN_MEMORY {
         let mut options = OpenOptions::new();

@@ -1,4 +1,5 @@
-//! The door of a server: a socket next to the database, which only the socket's owner may use.
+//! The door of a server. The door is a socket next to the database, and only the socket's owner can
+//! use it.
 
 use crate::beside::{IN_MEMORY, OWNERS_MODE, Place, SocketFile};
 use desk_server::Door;
@@ -10,24 +11,25 @@ use std::os::unix::net::{SocketAddr, UnixListener};
 use std::rt::Files;
 use std::{fs, io};
 
-/// The number of commands that may wait for the server.
+/// The number of commands that can wait for the server.
 const BACKLOG: i32 = 128;
 
-/// The socket of a server's door. Dropping this value removes the socket's file, unless another
-/// server's door now has the name. A database in memory has no door.
+/// The socket of a server's door. Dropping this value removes the socket's file, unless the name
+/// now belongs to another server's door. A database in memory has no door.
 pub struct FileDoor<'a> {
     rt: &'a HostRuntime,
     at: Option<(Place, SocketFile, UnixListener)>,
 }
 
 impl<'a> FileDoor<'a> {
-    /// Makes the door of a database. Replaces a socket that a killed server left behind. Only the
-    /// program that has the database open calls this, so nobody listens at such a socket.
+    /// Makes the door of a database, and replaces a socket that a killed server left behind. Only
+    /// the program that has the database open makes the door, so no other server listens on such a
+    /// socket.
     ///
     /// # Errors
     ///
     /// Fails if the door's name belongs to another kind of file, or to a socket whose owner may not
-    /// make the door. Fails also if the folder isn't writable, or memory is refused.
+    /// make the door. Fails if the folder isn't writable, or if memory runs out.
     pub fn make(rt: &'a HostRuntime, file: &str) -> io::Result<FileDoor<'a>> {
         if file == IN_MEMORY {
             return Ok(FileDoor { rt, at: None });
@@ -46,8 +48,8 @@ impl<'a> FileDoor<'a> {
     }
 }
 
-// Binds a socket at a path. The mode of the socket's file is the mode of its descriptor less the
-// umask. So at no time can another user connect.
+// Binds a socket at a path. The mode of the socket's file is the mode of its descriptor without the
+// bits of the umask. For this reason, other users can't connect at any time.
 fn bind_private(rt: &HostRuntime, path: &str) -> io::Result<UnixListener> {
     let address = SocketAddr::from_pathname(path)?;
     let socket = rt.unix_socket()?;

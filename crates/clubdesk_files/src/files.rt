@@ -1,4 +1,4 @@
-//! Databases in files, which are opened by their paths.
+//! Databases in files. The name of a database is the path of its file.
 
 ghost use Rattle.std.specs.Prelude.{◌≡◌};
 ghost use Rattle.desk_server.specs.Served.{CountsOn};
@@ -12,10 +12,11 @@ use crate::visit::FileVisit;
 use club_core::StoreFault;
 use desk_server::{Databases, Reached};
 
-/// The number of attempts to open a file that another program has open. They take ten seconds.
+/// The number of attempts to open a file that another program has open. All attempts together take
+/// ten seconds.
 const MAX_OPENINGS: u32 = 10 * ATTEMPTS_A_SECOND;
 
-/// Databases in files, which have their paths as names.
+/// Databases in files. The name of a database is the path of its file.
 #[derive(Drop)]
 pub struct Files<'a> {
     pub rt: &'a HostRuntime,
@@ -26,7 +27,7 @@ pub struct Files<'a> {
 }
 
 impl<'a> Files<'a> {
-    /// Returns the databases in the system's files, before any of them is opened.
+    /// Returns the system's files as databases. No database is open yet.
     pub fn new(rt: &'a HostRuntime) -> Files<'a>
         ensures tried { result.tried ≡ 0 }
         ensures closed { result.closed ≡ 0 }
@@ -58,7 +59,7 @@ impl<'a> Databases for Files<'a> {
     fn open(&mut self, name: &str) -> Result<FileClub, StoreFault> {
         self.tried = self.tried.saturating_add(1);
         let mut openings = ServerOpenings { rt: self.rt, name };
-        // `unwrap_or` for a result of a store's type would take forty seconds to prove.
+        // A proof about `unwrap_or` for a result with a store would take forty seconds.
         match gain(&mut openings, self.rt, MAX_OPENINGS) {
             Some(opened) => opened,
             None => Err(StoreFault::Storage),
@@ -74,8 +75,8 @@ impl<'a> Databases for Files<'a> {
         }
     }
 
-    // Committed changes are in the log next to the file, until this call copies them into the file.
-    // If copying fails, the log keeps them for the next opening.
+    // Committed changes are in the log next to the file. This call copies the changes into the
+    // file. If copying fails, the changes stay in the log until the database is opened again.
     fn close(&mut self, named: FileClub) {
         self.closed = self.closed.saturating_add(1);
         let NamedStore { store, file: _ } = named;

@@ -1,4 +1,4 @@
-//! Hands a command to a server, through a reader and a writer.
+//! Sends a command to a server, through a reader and a writer.
 
 ghost use Rattle.std.specs.{Io.KnownBytes.Consumes, Prelude.{IfOk, OnOk, codes}};
 ghost use Rattle.std.specs.String.{string_bytes};
@@ -10,12 +10,12 @@ use std::io::{self, ErrorKind, Read, Write};
 use std::net::Shutdown;
 use std::os::unix::net::UnixStream;
 
-/// A writer that can announce the end of its bytes.
+/// A writer that can end its stream.
 pub trait CommandWriter: Write {
-    // the effect of announcing the end, with the writer before and after
+    // The effect of ending the stream, given the writer before and after the call.
     ghost ends: { Self → Self → Type 0 };
 
-    /// Announces to the reader at the other end that no more bytes will come.
+    /// Ends the stream, so that the reader at the other end expects no more bytes.
     fn end(&mut self) -> io::Result<()>
         ensures { OnOk result (ends self.old self.new) };
 }
@@ -47,13 +47,14 @@ pub fn greeted<R: Read>(reader: &mut R) -> io::Result<()>
     }
 }
 
-/// Sends a command, announces its end, and reads the answer, which is a status, a text and an end
-/// byte.
+/// Sends a command, ends the stream, and reads the answer. An answer consists of a status, a text
+/// and an end byte.
 ///
 /// # Errors
 ///
-/// Returns the writer's error if not all of the command was sent. Returns the reader's error, or
-/// `UnexpectedEof` if the answer is incomplete. Then the command may have been carried out, or not.
+/// - Returns the writer's error if the writer fails before the end of the command.
+/// - Returns the reader's error if the reader fails, or `UnexpectedEof` if the answer is
+///   incomplete. In both cases, it is unknown if the server carried out the command.
 pub fn answered<R: Read, W: CommandWriter>(
     alloc: Global,
     reader: &mut R,

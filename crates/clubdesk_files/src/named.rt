@@ -1,4 +1,4 @@
-//! A club's store in a file that another program may remove.
+//! A club's store in a file that another program can remove.
 
 ghost use Rattle.std.specs.{Bool.OnFalse, Prelude.{◌≡◌, IfErr, IfOk, IsTrue, option_map}};
 ghost use Rattle.club_core.specs.{Basis.account_named, Club.{facility_named, key_named}};
@@ -10,23 +10,23 @@ use club_core::{Change, ClubStore, MemberAccount, SlotUse, StoreFault};
 use club_rows::{Booking, BookingNumber, Facility, KeyRow, OlderRoot};
 use club_values::{Day, Moment, Name, Slot};
 
-/// An open file whose name another program may remove.
+/// An open file that another program can remove from the file system.
 pub trait Removable {
-    // a check found that the file has no name, or the check failed
+    // A check has found that the file has no name, or the check has failed.
     ghost is_lost: { Self → Type 0 };
 
-    // a check found that the file has a name
+    // A check has found that the file has a name.
     ghost is_found: { Self → Type 0 };
 
-    /// Returns whether the file still has a name in its file system. If it has none, its data is
-    /// lost when the file is closed.
+    /// Returns true if the file still has a name in its file system. Without a name, the file's
+    /// data is lost when the file is closed.
     fn has_name(&self) -> bool
         ensures lost { OnFalse result (is_lost self.now) }
         ensures found { IsTrue result → is_found self.now };
 }
 
 /// A store over a file. If the file has lost its name, the first read of each request or command
-/// fails. So the store confirms no change that other programs couldn't find.
+/// fails. For this reason, the store never confirms a change that other programs can't find.
 #[derive(Drop)]
 pub struct NamedStore<S, F> {
     pub store: S,
@@ -34,7 +34,7 @@ pub struct NamedStore<S, F> {
 }
 
 impl<S, F: Removable> NamedStore<S, F> {
-    // Fails with `Storage` if the file has no name.
+    // Fails with `Storage` if the file has lost its name.
     fn look(&self) -> Result<(), StoreFault>
         ensures lost { IfErr result (λ fault. (fault ≡ Storage) × F.is_lost self.now.file) }
         ensures found { IfOk result (λ _. F.is_found self.now.file) }
@@ -47,8 +47,8 @@ impl<S, F: Removable> NamedStore<S, F> {
     }
 }
 
-/// Each event first reads a key, a facility, a member's account or a day's bookings. The row that
-/// was read is returned only if a check found that the file has a name.
+/// Each event first reads a key, a facility, a member's account or a day's bookings. The store
+/// returns the row only after it has checked that the file still has a name.
 impl<S: ClubStore, F: Removable> ClubStore for NamedStore<S, F> {
     ghost use Rattle.clubdesk_files.specs.Named.{FailsOrIsLost};
 

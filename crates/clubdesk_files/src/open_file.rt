@@ -7,24 +7,24 @@ use std::io::ErrorKind;
 use std::os::unix::fs::MetadataExt;
 use std::{fs, io};
 
-/// The number of descriptors among which a store's descriptor is searched.
+/// The number of descriptors in which the program searches for a store's descriptor.
 const MAX_DESCRIPTORS: u32 = 1_024;
 
-/// The file that a store has open, with a descriptor of its own. A check through a descriptor takes
-/// less than a fifth of the time of a check by path.
+/// The file that a store has open, with an additional descriptor. A check through a descriptor
+/// takes less than a fifth of the time of a check by path.
 #[derive(Drop)]
 pub struct OpenFile {
-    // the open file, or `None` if it isn't checked
+    // The open file, or `None` if the program never checks the file.
     file: Option<File>,
 }
 
 impl OpenFile {
-    /// Returns the database's file that a store of this program has open. A database in memory has
-    /// no file, so nothing is checked.
+    /// Finds the database's file that a store of this program has open. A database in memory has no
+    /// file and is never checked.
     ///
     /// # Errors
     ///
-    /// Fails if no open file has this path, or if memory is refused.
+    /// Fails if no open file has this path, or if memory runs out.
     pub(crate) fn at(rt: &HostRuntime, name: &str) -> io::Result<OpenFile> {
         if name == IN_MEMORY {
             return Ok(OpenFile::unwatched());
@@ -43,13 +43,14 @@ impl OpenFile {
         Err(io::Error::from(ErrorKind::NotFound))
     }
 
-    /// Returns a file that is never checked, for a command that has it open only briefly.
+    /// Returns a file that is never checked. A command that opens a database only briefly uses such
+    /// a file.
     pub(crate) fn unwatched() -> OpenFile {
         OpenFile { file: None }
     }
 }
 
-/// The contract promises nothing about the system's answers.
+/// The contract states nothing about the system's answers.
 impl Removable for OpenFile {
     ghost is_lost = { λ _. Unit {0} };
 

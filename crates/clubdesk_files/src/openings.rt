@@ -1,4 +1,4 @@
-//! Attempts to open a database that other programs may have open.
+//! Attempts to open a database that another program may have open.
 
 use crate::attempts::Attempts;
 use crate::beside::{fault_of, make_private};
@@ -10,15 +10,15 @@ use club_store::{FailedOpening, Store};
 use desk_server::Reached;
 use sqlite::{FileFrom, FileStore, Unknown};
 
-/// The store of a club in a file. The type [`Unknown`] says that after a torn write, each byte is
-/// the old one or the new one.
+/// The store of a club in a file. [`Unknown`] means that each byte after a torn write is either the
+/// old byte or the new byte.
 type FileStoreOfClub = Store<FileStore<FileFrom<Unknown>>>;
 
-/// The store of a club in a file that another program may remove.
+/// The store of a club in a file that another program can remove.
 pub type FileClub = NamedStore<FileStoreOfClub, OpenFile>;
 
-// Opens the database in a file. Creates a missing file, which only its owner may use. Returns
-// `None` while another program has the file open.
+// Opens the database in a file. If the file is missing, creates a file that only its owner can use.
+// Returns `None` while another program has the file open.
 fn try_open(rt: &HostRuntime, name: &str) -> Option<Result<FileStoreOfClub, StoreFault>> {
     make_private(rt, name);
     match Store::open_file(rt, name, Unknown) {
@@ -51,8 +51,9 @@ impl<'a> Attempts for ServerOpenings<'a, '_> {
     }
 }
 
-/// The office's attempts to reach a database, through its server's door or by opening it. An
-/// attempt fails if another program has the file open, or if a server ends before it greets.
+/// The office's attempts to reach a database, through a server's door or by opening the file. An
+/// attempt fails if another program has the file open, or if a server ends before it sends its
+/// greeting.
 #[derive(Drop)]
 pub struct OfficeOpenings<'a, 'n> {
     pub rt: &'a HostRuntime,

@@ -1,4 +1,4 @@
-//! Hands a command to servers until one of them gets all of it.
+//! Sends a command to one server after another, until a server receives all of it.
 
 ghost use Rattle.std.specs.Prelude.{◌≡◌, ◌↔◌, ℕ, List, IsTrue, Some};
 ghost use Rattle.desk_server.specs.Databases.{in_bytes};
@@ -13,33 +13,33 @@ use std::os::unix::net::UnixStream;
 use std::thread;
 use std::time::{Clock, Duration, Instant};
 
-/// The seconds that a server has to read a command and answer it.
+/// The time that a server has to read a command and to answer it, in seconds.
 const ANSWER_SECONDS: u64 = 600;
 
-/// The seconds during which a command is retried.
+/// The time during which the program retries a command, in seconds.
 const RETRY_SECONDS: u64 = 10;
 
-/// The greatest number of retries of a command.
+/// The most retries of a command.
 const MAX_RETRIES: u32 = 10 * ATTEMPTS_A_SECOND;
 
-/// The servers that a command may be handed to, one after another.
+/// The servers that can receive a command, one after another.
 pub trait Servers {
     ghost use Rattle.desk_server.specs.Databases.{in_bytes};
     ghost use Rattle.clubdesk_files.specs.Retried.{Handing};
 
-    // the effect of handing a command to the next server
+    // The effect of sending a command to the next server.
     ghost hands: { Handing Self };
 
-    /// Hands a command to the next server, if there is one. Returns the status and the text of its
-    /// answer. The status is `NOTHING_DONE` if no server got the whole command. Returns `None` if
-    /// it is unknown whether the command was carried out.
+    /// Sends a command to the next server, and returns the status and the text of the answer. The
+    /// status is `NOTHING_DONE` if there is no server, or if no server received all of the command.
+    /// Returns `None` if it is unknown whether a server carried out the command.
     fn hand_over(&mut self, command: &[u8]) -> Option<(u8, String)>
         ensures { hands self.old command.now (in_bytes result) self.new };
 }
 
-/// Hands a command to a server, and returns the status and text of the last answer, or `None` if
-/// there is no answer. If nothing was done, it retries for ten seconds. It never resends a command
-/// that may have been carried out.
+/// Sends a command to a server, and returns the status and the text of the last answer. While the
+/// answer is `NOTHING_DONE`, the function retries for ten seconds. It never sends a command again
+/// that a server may have carried out. Returns `None` if there is no answer.
 pub fn hand_over_until_done<S: Servers, C: Clock>(
     clock: &C,
     servers: &mut S,
@@ -61,7 +61,7 @@ pub fn hand_over_until_done<S: Servers, C: Clock>(
     servers.hand_over(command)
 }
 
-// Returns whether an answer says that nothing was done.
+// Returns true if the answer's status is `NOTHING_DONE`.
 fn is_nothing_done(answer: &Option<(u8, String)>) -> bool
     ensures { IsTrue result ↔ IsNothingDone (in_bytes answer.now) }
 {
@@ -71,7 +71,8 @@ fn is_nothing_done(answer: &Option<(u8, String)>) -> bool
     }
 }
 
-// Returns whether the clock's time is before `until`; false if `until` or the time is missing.
+// Returns true if the clock's time is before `until`. Returns false if `until` or the clock's time
+// is missing.
 fn is_before<C: Clock>(clock: &C, until: Option<Instant>) -> bool {
     match (until, clock.instant_now()) {
         (Some(until), Some(now)) => now < until,
@@ -79,7 +80,8 @@ fn is_before<C: Clock>(clock: &C, until: Option<Instant>) -> bool {
     }
 }
 
-/// Hands a command over once, to a server that has sent its greeting, if there is one.
+/// Sends a command once, to the server that has sent its greeting. If there is no server, the
+/// function sends nothing.
 pub fn hand_over_to(
     alloc: Global,
     server: Option<UnixStream>,
@@ -91,8 +93,8 @@ pub fn hand_over_to(
     limit_answer(&stream).ok()?;
     match answered(alloc, &mut &stream, &mut &stream, command) {
         Ok(answer) => Some(answer),
-        // The server closed the connection before it had read all of the command. So it can't carry
-        // the command out.
+        // The server closed the connection before it had read all of the command. For this reason,
+        // the server can't carry out the command.
         Err(error) => match error.kind() {
             ErrorKind::BrokenPipe | ErrorKind::ConnectionReset => nothing_done(alloc),
             _ => None,
@@ -100,13 +102,13 @@ pub fn hand_over_to(
     }
 }
 
-// Returns the answer that stands for a server that didn't get all of the command.
+// Returns the answer for a command that no server received completely.
 fn nothing_done(alloc: Global) -> Option<(u8, String)> {
     let text = format!(in alloc; "{NOTHING_DONE_TEXT}").ok()?;
     Some((NOTHING_DONE, text))
 }
 
-// Sets the time that the server has to read the command, and to answer it.
+// Sets the timeouts for sending the command and for receiving the answer.
 fn limit_answer(stream: &UnixStream) -> io::Result<()> {
     let most = Some(Duration::from_secs(ANSWER_SECONDS));
     stream.set_read_timeout(most)?;

@@ -1,4 +1,4 @@
-//! Connects to a server, and hands it a command.
+//! Connects to a server, and sends a command to it.
 
 use crate::beside::{Place, fault_of};
 use crate::handover::greeted;
@@ -10,8 +10,8 @@ use std::io::ErrorKind;
 use std::os::unix::net::UnixStream;
 use std::time::Duration;
 
-/// The seconds that a server has to send its greeting. One client can't keep the server busy for
-/// that long under the default patience.
+/// The time that a server has to send its greeting, in seconds. With the default timeout, no client
+/// can keep the server busy for this long.
 const GREETING_SECONDS: u64 = 60;
 
 /// A server of a database that has sent its greeting.
@@ -19,17 +19,18 @@ const GREETING_SECONDS: u64 = 60;
 pub struct FileVisit<'a> {
     rt: &'a HostRuntime,
     file: String,
-    // `None` after a command was handed over; the next attempt connects again
+    // The connection to a server that has sent its greeting. After a command was sent, it is
+    // `None`, and the next attempt connects again.
     greeted: Option<UnixStream>,
 }
 
 impl<'a> FileVisit<'a> {
-    /// Waits for the greeting of a database's server, after connecting to the server's door.
+    /// Waits for the greeting of a database's server, over a connection to the server's door.
     ///
     /// # Errors
     ///
-    /// Fails if the server doesn't greet in time or sends something else, if the connection fails,
-    /// or if memory is refused.
+    /// Fails if the server doesn't send its greeting in time, or sends something else. Fails if the
+    /// connection fails, or if memory runs out.
     pub fn over(rt: &'a HostRuntime, file: &str, stream: UnixStream) -> io::Result<FileVisit<'a>> {
         let file = format!(in rt.alloc(); "{file}")?;
         stream.set_read_timeout(Some(Duration::from_secs(GREETING_SECONDS)))?;
@@ -42,12 +43,12 @@ impl<'a> FileVisit<'a> {
 /// The result of connecting to a database's door.
 #[derive(Drop)]
 pub(crate) enum Found<'a> {
-    /// A server, which has sent its greeting.
+    /// A server that has sent its greeting.
     Server(FileVisit<'a>),
-    /// A server ended before it sent its greeting. It got nothing.
+    /// The server ended before it sent its greeting. It received no command.
     Ended,
-    /// Nobody listens, the database's name is too long for a door, or only root may use the door.
-    /// Then the lock of the file shows whether a server has it open.
+    /// No server listens on the door, the database's name is too long for a door, or only root can
+    /// use the door. In these cases, the lock of the file shows if a server has the file open.
     Nobody,
 }
 
@@ -55,8 +56,10 @@ pub(crate) enum Found<'a> {
 ///
 /// # Errors
 ///
-/// Fails if the server doesn't greet in time or sends something else. Fails if the door can't be
-/// used, its maker may not make it, or memory is refused. Then nothing was sent.
+/// The call has sent nothing when it fails. The cases are:
+/// - The server doesn't send its greeting in time, or sends something else.
+/// - The door can't be used, or belongs to a user who may not make the door.
+/// - Memory runs out.
 pub(crate) fn find_server<'a>(rt: &'a HostRuntime, file: &str) -> Result<Found<'a>, StoreFault> {
     match connect(rt, file) {
         Ok(stream) => match FileVisit::over(rt, file, stream) {
@@ -80,10 +83,11 @@ pub(crate) fn find_server<'a>(rt: &'a HostRuntime, file: &str) -> Result<Found<'
 ///
 /// # Errors
 ///
-/// Fails with `NotFound` or `ConnectionRefused` if nobody listens, and with `InvalidInput` if the
-/// name is too long for a door. Fails with `PermissionDenied` if only root may use the door. Fails
-/// with `InvalidData` if a user made the door who may not make it. Fails with other errors if the
-/// door can't be used.
+/// - Fails with `NotFound` or `ConnectionRefused` if no server listens on the door.
+/// - Fails with `InvalidInput` if the name is too long for a door.
+/// - Fails with `PermissionDenied` if only root can use the door.
+/// - Fails with `InvalidData` if the door belongs to a user who may not make the door.
+/// - Fails with another error if the door can't be used for another reason.
 pub fn connect(rt: &HostRuntime, file: &str) -> io::Result<UnixStream> {
     let place = Place::find(rt, file)?;
     if !place.has_door(rt)? {
@@ -94,7 +98,8 @@ pub fn connect(rt: &HostRuntime, file: &str) -> io::Result<UnixStream> {
 }
 
 impl FileVisit<'_> {
-    // Returns the connection to the next server that has greeted; `None` if there is none.
+    // Returns the connection to the next server that has sent its greeting. Returns `None` if there
+    // is no such server.
     fn next(&mut self) -> Option<UnixStream> {
         match self.greeted.take() {
             Some(stream) => Some(stream),
@@ -109,7 +114,7 @@ impl FileVisit<'_> {
     }
 }
 
-/// The contract promises nothing about a server's answers.
+/// The contract states nothing about a server's answers.
 impl Servers for FileVisit<'_> {
     ghost hands = { λ _ _ _ _. Unit {0} };
 
@@ -119,7 +124,7 @@ impl Servers for FileVisit<'_> {
     }
 }
 
-/// The contract promises nothing about a server's answers.
+/// The contract states nothing about a server's answers.
 impl Visit for FileVisit<'_> {
     ghost gives = { λ _ _ _. Unit {0} };
 

@@ -1,4 +1,4 @@
--- All attempts so far failed.
+-- All attempts so far have failed.
 use Rattle.clubdesk_files.specs.Attempts.{AreInVain}
 use Rattle.clubdesk_files.proofs.attempts.gain.Given as goal
 

@@ -1,4 +1,4 @@
--- Each answer so far says that nothing was done.
+-- Each answer so far reports that no server has carried out the command.
 use Rattle.clubdesk_files.specs.Retried.{IsHandedInVain}
 use Rattle.clubdesk_files.proofs.retried.hand_over_until_done.Given as goal
 
