@@ -1,4 +1,4 @@
--- The program's table is one that `clap`'s contract covers.
+-- Lemmas for the proof that `clap`'s contract covers the program's table of commands.
 use Rattle.std.proofs.Common.{refl}
 use Rattle.clap.proofs.OnLiterals.{clap_on_literals}
 use Rattle.command_line.specs.Table.{IsGood}

@@ -1,4 +1,4 @@
--- All exact readers return the same values. So the job that arguments ask for doesn't depend on which readers are used.
+-- Lemmas for the proof that arguments ask for at most one job.
 use Rattle.std.proofs.Common.{◌≡◌, ◌↔◌, Option, Some, None, refl, sym, subst}
 use Rattle.club_values.specs.{Day.SpellsDay, Hour.SpellsHour, Kind.kind_text, Moment.SpellsMoment, Name.IsName}
 use Rattle.command_line.specs.{Job.Answers, JobLaws.{RowsAnswerOnce, ReadsOnce}}
@@ -18,7 +18,6 @@ same_readers a b f g = λ i. record {
   moment = λ text. same_value (SpellsMoment text) (a.moment text) (b.moment text) (f.moments text) (g.moments text) i;
 }
 
--- a row's values are read as at most one job
 pub reads_once : RowsAnswerOnce JobModel Unit → ReadsOnce ReadsValues
 reads_once once name rows job result one other =
     let Reads : Readers → Type 0 = λ read. Answers (job_of read name rows) result in

@@ -1,4 +1,4 @@
--- The code's readers of roots and booking numbers return what the definitions say.
+-- Lemmas for parsing roots and booking numbers.
 use Rattle.std.proofs.{Common.{◌≡◌, ◌⊎◌, ◌↔◌, ℕ, ◌<◌, List, length, Option, Some, None, inl, inr, refl, sym, arith}, lemmas.Bool.{cases_lt, Decides.nat_tests}}
 use Rattle.std.specs.Prelude.{IsSome, IfSome}
 use Rattle.club_rows.specs.Limits.{IsBookingNumber, IsRoot, booking_number_limit}
@@ -11,7 +11,6 @@ short : (bytes : List ℕ) → (length bytes < 16) ⊎ (64 < length bytes) → h
 short bytes (inl few) = grind (arith, nat_tests)
 short bytes (inr many) = grind (arith, nat_tests)
 
--- making a root from bytes gives these bytes if they are 16 to 64, else no root
 pub root_made : (bytes : List ℕ) (made : Option (List ℕ)) → (IsSome made ↔ IsRoot bytes) → IfSome made (λ root. root ≡ bytes)
     → made ≡ has_key_root_length bytes
 root_made bytes (Some root) within value = let b : IsRoot bytes = within.0 refl in rw (value, long bytes b) refl
@@ -30,7 +29,6 @@ unknown : (n : ℕ) → (n < 1) ⊎ (booking_number_limit < n) → where_between
 unknown n (inl few) = grind (arith, nat_tests)
 unknown n (inr many) = grind (arith, nat_tests)
 
--- making a booking number gives this number if it is within the limits, else no number
 pub number_made : (n : ℕ) (made : Option ℕ) → (IsSome made ↔ IsBookingNumber n) → IfSome made (λ number. number ≡ n)
     → made ≡ where_between 1 booking_number_limit (Some n)
 number_made n (Some number) within value = let b : IsBookingNumber n = within.0 refl in rw (value, known n b) refl

@@ -1,4 +1,4 @@
--- The program's commands and options, in the terms of `clap` (ours).
+-- Defines the program's commands and options for `clap`.
 use Rattle.std.specs.Prelude.{List, [], ◌∷◌, ◌++◌, map, codes}
 use Rattle.clap.specs.Words.{Rule, Text}
 use Rattle.command_line.specs.{Application.{as_required, flag_named, form_or_v2, option_named, positional_named, with_default}, Table.Table}
@@ -6,11 +6,11 @@ use Rattle.clubdesk_arguments.specs.declared.table.CommandName.{CommandName, The
 use Rattle.clubdesk_arguments.specs.declared.table.CommandName.TheVariants.{RevokeKey, RotateKey, CloseSlot, OpenSlot, CancelBooking, Sheet, Serve, ShowAccount}
 use Rattle.clubdesk_arguments.specs.declared.table.CommandName.TheVariants.{ShowSlot}
 
--- the required positional arguments of a command; the first is FILE
+-- The required positional arguments of a command. The first argument is FILE.
 abbrev pub positionals_over_file : List Text → List Rule
 positionals_over_file names = map (λ name. as_required (positional_named name)) (codes "FILE" ∷ names)
 
--- the option `[--zone RULE]`, with UTC as the default
+-- The option `[--zone RULE]`. The default zone is UTC.
 abbrev pub zone_option : Rule
 zone_option = with_default (codes "UTC0") (option_named (codes "zone"))
 
@@ -23,25 +23,31 @@ port_option = as_required (option_named (codes "port"))
 abbrev pub count_option : Rule
 count_option = as_required (option_named (codes "count"))
 
--- the option `[--patience SECONDS]`, with 10 as the default
+-- The option `[--patience SECONDS]`. The default is 10 seconds.
 abbrev pub patience_option : Rule
 patience_option = with_default (codes "10") (option_named (codes "patience"))
 
--- the flag `--root-stdin`
+-- The flag `--root-stdin`.
 abbrev pub root_flag : Rule
 root_flag = flag_named (codes "root-stdin")
 
--- the flag `--log`
+-- The flag `--log`.
 abbrev pub log_flag : Rule
 log_flag = flag_named (codes "log")
 
 abbrev slot_positionals : List Rule
 slot_positionals = positionals_over_file (codes "FACILITY" ∷ codes "DAY" ∷ codes "HOUR" ∷ [])
 
--- Two commands have optional arguments: `add-key FILE KEY MEMBER [ROOT] [--root-stdin] [--form FORM]` and `rotate-key FILE KEY ROOT [MOMENT] [--root-stdin]
--- [--form FORM]`. If a rotation has one argument fewer, its last argument is the moment, and the root is missing. Every other positional argument is required.
--- Other options belong to two commands: `serve --port P --count N [--zone RULE] [--at MOMENT] [--patience SECONDS] [--log]` and `show-account [--zone RULE]
--- [--at MOMENT]`.
+-- The program's table of commands. Each positional argument is required, except in these two
+-- commands:
+-- - `add-key FILE KEY MEMBER [ROOT] [--root-stdin] [--form FORM]`
+-- - `rotate-key FILE KEY ROOT [MOMENT] [--root-stdin] [--form FORM]`
+--
+-- If `rotate-key` has no argument `MOMENT`, the argument in the place of `ROOT` is the moment.
+--
+-- Two more commands have options:
+-- - `serve --port P --count N [--zone RULE] [--at MOMENT] [--patience SECONDS] [--log]`
+-- - `show-account [--zone RULE] [--at MOMENT]`
 unfoldable pub clubdesk : Table CommandName
 clubdesk = record {
   title = codes "clubdesk";

@@ -1,4 +1,4 @@
--- The jobs that arguments ask for (ours).
+-- Defines the job for which arguments ask.
 use Rattle.std.specs.{Borrow.Bor, Option.{ok_or, unwrap_or}}
 use Rattle.std.specs.Prelude.{◌≡◌, ℕ, Bool, true, false, List, Option, Some, None, option_map, option_and_then, Result, Ok, Err, codes}
 use Rattle.clap.specs.Words.{Row, Text, first_of}
@@ -16,36 +16,36 @@ use Rattle.clubdesk_arguments.specs.declared.task.Work.TheVariants.{Office, Root
 use Rattle.club_clock.specs.{Zone.zone_of, declared.clock.Clock.{Clock, TheVariants.{Fixed, InZone}}}
 use Rattle.clubdesk_arguments.specs.declared.table.CommandName.TheVariants as command
 
--- the bind operator of options, like `?` in code
+-- The bind operator of options, like `?` in code.
 infixl 10 ◌>>=◌
 abbrev pub ◌>>=◌ : {A B : Type 0} → Option A → (A → Option B) → Option B
 Some x >>= f = f x
 None >>= f = None
 
--- the number that is the value of the argument with this name
+-- The value of the argument with this name, parsed as a number.
 abbrev pub number_value : Text → List Row → Option ℕ
 number_value id rows = parse_number (value_in id rows)
 
--- the command of a key with its root, or without a root if no argument has one
+-- The command for a key with its root. If no argument has a root, the command has no root yet.
 abbrev pub key_work : KeyCommand → Option Text → Option Work
 key_work given None = Some (Rootless given)
 key_work given (Some argument) = do
   root ← key_root_of argument
   Some (Office (Key given root))
 
--- The last argument of a rotation is the moment. If the root is an argument too, it comes before the moment.
+-- The moment of a rotation, which is the last argument. If the root is an argument, it comes before
+-- the moment.
 abbrev pub rotation_moment_in : List Row → Text
 rotation_moment_in rows = unwrap_or (first_of (codes "MOMENT") rows) (value_in (codes "ROOT-OR-MOMENT") rows)
 
 abbrev pub rotation_root_in : List Row → Option Text
 rotation_root_in rows = option_and_then (λ (moment : Text). first_of (codes "ROOT-OR-MOMENT") rows) (first_of (codes "MOMENT") rows)
 
--- ---- why a row asks for no job
-
 abbrev pub unless_bad : Option Work → Result Work (Refusal Unit)
 unless_bad work = ok_or work (bad_value tt)
 
--- A root must come from the argument or from the input, but not from both. The flag asks for the input. This is checked before the form.
+-- The root must come either from the argument or from standard input. `by_input` is true if the
+-- flag `--root-stdin` is set. The root is checked before the form.
 abbrev pub root_and_form : Option Text → Bool → Result Form (Refusal Unit) → Result (Option Text × Form) (Refusal Unit)
 root_and_form (Some argument) true form = Err (refused_as kind.ArgumentConflict)
 root_and_form None false form = Err (refused_as kind.MissingRequiredArgument)
@@ -55,7 +55,7 @@ root_and_form argument by_input (Ok form) = Ok (argument, form)
 abbrev pub root_and_form_in : Option Text → List Row → Result (Option Text × Form) (Refusal Unit)
 root_and_form_in argument rows = root_and_form argument (is_set (codes "root-stdin") rows) (form_given rows)
 
--- checks the root and the form first, then the other values
+-- Checks the root and the form before the other values.
 abbrev pub of_root_and_form : List Row → (Option Text → Form → List Row → Option Work) → Result (Option Text × Form) (Refusal Unit)
     → Result Work (Refusal Unit)
 of_root_and_form rows of (Err refusal) = Err refusal
@@ -65,10 +65,8 @@ abbrev pub over_file : Text → Result Work (Refusal Unit) → Result JobModel (
 over_file file (Err refusal) = Err refusal
 over_file file (Ok work) = Ok (record { file = file; work = work })
 
--- ---- the work of each command, from the values of its arguments
-
 module _ (read : Readers) where
-  -- the value of the argument with this name, parsed as a name of the club
+  -- The value of the argument with this name, parsed as a name of the club.
   abbrev pub name_value : Text → List Row → Option Text
   name_value id rows = read.name (value_in id rows)
 
@@ -160,7 +158,7 @@ module _ (read : Readers) where
     day ← read.day (value_in (codes "DAY") rows)
     Some (Office (Sheet day))
 
-  -- the moment given by `--at`; without that option, the clock in the zone
+  -- The moment in the option `--at`. Without this option, the clock in the zone.
   abbrev pub clock_of : Text → Option Text → Option Clock
   clock_of zone None = Some (InZone zone)
   clock_of zone (Some at) = do
@@ -188,7 +186,7 @@ module _ (read : Readers) where
     slot ← slot_in rows
     Some (Office (ShowSlot slot))
 
-  -- the work that a command's arguments ask for, or why they ask for none
+  -- The work for which a command's arguments ask, or the reason why there is no such work.
   abbrev pub work_named : CommandName → List Row → Result Work (Refusal Unit)
   work_named command.AddMember rows = unless_bad (add_member_of rows)
   work_named command.Credit rows = unless_bad (credit_of rows)
@@ -207,27 +205,26 @@ module _ (read : Readers) where
   work_named command.ShowAccount rows = unless_bad (show_account_of rows)
   work_named command.ShowSlot rows = unless_bad (show_slot_of rows)
 
-  -- the job that a command's arguments ask for, or why they ask for none
+  -- The job for which a command's arguments ask, or the reason why there is no such job.
   abbrev pub job_of : JobOf CommandName JobModel Unit
   job_of name rows = over_file (value_in (codes "FILE") rows) (work_named name rows)
 
--- The possible results of reading a row's values. Some exact readers give this result; all exact readers give the same one.
+-- The possible results of reading the values of a row. All exact readers return the same values.
 pub record ReadsValues (name : CommandName) (rows : List Row) (result : Result JobModel (ArgumentsFault Unit)) : Type 0 where
   pub read : Readers
   pub exact : ReadExactly read
   pub answers : Answers (job_of read name rows) result
 
--- ---- all arguments of a run
-
--- the possible results of parsing the arguments
+-- The possible results of parsing the arguments.
 abbrev pub ReadsArguments : List Text → Result (Asked JobModel) (ArgumentsFault Unit) → Type 0
 ReadsArguments arguments result = ReadsJob clubdesk ReadsValues arguments result
 
--- the arguments ask for this work on the database in this file
+-- The arguments ask for this work on the database in this file.
 abbrev pub AskFor : List Text → Text → Work → Type 0
 AskFor arguments file work = ReadsArguments arguments (Ok (Perform (record { file = file; work = work })))
 
--- A call returns the root's argument and the form, or the expected fault. It may also run out of memory.
+-- A call returns the root's argument and the form, or the expected fault. A call can also run out
+-- of memory.
 abbrev pub AnswersRoot : Result (Option Text × Form) (Refusal Unit) → Result (Option (Bor Text) × Form) (ArgumentsFault Unit) → Type 0
 AnswersRoot expected (Ok answer) = expected ≡ Ok (option_map (λ text. text.now) answer.0, answer.1)
 AnswersRoot expected (Err fault) = Answers expected (Err fault)

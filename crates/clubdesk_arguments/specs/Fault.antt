@@ -1,4 +1,4 @@
--- The exit status and the line of each fault (ours).
+-- Defines the exit status and the line of each fault.
 use Rattle.std.specs.{Fmt.with_newline, Prelude.{ℕ, List, ◌++◌, Option, Some, None, codes}, String.string_bytes}
 use Rattle.command_line.specs.declared.errors.ArgumentsFault.{ArgumentsFault}
 use Rattle.command_line.specs.declared.errors.ArgumentsFault.TheVariants as arguments
@@ -18,18 +18,18 @@ fault_status InputOutput = 7
 fault_status NoAnswer = 8
 fault_status (Answered status line) = status
 
--- the program's fault for a fault of the arguments
+-- The program's fault for a fault of the arguments.
 abbrev pub of_arguments : ArgumentsFault Unit → Fault
 of_arguments (arguments.Refused error) = Arguments error
 of_arguments (arguments.BadValue value) = BadValue
 of_arguments arguments.Memory = Memory
 
--- the program's fault for a database that can't be opened
+-- The program's fault for a database that can't be opened.
 abbrev pub fault_of_opening : StoreFault → Fault
 fault_of_opening store.Memory = Memory
 fault_of_opening store.Storage = Storage
 
--- the fault's line on standard error, or none for a text of clap, which no definition states
+-- The line of a fault on standard error. For a fault from `clap`, no definition states the text.
 abbrev pub fault_line : Fault → Option (List ℕ)
 fault_line (Refused fault) = Some (codes "refused: " ++ office_fault_text fault)
 fault_line (Arguments error) = None
@@ -41,7 +41,8 @@ fault_line InputOutput = Some (codes "input or output failed")
 fault_line NoAnswer = Some (codes "no answer")
 fault_line (Answered status line) = Some (string_bytes line)
 
--- the bytes printed on standard error, or none for a text of clap, which no definition states
+-- The bytes that the program prints on standard error. For a fault from `clap`, no definition
+-- states the bytes.
 abbrev pub fault_output : Fault → Option (List ℕ)
 fault_output (Arguments error) = None
 fault_output fault = with_newline (fault_line fault)

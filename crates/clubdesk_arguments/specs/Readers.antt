@@ -1,8 +1,8 @@
--- Functions that read the club's values from texts (ours).
+-- Defines functions that read the club's values from texts.
 use Rattle.std.specs.Prelude.{◌≡◌, ◌↔◌, ℕ, List, Option, Some}
 use Rattle.club_values.specs.{Day.SpellsDay, Hour.SpellsHour, Kind.kind_text, Moment.SpellsMoment, Name.IsName, declared.kind.Kind.Kind}
 
--- for each kind of value, a function from texts to values
+-- A function from texts to values for each kind of value.
 pub record Readers : Type 0 where
   pub name : List ℕ → Option (List ℕ)
   pub kind : List ℕ → Option Kind
@@ -10,7 +10,8 @@ pub record Readers : Type 0 where
   pub hour : List ℕ → Option ℕ
   pub moment : List ℕ → Option ℕ
 
--- Each function returns a value if and only if the text spells it. So any two such readers return the same values.
+-- Each function returns a value if and only if the text encodes the value. For this reason, any two
+-- exact readers return the same values.
 pub record ReadExactly (read : Readers) : Type 0 where
   pub names : (text name : List ℕ) → (read.name text ≡ Some name) ↔ (IsName text × (name ≡ text))
   pub kinds : (text : List ℕ) (kind : Kind) → (read.kind text ≡ Some kind) ↔ (text ≡ kind_text kind)

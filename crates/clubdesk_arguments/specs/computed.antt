@@ -1,3 +1,4 @@
--- Computes what other definitions in `specs/` state. Laws say that both agree.
+-- Computes the values that other definitions in `specs/` describe. Laws state that the computed
+-- values agree with these definitions.
 
 pub mod TextReaders

@@ -1,4 +1,4 @@
-//! Turns the values of a command's arguments into the command's work.
+//! Converts the values of a command's arguments to the command's work.
 
 ghost use Rattle.std.specs.Prelude.{◌≡◌, option_map};
 ghost use Rattle.clap.specs.Words.{found_of, rows_of};
@@ -18,7 +18,7 @@ use command_line::{ArgumentsFault, is_set, value_of};
 use pass_forms::Form;
 use std::alloc::Global;
 
-/// Returns the work of this command.
+/// Returns the work for which this command's arguments ask.
 ///
 /// # Errors
 ///
@@ -57,7 +57,7 @@ pub fn work_of<'a>(
     }
 }
 
-// `add-member FILE NAME QUOTA`
+// Reads the arguments of `add-member FILE NAME QUOTA`.
 fn add_member<'a>(arguments: &ArgMatches<'a>) -> Option<Work<'a>>
     ensures { result ≡ spec.add_member_of text_readers (rows_of (found_of arguments.now)) }
 {
@@ -66,7 +66,7 @@ fn add_member<'a>(arguments: &ArgMatches<'a>) -> Option<Work<'a>>
     Some(Work::Office(Task::Give(Command::AddMember { name, quota })))
 }
 
-// `credit FILE MEMBER POINTS`
+// Reads the arguments of `credit FILE MEMBER POINTS`.
 fn credit<'a>(arguments: &ArgMatches<'a>) -> Option<Work<'a>>
     ensures { result ≡ spec.credit_of text_readers (rows_of (found_of arguments.now)) }
 {
@@ -75,7 +75,7 @@ fn credit<'a>(arguments: &ArgMatches<'a>) -> Option<Work<'a>>
     Some(Work::Office(Task::Give(Command::Credit { member, points })))
 }
 
-// `debit FILE MEMBER POINTS`
+// Reads the arguments of `debit FILE MEMBER POINTS`.
 fn debit<'a>(arguments: &ArgMatches<'a>) -> Option<Work<'a>>
     ensures { result ≡ spec.debit_of text_readers (rows_of (found_of arguments.now)) }
 {
@@ -85,7 +85,7 @@ fn debit<'a>(arguments: &ArgMatches<'a>) -> Option<Work<'a>>
     })))
 }
 
-// `set-quota FILE MEMBER QUOTA`
+// Reads the arguments of `set-quota FILE MEMBER QUOTA`.
 fn set_quota<'a>(arguments: &ArgMatches<'a>) -> Option<Work<'a>>
     ensures { result ≡ spec.set_quota_of text_readers (rows_of (found_of arguments.now)) }
 {
@@ -94,7 +94,7 @@ fn set_quota<'a>(arguments: &ArgMatches<'a>) -> Option<Work<'a>>
     Some(Work::Office(Task::Give(Command::SetQuota { member, quota })))
 }
 
-// `add-facility FILE NAME KIND PLACES PRICE OPENS SHUTS`
+// Reads the arguments of `add-facility FILE NAME KIND PLACES PRICE OPENS SHUTS`.
 fn add_facility<'a>(arguments: &ArgMatches<'a>) -> Option<Work<'a>>
     ensures { result ≡ spec.add_facility_of text_readers (rows_of (found_of arguments.now)) }
 {
@@ -114,7 +114,7 @@ fn add_facility<'a>(arguments: &ArgMatches<'a>) -> Option<Work<'a>>
     })))
 }
 
-// `set-facility FILE NAME PLACES PRICE OPENS SHUTS`
+// Reads the arguments of `set-facility FILE NAME PLACES PRICE OPENS SHUTS`.
 fn set_facility<'a>(arguments: &ArgMatches<'a>) -> Option<Work<'a>>
     ensures { result ≡ spec.set_facility_of text_readers (rows_of (found_of arguments.now)) }
 {
@@ -127,7 +127,8 @@ fn set_facility<'a>(arguments: &ArgMatches<'a>) -> Option<Work<'a>>
     })))
 }
 
-// `add-key FILE KEY MEMBER ROOT [--form FORM]`. With `--root-stdin`, `ROOT` is left out.
+// Reads the arguments of `add-key FILE KEY MEMBER ROOT [--form FORM]`. With `--root-stdin`, there
+// is no argument `ROOT`.
 fn add_key<'a>(arguments: &ArgMatches<'a>, root: Option<&str>, form: Form) -> Option<Work<'a>>
     ensures { result ≡ spec.add_key_of text_readers (option_map (λ text. text.now) root.entry)
         form (rows_of (found_of arguments.now)) }
@@ -138,7 +139,7 @@ fn add_key<'a>(arguments: &ArgMatches<'a>, root: Option<&str>, form: Form) -> Op
     key_work(KeyCommand { name, change, form }, root)
 }
 
-// `revoke-key FILE KEY`
+// Reads the arguments of `revoke-key FILE KEY`.
 fn revoke_key<'a>(arguments: &ArgMatches<'a>) -> Option<Work<'a>>
     ensures { result ≡ spec.revoke_key_of text_readers (rows_of (found_of arguments.now)) }
 {
@@ -146,7 +147,8 @@ fn revoke_key<'a>(arguments: &ArgMatches<'a>) -> Option<Work<'a>>
     Some(Work::Office(Task::Give(Command::RevokeKey { name })))
 }
 
-// `rotate-key FILE KEY ROOT MOMENT [--form FORM]`. With `--root-stdin`, `ROOT` is left out.
+// Reads the arguments of `rotate-key FILE KEY ROOT MOMENT [--form FORM]`. With `--root-stdin`,
+// there is no argument `ROOT`.
 fn rotate_key<'a>(arguments: &ArgMatches<'a>, root: Option<&str>, form: Form) -> Option<Work<'a>>
     ensures { result ≡ spec.rotate_key_of text_readers (option_map (λ text. text.now) root.entry)
         form (rows_of (found_of arguments.now)) }
@@ -157,8 +159,8 @@ fn rotate_key<'a>(arguments: &ArgMatches<'a>, root: Option<&str>, form: Form) ->
     key_work(KeyCommand { name, change, form }, root)
 }
 
-// Returns the command of a key with the root of its argument. If there is no such argument, the
-// command has no root yet.
+// Returns the command for a key with the root in the argument. Without this argument, the command
+// has no root yet.
 fn key_work<'a>(command: KeyCommand, root: Option<&str>) -> Option<Work<'a>>
     ensures { result ≡ spec.key_work command (option_map (λ text. text.now) root.entry) }
 {
@@ -171,7 +173,7 @@ fn key_work<'a>(command: KeyCommand, root: Option<&str>) -> Option<Work<'a>>
     }
 }
 
-// `close-slot FILE FACILITY DAY HOUR`
+// Reads the arguments of `close-slot FILE FACILITY DAY HOUR`.
 fn close_slot<'a>(arguments: &ArgMatches<'a>) -> Option<Work<'a>>
     ensures { result ≡ spec.close_slot_of text_readers (rows_of (found_of arguments.now)) }
 {
@@ -179,7 +181,7 @@ fn close_slot<'a>(arguments: &ArgMatches<'a>) -> Option<Work<'a>>
     Some(Work::Office(Task::Give(Command::CloseSlot(slot))))
 }
 
-// `open-slot FILE FACILITY DAY HOUR`
+// Reads the arguments of `open-slot FILE FACILITY DAY HOUR`.
 fn open_slot<'a>(arguments: &ArgMatches<'a>) -> Option<Work<'a>>
     ensures { result ≡ spec.open_slot_of text_readers (rows_of (found_of arguments.now)) }
 {
@@ -187,7 +189,7 @@ fn open_slot<'a>(arguments: &ArgMatches<'a>) -> Option<Work<'a>>
     Some(Work::Office(Task::Give(Command::OpenSlot(slot))))
 }
 
-// `cancel-booking FILE KEY NUMBER`
+// Reads the arguments of `cancel-booking FILE KEY NUMBER`.
 fn cancel_booking<'a>(arguments: &ArgMatches<'a>) -> Option<Work<'a>>
     ensures { result ≡ spec.cancel_booking_of text_readers (rows_of (found_of arguments.now)) }
 {
@@ -197,7 +199,7 @@ fn cancel_booking<'a>(arguments: &ArgMatches<'a>) -> Option<Work<'a>>
     })))
 }
 
-// `sheet FILE DAY`
+// Reads the arguments of `sheet FILE DAY`.
 fn sheet<'a>(arguments: &ArgMatches<'a>) -> Option<Work<'a>>
     ensures { result ≡ spec.sheet_of text_readers (rows_of (found_of arguments.now)) }
 {
@@ -205,7 +207,8 @@ fn sheet<'a>(arguments: &ArgMatches<'a>) -> Option<Work<'a>>
     Some(Work::Office(Task::Sheet(day)))
 }
 
-// `serve FILE --port P --count N [--zone RULE] [--at MOMENT] [--patience SECONDS] [--log]`
+// Reads the arguments of this command:
+// - `serve FILE --port P --count N [--zone RULE] [--at MOMENT] [--patience SECONDS] [--log]`
 fn serve<'a>(arguments: &ArgMatches<'a>) -> Option<Work<'a>>
     ensures { result ≡ spec.serve_of text_readers (rows_of (found_of arguments.now)) }
 {
@@ -223,7 +226,7 @@ fn serve<'a>(arguments: &ArgMatches<'a>) -> Option<Work<'a>>
     }))
 }
 
-// `show-account FILE KEY [--zone RULE] [--at MOMENT]`
+// Reads the arguments of `show-account FILE KEY [--zone RULE] [--at MOMENT]`.
 fn show_account<'a>(arguments: &ArgMatches<'a>) -> Option<Work<'a>>
     ensures { result ≡ spec.show_account_of text_readers (rows_of (found_of arguments.now)) }
 {
@@ -233,7 +236,7 @@ fn show_account<'a>(arguments: &ArgMatches<'a>) -> Option<Work<'a>>
     Some(Work::Office(Task::ShowAccount { key, clock }))
 }
 
-// `show-slot FILE FACILITY DAY HOUR`
+// Reads the arguments of `show-slot FILE FACILITY DAY HOUR`.
 fn show_slot<'a>(arguments: &ArgMatches<'a>) -> Option<Work<'a>>
     ensures { result ≡ spec.show_slot_of text_readers (rows_of (found_of arguments.now)) }
 {
@@ -241,7 +244,7 @@ fn show_slot<'a>(arguments: &ArgMatches<'a>) -> Option<Work<'a>>
     Some(Work::Office(Task::ShowSlot(slot)))
 }
 
-// The slot that the arguments `FACILITY DAY HOUR` name.
+// Returns the slot in the arguments `FACILITY DAY HOUR`.
 fn slot_of(arguments: &ArgMatches<'_>) -> Option<Slot>
     ensures { result ≡ spec.slot_in text_readers (rows_of (found_of arguments.now)) }
 {
@@ -255,7 +258,7 @@ fn slot_of(arguments: &ArgMatches<'_>) -> Option<Slot>
     })
 }
 
-// Returns the moment given by `--at`. Without that option, returns the clock in the zone.
+// Returns the moment in the option `--at`. Without this option, returns the clock in the zone.
 fn clock_of<'a>(zone: Zone<'a>, at: Option<&str>) -> Option<Clock<'a>>
     ensures { result ≡ spec.clock_of text_readers zone.entry
         (option_map (λ text. text.now) at.entry) }

@@ -1,18 +1,19 @@
-//! The faults of commands. Each has an exit status and a line.
+//! The faults of commands, with their exit statuses and lines.
 
 use club_core::{OfficeFault, StoreFault};
 use command_line::ArgumentsFault;
 use std::alloc::AllocError;
 use std::{error, fmt, io};
 
-/// Why a command failed. Its `Display` is the line printed on standard error.
+/// The reason why a command failed. The `Display` implementation writes the line for standard
+/// error.
 #[derive(Debug, Drop)]
 pub enum Fault {
     /// A rule of the club refuses the command.
     Refused(OfficeFault),
-    /// `clap` refused the arguments, or `--form` names no form.
+    /// `clap` refused the arguments, or `--form` names an unknown form.
     Arguments(clap::Error),
-    /// The value of an argument isn't valid, or the root from standard input isn't.
+    /// The value of an argument, or the root from standard input, is invalid.
     BadValue,
     /// Memory ran out.
     Memory,
@@ -20,12 +21,12 @@ pub enum Fault {
     Storage,
     /// The clock shows a year before 2000 or after 2099.
     ClockOutOfRange,
-    /// Writing the output failed, or the server couldn't listen.
+    /// The program couldn't read its input or write its output, or the server couldn't listen.
     InputOutput,
-    /// The command was sent to a server, which didn't answer. It is unknown whether the server
-    /// carried out the command.
+    /// A server received the command and didn't answer. It is unknown whether the server carried
+    /// out the command.
     NoAnswer,
-    /// The command was sent to a server, which answered with this status and line.
+    /// A server received the command and answered with this status and this line.
     Answered { status: u8, line: String },
 }
 
@@ -33,7 +34,7 @@ impl Fault {
     ghost use Rattle.std.specs.Prelude.{◌≡◌};
     ghost use Rattle.clubdesk_arguments.specs.Fault.{fault_status};
 
-    /// Returns the exit status, 1 to 8. For `Answered` it is the server's status.
+    /// Returns the exit status, from 1 to 8. For `Answered`, returns the server's status.
     pub fn status(&self) -> u8
         ensures { result ≡ fault_status self.now }
     {

@@ -1,4 +1,4 @@
-//! Turns the values that `clap` found for a command's arguments into a job.
+//! Converts the arguments that `clap` found to a job.
 
 ghost use Rattle.clap.specs.Words.{found_of, rows_of};
 ghost use Rattle.clubdesk_arguments.specs.Arguments.{ReadsValues};
@@ -18,13 +18,14 @@ impl<'a> command_line::Job<'a> for Job<'a> {
 
     ghost Reads = { ReadsValues };
 
-    /// Returns the job on the database that the arguments name. The root is checked first: exactly
-    /// one must be given. Then come the form and the other values.
+    /// Returns the job for which the arguments ask. The root is checked first, then the form, then
+    /// the other values. The root must come either from an argument or from standard input.
     ///
     /// # Errors
     ///
-    /// Fails with `Refused` if no root is given, if two are, or if the form is unknown. Fails with
-    /// `BadValue` if another argument is invalid, and with `Memory` only if an allocation fails.
+    /// Fails with `Refused` if there is no root, if there are two roots, or if the form is unknown.
+    /// Fails with `BadValue` if another argument is invalid. Fails with `Memory` only if memory
+    /// runs out.
     fn read(
         alloc: Global,
         name: CommandName,
@@ -32,7 +33,7 @@ impl<'a> command_line::Job<'a> for Job<'a> {
     ) -> Result<Job<'a>, ArgumentsFault<()>>
         ensures { ReadsValues name (rows_of (found_of arguments.now)) result }
     {
-        // By this law, the values in the job are exactly those that the arguments spell.
+        // By this law, the values in the job are exactly the values that the arguments encode.
         readers_are_exact();
         let file = value_of(arguments, "FILE");
         match work_of(alloc, name, arguments) {

@@ -7,7 +7,7 @@ use crate::task::Job;
 use club_values::laws::{reads_days, reads_hours, reads_kinds, reads_moments, reads_names};
 use command_line::laws::{arguments_ask_once, rows_answer_once};
 
-/// Arguments that ask for a job ask for no other job, and have no fault.
+/// If arguments ask for a job, they ask for no other job and have no fault.
 pub fn ask_for_one_job()
     ensures { AskForOneJob }
 {
@@ -15,7 +15,7 @@ pub fn ask_for_one_job()
     arguments_ask_once::<Job<'static>>();
 }
 
-/// The computed readers return a value if and only if the text spells it.
+/// A computed reader returns a value if and only if the text encodes the value.
 pub(crate) fn readers_are_exact()
     ensures { ReadExactly text_readers }
 {

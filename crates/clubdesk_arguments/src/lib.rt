@@ -1,5 +1,5 @@
-//! The command line of `clubdesk`: its commands and options, the job that arguments ask for, and
-//! faults with their exit statuses.
+//! The command line of `clubdesk`: its commands and options, the job for which arguments ask, and
+//! the faults with their exit statuses.
 #![tactic(auto)]
 
 mod commands;

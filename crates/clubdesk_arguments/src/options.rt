@@ -28,7 +28,7 @@ pub fn number_at(arguments: &ArgMatches<'_>, id: &str) -> Option<u32>
     parse_number(value_of(arguments, id))
 }
 
-/// Returns the value of an option, or `None` if the option was left out.
+/// Returns the value of an option, or `None` if the arguments don't contain the option.
 pub fn given<'a>(arguments: &ArgMatches<'a>, id: &str) -> Option<&'a str>
     ensures { option_map (λ text. text.now) result
         ≡ first_of id.now (rows_of (found_of arguments.now)) }
@@ -36,8 +36,8 @@ pub fn given<'a>(arguments: &ArgMatches<'a>, id: &str) -> Option<&'a str>
     arguments.get_str(id)
 }
 
-/// Returns the argument with a key's new root, or `None` if the root's argument was left out. In
-/// that case the argument in its place is the moment.
+/// Returns the argument with a key's new root. Returns `None` if the arguments contain no root. In
+/// this case, the argument in the root's place is the moment.
 pub fn rotation_root<'a>(arguments: &ArgMatches<'a>) -> Option<&'a str>
     ensures { option_map (λ text. text.now) result
         ≡ spec.rotation_root_in (rows_of (found_of arguments.now)) }
@@ -58,13 +58,13 @@ pub fn rotation_moment<'a>(arguments: &ArgMatches<'a>) -> &'a str
     }
 }
 
-/// Returns the argument with a root, and the form that `--form` names. Returns `None` as the root
-/// if `--root-stdin` asks to read it from the input.
+/// Returns the argument with a root, and the form in the option `--form`. With `--root-stdin`, the
+/// root isn't an argument, and the first result is `None`.
 ///
 /// # Errors
 ///
 /// Fails with `Refused` if the argument and the flag are both given or both missing, or if the form
-/// is unknown. Fails with `Memory` if memory was refused.
+/// is unknown. Fails with `Memory` if memory runs out.
 pub fn root_and_form<'a>(
     alloc: Global,
     arguments: &ArgMatches<'_>,

@@ -1,4 +1,4 @@
-//! The jobs that arguments can ask for.
+//! The jobs for which arguments can ask.
 
 use club_clock::Clock;
 use club_core::Command;
@@ -10,19 +10,19 @@ use std::marker::Model;
 /// A task of the office.
 #[derive(Drop)]
 pub enum Task<'a> {
-    /// A command that prints no pass.
+    /// A command of the office that prints no pass.
     Give(Command),
-    /// A command that gives this root to a key, and prints the key's pass.
+    /// A command that gives this root to a key and prints the key's pass.
     Key(KeyCommand, Root),
-    /// A request for the day sheet of a day.
+    /// A request for the sheet of this day.
     Sheet(Day),
-    /// A request for the account of a key, at the moment that the clock shows.
+    /// A request for the account of a key at the moment that the clock shows.
     ShowAccount { key: Name, clock: Clock<'a> },
     /// A request for the listing of a slot.
     ShowSlot(Slot),
 }
 
-/// A command that gives a root to a key. It prints the key's pass in this form.
+/// A command that gives a root to a key and prints the key's pass in this form.
 #[derive(Drop)]
 pub struct KeyCommand {
     pub name: Name,
@@ -35,36 +35,36 @@ pub struct KeyCommand {
 pub enum KeyChange {
     /// Adds the key for this member.
     Add { member: Name },
-    /// Gives the key a new root. Its former root stays valid until this moment.
+    /// Gives the key a new root. The key's old root stays valid until this moment.
     Rotate { until: Moment },
 }
 
 /// The settings of the server.
 #[derive(Drop)]
 pub struct Service<'a> {
-    /// The port on the loopback address at which to listen; 0 asks for any free port.
+    /// The port of the loopback address on which the server listens. Port 0 asks for any free port.
     pub port: u16,
-    /// The number of connections to serve, 1 to 1,000,000.
+    /// The number of connections to serve, from 1 to 1,000,000.
     pub count: u32,
     /// The clock that shows the moment of each request.
     pub clock: Clock<'a>,
-    /// The seconds that a client may take to send its request, and again to read its reply, 1 to
-    /// 3,600.
+    /// The timeout for receiving a client's request and for sending the reply, from 1 to 3,600
+    /// seconds.
     pub patience: u32,
-    /// Whether the server logs each connection.
+    /// True if the server logs each connection.
     pub log: bool,
 }
 
-/// Work on a database.
+/// The work that a run does on a database.
 #[derive(Drop)]
 pub enum Work<'a> {
     Office(Task<'a>),
-    /// The command of a key whose root comes from standard input.
+    /// A command that gives a key a root from standard input.
     Rootless(KeyCommand),
     Serve(Service<'a>),
 }
 
-/// The work to do, and the file of the database.
+/// The work, and the file of the database.
 #[derive(Drop)]
 pub struct Job<'a> {
     pub file: &'a str,

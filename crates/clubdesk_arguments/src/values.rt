@@ -6,7 +6,7 @@ ghost use Rattle.clubdesk_arguments.specs.Values as spec;
 use club_rows::{BookingNumber, Root};
 use club_values::digits::read_digits;
 
-/// The greatest number of connections that a server accepts.
+/// The most connections that a server can serve.
 pub const MAX_CONNECTIONS: u32 = 1_000_000;
 
 /// The longest timeout, in seconds.
@@ -28,7 +28,7 @@ pub fn port_of(text: &str) -> Option<u16>
     u16::try_from(number).ok()
 }
 
-/// Parses a number of connections, 1 to 1,000,000.
+/// Parses a number of connections from 1 to 1,000,000.
 pub fn count_of(text: &str) -> Option<u32>
     ensures { result ≡ spec.count_of text.now }
 {
@@ -39,7 +39,7 @@ pub fn count_of(text: &str) -> Option<u32>
     Some(number)
 }
 
-/// Parses a booking number, 1 to 999,999,999.
+/// Parses a booking number from 1 to 999,999,999.
 #[tactic(auto, using(crate::proofs::ValueLemmas::number_made))]
 pub fn booking_number_of(text: &str) -> Option<BookingNumber>
     ensures { result ≡ spec.booking_number_of text.now }
@@ -48,7 +48,7 @@ pub fn booking_number_of(text: &str) -> Option<BookingNumber>
     BookingNumber::new(number)
 }
 
-/// Parses a timeout of 1 to 3,600 seconds.
+/// Parses a timeout from 1 to 3,600 seconds.
 pub fn patience_of(text: &str) -> Option<u32>
     ensures { result ≡ spec.patience_of text.now }
 {
@@ -59,7 +59,7 @@ pub fn patience_of(text: &str) -> Option<u32>
     Some(number)
 }
 
-/// Parses a root of 16 to 64 bytes in hexadecimal, with letters in either case.
+/// Parses a root of 16 to 64 bytes in hexadecimal. Upper-case and lower-case letters are allowed.
 pub fn root_of(text: &str) -> Option<Root>
     ensures { result ≡ spec.key_root_of text.now }
 {
