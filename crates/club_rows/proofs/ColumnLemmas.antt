@@ -1,4 +1,4 @@
--- A call receives a small number in a column unchanged.
+-- Lemmas for converting column values to numbers.
 use Rattle.std.proofs.{Common.{◌≡◌, ℕ, ◌≤◌, ℤ, pos, w64, to_z, of_z, ap, ◌∙◌, arith}, lemmas.Int.to_z_pos}
 
 pub column-pos : (z : ℤ) (n : ℕ) → n ≤ 999_999_999 → z ≡ pos n → to_z w64 (of_z w64 z) ≡ pos n

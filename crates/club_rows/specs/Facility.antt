@@ -1,20 +1,20 @@
--- The charges of a facility, and the times when it can be booked (ours).
+-- Defines the charges of a facility, and the times when members can book it.
 use Rattle.std.specs.Prelude.{ℕ, ◌+◌, ◌*◌, ◌&&◌, Bool, nat_lt, nat_le}
 use Rattle.club_values.specs.{Moment.minutes_a_day, Slot.start_of, declared.slot.Slot.Slot}
 use Rattle.club_rows.specs.declared.facility.Facility.{Facility}
 
--- the points charged for a booking: the price for the member and for each guest
+-- The charge for a booking, in points. The member and each guest pay the facility's price.
 abbrev pub charge_of : Facility → ℕ → ℕ
 charge_of facility guests = facility.price * (guests + 1)
 
 abbrev pub is_open_at : Facility → ℕ → Bool
 is_open_at facility hour = nat_le facility.opens hour && nat_lt hour facility.shuts
 
--- the maximum time from a booking to the slot's start, in minutes: 60 days
+-- The maximum time between a booking and the start of the slot. The time is 60 days, in minutes.
 abbrev pub booking_window : ℕ
 booking_window = 60 * minutes_a_day
 
--- the hour is within the opening hours, and the slot begins after the moment and within the booking window
+-- The slot is within the opening hours, and begins after the moment and within the booking window.
 abbrev pub is_bookable : Facility → Slot → ℕ → Bool
 is_bookable facility slot moment =
     is_open_at facility slot.hour && nat_lt moment (start_of slot) && nat_le (start_of slot) (moment + booking_window)

@@ -1,16 +1,16 @@
--- The two parts of a key: its row, and its older root (ours).
+-- Defines the two parts of a key: its row and its older root.
 use Rattle.std.specs.Prelude.{ℕ, nat_lt, List, Option, Some, None, if◌then◌else◌}
 use Rattle.club_rows.specs.declared.key.{Key.Key, KeyRow.KeyRow, OlderRoot.OlderRoot}
 
--- the older root if it is valid at the moment, which must be strictly before the root's end
+-- The older root, if the moment is before the end of its validity.
 abbrev pub older_root_at : Option OlderRoot → ℕ → Option (List ℕ)
 older_root_at None moment = None
 older_root_at (Some older) moment = if nat_lt moment older.until then Some older.root else None
 
--- a key's row, without its older root
+-- The row of a key, without the older root.
 abbrev pub row_of_key : Key → KeyRow
 row_of_key key = record { name = key.name; member = key.member; root = key.root; revoked = key.revoked }
 
--- the key with this row and this older root
+-- The key with this row and this older root.
 abbrev pub key_of_row : KeyRow → Option OlderRoot → Key
 key_of_row row older = record { name = row.name; member = row.member; root = row.root; older = older; revoked = row.revoked }

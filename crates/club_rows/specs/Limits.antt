@@ -1,15 +1,15 @@
--- The limits of single values (ours).
+-- Defines the limits of single values.
 use Rattle.std.specs.Prelude.{ℕ, ◌-◌, ◌*◌, ◌≤◌, List, length}
 use Rattle.club_values.specs.{Hour.hours_a_day, Number.number_limit, Slot.guests_limit}
 
--- the most points that can ever be credited to a member, and the most open bookings of a member
+-- The most points that a member can ever receive as credit.
 abbrev pub credited_limit : ℕ
 credited_limit = number_limit
 
 abbrev pub quota_limit : ℕ
 quota_limit = 99
 
--- the most places of a facility, its highest price for each person, and the latest hour at which it closes
+-- The most places of a facility.
 abbrev pub places_limit : ℕ
 places_limit = 50
 
@@ -19,14 +19,14 @@ price_limit = 9_999
 abbrev pub shutting_limit : ℕ
 shutting_limit = hours_a_day
 
--- the highest charge (all places at the highest price), and the most places left after a booking of one person
+-- The highest charge of a booking, in points. It is the charge for all places at the highest price.
 abbrev pub charge_limit : ℕ
 charge_limit = places_limit * price_limit
 
 abbrev pub left_limit : ℕ
 left_limit = places_limit - 1
 
--- the highest number of a booking
+-- The highest booking number.
 abbrev pub booking_number_limit : ℕ
 booking_number_limit = number_limit
 
@@ -36,7 +36,7 @@ IsBookingNumber n = (1 ≤ n) × (n ≤ booking_number_limit)
 abbrev pub IsGuests : ℕ → Type 0
 IsGuests n = n ≤ guests_limit
 
--- the minimum and maximum number of bytes in a root
+-- The minimum number of bytes in a root.
 abbrev pub min_root_len : ℕ
 min_root_len = 16
 

@@ -1,4 +1,4 @@
--- The limits of the club's rows (ours).
+-- Defines the limits of the club's rows.
 use Rattle.std.specs.Prelude.{◌≡◌, false, ◌<◌, ◌≤◌, IfSome}
 use Rattle.club_values.specs.{Day.IsDay, Hour.IsHour, Moment.IsMoment, Name.IsName, declared.slot.Slot.Slot}
 use Rattle.club_rows.specs.Limits.{credited_limit, quota_limit, places_limit, price_limit, shutting_limit, charge_limit, left_limit, IsBookingNumber, IsGuests}

@@ -9,29 +9,31 @@ use crate::facility::{MAX_PLACES, MAX_PRICE};
 use crate::guests::Guests;
 use club_values::{MINUTES_A_DAY, Moment, Name, Slot};
 
-/// The highest charge of a booking, in points: all places at the highest price.
+/// The highest charge of a booking, in points. It is the charge for all places at the highest
+/// price.
 pub const MAX_CHARGE: u32 = MAX_PLACES * MAX_PRICE;
 
-/// The most places left in a slot after a booking, which has at least one person.
+/// The most places that remain in a slot after a booking. A booking takes at least one place.
 const MAX_LEFT: u32 = MAX_PLACES - 1;
 
-/// The minimum time before a slot's start for a full refund, in minutes: one day.
+/// The minimum time between a cancellation with full refund and the start of the slot. The time is
+/// one day, in minutes.
 const FULL_REFUND_MINUTES: u64 = MINUTES_A_DAY as u64;
 
-/// A booking of a slot. A booking that was cancelled keeps its row.
+/// A booking of a slot. A cancelled booking keeps its row.
 #[derive(Clone, Copy, Debug, PartialEq, Eq)]
 pub struct Booking {
-    /// The name of the key under which the booking was made.
+    /// The name of the key that made the booking.
     pub key: Name,
     pub number: BookingNumber,
     pub slot: Slot,
     pub guests: Guests,
-    /// The points charged.
+    /// The charge for the booking, in points.
     pub charge: u32,
-    /// The places left in the slot after this booking was made.
+    /// The number of free places in the slot just after this booking.
     pub left: u8,
     pub cancelled: bool,
-    /// The points refunded; 0 if the booking isn't cancelled.
+    /// The refund for the booking, in points. It is 0 if the booking isn't cancelled.
     pub refund: u32,
 }
 
@@ -46,7 +48,7 @@ pub struct BookingColumns<'a> {
     pub guests: i64,
     pub charge: i64,
     pub left: i64,
-    /// 1 if the booking is cancelled, else 0.
+    /// 1 if the booking is cancelled, and 0 otherwise.
     pub cancelled: i64,
     pub refund: i64,
 }
@@ -54,8 +56,9 @@ pub struct BookingColumns<'a> {
 impl Booking {
     ghost use Rattle.club_rows.specs.{Booking.refund_at, Columns.IsBookingOf};
 
-    /// Returns the points refunded for a cancellation at this moment, before the slot begins. They
-    /// are the whole charge a day or more ahead, else half of it, rounded down.
+    /// Returns the refund in points for a cancellation at this moment. At least one day before the
+    /// start of the slot, the refund is the whole charge. Later, the refund is half of the charge,
+    /// rounded down.
     pub fn refund_at(&self, moment: Moment) -> u32
         ensures { result ≡ refund_at self.now moment }
     {
@@ -66,7 +69,8 @@ impl Booking {
         }
     }
 
-    /// Returns the booking with these column values; `None` if a value is outside its limits.
+    /// Returns the booking with these column values. Returns `None` if a value is outside its
+    /// limits.
     pub fn from_columns(columns: &BookingColumns<'_>) -> Option<Booking>
         ensures { Reads (IsBookingOf columns.now) result }
     {

@@ -1,4 +1,4 @@
-//! The numbers of bookings.
+//! Booking numbers.
 
 ghost use Rattle.std.specs.Prelude.{◌≡◌, ◌↔◌, IsSome, IfSome};
 ghost use Rattle.club_rows.specs.Limits.{IsBookingNumber};
@@ -6,11 +6,11 @@ ghost use Rattle.club_rows.specs.Limits.{IsBookingNumber};
 use club_values::digits::MAX_NUMBER;
 use std::marker::Model;
 
-/// The greatest number of a booking.
+/// The highest booking number.
 pub const MAX_BOOKING_NUMBER: u32 = MAX_NUMBER;
 
-/// A booking's number among the bookings of its key, 1 to 999,999,999. In contracts it is a plain
-/// number.
+/// The number of a booking among the bookings of its key, from 1 to 999,999,999. In contracts, a
+/// booking number is a plain number.
 #[derive(Clone, Copy, Debug, PartialEq, Eq, PartialOrd, Ord)]
 pub struct BookingNumber {
     number: u32,
@@ -31,7 +31,8 @@ impl Model for BookingNumber {
 }
 
 impl BookingNumber {
-    /// Returns the booking number with this value; `None` for 0 and for values above 999,999,999.
+    /// Returns the booking number with this value. Returns `None` for 0 and for values above
+    /// 999,999,999.
     pub fn new(number: u32) -> Option<BookingNumber>
         ensures within { IsSome result ↔ IsBookingNumber number }
         ensures value { IfSome result (λ booking. booking ≡ number) }

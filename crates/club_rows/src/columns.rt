@@ -1,4 +1,4 @@
-//! Parsers of column values, which a database returns as whole numbers, texts and bytes.
+//! Parsers of column values. A database returns column values as integers, texts and bytes.
 
 ghost use Rattle.std.specs.Prelude.{◌≡◌, ◌≤◌, pos};
 ghost use Rattle.club_values.specs.Reading.{Reads};
@@ -10,7 +10,7 @@ use crate::booking_number::BookingNumber;
 use crate::guests::Guests;
 use club_values::{Day, Hour, Name, Slot};
 
-/// Returns the number in a column; `None` if it is outside the limits.
+/// Returns the number in a column. Returns `None` if the number is outside the limits.
 pub(crate) fn number_within(value: i64, low: u32, high: u32) -> Option<u32>
     ensures { Reads (λ n. (low ≤ n) × (n ≤ high) × (value ≡ pos n)) result }
 {
@@ -21,7 +21,7 @@ pub(crate) fn number_within(value: i64, low: u32, high: u32) -> Option<u32>
     Some(number)
 }
 
-/// Returns the truth value in a column; `None` if the value is neither 0 nor 1.
+/// Returns the truth value in a column. Returns `None` if the value is neither 0 nor 1.
 pub(crate) fn truth_of(value: i64) -> Option<bool>
     ensures { Reads (IsTruth value) result }
 {
@@ -44,7 +44,7 @@ pub(crate) fn guests_of(value: i64) -> Option<Guests>
     Guests::new(u8::try_from(value).ok()?)
 }
 
-/// Returns a booking's charge, whether the booking is cancelled, and its refund.
+/// Parses a booking's charge, its cancellation flag and its refund.
 pub(crate) fn paid_of(charge: i64, cancelled: i64, refund: i64) -> Option<(u32, bool, u32)>
     ensures { Reads (λ paid. IsPaid charge cancelled refund paid.0 paid.1 paid.2) result }
 {
@@ -58,8 +58,8 @@ pub(crate) fn paid_of(charge: i64, cancelled: i64, refund: i64) -> Option<(u32, 
     }
 }
 
-/// Returns the slot in the columns `facility`, `day` and `hour`; `None` if a value is outside its
-/// limits.
+/// Returns the slot in the columns `facility`, `day` and `hour`. Returns `None` if a value is
+/// outside its limits.
 pub fn slot_from_columns(facility: &[u8], day: i64, hour: i64) -> Option<Slot>
     ensures { Reads (IsSlotOf facility.now day hour) result }
 {

@@ -13,7 +13,7 @@ pub const MAX_PLACES: u32 = 50;
 /// The highest price of a facility, in points per person and slot.
 pub const MAX_PRICE: u32 = 9_999;
 
-/// The latest hour at which a facility closes: the end of the day.
+/// The latest closing hour of a facility, which is the end of the day.
 pub const LAST_HOUR: u32 = HOURS_A_DAY as u32;
 
 /// A facility of the club.
@@ -21,13 +21,13 @@ pub const LAST_HOUR: u32 = HOURS_A_DAY as u32;
 pub struct Facility {
     pub name: Name,
     pub kind: Kind,
-    /// The number of places in a slot, one for each person, 1 to 50.
+    /// The number of places in a slot, from 1 to 50. Each person takes one place.
     pub places: u8,
-    /// The price in points per person and slot, 0 to 9,999.
+    /// The price in points per person and slot, from 0 to 9,999.
     pub price: u16,
-    /// The first hour of the day that can be booked, 0 to 23.
+    /// The first hour of the day that members can book, from 0 to 23.
     pub opens: u8,
-    /// The hour at which the last slot ends, later than `opens` and at most 24.
+    /// The hour at which the last slot ends. It is later than `opens` and at most 24.
     pub shuts: u8,
 }
 
@@ -45,21 +45,22 @@ pub struct FacilityColumns<'a> {
 impl Facility {
     ghost use Rattle.club_rows.specs.{Columns.IsFacilityOf, Facility.{charge_of, is_open_at}};
 
-    /// Returns the points charged for a booking with this number of guests.
+    /// Returns the charge in points for a booking with this number of guests.
     pub fn charge(&self, guests: Guests) -> u32
         ensures { result ≡ charge_of self.now guests }
     {
         u32::from(self.price) * u32::from(guests.persons())
     }
 
-    /// Returns whether the facility is open in this hour.
+    /// Returns true if the facility is open in this hour.
     pub fn is_open_at(&self, hour: Hour) -> bool
         ensures { result ≡ is_open_at self.now hour }
     {
         self.opens <= hour.number() && hour.number() < self.shuts
     }
 
-    /// Returns the facility with these column values; `None` if a value is outside its limits.
+    /// Returns the facility with these column values. Returns `None` if a value is outside its
+    /// limits.
     pub fn from_columns(columns: &FacilityColumns<'_>) -> Option<Facility>
         ensures { Reads (IsFacilityOf columns.now) result }
     {

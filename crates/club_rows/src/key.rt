@@ -27,8 +27,8 @@ pub struct KeyRow {
 impl KeyRow {
     ghost use Rattle.club_rows.specs.Columns.{IsKeyOf};
 
-    /// Returns the row in the columns `name`, `member`, `root` and `revoked`; `None` if a value is
-    /// outside its limits.
+    /// Returns the row in the columns `name`, `member`, `root` and `revoked`. Returns `None` if a
+    /// value is outside its limits.
     pub fn from_columns(name: &[u8], member: &[u8], root: &[u8], revoked: i64) -> Option<KeyRow>
         ensures { Reads (IsKeyOf name.now member.now root.now revoked) result }
     {
@@ -45,13 +45,14 @@ impl KeyRow {
     }
 }
 
-/// A member's key. A pass has the key's name in its identifier, and is signed under its root.
+/// A member's key. The identifier of a pass contains the name of a key, and the key's root signs
+/// the pass.
 #[derive(Clone, Copy, Debug, PartialEq, Eq)]
 pub struct Key {
     pub name: Name,
     pub member: Name,
     pub root: Root,
-    /// The root before the last rotation; `None` if the key was never rotated.
+    /// The key's root before the last rotation. It is `None` if the key has never been rotated.
     pub older: Option<OlderRoot>,
     pub revoked: bool,
 }
@@ -59,7 +60,7 @@ pub struct Key {
 impl Key {
     ghost use Rattle.club_rows.specs.Key.{key_of_row, older_root_at, row_of_key};
 
-    /// Returns the key with this row and older root.
+    /// Returns the key with this row and this older root.
     pub fn new(row: KeyRow, older: Option<OlderRoot>) -> Key
         ensures { result ≡ key_of_row row older }
     {
@@ -84,8 +85,8 @@ impl Key {
         }
     }
 
-    /// Returns the older root if it is valid at the moment, which must be strictly before the
-    /// root's end. The key's current root is always valid.
+    /// Returns the older root, if the moment is before the end of its validity. The current root of
+    /// a key is always valid.
     pub fn older_root_at(&self, moment: Moment) -> Option<&Root>
         ensures { option_copied result ≡ older_root_at self.now.older moment }
     {

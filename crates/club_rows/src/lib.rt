@@ -1,5 +1,5 @@
-//! The rows of the club with their limits, and parsers of the database columns that store them. No
-//! call allocates memory.
+//! The rows of the club with their limits, and parsers of the database columns that store the rows.
+//! No call allocates memory.
 #![tactic(auto)]
 
 mod booking;

@@ -6,27 +6,27 @@ use crate::columns::number_within;
 use club_values::Name;
 use club_values::digits::MAX_NUMBER;
 
-/// The maximum number of points that can ever be credited to a member.
+/// The most points that a member can ever receive as credit.
 pub const MAX_CREDITED: u32 = MAX_NUMBER;
 
-/// The maximum number of open bookings of a member.
+/// The most open bookings that a member can have.
 pub const MAX_QUOTA: u32 = 99;
 
 /// A member of the club.
 #[derive(Clone, Copy, Debug, PartialEq, Eq)]
 pub struct Member {
     pub name: Name,
-    /// All points ever credited to the member, 0 to 999,999,999.
+    /// The total credit that the member has ever received, from 0 to 999,999,999 points.
     pub credited: u32,
-    /// The maximum number of open bookings of this member, 0 to 99.
+    /// The most open bookings that this member can have, from 0 to 99.
     pub quota: u8,
 }
 
 impl Member {
     ghost use Rattle.club_rows.specs.Columns.{IsMemberOf};
 
-    /// Returns the member in the columns `name`, `credited` and `quota`; `None` if a value is
-    /// outside its limits.
+    /// Returns the member in the columns `name`, `credited` and `quota`. Returns `None` if a value
+    /// is outside its limits.
     pub fn from_columns(name: &[u8], credited: i64, quota: i64) -> Option<Member>
         ensures { Reads (IsMemberOf name.now credited quota) result }
     {

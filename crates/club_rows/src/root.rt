@@ -15,7 +15,8 @@ pub const MIN_ROOT_LEN: usize = 16;
 /// The maximum number of bytes in a root.
 pub const MAX_ROOT_LEN: usize = 64;
 
-/// The secret of a key, 16 to 64 bytes, which signs the key's passes. Contracts see its bytes.
+/// The secret of a key, which signs the key's passes. A root has 16 to 64 bytes. In contracts, a
+/// root is the list of its bytes.
 #[derive(Clone, Copy)]
 pub struct Root {
     bytes: InlineBytes<MAX_ROOT_LEN>,
@@ -36,7 +37,7 @@ impl Model for Root {
 }
 
 impl Root {
-    /// Returns the root with these bytes; `None` if there are fewer than 16 or more than 64.
+    /// Returns the root with these bytes. Returns `None` for fewer than 16 or more than 64 bytes.
     pub fn new(bytes: &[u8]) -> Option<Root>
         ensures within { IsSome result ↔ IsRoot bytes.now }
         ensures value { IfSome result (λ root. root ≡ bytes.now) }
@@ -74,7 +75,7 @@ impl Eq for Root {
     ghost laws = { nat_list_eq_equiv };
 }
 
-/// Shows none of the bytes, since they are secret.
+/// Prints none of the root's bytes, because they are secret.
 impl fmt::Debug for Root {
     ghost use Rattle.std.specs.Prelude.{Some, codes};
 
