@@ -1,6 +1,7 @@
-//! An example that uses passes in code. It mints a pass for a key, and narrows it as the key's
-//! holder would. As a desk does, it verifies the pass and tests its caveats against a request. Then
-//! it walks through the commands of `passtool`. Copy it as a start for your own program.
+//! An example that uses passes in code. The example mints a pass for a key, and narrows the pass
+//! like the key's holder. Like a desk, it then verifies the pass and tests the pass's caveats
+//! against a request. Finally, it walks through the commands of `passtool`. Copy the example as a
+//! start for your own program.
 #![tactic(auto)]
 
 mod walk;
@@ -14,7 +15,8 @@ use pass_json::{read_any, write_any};
 use std::alloc::Global;
 use std::fmt;
 
-// The key's secret root. Choose yours at random, and let only the office and the desk know it.
+// The key's secret root. In your own program, use random bytes, and show them only to the office
+// and the desk.
 const ROOT: &[u8] = b"\x00\x11\x22\x33\x44\x55\x66\x77\x88\x99\xaa\xbb\xcc\xdd\xee\xff";
 
 // A desk's answer to a pass.
@@ -73,14 +75,14 @@ fn print_verdicts(rt: &(impl Print + Alloc<A = Global>)) -> Result<()> {
     Ok(())
 }
 
-// The office's part. It mints a pass for the key, and returns the text for the pass's holder.
+// Mints a pass for the key like the office, and returns the pass's text for the holder.
 fn mint(alloc: Global) -> Result<String, FormFault> {
     let pass = Pass::mint(alloc, ROOT, b"club-desk", b"key:amy-1")?;
     write_any(alloc, Form::V2, &pass)
 }
 
-// The holder's part. It narrows a pass without knowing the root. The pass stays signed, and its
-// text may have any form.
+// Narrows a pass like its holder, who doesn't know the root. The narrowed pass is still signed. The
+// pass's text can have any form.
 fn narrowed_by(alloc: Global, text: &str, caveats: &[&str]) -> Result<String, FormFault> {
     let (form, mut pass) = read_any(alloc, text.as_bytes())?;
     for caveat in caveats {
@@ -89,7 +91,7 @@ fn narrowed_by(alloc: Global, text: &str, caveats: &[&str]) -> Result<String, Fo
     write_any(alloc, form, &pass)
 }
 
-// The desk's part. It checks the signature first, then the caveats in order.
+// Verifies a pass like the desk. Checks the signature first, then the caveats in order.
 fn verdict_on(alloc: Global, text: &str, ask: &Ask) -> Result<Verdict, FormFault> {
     let (_, pass) = read_any(alloc, text.as_bytes())?;
     if !pass.is_signed(ROOT) {
@@ -101,7 +103,8 @@ fn verdict_on(alloc: Global, text: &str, ask: &Ask) -> Result<Verdict, FormFault
     })
 }
 
-// Tries to remove the caveats. The new pass isn't valid, since the signature covers the caveats.
+// Tries to remove the caveats of a pass. The new pass isn't valid, because the signature covers the
+// caveats.
 fn without_caveats(alloc: Global, text: &str) -> Result<String, FormFault> {
     let (form, pass) = read_any(alloc, text.as_bytes())?;
     let location = Vec::from_slice(alloc, pass.location())?;
@@ -119,8 +122,9 @@ fn answer_of(line: &str, ask: &Ask) -> &'static str {
     }
 }
 
-// A request as caveats see it. At noon on 2026-04-20 it books a facility for 2026-05-01 at 18:00,
-// for two guests and 600 points. Each parser returns `None` if its text isn't valid.
+// A request for testing caveats. At noon on 2026-04-20, the request books a facility for 2026-05-01
+// at 18:00. The booking has two guests and costs 600 points. A parser returns `None` if its text
+// isn't valid.
 fn booking(facility: &[u8], kind: Kind) -> Option<Ask> {
     let slot = Slot {
         facility: Name::read(facility)?,
@@ -138,7 +142,7 @@ fn booking(facility: &[u8], kind: Kind) -> Option<Ask> {
     })
 }
 
-// Returns a value of the example. All of its values are within their limits.
+// Returns a value of the example. All values of the example are within their limits.
 fn known<T: Drop>(value: Option<T>) -> Result<T> {
     value.ok_or_else(|| anyhow!("a value is out of its limits"))
 }

@@ -1,5 +1,5 @@
-//! Walks through the commands of `passtool`. Prints each command line and its output. A pass that a
-//! command prints is saved to a file, which later commands read.
+//! Walks through the commands of `passtool`. Prints each command line and its output. If a command
+//! prints a pass, the walk saves the pass to a file, which later commands read.
 
 use passtool_commands::run;
 use std::alloc::Global;
@@ -8,8 +8,8 @@ const ROOT: &str = "00112233445566778899aabbccddeeff";
 
 const OTHER_ROOT: &str = "ffeeddccbbaa99887766554433221100";
 
-/// Prints the walk. A new pass is narrowed, shown, converted and verified. At the end a caveat
-/// isn't understood.
+/// Prints the walk. The walk makes a new pass, then narrows, shows, converts and verifies it. At
+/// the end, `passtool` refuses a caveat that isn't in the caveat language.
 pub(crate) fn print_walk(rt: &(impl Print + Alloc<A = Global>)) -> anyhow::Result<()> {
     let pass = mint_pass(rt)?;
     let words = [
@@ -56,7 +56,7 @@ fn mint_pass(rt: &(impl Print + Alloc<A = Global>)) -> anyhow::Result<String> {
     step(rt, words.as_slice(), " | tee pass", "")
 }
 
-// Prints a command line and the output of its run, and returns this output.
+// Prints a command line and the output of its run. Returns the output.
 fn step(
     rt: &(impl Print + Alloc<A = Global>),
     words: &[&str],
@@ -79,7 +79,7 @@ fn output_of(alloc: Global, words: &[&str], input: &str) -> anyhow::Result<Strin
     }
 }
 
-// Returns the words as typed in a shell. A word with a space gets quotes around it.
+// Returns a command line as a user types it in a shell. A word with a space is in quotes.
 fn command_line(alloc: Global, words: &[&str]) -> anyhow::Result<String> {
     let mut line = String::new(alloc);
     for (index, word) in words.iter().enumerate() {
