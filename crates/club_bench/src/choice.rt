@@ -1,6 +1,6 @@
-//! Parses the arguments, which choose a benchmark.
+//! Parses the arguments, which select a benchmark.
 
-/// A benchmark, with the number of times that it runs each task or sends each request.
+/// A benchmark, and the number of times that it runs each task or sends each request.
 #[derive(Clone, Copy)]
 pub(crate) enum Choice {
     Passes { count: u32 },
@@ -9,8 +9,8 @@ pub(crate) enum Choice {
 }
 
 impl Choice {
-    /// Parses the program's arguments. Returns `None` if an argument is missing or unknown, or
-    /// isn't a valid number.
+    /// Parses the program's arguments. Returns `None` if an argument is missing, unknown, or not a
+    /// valid number.
     pub(crate) fn read(words: &[String]) -> Option<Choice> {
         let [_, name, count] = words else {
             return None;

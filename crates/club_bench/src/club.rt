@@ -1,4 +1,4 @@
-//! The club of the benchmarks: fifty members, each with a key, and a court.
+//! The club of the benchmarks, which has a court and fifty members. Each member has a key.
 
 use crate::known::known;
 use anyhow::{Result, anyhow};
@@ -11,7 +11,7 @@ use pass_forms::{Form, FormFault, Pass, narrow};
 use pass_json::write_any;
 use std::alloc::Global;
 
-/// The number of members. Each has one key, and all derived keys fit in the desk's cache.
+/// The number of members. Each member has one key. The desk's cache has room for all derived keys.
 pub(crate) const KEYS: u16 = 50;
 
 pub(crate) const COURT: &[u8] = b"court-1";
@@ -34,7 +34,7 @@ pub(crate) trait Benchmark {
 }
 
 /// Runs a benchmark at two desks over tables in memory. Only this function names the type of the
-/// tables, since each function that names it takes long to prove.
+/// tables, because proofs about this type take long.
 pub(crate) fn run_in_memory(rt: &HostRuntime, benchmark: &impl Benchmark) -> Result<()> {
     let first = Store::open_in_memory(rt.alloc())?;
     let second = Store::open_in_memory(rt.alloc())?;
@@ -63,7 +63,7 @@ fn filled_desk<S: ClubStore + Drop>(alloc: Global, store: S) -> Result<Desk<S>> 
     Ok(desk)
 }
 
-// Adds a member, the member's points and the member's key.
+// Adds a member with points and a key.
 fn join<S: ClubStore>(desk: &mut Desk<S>, index: u16) -> Result<()> {
     let commands = known(joining(index), "a member")?;
     for command in &commands {
@@ -111,7 +111,7 @@ fn root() -> Option<Root> {
     Root::new(b"0123456789abcdef")
 }
 
-/// Returns the name of a member, which is also the name of the member's key: two digits.
+/// Returns the name of a member, which consists of two digits. The member's key has the same name.
 fn name_of(index: u16) -> Option<Name> {
     Name::read(&[digit(index / 10), digit(index)])
 }

@@ -1,5 +1,5 @@
-//! Measures how many requests per second a desk over tables in memory answers. For each row it
-//! sends COUNT bookings, then the same bookings again, then COUNT requests for an account.
+//! Measures how many requests per second a desk over tables in memory answers. For each row, the
+//! benchmark sends COUNT bookings, the same bookings again, and COUNT requests for an account.
 
 use crate::club::{Benchmark, KEYS, passes, run_in_memory};
 use crate::known::known;
@@ -18,12 +18,12 @@ const HEAD: &str = "form caveats   booked repeated accounts";
 
 static FORMS: [(&str, Form); 3] = [("v1", Form::V1), ("v2", Form::V2), ("json", Form::Json)];
 
-/// The numbers of caveats in the passes that are measured.
+/// The numbers of caveats in the measured passes.
 static CAVEAT_COUNTS: [usize; 3] = [0, 3, 20];
 
 static WISHES: [Wish; 3] = [Wish::Booking, Wish::Booking, Wish::Account];
 
-/// Prints a line for each form of pass and each number of caveats.
+/// Prints a line for each form of pass and for each number of caveats.
 pub(crate) fn compare(rt: &HostRuntime, count: u16) -> Result<()> {
     println!(rt; "{HEAD}")?;
     for &(name, form) in &FORMS {
@@ -42,7 +42,8 @@ pub(crate) fn compare(rt: &HostRuntime, count: u16) -> Result<()> {
     Ok(())
 }
 
-/// A line of output. It measures each kind of request under these passes, at the first desk.
+/// A line of the output. It shows the rate of each kind of request under these passes, at the first
+/// desk.
 #[derive(Clone, Copy)]
 struct Row<'a> {
     passes: &'a [String],
@@ -76,7 +77,7 @@ fn time<S: ClubStore>(
     Ok(start.elapsed(rt)?)
 }
 
-// Sends this many requests of a kind. The keys take turns.
+// Sends this many requests of a kind. The requests use the keys in turn.
 fn ask<S: ClubStore>(desk: &mut Desk<S>, passes: &[String], wish: Wish, count: u16) -> Result<()> {
     for index in 0..count {
         let pass = known(passes.get(usize::from(index % KEYS)), "a pass")?;
@@ -93,7 +94,7 @@ fn ask_once<S: ClubStore>(desk: &mut Desk<S>, pass: &[u8], wish: Wish, index: u1
     }
 }
 
-// Returns the request with this index, and the moment at which it is sent.
+// Returns the request with this index, and the moment when it is sent.
 fn request_at(wish: Wish, index: u16) -> Option<(Moment, Request)> {
     let (slot, moment) = slot_and_moment(index)?;
     match wish {

@@ -1,8 +1,9 @@
-//! Measures exchanges per second in memory, and how long the parts of an exchange take. Each row
-//! has COUNT exchanges with a desk over tables in memory: bookings, the same bookings again, and
-//! accounts. Another desk measures the parts: decoding the requests, answering them, and writing
-//! the texts of the replies. Next to the time of decoding is the time that `httparse` takes for the
-//! heads alone.
+//! Measures exchanges per second in memory, and the time of each part of an exchange.
+//!
+//! For each row, a desk over tables in memory serves COUNT exchanges. The three rows are bookings,
+//! the same bookings again, and accounts. Another desk measures the parts of an exchange: decoding
+//! the requests, answering them, and writing the texts of the replies. For comparison, the
+//! benchmark also prints the time that `httparse` takes to parse the heads.
 
 mod parts;
 
@@ -17,7 +18,8 @@ use std::alloc::Global;
 use std::rt::Clock;
 use std::time::Duration;
 
-/// The number of times that parts without an effect are measured. The shortest time is printed.
+/// The number of measurements of a part that changes nothing. The benchmark prints the shortest
+/// time.
 const ROUNDS: u8 = 5;
 
 const HEAD: &str = "asked for  a second | ns whole    words httparse     desk    reply";
@@ -43,7 +45,8 @@ impl Benchmark for Requests {
     }
 }
 
-/// The benchmark. One desk serves whole exchanges, and another one serves the separate parts.
+/// The benchmark with two desks. The first desk serves whole exchanges, and the second desk serves
+/// the separate parts.
 #[derive(Drop)]
 struct Bench<S: ClubStore> {
     face: Face,
@@ -62,7 +65,7 @@ impl<S: ClubStore + Drop> Bench<S> {
         })
     }
 
-    // Prints the times for all requests of a kind, which are sent one after another.
+    // Prints the times for all requests of a kind. The requests are sent one after another.
     fn print_row(
         &mut self,
         rt: &(impl Clock + Print + AllocGlobal),
@@ -83,7 +86,8 @@ impl<S: ClubStore + Drop> Bench<S> {
         )
     }
 
-    // Returns the desk's time and the time of the texts. The last text must equal this reply.
+    // Returns the time of the desk's decisions and the time of writing the texts. The last text
+    // must equal this reply.
     fn decided_and_written(
         &mut self,
         rt: &(impl Clock + AllocGlobal),
@@ -103,7 +107,7 @@ impl<S: ClubStore + Drop> Bench<S> {
     }
 }
 
-// Prints the times for this many requests. The first time is that of whole exchanges.
+// Prints the times for this many requests. The first time is the time of whole exchanges.
 fn print_times(rt: &impl Print, name: &str, count: usize, times: &[Duration; 5]) -> Result<()> {
     print!(rt; "{name:>9} {:>9} |", rate(count, times[0]))?;
     for time in times {

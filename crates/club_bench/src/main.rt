@@ -1,8 +1,8 @@
-//! Benchmarks of passes and of a club's desk. The first argument chooses one:
+//! Benchmarks of passes and of a club's desk. The first argument selects a benchmark:
 //!
-//! - `club_bench passes COUNT` measures signing, reading and verifying of passes;
-//! - `club_bench desk COUNT` measures requests to the desk;
-//! - `club_bench http COUNT` measures exchanges in memory, and their parts.
+//! - `club_bench passes COUNT` measures signing, reading and verifying passes.
+//! - `club_bench desk COUNT` measures requests to the desk.
+//! - `club_bench http COUNT` measures exchanges in memory, and the parts of an exchange.
 #![tactic(auto)]
 
 mod choice;

@@ -9,7 +9,7 @@ use club_http::{Desk, Face, MAX_REPLY_LEN, Outlet, ReadInlet, answer};
 use std::rt::Clock;
 use std::time::{Duration, Instant};
 
-/// A writer that keeps the bytes of the latest reply.
+/// A writer that keeps the bytes of the last reply.
 #[derive(Drop)]
 pub(crate) struct Kept {
     bytes: [u8; MAX_REPLY_LEN],
@@ -28,7 +28,7 @@ impl Kept {
         }
     }
 
-    /// Returns the bytes of the latest reply.
+    /// Returns the bytes of the last reply.
     pub(crate) fn bytes(&self) -> &[u8] {
         &self.bytes[..self.len]
     }
@@ -55,11 +55,12 @@ impl Outlet for Kept {
     }
 }
 
-/// Returns the time of all exchanges, one after another. The last reply can then be read.
+/// Runs all exchanges, one after another, and returns their total time. Afterwards, the last reply
+/// is in the writer.
 ///
 /// # Errors
 ///
-/// Fails if a request was not served.
+/// Fails if the desk refused a request.
 pub(crate) fn exchanges<S: ClubStore>(
     rt: &impl Clock,
     face: &mut Face,
@@ -74,7 +75,7 @@ pub(crate) fn exchanges<S: ClubStore>(
     Ok(start.elapsed(rt)?)
 }
 
-// Runs one exchange. Its reply replaces the previous one.
+// Runs one exchange. The new reply replaces the previous reply.
 fn exchange<S: ClubStore>(
     face: &mut Face,
     desk: &mut Desk<S>,

@@ -1,6 +1,6 @@
-//! Measures how many passes with three caveats are signed, read and verified per second, each in
-//! COUNT runs. Reading and verifying are measured twice: with a `Pass` in memory, and without one,
-//! field by field.
+//! Measures how many passes per second are signed, read and verified. Each pass has three caveats,
+//! and each task runs COUNT times. The benchmark measures reading and verifying in two ways: with a
+//! `Pass` in memory, and field by field without a `Pass`.
 
 mod task;
 
@@ -56,7 +56,7 @@ fn compare_tasks(rt: &HostRuntime, name: &str, text: &[u8], count: u32) -> Resul
     Ok(())
 }
 
-// Prints how many times per second a task runs.
+// Measures a task, and prints its number of runs per second.
 fn measure(
     rt: &(impl Alloc<A = Global> + Clock + Print),
     what: &str,
@@ -73,7 +73,7 @@ fn print_row(rt: &impl Print, what: &str, rate: u128, folded: u8) -> Result<()> 
     Ok(println!(rt; "{what:>28} {rate:>9} (folded to {folded:02x})")?)
 }
 
-// Runs a task `count` times, and combines the bytes that it returns.
+// Runs a task `count` times, and combines the bytes that the task returns.
 fn fold(alloc: Global, task: Task, written: &Written<'_>, count: u32) -> Result<u8, FormFault> {
     let mut folded = 0;
     for _ in 0..count {

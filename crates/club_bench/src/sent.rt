@@ -1,4 +1,4 @@
-//! The requests of members, in the bytes that curl sends.
+//! The requests of members, as the bytes that curl sends.
 
 use crate::club::{CAVEATS, KEYS, passes};
 use crate::known::known;
@@ -15,7 +15,7 @@ const FIELDS: &str = "Host: 127.0.0.1:8080\r\nUser-Agent: curl/7.88.1\r\nAccept:
 const BODY_FIELDS: &str =
     "Content-Length: 12\r\nContent-Type: application/x-www-form-urlencoded\r\n";
 
-/// The bytes of a request with a pass, and the moment at which the request arrives.
+/// The bytes of a request with a pass, and the moment when the request arrives.
 #[derive(Drop)]
 pub(crate) struct Sent {
     pub(crate) text: String,
@@ -23,7 +23,7 @@ pub(crate) struct Sent {
     pub(crate) moment: Moment,
 }
 
-/// The measured kinds of requests, in order: bookings, the same bookings again, and accounts.
+/// The measured kinds of requests, in this order: bookings, the same bookings again, and accounts.
 pub(crate) static ROWS: [(&str, Wish); 3] = [
     ("bookings", Wish::Booking),
     ("repeats", Wish::Booking),
@@ -55,7 +55,7 @@ impl Requests {
     }
 }
 
-// Returns `count` requests of this kind, with passes in V2. The keys take turns.
+// Returns `count` requests of this kind, with passes in V2. The requests use the keys in turn.
 fn requests_for(alloc: Global, wish: Wish, count: u16) -> Result<Vec<Sent>> {
     let passes = passes(alloc, Form::V2, CAVEATS.len())?;
     let mut requests = Vec::new(alloc);

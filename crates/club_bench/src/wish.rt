@@ -1,4 +1,5 @@
-//! The members' requests and their moments. The slots follow one another, and the keys take turns.
+//! The members' requests and the moments of the requests. The requests use the slots in order and
+//! the keys in turn.
 
 use crate::club::{COURT, KEYS};
 use club_rows::slot_from_columns;
@@ -11,21 +12,21 @@ const FIRST_HOUR: u16 = 8;
 
 const HOURS_A_DAY: u16 = 14;
 
-/// A kind of request, which is sent many times.
+/// A kind of request.
 #[derive(Clone, Copy)]
 pub(crate) enum Wish {
-    /// A booking of a slot that nobody else books, with a number of its own.
+    /// A booking of a slot that no other request books, with a new booking number.
     Booking,
     /// A request for the account of the key's member.
     Account,
 }
 
-/// Returns the booking number for an index. Each key counts its bookings from 1.
+/// Returns the booking number for an index. The booking numbers of each key begin at 1.
 pub(crate) fn number_at(index: u16) -> u16 {
     index / KEYS + 1
 }
 
-/// Returns the slot for an index, which is counted from 0, and the moment of the request for it.
+/// Returns the slot for an index, counted from 0, and the moment of the request for the slot.
 pub(crate) fn slot_and_moment(index: u16) -> Option<(Slot, Moment)> {
     let slot = slot_at(index)?;
     let moment = minute_before(&slot)?;
@@ -38,7 +39,8 @@ fn slot_at(index: u16) -> Option<Slot> {
     slot_from_columns(COURT, day, i64::from(hour))
 }
 
-/// Returns the minute before a slot begins. Booking so late, members have few open bookings.
+/// Returns the last minute before a slot begins. A booking in the last minute is open only briefly,
+/// so members have few open bookings.
 fn minute_before(slot: &Slot) -> Option<Moment> {
     Moment::from_number(slot.start().saturating_sub(1))
 }

@@ -1,4 +1,4 @@
-//! Measures each part of an exchange separately, over all requests.
+//! Measures each part of an exchange separately, for all requests.
 
 use crate::sent::Sent;
 use anyhow::{Result, anyhow};
@@ -10,7 +10,7 @@ use httparse::spans::{EMPTY_HEADER_SPAN, HeaderSpan, parse_request};
 use std::rt::Clock;
 use std::time::{Duration, Instant};
 
-/// Decodes the requests into a list that has room for them, and returns the time that this takes.
+/// Decodes the requests into a list with enough room, and returns the time of decoding.
 pub(crate) fn words(
     rt: &impl Clock,
     routes: &Routes,
@@ -27,7 +27,7 @@ pub(crate) fn words(
     Ok(start.elapsed(rt)?)
 }
 
-/// Parses the requests' heads with `httparse` alone, and returns the time that this takes.
+/// Parses only the requests' heads with `httparse`, and returns the time of parsing.
 pub(crate) fn heads(rt: &impl Clock, sent: &[Sent]) -> Result<Duration> {
     let mut fields = [EMPTY_HEADER_SPAN; MAX_FIELDS];
     let start = Instant::now(rt)?;
@@ -43,7 +43,7 @@ fn has_head(bytes: &[u8], fields: &mut [HeaderSpan; MAX_FIELDS]) -> bool {
     matches!(parse_request(bytes, fields), Ok(Status::Complete(_)))
 }
 
-/// Collects the desk's replies in a list that has room for them, and returns the time.
+/// Collects the desk's replies in a list with enough room, and returns the time.
 pub(crate) fn replies<S: ClubStore>(
     rt: &impl Clock,
     desk: &mut Desk<S>,
@@ -66,8 +66,8 @@ fn reply<S: ClubStore>(desk: &mut Desk<S>, sent: &Sent, request: Request) -> Rep
     desk.ask(sent.moment, &words)
 }
 
-/// Writes the texts of the replies into a buffer, and returns the time that this takes. The last
-/// text is then at the front of the buffer.
+/// Writes the texts of the replies into a buffer, and returns the time of writing. Afterwards, the
+/// last text is at the front of the buffer.
 pub(crate) fn texts(
     rt: &impl Clock,
     replies: &[Reply],

@@ -1,4 +1,4 @@
-//! The tasks that are measured. Each works on one pass.
+//! The measured tasks. Each task works on one pass.
 
 use pass_forms::{
     Field, FieldSource, Form, FormFault, MAX_BYTES, V1Fields, V2Fields, read_v1, read_v2,
@@ -19,19 +19,19 @@ pub(crate) static CAVEATS: [&[u8]; 3] = [
 /// A task that works on a pass in V1 or V2.
 #[derive(Clone, Copy)]
 pub(crate) enum Task {
-    /// Computes the pass's signature.
+    /// Computes the signature of the pass.
     Sign,
     /// Parses the bytes into a `Pass`.
     ReadWhole,
     /// Parses the fields of the bytes one after another.
     ReadFields,
-    /// Parses the text into a `Pass`, and checks its signature.
+    /// Parses the text into a `Pass`, and checks the signature of the pass.
     VerifyWhole,
     /// Checks the signature while parsing the fields of the text.
     VerifyFields,
 }
 
-/// A pass in V1 or V2: its text, and the bytes that the text encodes.
+/// The text of a pass in V1 or V2, and the bytes that the text encodes.
 #[derive(Clone, Copy)]
 pub(crate) struct Written<'a> {
     pub(crate) form: Form,
@@ -80,7 +80,7 @@ fn verify_fields(text: &[u8]) -> Result<u8, FormFault> {
     with_fields(unwrapped.form, unwrapped.bytes(text, &buffer), Step::Verify)
 }
 
-// The work that is done on each field.
+// The work on each field.
 #[derive(Clone, Copy)]
 enum Step {
     Read,
@@ -101,7 +101,7 @@ fn walk<'a, S: FieldSource<'a>>(fields: &mut S, step: Step) -> u8 {
     }
 }
 
-// Returns the exclusive or of the first bytes of all fields.
+// Combines the first bytes of all fields by exclusive or.
 fn fold<'a, S: FieldSource<'a>>(fields: &mut S) -> u8 {
     let mut folded = 0;
     while let Some(field) = fields.next() {
@@ -115,7 +115,7 @@ fn fold<'a, S: FieldSource<'a>>(fields: &mut S) -> u8 {
     folded
 }
 
-// Returns whether the signature is right for the identifier and the caveats before it.
+// Returns true if the signature is correct for the identifier and the caveats.
 fn is_signed<'a, S: FieldSource<'a>>(fields: &mut S) -> bool {
     let mut chain: Option<Chain> = None;
     while let Some(field) = fields.next() {
