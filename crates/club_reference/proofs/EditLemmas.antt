@@ -1,26 +1,23 @@
--- Edits of each element of a list, one element after another.
+-- Lemmas for editing the elements of a list one by one.
 use Rattle.std.proofs.Common.{◌≡◌, ℕ, ◌+◌, ◌<◌, zero, suc, List, [], ◌∷◌, ◌++◌, length, take, drop, get_or, set, refl, arith, ◌∙◌, sym, ap, subst, add-one}
 use Rattle.std.proofs.lemmas.List.{get_or-map, length-map}
 use Rattle.std.specs.Prelude.{map, All}
 
--- the list in which the elements before this index are edited and the others are unchanged
+-- The list after editing the elements before this index.
 abbrev pub edited : {X : Type 0} → (X → X) → ℕ → List X → List X
 edited f i xs = map f (take i xs) ++ drop i xs
 
--- the element at the index is still unchanged
 next : {X : Type 0} (f : X → X) (i : ℕ) (xs : List X) (d : X) → i < length xs → get_or (edited f i xs) i d ≡ get_or xs i d
 next f i [] d h = absurd (omega arith)
 next f zero (x ∷ xs) d h = refl
 next f (suc i) (x ∷ xs) d h = next f i xs d (omega arith)
 
--- editing the element at the index leads to the list for the next index
 edited-next : {X : Type 0} (f : X → X) (i : ℕ) (xs : List X) (d : X) → i < length xs
     → set (edited f i xs) i (f (get_or (edited f i xs) i d)) ≡ edited f (suc i) xs
 edited-next f i [] d h = absurd (omega arith)
 edited-next f zero (x ∷ xs) d h = refl
 edited-next f (suc i) (x ∷ xs) d h = ap (λ ys. f x ∷ ys) (edited-next f i xs d (omega arith))
 
--- replacing the element at the index by its edited value leads to the list for the next index
 pub edited_more : {X : Type 0} (f : X → X) (i : ℕ) (xs ys : List X) (x y : X) → i < length xs → ys ≡ edited f i xs → y ≡ f (get_or ys i x)
     → set ys i y ≡ edited f (i + 1) xs
 edited_more f i xs ys x y h same made =
@@ -28,7 +25,6 @@ edited_more f i xs ys x y h same made =
     ∙ (ap (λ zs. set zs i (f (get_or zs i x))) same
     ∙ (edited-next f i xs x h ∙ ap (λ n. edited f n xs) (sym (add-one i))))
 
--- if each edited element has a property, so has the element that is edited next
 pub holds_next : {X : Type 0} (P : X → Type 0) (f : X → X) (i : ℕ) (xs ys : List X) (x : X) → i < length xs → ys ≡ edited f i xs → All P (map f xs)
     → P (f (get_or ys i x))
 holds_next P f i xs ys x h same holds =

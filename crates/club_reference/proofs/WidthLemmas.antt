@@ -1,4 +1,4 @@
--- A club's numbers fit their types after each change, in a member's part, and after each step.
+-- Lemmas for the proof that a club's numbers always fit their types.
 use Rattle.std.proofs.Common.{◌≡◌, ℕ, Bool, true, List, [], ◌∷◌, refl, arith, subst, ◌+◌, ◌-◌, ◌≤◌, cond, ◌++◌, ◌<◌, false, length, get_or, ◌∙◌, sym, ap}
 use Rattle.std.proofs.lemmas.{Bool.{cond_both, and_parts, Decides.nat_tests}, List.{get_or-map, length-map}}
 use Rattle.std.proofs.lemmas.{List.{Elements.{All-head, All-tail, All-filter, All-push, All-cons}, Folds.find-append, Sums.sum_by-cons}, Option.same_Some}
@@ -20,9 +20,6 @@ use Rattle.club_reference.specs.Widths.{FitsWidths}
 use Rattle.club_core.specs.declared.request.Request.TheVariants as asked
 use Rattle.club_core.specs.declared.command.Command.TheVariants as commands
 
--- ---- rows that are found by their names, and sums over elements that pass a test
-
--- `bytes_eq` is true if and only if the names are equal
 pub bytes_eq_refl : (name : List ℕ) → bytes_eq name name ≡ true
 bytes_eq_refl name = (bytes_eq-Decides name name).1 refl
 
@@ -44,22 +41,19 @@ pub found_kept : {X : Type 0} (p q r : X → Bool) (xs : List X) (x : X) → fin
 found_kept p q r [] x e t u = cc
 found_kept p q r (y ∷ ys) x e t u = grind (arith, λ (f : find p ys ≡ Some x). found_kept p q r ys x f t u)
 
--- if the row that is found passes another test, it is also found among the rows that pass that test
 pub find_filtered : {X : Type 0} (p q : X → Bool) (xs : List X) (x : X) → find p xs ≡ Some x → q x ≡ true → find p (filter q xs) ≡ Some x
 find_filtered p q [] x e t = cc
 find_filtered p q (y ∷ ys) x e t = grind (arith, find_filtered p q ys x)
 
--- if an edit doesn't change the result of the test, `find` returns the edited row
 pub find-map : {X : Type 0} (p : X → Bool) (f : X → X) (xs : List X) → ((x : X) → p (f x) ≡ p x) → find p (map f xs) ≡ option_map f (find p xs)
 find-map p f [] same = refl
 find-map p f (x ∷ xs) same = grind (arith, same x, find-map p f xs same)
 
--- subtracting each element's amount from a number, down to 0, subtracts the sum of the amounts
 pub fold_less : {X : Type 0} (f : X → ℕ) (n : ℕ) (xs : List X) → fold (λ left x. left - f x) n xs ≡ n - sum_by f xs
 fold_less f n [] = omega arith
 fold_less f n (x ∷ xs) = omega (arith, fold_less f (n - f x) xs, sum_by-cons f x xs)
 
--- the amount that an element adds to a sum, 0 if it fails the test
+-- The amount that an element adds to a sum. An element that fails the test adds 0.
 abbrev pub part : {X : Type 0} → (X → ℕ) → (X → Bool) → X → ℕ
 part f p x = cond (p x) (f x) 0
 
@@ -67,7 +61,6 @@ pub sum_more : {X : Type 0} (f : X → ℕ) (p : X → Bool) (xs : List X) (y : 
 sum_more f p [] y = grind arith
 sum_more f p (x ∷ xs) y = grind (arith, sum_more f p xs y, sum_by-cons f x (filter p xs), sum_by-cons f x (filter p (xs ++ y ∷ [])))
 
--- an edit doesn't increase a sum if each edited element adds no more than before
 pub sum_map_le : {X : Type 0} (f : X → ℕ) (p : X → Bool) (h : X → X) (xs : List X) → All (λ x. part f p (h x) ≤ part f p x) xs
     → sum_by f (filter p (map h xs)) ≤ sum_by f (filter p xs)
 sum_map_le f p h [] le = omega arith
@@ -81,12 +74,9 @@ sum_le f p q [] le = omega arith
 sum_le f p q (x ∷ xs) le =
     let here = le x in grind (arith, sum_le f p q xs le, sum_by-cons f x (filter p xs), sum_by-cons f x (filter q xs))
 
--- a filter doesn't increase a sum
 pub sum_filtered_le : {X : Type 0} (f : X → ℕ) (p q : X → Bool) (xs : List X) → sum_by f (filter p (filter q xs)) ≤ sum_by f (filter p xs)
 sum_filtered_le f p q [] = omega arith
 sum_filtered_le f p q (x ∷ xs) = grind (arith, sum_filtered_le f p q xs, sum_by-cons f x (filter p xs), sum_by-cons f x (filter p (filter q xs)))
-
--- ---- a club's numbers fit their types after each change, and in a member's part
 
 abbrev named : List ℕ → Member → Bool
 named name member = bytes_eq member.name name
@@ -94,7 +84,6 @@ named name member = bytes_eq member.name name
 abbrev IsNamed : List Member → Member → Type 0
 IsNamed members member = find (named member.name) members ≡ Some member
 
--- a new member, whose name is new, doesn't affect the search for other members
 still_named : (members : List Member) (new member : Member) → IsNamed members member → IsNamed (members ++ new ∷ []) member
 still_named members new member h = find-append (named member.name) members (new ∷ []) ∙ rw h
 
@@ -109,7 +98,6 @@ fits_insert_member club member h few none =
     still_named club.members member (get_or club.members k d) (h.unique k d lt)) (new_named club.members member none) in
     assumption
 
--- if each edited element has the property, so has each element of the edited list
 all_map : {X : Type 0} (P : X → Type 0) (f : X → X) (xs : List X) → ((k : ℕ) (d : X) → k < length xs → P (f (get_or xs k d))) → All P (map f xs)
 all_map P f xs h = λ k d lt.
     let short : k < length xs = omega (arith, length-map xs f) in
@@ -157,7 +145,6 @@ fits_replace_numbers club name places price opens shuts h few =
     let fewer = all_map (λ (f : Facility). f.places ≤ 50) edit club.facilities (λ k d lt. let old = h.places k d lt in grind arith) in
     assumption
 
--- slots for which `same_slot` is true are equal
 same_slot_is : (a b : Slot) → same_slot a b ≡ true → a ≡ b
 same_slot_is a b e =
     let facility : a.facility ≡ b.facility = grind (arith, bytes_eq-Decides a.facility b.facility) in
@@ -182,7 +169,6 @@ fits_insert_booking club booking h persons cost kept =
     let live = All-push (λ (b : Booking). b.cancelled ≡ false → b.refund ≡ 0) club.bookings booking h.kept kept in
     assumption
 
--- a cancellation keeps the club's numbers within their types
 pub fits_mark_cancelled : (club : Club) (key : List ℕ) (number refund : ℕ) → FitsWidths club
     → FitsWidths (record club { bookings = map (cancelled_booking key number refund) club.bookings })
 fits_mark_cancelled club key number refund h =
@@ -201,7 +187,6 @@ fits_mark_cancelled club key number refund h =
     let live = all_map (λ (b : Booking). b.cancelled ≡ false → b.refund ≡ 0) edit club.bookings (λ k d lt. let none = h.kept k d lt in grind arith) in
     assumption
 
--- if each element that passes the test has the property, so has each element of the filtered list
 all_filter : {X : Type 0} (P : X → Type 0) (p : X → Bool) (xs : List X) → All (λ x. p x ≡ true → P x) xs → All P (filter p xs)
 all_filter P p [] h = λ k d lt. absurd (omega arith)
 all_filter P p (x ∷ xs) h =
@@ -222,7 +207,6 @@ fits_part name club h =
       kept = All-filter held (λ (b : Booking). b.cancelled ≡ false → b.refund ≡ 0) club.bookings h.kept;
     }
 
--- clubs with the same members, facilities and bookings have the same numbers
 pub fits_same : (a b : Club) → a.members ≡ b.members → a.facilities ≡ b.facilities → a.bookings ≡ b.bookings → FitsWidths b → FitsWidths a
 fits_same a b members facilities bookings h = record {
   credited = rw members h.credited;
@@ -233,15 +217,12 @@ fits_same a b members facilities bookings h = record {
   kept = rw bookings h.kept;
 }
 
--- ---- a club's numbers fit their types after each step
-
--- a key has spent at most what its member's bookings have cost
 spent_le : (club : Club) (key member : List ℕ) → is_key_of member club key ≡ true
     → spent_under key club.bookings ≤ sum_by cost_of (bookings_of member club)
 spent_le club key member held =
     sum_le cost_of (is_under key) (λ (b : Booking). is_key_of member club b.key) club.bookings (λ b. grind (arith, bytes_eq-Decides b.key key))
 
--- what a basis has from the club: a key, the bookings of that key's member, and the state of the slot
+-- A basis contains a key of the club, the bookings of the key's member, and the state of the slot.
 record IsBasisIn (club : Club) (request : Request) (basis : Basis) : Type 0 where
   held : is_key_of basis.member.name club basis.key.name ≡ true
   owner : member_named basis.key.member club ≡ Some basis.member
@@ -249,7 +230,6 @@ record IsBasisIn (club : Club) (request : Request) (basis : Basis) : Type 0 wher
   facility : (slot : Slot) → request_slot request ≡ Some slot → facility_named slot.facility club ≡ basis.state.facility
   taken : (slot : Slot) → request_slot request ≡ Some slot → taken_in slot club.bookings ≤ basis.state.held.taken
 
--- the numbers fit after a booking for which there are enough places and points
 fits_booked : (club : Club) (request : Request) (basis : Basis) (facility : Facility) (booking : Booking) → FitsWidths club → IsBasisIn club request basis
     → request_slot request ≡ Some booking.slot → basis.state.facility ≡ Some facility → booking.key ≡ basis.key.name → booking.refund ≡ 0
     → basis.state.held.taken + booking.guests + 1 ≤ facility.places → booking.charge ≤ balance_of basis.member basis.bookings
@@ -267,7 +247,6 @@ fits_booked club request basis facility booking h is slot there under none room 
 
 module _ (P : Option Change → Type 0) (none : P None)
     (cancels : (booking : Booking) (member : List ℕ) (refund : ℕ) → P (Some (MarkCancelled booking member refund))) where
-  -- how a view can decide a request
   view_cases : (view : View) (request : Request) (moment : ℕ)
       → ((slot : Slot) (number guests : ℕ) (facility : Facility) → request ≡ asked.Book slot number guests → view.facility ≡ Some facility
       → view.taken + guests + 1 ≤ facility.places → charge_of facility guests ≤ view.balance
@@ -276,7 +255,6 @@ module _ (P : Option Change → Type 0) (none : P None)
   view_cases view (asked.Book slot number guests) moment books = grind (arith, nat_tests, none, books slot number guests)
   view_cases view request moment books = grind (arith, none, cancels)
 
-  -- how a request can be answered
   basis_cases : (pass : Result Pass PassFault) (request : Request) (moment : ℕ) (found : Option Basis)
       → ((basis : Basis) (slot : Slot) (number guests : ℕ) (facility : Facility) → found ≡ Some basis → request ≡ asked.Book slot number guests
       → basis.state.facility ≡ Some facility → basis.state.held.taken + guests + 1 ≤ facility.places
@@ -299,7 +277,6 @@ keeps_by club pass request moment found h is =
     fits_booked club request basis facility (new_booking (view_of basis request moment) slot number guests facility) h (is basis f) (ap request_slot r) there
     refl refl room points)
 
--- a key that is found by its name belongs to its member
 own_key : (club : Club) (name : List ℕ) (key : Key) (member : Member) → key_named name club ≡ Some key → member_named key.member club ≡ Some member
     → is_key_of member.name club key.name ≡ true
 own_key club name key member found owner =
@@ -316,7 +293,6 @@ is_basis club words basis e = record {
   taken = λ slot s. grind arith;
 }
 
--- a request's basis still satisfies `IsBasisIn` after others' persons are added
 is_basis_with : (club : Club) (words : Words) (others : SlotUse) (basis : Basis) → option_map (with_others others) (basis_of club words) ≡ Some basis
     → IsBasisIn club words.request basis
 is_basis_with club words others basis e = go (basis_of club words) refl e
@@ -333,22 +309,18 @@ is_basis_with club words others basis e = go (basis_of club words) refl e
           taken = λ slot s. let there = is.taken slot s in omega arith;
         })
 
--- the change in an answer to a request keeps the numbers within their types
 pub keeps_answer : (club : Club) (words : Words) (moment : ℕ) → FitsWidths club → Keeps club (answer_by_basis words moment (basis_of club words)).change
 keeps_answer club words moment h = keeps_by club words.pass words.request moment (basis_of club words) h (is_basis club words)
 
--- the change in an answer to a request on a member's part keeps the numbers within their types
 pub keeps_solo : (club : Club) (words : Words) (moment : ℕ) (others : SlotUse) → FitsWidths club
     → Keeps club (solo_verdict club words moment others).change
 keeps_solo club words moment others h =
     keeps_by club words.pass words.request moment (option_map (with_others others) (basis_of club words)) h (is_basis_with club words others)
 
--- the change of an accepted command keeps the numbers within their types
 abbrev pub KeepsIfOk : Club → Result (Option Change) OfficeFault → Type 0
 KeepsIfOk club (Err fault) = Unit {0}
 KeepsIfOk club (Ok change) = Keeps club change
 
--- how a command can be decided; changes of keys and of closed slots have no numbers
 module _ (P : Result (Option Change) OfficeFault → Type 0) (club : Club) (fails : (fault : OfficeFault) → P (Err fault))
     (joins : (name : List ℕ) (quota : ℕ) → member_named name club ≡ None → P (Ok (Some (InsertMember (record { name = name; credited = 0; quota = quota })))))
     (credits : (name : List ℕ) (points : ℕ) (member : Member) → member_named name club ≡ Some member → member.credited + points ≤ 999_999_999

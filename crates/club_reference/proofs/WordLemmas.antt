@@ -1,4 +1,4 @@
--- The computed model of words is their model. An answer from a key's view is the answer from its basis.
+-- Lemmas about the model of words, and about answers from a key's view.
 use Rattle.std.proofs.{Common.{arith, ◌≡◌, ℕ, List, [], ◌∷◌, map, Option, Some, None, refl, sym, ap, subst, Decides}, Math.Path.fun_ext}
 use Rattle.std.proofs.lemmas.{Bool.Decides.{same_from_decides, Decides-like, Decides-by_or}, List.Elements.at_from_Contains, Slice.Eq.bytes_eq-Decides}
 use Rattle.std.specs.{List.list_any, Prelude.{Contains, Result, Ok, Err, option_map}, Str.bytes_eq, Vec.vec_items}
@@ -77,12 +77,10 @@ module _ (reads : ReadsWhatIsUnderstood) where
 pub their_model : ModelsWords → (words : WordsInCode) → IsModelOf words (words_model words)
 their_model law words = (law words (words_model words)).1 refl
 
--- a key's view gives the same answer as the basis that it is computed from
 pub answers_seen : (pass : Result Pass PassFault) (request : Request) (moment : ℕ) (basis : Option Basis)
     → answer_seen pass request moment (option_map (seen_of request moment) basis) ≡ answer_to pass request moment basis
 answers_seen pass request moment basis = grind arith
 
--- adding others' persons to a view gives the view of the basis with these persons added
 pub seen_with_others : (request : Request) (moment : ℕ) (others : SlotUse) (basis : Option Basis)
     → option_map (with_outside others) (option_map (seen_of request moment) basis) ≡ option_map (seen_of request moment) (option_map (with_others others) basis)
 seen_with_others request moment others basis = grind arith

@@ -1,4 +1,4 @@
--- The changes that need memory (ours), which are those that add a row.
+-- Defines the changes that need memory. A change needs memory if it adds a row.
 use Rattle.std.specs.Prelude.{ℕ, ◌+◌, ◌<◌, Bool, true, false, length}
 use Rattle.club_core.specs.{Club.Club, Run.{Event, step}, declared.change.Change.{Change, TheVariants.{InsertMember, AddCredit, InsertFacility, InsertKey}}}
 use Rattle.club_core.specs.declared.change.Change.TheVariants.{TakeCredit, ReplaceNumbers, MarkRevoked, ReplaceRoot, MarkClosed, MarkOpen, ReplaceQuota}
@@ -19,15 +19,15 @@ is_growth (MarkOpen slot) = false
 is_growth (InsertBooking booking member) = true
 is_growth (MarkCancelled booking member refund) = false
 
--- the number of rows in a club
+-- The number of rows in a club.
 abbrev pub row_count : Club → ℕ
 row_count club =
     length club.members + length club.facilities + length club.keys + length club.bookings + length club.closed
 
--- the new club has more rows than the old one
+-- The new club has more rows than the old club.
 abbrev pub Grows : Club → Club → Type 0
 Grows old new = row_count old < row_count new
 
--- the event adds a row to the club
+-- The event adds a row to the club.
 abbrev pub AddsRow : Club → Event → Type 0
 AddsRow club event = Grows club (step club event).club

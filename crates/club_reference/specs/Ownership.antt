@@ -1,8 +1,8 @@
--- A member's bookings, from lists of keys and bookings (ours).
+-- Defines a member's bookings in lists of keys and bookings.
 use Rattle.std.specs.{List.list_any, Prelude.{ℕ, not, Bool, List, filter}, Str.bytes_eq}
 use Rattle.club_rows.specs.declared.{booking.Booking.Booking, key.Key.Key}
 
--- whether the key with this name belongs to the member
+-- True if the key with this name belongs to the member.
 abbrev pub is_key_of : List Key → List ℕ → List ℕ → Bool
 is_key_of keys member name =
     list_any (λ (key : Key). bytes_eq key.name name) (filter (λ (key : Key). bytes_eq key.member member) keys)

@@ -1,4 +1,4 @@
--- The club of the rules, made from the lists of rows (ours).
+-- Defines the club of the rules that lists of rows represent.
 use Rattle.club_core.specs.{Club.Club as Rows, Run.{Outcome, EventReply}}
 use Rattle.club_reference.specs.declared.club.Club.TheInside.{Inside}
 
@@ -11,6 +11,6 @@ rows_of club = record {
   closed = club.closed.items;
 }
 
--- a reply, and the club after it
+-- A reply, and the club after the reply.
 abbrev pub outcome : EventReply → Rows → Outcome
 outcome reply club = record { reply = reply; club = club }

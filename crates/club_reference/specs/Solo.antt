@@ -1,7 +1,8 @@
--- The views of the solo machine (ours).
+-- Defines the views of the solo machine.
 use Rattle.std.specs.Prelude.{◌+◌}
 use Rattle.club_core.specs.declared.{slot_use.SlotUse.SlotUse, view.KeyView.KeyView}
 
--- the view after adding others' persons in the slot, and setting whether the slot is closed
+-- The view after adding other members' persons to the slot. The slot is closed if `others` states
+-- that it is closed.
 abbrev pub with_outside : SlotUse → KeyView → KeyView
 with_outside others seen = record seen { view = record seen.view { taken = seen.view.taken + others.taken; closed = others.closed } }

@@ -1,3 +1,4 @@
--- Functions that compute what the other definitions in `specs/` state. A law states that both agree.
+-- Computes the values that other definitions in `specs/` describe. A law states that the computed
+-- values agree with these definitions.
 
 pub mod Words

@@ -11,7 +11,8 @@ impl Club {
     ghost use Rattle.club_core.specs.After.{after};
     ghost use Rattle.club_reference.specs.{Growth.is_growth, Widths.FitsWidths};
 
-    /// Applies a change. Only a new row needs memory. If memory is refused, the club is unchanged.
+    /// Applies a change. Only a change that adds a row needs memory. If memory runs out, the club
+    /// is unchanged.
     pub(crate) fn apply(&mut self, change: Change) -> Result<(), AllocError>
         requires { FitsWidths (after change self.old) }
         ensures ok { OnOk result (self.new ≡ after change self.old) }

@@ -1,4 +1,4 @@
-//! The club as lists of rows, its model in the rules, and its copy.
+//! A club whose rows are in lists.
 
 ghost use Rattle.std.specs.Prelude.{◌≡◌, IfOk};
 ghost use Rattle.club_core.specs.Club.{empty_club};
@@ -8,7 +8,8 @@ use club_values::Slot;
 use std::alloc::{AllocError, Global};
 use std::marker::Model;
 
-/// A club whose rows are in lists, oldest first. Contracts see it as the club of the rules.
+/// A club whose rows are in lists, from the oldest row to the newest. In contracts, it is the club
+/// of the rules.
 #[derive(Drop)]
 pub struct Club {
     pub(crate) members: Vec<Member>,
@@ -31,7 +32,7 @@ impl Model for Club {
 }
 
 impl Club {
-    /// Returns the empty club. It needs no memory.
+    /// Returns the empty club, without allocating memory.
     pub fn new(alloc: Global) -> Club
         ensures { result ≡ empty_club }
     {

@@ -1,4 +1,4 @@
-//! Edits of existing rows. Each edits all rows that match.
+//! Edits existing rows. Each call edits all rows that match.
 
 ghost use Rattle.std.specs.Prelude.{◌≡◌, ◌≤◌, map, All};
 ghost use Rattle.club_rows.specs.Limits.{credited_limit};
@@ -143,8 +143,8 @@ fn rotate_row(key: &Key, name: &Name, root: &Root, until: Moment) -> Key
     key
 }
 
-/// Replaces the root of the key with this name. The former root becomes the key's older root, valid
-/// before the moment.
+/// Replaces the root of the key with this name. The key's old root becomes its older root, which is
+/// valid before the moment.
 #[tactic(auto, using(crate::proofs::EditLemmas::edited_more))]
 pub(crate) fn rotate(keys: &mut [Key], name: &Name, root: &Root, until: Moment)
     ensures { keys.new ≡ map (after.rotated_key name.now root.now until) keys.old }
@@ -172,8 +172,8 @@ fn cancel_row(booking: &Booking, key: &Name, number: BookingNumber, refund: u32)
     booking
 }
 
-/// Marks the booking with this key and number as cancelled, and records the refund. A booking that
-/// is already cancelled doesn't change.
+/// Marks the booking with this key and this number as cancelled, and records the refund. A booking
+/// that is already cancelled doesn't change.
 #[tactic(auto, using(crate::proofs::EditLemmas::edited_more))]
 pub(crate) fn cancel(bookings: &mut [Booking], key: &Name, number: BookingNumber, refund: u32)
     ensures { bookings.new ≡ map (after.cancelled_booking key.now number refund) bookings.old }

@@ -1,5 +1,6 @@
-//! The reference machine: a club with its rows in lists, and each step as the rules define it. It
-//! is slow and stores no sums. Tests compare faster machines with it.
+//! The reference machine, which carries out each step exactly as the rules define it. The machine
+//! keeps a club's rows in lists and stores no sums, so it is slow. Tests compare faster machines
+//! with the reference machine.
 #![tactic(auto)]
 
 mod apply;

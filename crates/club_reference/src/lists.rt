@@ -1,4 +1,5 @@
-//! The club's rows and sums, which a test compares with those of another machine.
+//! Returns the club's rows and sums, so that tests can compare them with another machine's rows and
+//! sums.
 
 ghost use Rattle.std.specs.Prelude.{◌≡◌};
 ghost use Rattle.club_core.specs.Sums as sums;
@@ -10,42 +11,42 @@ use club_rows::{Booking, Facility, Key, Member};
 use club_values::Slot;
 
 impl Club {
-    /// Returns the members, oldest first.
+    /// Returns the members, from the oldest row to the newest.
     pub fn members(&self) -> &[Member]
         ensures { result.now ≡ self.now.members }
     {
         &self.members
     }
 
-    /// Returns the facilities, oldest first.
+    /// Returns the facilities, from the oldest row to the newest.
     pub fn facilities(&self) -> &[Facility]
         ensures { result.now ≡ self.now.facilities }
     {
         &self.facilities
     }
 
-    /// Returns the keys, oldest first.
+    /// Returns the keys, from the oldest row to the newest.
     pub fn keys(&self) -> &[Key]
         ensures { result.now ≡ self.now.keys }
     {
         &self.keys
     }
 
-    /// Returns the bookings, oldest first, including cancelled ones.
+    /// Returns all bookings, from the oldest row to the newest. Cancelled bookings are included.
     pub fn bookings(&self) -> &[Booking]
         ensures { result.now ≡ self.now.bookings }
     {
         &self.bookings
     }
 
-    /// Returns the closed slots, oldest first.
+    /// Returns the closed slots, from the oldest row to the newest.
     pub fn closed_slots(&self) -> &[Slot]
         ensures { result.now ≡ self.now.closed }
     {
         &self.closed
     }
 
-    /// Returns the member's balance: the points credited minus what its bookings cost.
+    /// Returns the member's balance, which is the credit minus the cost of the member's bookings.
     pub fn balance(&self, member: &Member) -> u32
         ensures { result ≡ sums.balance_of member.now
             (own_bookings self.now.keys member.now.name self.now.bookings) }

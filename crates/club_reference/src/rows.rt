@@ -1,4 +1,4 @@
-//! Finds a row by its name, by a search through all rows.
+//! Finds a row by its name. Each call searches all rows.
 
 ghost use Rattle.std.specs.Prelude.{◌≡◌};
 
@@ -36,7 +36,7 @@ impl Club {
         self.keys.iter().find(|key| key.name == *name).copied()
     }
 
-    /// Returns whether the slot is closed.
+    /// Returns true if the slot is closed.
     pub(crate) fn is_closed(&self, slot: &Slot) -> bool
         ensures { result ≡ clubs.is_closed slot.now self.now }
     {

@@ -1,5 +1,5 @@
-//! The solo machine, which has only one member's part of the club. Each request comes with the
-//! number of other members' persons in its slot, and with nothing else about them.
+//! The solo machine, which has only one member's part of the club. With each request, it gets the
+//! number of other members' persons in the slot. It gets no other information about other members.
 
 ghost use Rattle.std.specs.Prelude.{◌≡◌, ◌≤◌, ◌<◌, ◌^◌, IfOk, IfSome, OnOk, OnErr, filter};
 ghost use Rattle.std.specs.{Prelude.option_map, Str.bytes_eq};
@@ -56,7 +56,7 @@ fn bookings_of(
         .collect(alloc)
 }
 
-/// Returns the number of persons whom other members booked into the slot.
+/// Returns the number of other members' persons in the slot.
 fn taken_by_others(keys: &[Key], bookings: &[Booking], member: &Name, slot: &Slot) -> u32
     requires { sums.taken_in slot.now (others_bookings keys.now member.now bookings.now) < 2 ^ 32 }
     ensures { result ≡ sums.taken_in slot.now (others_bookings keys.now member.now bookings.now) }
@@ -69,7 +69,7 @@ fn taken_by_others(keys: &[Key], bookings: &[Booking], member: &Name, slot: &Slo
         .sum()
 }
 
-/// Adds other members' persons in the slot to a view, and sets whether the slot is closed.
+/// Adds other members' persons in the slot to a view, and sets if the slot is closed.
 fn with_outside(seen: Option<KeyView>, others: SlotUse) -> Option<KeyView>
     requires { IfSome seen (λ s. s.view.taken ≤ 50) }
     ensures { result ≡ option_map (with_outside others) seen }
@@ -85,7 +85,7 @@ impl Club {
     ghost use Rattle.club_core.specs.Run.{after_change};
     ghost use Rattle.club_core.specs.Solo as solo;
 
-    /// Returns a member's part of the club: the member's rows, and all facilities.
+    /// Returns a member's part of the club, which consists of the member's rows and all facilities.
     pub fn part(&self, member: &Name) -> Result<Club, AllocError>
         ensures { IfOk result (λ part. part ≡ solo.part_of member.now self.now) }
     {
@@ -103,8 +103,8 @@ impl Club {
         })
     }
 
-    /// Returns the number of other members' persons in the requested slot, and whether it is
-    /// closed. Without a slot, the number is 0 and the slot isn't closed.
+    /// Returns the number of other members' persons in the requested slot, and if the slot is
+    /// closed. If the request has no slot, the number is 0 and the slot isn't closed.
     #[tactic(auto, using(crate::proofs::WidthLemmas::sum_filtered_le))]
     pub fn outside(&self, member: &Name, slot: Option<Slot>) -> SlotUse
         ensures { result ≡ solo.outside member.now self.now slot }
@@ -124,7 +124,8 @@ impl Club {
         }
     }
 
-    /// Returns the answer to a request on a member's part, given the slot's use by others.
+    /// Returns the answer to a request on a member's part. `others` is the use of the slot by other
+    /// members.
     #[tactic(auto, using(crate::proofs::WordLemmas::answers_seen, crate::proofs::WordLemmas::seen_with_others))]
     fn answer_alone(&self, words: &Words, moment: Moment, others: SlotUse) -> Verdict
         ensures value { result ≡ solo.solo_verdict self.now (words_model words.now) moment others }
@@ -135,13 +136,13 @@ impl Club {
         words.verdict(seen.as_ref(), moment)
     }
 
-    /// Answers a request on a member's part, given the slot's use by other members, and applies the
-    /// request's change. Only a new booking needs memory. If memory is refused, the part is
-    /// unchanged.
+    /// Answers a request on a member's part, and applies the request's change. The caller states
+    /// how other members use the slot. Only a new booking needs memory. If memory runs out, the
+    /// part is unchanged.
     ///
     /// # Errors
     ///
-    /// Fails if memory is refused.
+    /// Fails if memory runs out.
     pub fn ask_alone(
         &mut self,
         words: &Words,

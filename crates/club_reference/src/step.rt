@@ -1,4 +1,4 @@
-//! The machine's steps: requests and commands.
+//! The machine's steps, which are requests and commands.
 
 ghost use Rattle.std.specs.Prelude.{◌≡◌, IfOk, OnErr};
 ghost use Rattle.club_core.specs.{Answer.verdict_in, Office.office_verdict};
@@ -17,7 +17,7 @@ use std::alloc::AllocError;
 impl Club {
     ghost use Rattle.club_reference.specs.Widths.{FitsWidths};
 
-    /// Returns the reply to a request at a moment, and its change.
+    /// Returns the reply to a request at a moment, and the change of the request.
     #[tactic(auto, using(crate::proofs::WordLemmas::answers_seen))]
     fn answer(&self, words: &Words, moment: Moment) -> Verdict
         ensures value { result ≡ verdict_in self.now (words_model words.now) moment }
@@ -27,7 +27,8 @@ impl Club {
         words.verdict(self.view_for(words, moment).as_ref(), moment)
     }
 
-    /// Returns the change of a command, `None` if it has nothing to change, or why it is refused.
+    /// Returns the change of a command, or the fault if the rules refuse the command. The change is
+    /// `None` if the command changes nothing.
     fn change_of(&self, command: &Command) -> Result<Option<Change>, OfficeFault>
         ensures value { result ≡ office_verdict self.now command.now }
         ensures fits { FitsWidths self.now }
@@ -36,12 +37,12 @@ impl Club {
         decide_command(&self.command_view(command), command)
     }
 
-    /// Answers a request at a moment, and applies its change. Only a new booking needs memory. If
-    /// memory is refused, the club is unchanged.
+    /// Answers a request at a moment, and applies the request's change. Only a new booking needs
+    /// memory. If memory runs out, the club is unchanged.
     ///
     /// # Errors
     ///
-    /// Fails if memory is refused.
+    /// Fails if memory runs out.
     pub fn ask(&mut self, words: &Words, moment: Moment) -> Result<Reply, AllocError>
         ensures outcome { IfOk result (λ reply. (model : rules.Words) × IsModelOf words.now model
             × (outcome (machine.ToMember reply) self.new
@@ -61,12 +62,12 @@ impl Club {
         }
     }
 
-    /// Answers a command of the office, and applies its change. Only a new row needs memory. If
-    /// memory is refused, the club is unchanged.
+    /// Answers a command of the office, and applies the command's change. Only a new row needs
+    /// memory. If memory runs out, the club is unchanged.
     ///
     /// # Errors
     ///
-    /// Fails if memory is refused.
+    /// Fails if memory runs out.
     pub fn office(&mut self, command: &Command) -> Result<OfficeAnswer, AllocError>
         ensures outcome { IfOk result (λ answer. outcome (machine.ToOffice answer) self.new
             ≡ machine.step self.old (machine.Commanded command.now)) }

@@ -1,4 +1,4 @@
-//! Sums over bookings. Each call computes them from all bookings.
+//! Sums over bookings. Each call computes a sum from all bookings.
 
 ghost use Rattle.std.specs.Prelude.{◌≡◌, ◌-◌, ◌<◌, ◌^◌, fold};
 ghost use Rattle.club_values.specs.declared.slot.Slot.{Slot as SlotRow};
@@ -9,7 +9,7 @@ ghost use Rattle.club_reference.specs.Ownership.{is_key_of, own_bookings};
 use club_rows::{Booking, BookingNumber, Key, Member};
 use club_values::{Moment, Name, Slot};
 
-/// Returns the points that a booking has cost: its charge minus its refund.
+/// Returns the cost of a booking in points, which is the charge minus the refund.
 fn cost(booking: &Booking) -> u32
     ensures { result ≡ sums.cost_of booking.now }
 {
@@ -23,7 +23,7 @@ pub(crate) fn persons(booking: &Booking) -> u32
     u32::from(booking.guests.persons())
 }
 
-/// Returns whether the key with this name belongs to the member.
+/// Returns true if the key with this name belongs to the member.
 pub(crate) fn is_key_of(keys: &[Key], member: &Name, name: &Name) -> bool
     ensures { result ≡ is_key_of keys.now member.now name.now }
 {
@@ -32,7 +32,7 @@ pub(crate) fn is_key_of(keys: &[Key], member: &Name, name: &Name) -> bool
         .any(|key| key.name == *name)
 }
 
-/// Returns the number of persons who booked the slot.
+/// Returns the number of persons in the bookings of the slot.
 pub(crate) fn persons_in(bookings: &[Booking], slot: &Slot) -> u32
     requires { sums.taken_in slot.now bookings.now < 2 ^ 32 }
     ensures { result ≡ sums.taken_in slot.now bookings.now }
@@ -44,7 +44,8 @@ pub(crate) fn persons_in(bookings: &[Booking], slot: &Slot) -> u32
         .sum()
 }
 
-/// Returns the highest number of persons in any slot of the facility; 0 if it has no booking.
+/// Returns the highest number of persons in any slot of the facility. Returns 0 if the facility has
+/// no booking.
 pub(crate) fn most_persons_at(bookings: &[Booking], facility: &Name) -> u32
     requires { (slot : SlotRow) → sums.taken_in slot bookings.now < 2 ^ 32 }
     ensures { result ≡ sums.most_taken_in facility.now bookings.now }
@@ -58,7 +59,7 @@ pub(crate) fn most_persons_at(bookings: &[Booking], facility: &Name) -> u32
         )
 }
 
-/// Returns the points that the key has spent, summed over the member's bookings.
+/// Returns the points that the key has spent on the member's bookings.
 pub(crate) fn spent(keys: &[Key], bookings: &[Booking], member: &Name, name: &Name) -> u64
     requires { sums.spent_under name.now (own_bookings keys.now member.now bookings.now) < 2 ^ 64 }
     ensures { result ≡ sums.spent_under name.now (own_bookings keys.now member.now bookings.now) }
@@ -85,7 +86,7 @@ fn left_of(keys: &[Key], bookings: &[Booking], member: &Member) -> u32
         )
 }
 
-/// Returns the member's balance: the points credited minus what its bookings cost.
+/// Returns the member's balance, which is the credit minus the cost of the member's bookings.
 pub(crate) fn balance(keys: &[Key], bookings: &[Booking], member: &Member) -> u32
     ensures { result ≡ sums.balance_of member.now
         (own_bookings keys.now member.now.name bookings.now) }
@@ -93,7 +94,8 @@ pub(crate) fn balance(keys: &[Key], bookings: &[Booking], member: &Member) -> u3
     left_of(keys, bookings, member)
 }
 
-/// Returns the number of the member's open bookings, whose slots begin after the moment.
+/// Returns the number of the member's open bookings at this moment. The slot of an open booking
+/// begins after the moment.
 pub(crate) fn open_count(keys: &[Key], bookings: &[Booking], member: &Name, moment: Moment) -> u64
     ensures { result ≡ sums.count_to_come moment (own_bookings keys.now member.now bookings.now) }
 {
@@ -104,7 +106,7 @@ pub(crate) fn open_count(keys: &[Key], bookings: &[Booking], member: &Name, mome
         .count() as u64
 }
 
-/// Returns the booking with this key and number, whoever the key belongs to.
+/// Returns the booking with this key and this number, for any member.
 pub(crate) fn booking_under(
     bookings: &[Booking],
     name: &Name,
@@ -118,7 +120,7 @@ pub(crate) fn booking_under(
         .copied()
 }
 
-/// Returns the member's booking with this key and number.
+/// Returns the member's booking with this key and this number.
 pub(crate) fn recorded_booking(
     keys: &[Key],
     bookings: &[Booking],

@@ -1,4 +1,5 @@
-//! The views of requests and commands: the rows and sums that decide them.
+//! The views of requests and commands. A view contains the rows and sums that the rules need for
+//! their decision.
 
 ghost use Rattle.std.specs.Prelude.{◌≡◌, ◌≤◌, IfSome, option_map};
 ghost use Rattle.club_core.specs.Office.{rows_seen};
@@ -34,7 +35,7 @@ impl Club {
     ghost use Rattle.club_core.specs.{Basis.slot_use_by, Office.command_view};
     ghost use Rattle.club_reference.specs.computed.Words.{words_model};
 
-    /// Returns the number of persons in a slot, and whether the slot is closed. Without a slot, the
+    /// Returns the number of persons in a slot, and if the slot is closed. Without a slot, the
     /// number is 0 and the slot isn't closed.
     fn slot_use(&self, slot: Option<Slot>) -> SlotUse
         ensures value { result ≡ slot_use_by self.now.bookings self.now slot }
@@ -52,7 +53,7 @@ impl Club {
         }
     }
 
-    /// Returns the view of a request under a key; `None` if the key's member doesn't exist.
+    /// Returns the view of a request under a key. Returns `None` if the key's member doesn't exist.
     #[tactic(auto, using(crate::proofs::WidthLemmas::sum_filtered_le))]
     fn view_of(&self, key: &Key, request: &Request, moment: Moment) -> Option<KeyView>
         ensures few { IfSome result (λ seen. seen.view.taken ≤ 50) }
@@ -84,8 +85,8 @@ impl Club {
         Some(KeyView { key: *key, view })
     }
 
-    /// Returns the view of a request under the key that its pass names; `None` if there is no such
-    /// key.
+    /// Returns the view of a request under the key that the pass names. Returns `None` if there is
+    /// no such key.
     pub(crate) fn view_for(&self, words: &Words, moment: Moment) -> Option<KeyView>
         ensures value { result
             ≡ option_map (seen_of words.now.request moment)
@@ -99,7 +100,7 @@ impl Club {
         }
     }
 
-    /// Returns the member with this name and its balance.
+    /// Returns the member with this name, and the member's balance.
     fn account_named(&self, name: &Name) -> Option<MemberAccount>
         ensures { result ≡ account_named name.now self.now }
     {
@@ -110,7 +111,8 @@ impl Club {
         })
     }
 
-    /// Returns the view of a command: the rows that the command names, and the sums that decide it.
+    /// Returns the view of a command. The view contains the rows that the command names, and the
+    /// sums that the rules need for their decision.
     pub(crate) fn command_view(&self, command: &Command) -> CommandView
         ensures { result ≡ command_view self.now command.now }
     {

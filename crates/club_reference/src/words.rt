@@ -9,19 +9,19 @@ use club_rows::{Key, Root};
 use club_values::{Moment, Name};
 use pass_caveats::{Ask, CaveatFault, first_fault};
 
-/// A parsed pass, reduced to what the club's rules read.
+/// The parts of a parsed pass that the club's rules read.
 #[derive(Drop)]
 pub struct Pass {
-    /// The name of the key in the identifier; `None` if the identifier names no key.
+    /// The name of the key in the identifier. It is `None` if the identifier names no key.
     pub key: Option<Name>,
-    /// The texts of the caveats, in the order of the pass.
+    /// The texts of the caveats, in the order in the pass.
     pub caveats: Vec<Vec<u8>>,
     /// The roots under which the pass is signed.
     pub roots: Vec<Root>,
 }
 
-/// A request with its parsed pass, or with the reason why the text isn't a pass. The form in which
-/// the pass was written isn't included.
+/// A request with its parsed pass. If the text isn't a pass, the value contains the fault instead
+/// of the pass. The form of the pass isn't included.
 #[derive(Drop)]
 pub struct Words {
     pub pass: Result<Pass, PassFault>,
@@ -33,14 +33,14 @@ impl Pass {
     ghost use Rattle.club_core.specs.Pass.{is_signed_under};
     ghost use Rattle.club_reference.specs.computed.Words.{pass_model};
 
-    /// Returns whether the pass is signed under this root.
+    /// Returns true if the pass is signed under this root.
     fn is_signed(&self, root: &Root) -> bool
         ensures { result ≡ (pass_model self.now).is_signed root.now }
     {
         self.roots.iter().any(|signing| *signing == *root)
     }
 
-    /// Returns whether the pass is signed under a root of the key that is valid at the moment.
+    /// Returns true if the pass is signed under a root of the key that is valid at the moment.
     pub fn is_signed_under(&self, key: &Key, moment: Moment) -> bool
         ensures { result ≡ is_signed_under (pass_model self.now) key.now moment }
     {
@@ -53,7 +53,7 @@ impl Pass {
         }
     }
 
-    /// Returns the first caveat that isn't understood or doesn't allow the request.
+    /// Returns the first caveat that isn't understood or that denies the request.
     pub fn first_fault(&self, ask: &Ask) -> Option<CaveatFault>
         ensures { result ≡ first_fault_of (pass_model self.now).caveats ask.now }
     {
@@ -66,8 +66,8 @@ impl Words {
     ghost use Rattle.club_reference.specs.Words.{IsModelOf, answer_seen};
     ghost use Rattle.club_reference.specs.computed.Words.{words_model};
 
-    /// Returns the name of the key in the pass; `None` if the text isn't a pass or its identifier
-    /// names no key.
+    /// Returns the name of the key in the pass. Returns `None` if the text isn't a pass, or if its
+    /// identifier names no key.
     pub fn key(&self) -> Option<Name>
         ensures { result ≡ key_of (words_model self.now).pass }
     {
@@ -77,8 +77,8 @@ impl Words {
         }
     }
 
-    /// Returns the answer and its change, from the view of the key that the pass names. `seen` is
-    /// `None` if the club has no such key.
+    /// Returns the answer and the change of the request. `seen` is the view of the key that the
+    /// pass names, or `None` if the club has no such key.
     pub fn answer(&self, seen: Option<&KeyView>, moment: Moment) -> Verdict
         ensures { (model : rules.Words) × IsModelOf self.now model
             × (result ≡ answer_seen model.pass model.request moment (option_copied seen.entry)) }
@@ -87,7 +87,8 @@ impl Words {
         self.verdict(seen, moment)
     }
 
-    /// Returns the answer; the contract states it with the computed model of the words.
+    /// Returns the answer. The contract describes the answer through the computed model of the
+    /// words.
     pub(crate) fn verdict(&self, seen: Option<&KeyView>, moment: Moment) -> Verdict
         ensures { result
             ≡ answer_seen (words_model self.now).pass self.now.request moment

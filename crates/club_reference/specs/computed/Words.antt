@@ -1,10 +1,12 @@
--- Computes the model of the code's words. `IsModelOf` defines the model, and a law states that both agree.
+-- Computes the model of the code's words. `IsModelOf` defines the model, and a law states that the
+-- computed model agrees with `IsModelOf`.
 use Rattle.std.specs.{List.list_any, Prelude.{map, Result, Ok, Err}, Str.bytes_eq, Vec.vec_items}
 use Rattle.pass_caveats.specs.computed.CaveatOf.{caveat_of}
 use Rattle.club_core.specs.{Pass.{Pass, Words}, declared.pass_fault.PassFault.PassFault}
 use Rattle.club_reference.specs.declared.words.{Pass.Pass as PassInCode, Words.Words as WordsInCode}
 
--- caveats are parsed from their texts, and the listed roots sign the pass
+-- The model of a pass. It contains the parsed caveats, and a root signs it if the root is in the
+-- pass's list of roots.
 abbrev pub pass_model : PassInCode → Pass
 pass_model pass = record {
   key = pass.key;

@@ -4,7 +4,7 @@ use Rattle.club_core.specs.{After.{after, cancelled_booking}, Club.Club, declare
 use Rattle.club_reference.specs.{Rows.rows_of, Widths.FitsWidths}
 use Rattle.club_reference.proofs.club.Club.apply.Goals as goal
 
--- the vector has the bookings as they are after the cancellation
+-- The vector contains the bookings after the cancellation.
 pub invariant_of-self-in-MarkCancelled : goal.invariant_of-self-in-MarkCancelled
 invariant_of-self-in-MarkCancelled c =
     let inside = c.self.inside in
