@@ -1,4 +1,4 @@
--- In each form, the fields of a pass together have at most as many bytes as the encoded pass.
+-- Lemmas for the proof that the fields of a pass have at most as many bytes as the encoded pass.
 use Rattle.std.proofs.Common.{◌≡◌, ℕ, ◌+◌, ◌*◌, ◌/◌, ◌≤◌, ◌⊎◌, inl, inr, List, [], ◌∷◌, ◌++◌, codes, length, map, Option, Some, None, unwrap_or, false}
 use Rattle.std.proofs.{Common.{if◌then◌else◌, replicate, refl, sym, ◌∙◌, ap, arith, is_eq, bytes_eq}, lemmas.{Bool.{true≢false}, List.length-append}}
 use Rattle.std.proofs.lemmas.{List.Sums.sum_by-cons, Map.Text.is_eq-slice_cmp, Slice.Eq.bytes_eq-Decides}
@@ -12,8 +12,6 @@ use Rattle.pass_forms.specs.V2.{SpellsV2, field, caveat_section, optional_field}
 use Rattle.pass_json.specs.Json.{AreCaveats, IsCaveatList, IsCaveatObject, IsField, IsPass, SpellsJson}
 use Rattle.pass_c.proofs.{JsonBytes.{data_bytes, items_bytes, read_fits}, MemberBytes.{Apart, bytes_at, found_bytes, one_value, three_values}}
 use Rattle.pass_c.specs.Laws.{fields_len}
-
--- ---- base64
 
 encoded : (e : GeneralPurpose) (bytes : List ℕ) → length bytes ≤ length (encode_of e bytes)
 encoded e bytes =
@@ -35,8 +33,6 @@ base64_fits text bytes is =
         ]
       ]
     ]
-
--- ---- JSON
 
 field_fits : (plain base64 : List ℕ) (value : Data) (bytes : List ℕ) → IsField plain base64 value (Some bytes)
     → (length bytes ≤ bytes_at plain value) ⊎ (length bytes ≤ bytes_at base64 value)
@@ -125,8 +121,6 @@ json_fits bytes pass is =
         )
       ]
     ]
-
--- ---- V1 and V2
 
 packets_fit : (caveats : List (List ℕ)) → sum_by length caveats ≤ length (flat_map caveat_packets (map widened_caveat caveats))
 packets_fit [] = omega arith

@@ -1,4 +1,4 @@
--- The pass that an object represents after bytes were written to the object.
+-- Lemmas about writing fields and caveats to an object.
 use Rattle.std.proofs.Common.{◌≡◌, ℕ, ◌+◌, ◌≤◌, ◌<◌, suc, List, [], ◌∷◌, ◌++◌, length, take, drop, set, map, get_or, Vec, ap, sym, ◌∙◌, arith}
 use Rattle.std.proofs.{Math.Seq.take-suc-set, lemmas.{Grind.{common_steps, take_at_read}, List.{length-drop, length-append, length-map, length-take}}}
 use Rattle.std.specs.{List.sum, Vec.vec_items}
@@ -14,7 +14,6 @@ pub same_pass : (l l' i i' : List ℕ) (c c' : List (List ℕ)) (s : List ℕ) �
 same_pass l l' i i' c c' s e f g =
     ap (λ (x : List ℕ). pass_of x i c s) e ∙ ap (λ (x : List ℕ). pass_of l' x c s) f ∙ ap (λ (x : List (List ℕ)). pass_of l' i' x s) g
 
--- The object's bytes after a location and then an identifier were written.
 pub started : (location identifier bytes : List ℕ) → length location + length identifier ≤ length bytes
     → (take (length location) (written (length location) identifier (written 0 location bytes)) ≡ location)
     × (take (length identifier) (drop (length location) (written (length location) identifier (written 0 location bytes))) ≡ identifier)
@@ -28,7 +27,6 @@ started location identifier bytes low =
       part_in (length location) identifier first len,
     )
 
--- The object's bytes after a caveat was written after all other fields.
 pub pushed : (ll il : ℕ) (lens part bytes : List ℕ) → ll + (il + sum lens) + length part ≤ length bytes
     → (take ll (written (ll + (il + sum lens)) part bytes) ≡ take ll bytes)
     × ((take il (drop ll (written (ll + (il + sum lens)) part bytes)) ≡ take il (drop ll bytes))
@@ -48,7 +46,6 @@ pushed ll il lens part bytes low =
       ),
     )
 
--- The pass of an object with fewer than 64 caveats, after another caveat was written.
 pub held_push : (o : PassObject) (part bytes : List ℕ) (count tot : ℕ) → count ≡ length (take o.caveat_count o.caveat_lens) → count < 64
     → length o.caveat_lens ≡ 64 → length o.bytes ≡ 8192 → tot ≡ sum (take o.caveat_count o.caveat_lens)
     → o.location_len + o.identifier_len + tot + length part ≤ 8192 → bytes ≡ written (o.location_len + o.identifier_len + tot) part o.bytes
@@ -70,7 +67,6 @@ held_push o part bytes count tot counted few lens whole summed low is =
     ∙ ap (λ (b : List ℕ). pieces_of (take o.caveat_count o.caveat_lens ++ length part ∷ []) (drop o.identifier_len (drop o.location_len b))) there
     ∙ all.1.1)
 
--- The pass of an object without caveats, after its location and its identifier were written.
 pub held_start : (form count : ℕ) (location identifier lens signature old first bytes : List ℕ) → count ≡ 0 → length old ≡ 8192
     → length location + length identifier ≤ 8192 → first ≡ written 0 location old → bytes ≡ written (length location) identifier first
     → held (record {
@@ -89,7 +85,6 @@ held_start form count location identifier lens signature old first bytes none wh
     (ap (λ (b : List ℕ). take (length identifier) (drop (length location) b)) there ∙ both.1)
     (ap (λ (n : ℕ). pieces_of (take n lens) (drop (length identifier) (drop (length location) bytes))) none)
 
--- The first `i + 1` caveats are the first `i` caveats and the next one.
 pub next_caveat : {Z : Type 0} (vs : List (Vec ℕ Z)) (caveats : List (List ℕ)) (i : ℕ) (v : Vec ℕ Z) (text : List ℕ)
     → map vec_items vs ≡ caveats → i < length vs → v ≡ get_or vs i v → text ≡ vec_items v → take (i + 1) caveats ≡ take i caveats ++ text ∷ []
 next_caveat vs caveats i v text same low at is =

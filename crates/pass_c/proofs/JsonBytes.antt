@@ -1,4 +1,5 @@
--- The strings in a JSON value together have at most as many bytes as the JSON text of the value.
+-- Lemmas for the proof that the strings of a JSON value have at most as many bytes as the JSON
+-- text.
 use Rattle.std.proofs.Common.{◌≡◌, ℕ, zero, suc, ◌+◌, ◌≤◌, List, [], ◌∷◌, length, Option, Some, None, option_map, option_and_then, refl, subst, arith}
 use Rattle.std.specs.{Cmp.Lexicographic.slice_cmp, Ordering.{nat_cmp, match_ordering}, Prelude.{⊤}, declared.cmp.Ordering.Ordering}
 use Rattle.std.specs.declared.cmp.Ordering.TheVariants.{Less, Equal, Greater}
@@ -25,8 +26,6 @@ abbrev mutual
   json_members_bytes : json.Members → ℕ
   json_members_bytes json.no_members = 0
   json_members_bytes (json.member k j ms) = json_bytes j + json_members_bytes ms
-
--- ---- the grammar over tokens
 
 abbrev Within : {A : Type 0} → (A → ℕ) → ℕ → Option (A × List Token) → Type 0
 Within f n None = ⊤
@@ -125,8 +124,6 @@ value_uses zero = one_level (λ ts. None) (λ ts. None) (λ ts. tt) (λ ts. tt)
 value_uses (suc d) =
     one_level (λ ts. items (value d) (length ts) ts) (λ ts. members (value d) (length ts) ts) (λ ts. items_use (value d) (value_uses d) (length ts) ts)
     (λ ts. members_use (value d) (value_uses d) (length ts) ts)
-
--- ---- values of `serde_json`
 
 abbrev mutual
   pub data_bytes : Data → ℕ

@@ -1,4 +1,4 @@
--- The strings under different names of an object together have at most as many bytes as all strings in the object.
+-- Lemmas about the number of bytes in the strings of a JSON object.
 use Rattle.std.proofs.Common.{◌≡◌, ℕ, ◌+◌, ◌≤◌, ◌⊎◌, inl, inr, List, [], ◌∷◌, length, Option, Some, None, refl, ap, arith}
 use Rattle.std.specs.{Cmp.Lexicographic.slice_cmp, Ordering.{nat_cmp, match_ordering}, declared.cmp.Ordering.{Ordering, TheVariants.{Less, Equal, Greater}}}
 use Rattle.serde_json.specs.Data.{Data, null, boolean, number, string, array, object, Items, no_items, item, Members, no_members, member}
@@ -9,15 +9,14 @@ abbrev pub found_bytes : Option Data → ℕ
 found_bytes None = 0
 found_bytes (Some d) = data_bytes d
 
--- The number of bytes in the value under a name, or 0 if there is none.
+-- The number of bytes in the value with this name, or 0 if there is no such value.
 abbrev pub bytes_at : List ℕ → Data → ℕ
 bytes_at k value = found_bytes (get k value)
 
--- The two names differ: no text equals both.
+-- The two names are different.
 abbrev pub Apart : List ℕ → List ℕ → Type 0
 Apart k l = (name : List ℕ) → slice_cmp nat_cmp k name ≡ Equal → slice_cmp nat_cmp l name ≡ Equal → ⊥
 
--- A lookup in an object finds this member's value, or the value among the other members.
 here_or_there : (o : Ordering) (e : Data) (rest : Option Data)
     → ((o ≡ Equal) × (found_bytes (match_ordering o rest (Some e) rest) ≡ data_bytes e))
     ⊎ (found_bytes (match_ordering o rest (Some e) rest) ≡ found_bytes rest)

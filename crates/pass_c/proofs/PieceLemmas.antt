@@ -1,4 +1,4 @@
--- Pieces of bytes: their number, and the effect of writing one more piece after them.
+-- Lemmas about splitting bytes into pieces and writing pieces.
 use Rattle.std.proofs.Common.{◌≡◌, ℕ, ◌+◌, ◌≤◌, List, [], ◌∷◌, ◌++◌, length, take, drop, refl, ap, sym, suc, ◌∙◌, arith}
 use Rattle.std.proofs.lemmas.List.{take_at, drop_at, length-take-le, take-append-le, drop-append-le, take-take, drop-take, drop-drop, length-drop}
 use Rattle.std.proofs.lemmas.List.Sums.{sum_by-cons}
@@ -9,7 +9,7 @@ pub length_pieces : (lens bytes : List ℕ) → length (pieces_of lens bytes) �
 length_pieces [] bytes = refl
 length_pieces (len ∷ lens) bytes = ap suc (length_pieces lens (drop len bytes))
 
--- The bytes after a part was written over them, from index `place` on.
+-- The bytes after overwriting them with a part from index `place`.
 abbrev pub written : ℕ → List ℕ → List ℕ → List ℕ
 written place part bytes = take place bytes ++ (part ++ drop (place + length part) bytes)
 
@@ -33,7 +33,6 @@ drop_before k p part bytes low =
     ∙ ap (λ (front : List ℕ). front ++ (part ++ drop (k + p + length part) bytes)) (drop-take k p bytes)
     ∙ ap (λ (back : List ℕ). take p (drop k bytes) ++ (part ++ back)) rest
 
--- After one more piece is written, it is the last piece of the bytes.
 pub one_more_piece : (lens : List ℕ) (part bytes : List ℕ) → sum lens + length part ≤ length bytes
     → pieces_of (lens ++ length part ∷ []) (written (sum lens) part bytes) ≡ pieces_of lens bytes ++ part ∷ []
 one_more_piece [] part bytes low = ap (λ (piece : List ℕ). piece ∷ []) (part_in 0 part bytes (omega arith))

@@ -1,4 +1,4 @@
--- A pass that a text encodes has room in an object.
+-- Proof of the law that an object has room for every readable pass.
 use Rattle.std.proofs.Common.{◌≡◌, ℕ, ◌≤◌, ◌⊎◌, inl, inr, List, length, Ok, ap, arith}
 use Rattle.pass_forms.specs.{Envelope.Wraps, Pass.{Plain, as_wide_pass}, declared.form.Form.{Form, TheVariants.{V1, V2, Json}}}
 use Rattle.pass_json.specs.AnyForm.{IsAnyReading, SpellsForm}

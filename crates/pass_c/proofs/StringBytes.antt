@@ -1,4 +1,4 @@
--- The content of a JSON string has at most as many bytes as the string's source.
+-- Lemmas for the proof that a JSON string has at most as many bytes as its source.
 use Rattle.std.proofs.Common.{◌≡◌, ℕ, ◌+◌, ◌≤◌, Bool, true, false, cond, ◌&&◌, ◌==◌, nat_lt, List, [], ◌∷◌, length, Option, Some, None, option_and_then, refl}
 use Rattle.std.proofs.{Common.{sym, ap, ◌∙◌, arith}, lemmas.{Bool.{false≢true, eqb-true, and_parts}, List.length-append}}
 use Rattle.std.specs.{Char.{is_digit, encode_utf8}, Prelude.{⊤}}

@@ -1,4 +1,4 @@
--- The strings in the tokens of JSON text together have at most as many bytes as the text.
+-- Lemmas for the proof that the strings in JSON tokens have at most as many bytes as the JSON text.
 use Rattle.std.proofs.Common.{◌≡◌, ℕ, suc, ◌+◌, ◌-◌, ◌≤◌, Bool, true, false, cond, ◌==◌, ◌&&◌, nat_eq, List, [], ◌∷◌, length, take, drop, Option, Some, None}
 use Rattle.std.proofs.Common.{refl, arith}
 use Rattle.std.specs.List.{starts_with}
@@ -32,8 +32,6 @@ lexeme_bytes colon = 0
 abbrev lexemes_bytes : List Lexeme → ℕ
 lexemes_bytes [] = 0
 lexemes_bytes (l ∷ ls) = lexeme_bytes l + lexemes_bytes ls
-
--- ---- the lexer
 
 one_of : (b : Bool) (x y : Token) → token_bytes x ≡ 0 → token_bytes y ≡ 0 → token_bytes (cond b x y) ≡ 0
 one_of true x y e f = e
@@ -100,8 +98,6 @@ lexed : (m : Mode) (xs : List ℕ) → lexemes_bytes (lex m xs) + span m xs ≤ 
 unfolding lex span
 lexed m [] = omega arith
 lexed m (x ∷ xs) = lex_step m (class x) x xs (λ next. lexed next xs)
-
--- ---- commas and colons
 
 allowed : (b : Bool) (t : Token) (k : Place → List Token) (next : Place) (n : ℕ) → tokens_bytes (k next) ≤ n
     → tokens_bytes (if_allowed b t k next) ≤ token_bytes t + n

@@ -1,4 +1,4 @@
--- An ask as an object of plain numbers (ours).
+-- Defines the ask that an object of plain numbers represents.
 use Rattle.std.specs.{Int.is_in_range, Prelude.{◌≡◌, ℕ, ◌==◌, if◌then◌else◌, take, List, Option, None, Some, ◌≤◌, MatchOption, option_and_then, option_map}}
 use Rattle.club_values.specs.{Day.{first_day, last_day}, Moment.{first_moment, last_moment}, Name.{IsName, max_name_len}, Reading.Reads}
 use Rattle.club_values.specs.declared.{action.Action.{Action, TheVariants.{View, Book, Cancel, Account}}, kind.Kind.{Kind, TheVariants.{Court, Boat, Room}}}
@@ -6,15 +6,16 @@ use Rattle.club_values.specs.declared.slot.Slot.{Slot}
 use Rattle.pass_caveats.specs.{Fault.IsFirstFault, declared.{ask.Ask.Ask, fault.CaveatFault.{CaveatFault, TheVariants.{NotUnderstood, Denied}}}}
 use Rattle.pass_c.specs.{Code.{ok_code, bad_ask_code, not_understood_code, denied_code}, declared.ask.AskObject.AskObject}
 
--- The action with this number, if there is one.
+-- The action with this number, or `None` if no action has this number.
 abbrev pub action_of : ℕ → Option Action
 action_of n = if n == 1 then Some View else if n == 2 then Some Book else if n == 3 then Some Cancel else if n == 4 then Some Account else None
 
--- The kind with this number, if there is one. The number 0 means that the kind is unknown.
+-- The kind with this number, or `None` if the number is invalid. The number 0 means that the kind
+-- is unknown.
 abbrev pub kind_of : ℕ → Option (Option Kind)
 kind_of n = if n == 0 then Some None else if n == 1 then Some (Some Court) else if n == 2 then Some (Some Boat) else if n == 3 then Some (Some Room) else None
 
--- The number, if it is within the bounds `low` and `high`.
+-- The number, or `None` if it is outside the bounds `low` and `high`.
 abbrev pub number_within : ℕ → ℕ → ℕ → Option ℕ
 number_within low high n = if is_in_range low high n then Some n else None
 
@@ -32,11 +33,12 @@ slot_in_parts object facility =
     (number_within first_day last_day object.day))
     facility
 
--- The slot at this facility. `Some None` means an ask without a slot; `None` means that a value is out of range.
+-- The slot at this facility. `Some None` means that the ask has no slot. `None` means that a value
+-- is out of range.
 abbrev pub slot_within : AskObject → Option (List ℕ) → Option (Option Slot)
 slot_within object facility = if object.facility_len == 0 then Some None else slot_in_parts object facility
 
--- The ask of an object whose facility has this name, if each value is within its range.
+-- The ask of an object whose facility has this name, or `None` if a value is out of range.
 abbrev pub ask_at : AskObject → Option (List ℕ) → Option Ask
 ask_at object facility =
     option_and_then (λ action.
@@ -56,13 +58,13 @@ ask_at object facility =
     (slot_within object facility))
     (action_of object.action)
 
--- The ask that an object represents, or `None` if a value is outside its range.
+-- The ask that an object represents, or `None` if a value is out of range.
 pub record IsAskOf (object : AskObject) (ask : Option Ask) : Type 0 where
   pub facility : Option (List ℕ)
   pub named : IsFacilityNamed object facility
   pub values : ask ≡ ask_at object facility
 
--- The code of the first fault, or of success if there is none.
+-- The code of a fault. Without a fault, it is the code of success.
 abbrev pub verdict_code : Option CaveatFault → ℕ
 verdict_code None = ok_code
 verdict_code (Some (NotUnderstood n)) = not_understood_code
@@ -73,14 +75,15 @@ verdict_number None = 0
 verdict_number (Some (NotUnderstood n)) = n
 verdict_number (Some (Denied n)) = n
 
--- The code and the caveat's number are those of the first fault in a list of caveats.
+-- The code and the number describe the first fault in a list of caveats.
 pub record IsFaultReported (caveats : List (List ℕ)) (ask : Ask) (code number : ℕ) : Type 0 where
   pub fault : Option CaveatFault
   pub first : IsFirstFault caveats ask fault
   pub fault_code : code ≡ verdict_code fault
   pub fault_number : number ≡ verdict_number fault
 
--- The code and the number for an object: the first fault of the caveats for its ask, or the code for an invalid ask.
+-- The code and the number describe the first fault that the caveats have for an object's ask. If
+-- the ask is invalid, the code is `bad_ask_code` and the number is 0.
 pub record Answers (caveats : List (List ℕ)) (object : AskObject) (code number : ℕ) : Type 0 where
   pub ask : Option Ask
   pub is_ask : IsAskOf object ask

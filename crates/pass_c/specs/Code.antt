@@ -1,4 +1,4 @@
--- The numbers of forms and faults in C, as in `include/clubpass.h` (ours).
+-- Defines the numbers of forms and faults in C, as in `include/clubpass.h`.
 use Rattle.std.specs.Prelude.{ℕ, if◌then◌else◌, ◌==◌, Result, Ok, Err}
 use Rattle.pass_forms.specs.declared.{fault.FormFault.{FormFault, TheVariants.{TooLong, Malformed, ThirdParty, TooMany, Memory}}, form.Form.Form}
 use Rattle.pass_forms.specs.declared.form.Form.TheVariants.{V1, V2, Json}
@@ -12,11 +12,9 @@ number_of_form V1 = 1
 number_of_form V2 = 2
 number_of_form Json = 3
 
--- The form with this number. Any unknown number counts as V2.
+-- The form with this number. For any unknown number, the form is V2.
 abbrev pub form_with_number : ℕ → Form
 form_with_number n = if n == 1 then V1 else if n == 3 then Json else V2
-
--- ---- the codes that calls return
 
 -- The call succeeded.
 abbrev pub ok_code : ℕ
@@ -67,12 +65,12 @@ fault_code ThirdParty = third_party_code
 fault_code TooMany = too_many_code
 fault_code Memory = memory_code
 
--- The code of a call that returns no value: success or a fault.
+-- The code of a call that returns no value. It is the code of success or of a fault.
 abbrev pub code_of : {A : Type 0} → Result A FormFault → ℕ
 code_of (Ok done) = ok_code
 code_of (Err fault) = fault_code fault
 
--- The fault with this code. Any unknown code counts as `Memory`.
+-- The fault with this code. For any unknown code, the fault is `Memory`.
 abbrev pub fault_with_code : ℕ → FormFault
 fault_with_code n =
     if n == too_long_code then TooLong

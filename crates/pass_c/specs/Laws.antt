@@ -1,13 +1,13 @@
--- Laws of the definitions.
+-- States the laws of the definitions.
 use Rattle.std.specs.{List.sum_by, Prelude.{ℕ, ◌+◌, ◌≤◌, List, length, Ok}}
 use Rattle.pass_forms.specs.{Pass.Plain, declared.form.Form.Form}
 use Rattle.pass_json.specs.AnyForm.{IsAnyReading}
 use Rattle.pass_c.specs.Object.{room}
 
--- The number of bytes that the fields of a pass take in an object.
+-- The number of bytes that the fields of a pass need in an object.
 abbrev pub fields_len : Plain → ℕ
 fields_len pass = length pass.location + length pass.identifier + sum_by length pass.caveats
 
--- A pass that a text encodes in any form has room in an object.
+-- An object has room for every pass that a text encodes in any form.
 abbrev pub ReadablePassesFit : Type 0
 ReadablePassesFit = (text : List ℕ) (form : Form) (pass : Plain) → IsAnyReading text (Ok (form, pass)) → fields_len pass ≤ room

@@ -1,14 +1,15 @@
--- The pass that an object of plain data represents (ours).
+-- Defines the pass that an object of plain data represents.
 use Rattle.std.specs.Prelude.{◌≡◌, ℕ, ◌+◌, nat_le, if◌then◌else◌, List, [], ◌∷◌, ◌++◌, take, drop, sum, Result, Ok, Err}
 use Rattle.pass_forms.specs.{FieldSource.no_fields, Pass.Plain, declared.{fault.FormFault.FormFault, form.Form.Form}}
 use Rattle.pass_c.specs.{Code.{form_with_number, memory_code, no_form_number, ok_code}, declared.object.PassObject.PassObject}
 
--- The pieces that bytes are split into, one after another, by these lengths.
+-- The pieces of the bytes with these lengths, from left to right.
 abbrev pub pieces_of : List ℕ → List ℕ → List (List ℕ)
 pieces_of [] bytes = []
 pieces_of (len ∷ lens) bytes = take len bytes ∷ pieces_of lens (drop len bytes)
 
--- The pass of an object. Its location, its identifier and its caveats follow one another in the bytes.
+-- The pass that an object represents. The object's bytes contain the location, the identifier and
+-- the caveats in this order.
 abbrev pub held : PassObject → Plain
 held object = record {
   location = take object.location_len object.bytes;
@@ -17,32 +18,32 @@ held object = record {
   signature = object.signature;
 }
 
--- The form of the text that the object was read from.
+-- The form of the text from which the object was read.
 abbrev pub form_in : PassObject → Form
 form_in object = form_with_number object.form
 
--- The result of a call that fills an object: the object's new form and pass, or the fault.
+-- The result of a call that fills an object. It is the object's new form and pass, or the fault.
 abbrev pub filled : Result (Unit {0}) FormFault → PassObject → Result (Form × Plain) FormFault
 filled (Ok done) object = Ok (form_in object, held object)
 filled (Err fault) object = Err fault
 
--- The maximum number of bytes of an object's location, identifier and caveats together.
+-- The most bytes that an object's location, identifier and caveats can have together.
 abbrev pub room : ℕ
 room = 8192
 
--- The number of bytes that the location, the identifier and the caveats of an object take.
+-- The number of bytes in the location, the identifier and the caveats of an object.
 abbrev pub taken : PassObject → ℕ
 taken object = object.location_len + object.identifier_len + sum (take object.caveat_count object.caveat_lens)
 
--- The code for a new pass whose fields have this length together.
+-- The code for a new pass whose fields have `len` bytes together.
 abbrev pub room_code : ℕ → ℕ
 room_code len = if nat_le len room then ok_code else memory_code
 
--- The object is empty: no form, no fields, and a signature of zeros.
+-- The object has no form, no fields, and a signature of zeros.
 pub record IsEmpty (object : PassObject) : Type 0 where
   pub form : object.form ≡ no_form_number
   pub fields : held object ≡ no_fields
 
--- The pass with one more caveat, and with its old signature.
+-- The pass with one more caveat and with its old signature.
 abbrev pub with_one_more : List ℕ → Plain → Plain
 with_one_more caveat pass = record pass { caveats = pass.caveats ++ caveat ∷ [] }

@@ -1,11 +1,12 @@
--- The caller's buffer after a call (ours).
+-- Defines the caller's buffer after a call.
 use Rattle.std.specs.Prelude.{◌≡◌, ◌≢◌, ℕ, ◌<◌, ◌≤◌, List, ◌++◌, length, drop, MatchResult, Result, Ok, Err}
 use Rattle.pass_forms.specs.{Pass.Plain, Writing.IsWritableText, declared.{fault.FormFault.{FormFault, TheVariants.Memory}, form.Form.Form}}
 use Rattle.pass_json.specs.AnyForm.{IsAnyReading, IsRefusedIn, IsTextIn}
 use Rattle.pass_c.specs.Code.{fault_code, no_form_code, number_of_form, ok_code, short_buffer_code}
 
--- A part that fits is written to the front of the buffer, and the rest of the buffer is unchanged.
--- A part that doesn't fit changes nothing. The returned length is the part's length in both cases.
+-- If the part fits into the buffer, the call writes the part to the front of the buffer. The rest
+-- of the buffer is unchanged. If the part doesn't fit, the whole buffer is unchanged. The returned
+-- length is always the part's length.
 pub record IsCopied (part old new : List ℕ) (len code : ℕ) : Type 0 where
   pub fits : length part ≤ length old → (code ≡ ok_code) × (new ≡ part ++ drop (length part) old)
   pub too_short : length old < length part → (code ≡ short_buffer_code) × (new ≡ old)
@@ -17,20 +18,23 @@ pub record IsLeft (why : ℕ) (old new : List ℕ) (len code : ℕ) : Type 0 whe
   pub no_len : len ≡ 0
   pub reason : code ≡ why
 
--- The text of a pass in a form, or the fault of the library's writer. The pass is copied before it
--- is written. So memory may run out for any pass, even one without a text in the form.
+-- The text of a pass in a form, or the fault of the library's writer. The code copies a pass before
+-- it writes the text. For this reason, memory can run out for any pass, even for a pass without a
+-- text in this form.
 abbrev pub IsWrittenAs : Form → Plain → Result (List ℕ) FormFault → Type 0
 IsWrittenAs form pass (Ok text) =
     IsWritableText (IsTextIn form) pass text × IsAnyReading text (Ok (form, pass))
 IsWrittenAs form pass (Err fault) = fault ≢ Memory → IsRefusedIn form pass fault
 
--- The text of the pass in this form was copied to the buffer, or the code says why not.
+-- The buffer contains the text of the pass in this form. If there is no such text, the code is the
+-- fault's code.
 pub record IsTextCopied (form : Form) (pass : Plain) (old new : List ℕ) (len code : ℕ) : Type 0 where
   pub writing : Result (List ℕ) FormFault
   pub written : IsWrittenAs form pass writing
   pub copied : MatchResult writing (λ text. IsCopied text old new len code) (λ fault. IsLeft (fault_code fault) old new len code)
 
--- The text of the pass in the form with this number was copied to the buffer, or the code says why not. A number without a form is refused.
+-- The buffer contains the text of the pass in the form with this number. If no form has this
+-- number, the call fails and the buffer is unchanged.
 pub record WritesForm (number : ℕ) (pass : Plain) (old new : List ℕ) (len code : ℕ) : Type 0 where
   pub known : (form : Form) → number ≡ number_of_form form → IsTextCopied form pass old new len code
   pub unknown : ((form : Form) → number ≢ number_of_form form) → IsLeft no_form_code old new len code

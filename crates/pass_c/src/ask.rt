@@ -14,18 +14,19 @@ pub struct AskObject {
     pub owed: u64,
     /// The points that the key has spent so far.
     pub spent: u64,
-    /// The number of the action: 1 to view, 2 to book, 3 to cancel, 4 for the account.
+    /// The number of the action: 1 for a view, 2 for a booking, 3 for a cancellation, 4 for an
+    /// account.
     pub action: u32,
-    /// The number of the facility's kind: 1 for a court, 2 for a boat, 3 for a room, 0 if the kind
-    /// is unknown.
+    /// The number of the facility's kind: 1 for a court, 2 for a boat, 3 for a room. The number 0
+    /// means that the kind is unknown.
     pub kind: u32,
-    /// The moment of the request, as civil minutes since 1970-01-01T00:00.
+    /// The moment of the request, as minutes since 1970-01-01T00:00 on the club's clock.
     pub moment: u32,
     /// The day of the slot, as days since 1970-01-01.
     pub day: u16,
-    /// The hour of the slot, 0 to 23.
+    /// The hour of the slot, from 0 to 23.
     pub hour: u8,
-    /// The number of guests of a booking, else 0.
+    /// The number of guests of a booking. For other actions, it is 0.
     pub guests: u8,
     /// The length of the facility's name in bytes, or 0 if the ask has no slot.
     pub facility_len: u8,
@@ -36,7 +37,7 @@ impl AskObject {
     ghost use Rattle.std.specs.Prelude.{◌≡◌};
     ghost use Rattle.pass_c.specs.Ask as spec;
 
-    /// Returns the ask, if each value is within its range.
+    /// Returns the ask, or `None` if a value is out of range.
     pub fn to_ask(&self) -> Option<Ask>
         ensures { spec.IsAskOf self.now result }
     {
@@ -61,7 +62,8 @@ impl AskObject {
         })
     }
 
-    // Returns the slot, `Some(None)` if there is none, or `None` if a value is out of range.
+    // Returns the slot, or `None` if a value is out of range. Returns `Some(None)` if the ask has
+    // no slot.
     fn slot(&self, facility: Option<Name>) -> Option<Option<Slot>>
         ensures { result ≡ spec.slot_within self.now facility }
     {

@@ -11,16 +11,16 @@ use pass_forms::{Form, FormFault};
 /// The call succeeded.
 pub const OK: u32 = 0;
 
-/// A text would have more than 8,192 bytes.
+/// The text of the pass would have more than 8,192 bytes.
 pub const TOO_LONG: u32 = 1;
 
 /// The text isn't a pass.
 pub const MALFORMED: u32 = 2;
 
-/// A caveat is a third-party caveat.
+/// The pass has a third-party caveat.
 pub const THIRD_PARTY: u32 = 3;
 
-/// There are more than 64 caveats.
+/// The pass has more than 64 caveats.
 pub const TOO_MANY: u32 = 4;
 
 /// Memory ran out, or the object has no room for the pass.
@@ -76,7 +76,7 @@ pub fn form_of(number: u32) -> Option<Form>
     }
 }
 
-/// Returns the code of a fault, 1 to 5.
+/// Returns the code of a fault, from 1 to 5.
 pub fn fault_code(fault: FormFault) -> u32
     ensures { result ≡ spec.fault_code fault }
 {
@@ -89,7 +89,7 @@ pub fn fault_code(fault: FormFault) -> u32
     }
 }
 
-/// Returns the code of a call that returns no value: success or a fault.
+/// Returns the code of a call that returns no value. It is the code of success or of a fault.
 pub fn code_of(ended: Result<(), FormFault>) -> u32
     ensures code { result ≡ spec.code_of ended }
     ensures back { spec.result_of result ≡ ended }
@@ -100,8 +100,8 @@ pub fn code_of(ended: Result<(), FormFault>) -> u32
     }
 }
 
-/// Returns the code of a list's first fault, and the number of the caveat, counted from 1. Without
-/// a fault, the number is 0.
+/// Returns the code of a fault, and the number of the faulty caveat, counted from 1. Without a
+/// fault, the number is 0.
 pub fn verdict_of(fault: Option<CaveatFault>) -> (u32, usize)
     ensures code { result.0 ≡ verdict_code fault }
     ensures number { result.1 ≡ verdict_number fault }

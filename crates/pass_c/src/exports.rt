@@ -1,4 +1,5 @@
-//! The exports. C passes a slice as a pointer and a length. `Global` isn't an argument in C.
+//! The functions that C code can call. C code passes a slice as a pointer and a length. The
+//! allocator `Global` isn't an argument in C.
 
 ghost use Rattle.std.specs.Prelude.{◌≡◌, ◌≢◌, ◌↔◌, ◌+◌, ◌<◌, ◌≤◌, ◌⊎◌, ℕ, List, Err, IfOk, IsTrue};
 ghost use Rattle.std.specs.Prelude.{MatchOption, length, slice_get};
@@ -25,7 +26,7 @@ use pass_caveats::laws::reads_what_is_understood;
 use pass_forms::Form;
 use std::alloc::Global;
 
-/// Reads a pass from a text in any form. After a fault, the object is empty.
+/// Reads a pass from a text in any form. If the call fails, the object is empty.
 #[unsafe(no_mangle)]
 pub extern "C" fn clubpass_read(alloc: Global, text: &[u8], pass: &mut PassObject) -> u32
     ensures spelling { UnlessMemory (IsAnyReading text.now) (filled (result_of result) pass.new) }
@@ -39,7 +40,7 @@ pub extern "C" fn clubpass_read(alloc: Global, text: &[u8], pass: &mut PassObjec
     code_of(pass.read(alloc, text))
 }
 
-/// Returns the number of the form that the pass was read from: 1 for V1, 2 for V2, 3 for JSON.
+/// Returns the number of the form from which the pass was read: 1 for V1, 2 for V2, 3 for JSON.
 #[unsafe(no_mangle)]
 pub extern "C" fn clubpass_form(pass: &PassObject) -> u32
     ensures { result ≡ pass.now.form }
@@ -153,7 +154,8 @@ pub extern "C" fn clubpass_mint(
     }
 }
 
-/// Adds a caveat to a pass, and signs it without the root. After a fault, the pass is unchanged.
+/// Adds a caveat to a pass, and signs the caveat without the root. If the call fails, the pass is
+/// unchanged.
 #[unsafe(no_mangle)]
 pub extern "C" fn clubpass_narrow(pass: &mut PassObject, caveat: &[u8]) -> u32
     ensures value { result ≡ ok_code → held pass.new ≡ with_caveat caveat.now (held pass.old) }
@@ -169,7 +171,7 @@ pub extern "C" fn clubpass_narrow(pass: &mut PassObject, caveat: &[u8]) -> u32
     code_of(pass.narrow(caveat))
 }
 
-/// Returns whether a pass is signed under a root.
+/// Returns true if a pass is signed under a root.
 #[unsafe(no_mangle)]
 pub extern "C" fn clubpass_is_signed(pass: &PassObject, root: &[u8]) -> bool
     ensures signed { IsTrue result ↔ IsSigned root.now (held pass.now) }
@@ -196,7 +198,7 @@ pub extern "C" fn clubpass_first_fault(
     code
 }
 
-/// Returns whether a text is a caveat of the caveat language.
+/// Returns true if a text is a caveat of the caveat language.
 #[unsafe(no_mangle)]
 pub extern "C" fn clubpass_is_caveat(text: &[u8]) -> bool
     ensures { IsTrue result ↔ ((caveat : Caveat) × Understood text.now caveat) }

@@ -2,7 +2,7 @@
 
 ghost use Rattle.pass_c.specs.Laws.{ReadablePassesFit};
 
-/// A pass that a text encodes, in any form, has room in an object.
+/// An object has room for every pass that a text encodes in any form.
 pub fn readable_passes_fit()
     ensures { ReadablePassesFit }
 {}

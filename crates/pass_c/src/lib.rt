@@ -1,5 +1,6 @@
-//! Passes for C, and for every language that can call C. The exports work on the caller's buffers
-//! and on one object of plain data. Each export calls a library and repeats its clauses.
+//! Passes for C, and for every language that can call C. The exported functions use the caller's
+//! buffers and one object of plain data. Each function calls a library and repeats the library's
+//! contract.
 #![tactic(auto)]
 
 mod ask;

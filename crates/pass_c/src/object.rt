@@ -9,22 +9,23 @@ use pass_json::{read_any, write_any};
 use pass_mac::{Chain, same};
 use std::alloc::{AllocError, Global};
 
-/// The maximum number of bytes of a pass's location, identifier and caveats together.
+/// The most bytes that a pass's location, identifier and caveats can have together.
 pub const ROOM: usize = 8192;
 
-/// A pass as an object of plain data. C code can store, copy and drop it without a call. Contracts
-/// see its pass as `held`. Any bytes in the object represent some pass.
+/// A pass as an object of plain data. C code can store, copy and drop the object without a call. In
+/// contracts, `held` is the object's pass. Every object represents a pass, whatever its bytes are.
 #[repr(C)]
 #[derive(Drop)]
 pub struct PassObject {
-    /// The number of the form that the pass was read from, or 0 if it wasn't read from a text.
+    /// The number of the form from which the pass was read. It is 0 if the pass wasn't read from a
+    /// text.
     pub form: u32,
     pub location_len: u32,
     pub identifier_len: u32,
     pub caveat_count: u32,
     pub caveat_lens: [u16; MAX_CAVEATS],
     pub signature: [u8; 32],
-    /// The location, the identifier and the caveats, one after another.
+    /// The bytes of the location, the identifier and the caveats, in this order.
     pub bytes: [u8; ROOM],
 }
 
@@ -46,14 +47,14 @@ impl PassObject {
     ghost use Rattle.pass_c.specs.Object.{IsEmpty, filled, form_in, held, room, taken};
     ghost use Rattle.pass_c.specs.Object.{with_one_more};
 
-    /// Returns a hint about where the pass is valid.
+    /// Returns the location, which is a hint about where the pass is valid.
     pub fn location(&self) -> &[u8]
         ensures { result.now ≡ (held self.now).location }
     {
         cut(&self.bytes, self.location_len as usize).0
     }
 
-    // Returns the identifier, and the bytes of the caveats after it.
+    // Returns the identifier, and all bytes after it.
     fn after_location(&self) -> (&[u8], &[u8])
         ensures identifier { result.0.now ≡ (held self.now).identifier }
         ensures others { result.1.now
@@ -96,7 +97,7 @@ impl PassObject {
         piece(self.lens(), self.after_location().1, index)
     }
 
-    /// Empties the object. It then has no form, no fields, and a signature of zeros.
+    /// Empties the object. Afterwards, the object has no form, no fields, and a signature of zeros.
     pub fn clear(&mut self)
         ensures empty { IsEmpty self.new }
         ensures count { self.new.caveat_count ≡ 0 }
@@ -109,7 +110,7 @@ impl PassObject {
         self.signature = [0; 32];
     }
 
-    // Stores a pass without caveats in the object, if its fields have room.
+    // Stores a pass without caveats in the object, if the object has room for its fields.
     fn start(
         &mut self,
         form: Form,
@@ -140,7 +141,7 @@ impl PassObject {
         true
     }
 
-    // Adds a caveat without signing it, if there is room.
+    // Adds a caveat without signing it, if the object has room for the caveat.
     fn push(&mut self, caveat: &[u8]) -> bool
         ensures room { IsTrue result ↔ ((length (held self.old).caveats < max_caveats)
             × (taken self.old + length caveat.now ≤ room)) }
@@ -162,7 +163,7 @@ impl PassObject {
         true
     }
 
-    // Stores this pass in the object, if there is room.
+    // Stores this pass in the object, if the object has room for the pass.
     fn fill(&mut self, form: Form, pass: &Pass) -> Result<(), FormFault>
         ensures value { OnOk result (held self.new ≡ pass.now) }
         ensures form { OnOk result (self.new.form ≡ code.number_of_form form) }
@@ -208,7 +209,7 @@ impl PassObject {
         self.start(Form::V2, location, identifier, &signature)
     }
 
-    /// Adds a caveat and signs it without the root.
+    /// Adds a caveat, and signs the caveat without the root.
     pub fn narrow(&mut self, caveat: &[u8]) -> Result<(), FormFault>
         ensures ok { OnOk result (held self.new ≡ with_caveat caveat.now (held self.old)) }
         ensures signed { OnOk result ((root : List ℕ)
@@ -232,7 +233,7 @@ impl PassObject {
         Ok(())
     }
 
-    /// Returns whether the signature is the one of the identifier and the caveats under this root.
+    /// Returns true if the pass is signed under this root.
     #[tactic(auto, unfolding(pass_forms::specs::computed::Pass::is_signed))]
     pub fn is_signed(&self, root: &[u8]) -> bool
         ensures signed { IsTrue result ↔ IsSigned root.now (held self.now) }
@@ -247,7 +248,7 @@ impl PassObject {
     pub fn first_fault(&self, ask: &Ask) -> Option<CaveatFault>
         ensures { IsFirstFault (held self.now).caveats ask.now result }
     {
-        // These laws say that the code finds the fault that the clause defines.
+        // By these laws, the code finds the fault that the contract defines.
         finds_the_first_fault();
         reads_what_is_understood();
         first_fault_in(self.lens(), self.after_location().1, 1, ask)

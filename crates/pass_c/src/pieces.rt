@@ -12,8 +12,8 @@ use pass_forms::MAX_CAVEATS;
 use pass_mac::Chain;
 use std::alloc::{AllocError, Global};
 
-/// Returns the first `len` bytes, and the bytes after them. If there are fewer than `len`, returns
-/// all bytes and an empty rest.
+/// Returns the first `len` bytes, and the remaining bytes. If there are fewer than `len` bytes, the
+/// first result contains all bytes and the second result is empty.
 pub fn cut(bytes: &[u8], len: usize) -> (&[u8], &[u8])
     ensures first { result.0.now ≡ take len bytes.now }
     ensures others { result.1.now ≡ drop len bytes.now }
@@ -21,7 +21,7 @@ pub fn cut(bytes: &[u8], len: usize) -> (&[u8], &[u8])
     bytes.split_at(len.min(bytes.len()))
 }
 
-/// Overwrites the bytes from index `place` on with a part.
+/// Overwrites the bytes with a part, from index `place`.
 pub fn overwrite(bytes: &mut [u8; ROOM], place: usize, part: &[u8])
     requires { place + length part.now ≤ room }
     ensures { bytes.new
@@ -55,7 +55,7 @@ pub fn piece<'a>(lens: &[u16], bytes: &'a [u8], index: usize) -> Option<&'a [u8]
     }
 }
 
-/// Extends the chain by a caveat for each piece.
+/// Extends the chain of signatures by one caveat for each piece.
 pub fn extended(mut chain: Chain, lens: &[u16], bytes: &[u8]) -> Chain
     ensures { result ≡ extended_signature chain (pieces_of lens.now bytes.now) }
 {
@@ -87,7 +87,8 @@ pub fn copy_pieces(
     copy_pieces(alloc, list, others, rest)
 }
 
-/// Reads the pieces as caveats and returns the first fault. The first piece has this number.
+/// Reads the pieces as caveats, and returns the first fault. `number` is the number of the first
+/// piece.
 pub fn first_fault_in(lens: &[u16], bytes: &[u8], number: usize, ask: &Ask) -> Option<CaveatFault>
     requires { number + length lens.now ≤ 65 }
     ensures { result

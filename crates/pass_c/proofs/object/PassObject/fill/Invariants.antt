@@ -1,4 +1,4 @@
--- The object represents the pass with the caveats that were copied so far.
+-- The object represents the pass with the caveats that the loop has copied so far.
 use Rattle.std.proofs.Common.{◌≡◌, take}
 use Rattle.pass_c.specs.{Code.number_of_form, Object.held}
 use Rattle.pass_c.proofs.object.PassObject.fill.Given as goal

@@ -1,4 +1,4 @@
--- The object can lack room only for a pass that was read.
+-- Proof goals of `PassObject::read`.
 use Rattle.std.proofs.Common.{inl}
 use Rattle.pass_c.proofs.object.PassObject.read.Goals as goal
 
