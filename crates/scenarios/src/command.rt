@@ -1,4 +1,4 @@
-//! Parses commands of the office, and the parts of a line that makes a club.
+//! Parses commands of the office, and the lines that make a club.
 
 use crate::fault::{Fault, needed};
 use crate::known::{Known, name};
@@ -11,7 +11,7 @@ use std::alloc::Global;
 
 const NO_COMMAND: &str = "no command";
 
-/// The words of a line, which are read one after another.
+/// The words of a line. Each call reads the next word.
 #[derive(Drop)]
 pub(crate) struct Values<'a> {
     left: &'a str,
@@ -61,7 +61,7 @@ impl<'a> Values<'a> {
         })
     }
 
-    /// Fails unless every word was read.
+    /// Fails if a word is left.
     pub(crate) fn end(&self) -> Result<(), Fault> {
         if self.left.is_empty() {
             Ok(())
@@ -70,7 +70,7 @@ impl<'a> Values<'a> {
         }
     }
 
-    /// Reads the name of a form, if one is left. Otherwise returns V2.
+    /// Reads the name of a form. If no word is left, returns V2.
     fn form(&mut self) -> Result<Form, Fault> {
         match self.word() {
             "" => Ok(Form::V2),
@@ -79,7 +79,7 @@ impl<'a> Values<'a> {
         }
     }
 
-    /// Returns the command with this name, whose values are the next words.
+    /// Returns the command with this name. The values of the command are the next words.
     fn command(&mut self, known: &Known, word: &str) -> Result<Command, Fault> {
         Ok(match word {
             "add-member" => Command::AddMember {
@@ -143,7 +143,8 @@ impl<'a> Values<'a> {
     }
 }
 
-/// Returns a command of the office, and the form of the pass that a command for a key prints.
+/// Returns a command of the office, and a form. A command for a key prints the key's pass in this
+/// form.
 pub(crate) fn command_of(known: &Known, text: &str) -> Result<(Command, Form), Fault> {
     let mut values = Values::of(text);
     let word = values.word();
@@ -179,7 +180,7 @@ fn push_member(commands: &mut Vec<Command>, text: &str) -> Result<(), Fault> {
     Ok(())
 }
 
-/// Returns the command that makes a facility: `NAME KIND PLACES PRICE OPENS-SHUTS`.
+/// Returns the command that makes a facility. The text is `NAME KIND PLACES PRICE OPENS-SHUTS`.
 fn facility_of(text: &str) -> Result<Command, Fault> {
     let mut values = Values::of(text);
     let name = values.name()?;
@@ -198,7 +199,7 @@ fn facility_of(text: &str) -> Result<Command, Fault> {
     })
 }
 
-/// Returns the part of a key's name before its last `-`, which is the member's name.
+/// Returns the member's name in the name of a key, which is the part before the last `-`.
 fn member_in(key: &str) -> &str {
     match key.rsplit_once('-') {
         Some((member, _)) => member,
@@ -206,8 +207,8 @@ fn member_in(key: &str) -> &str {
     }
 }
 
-/// Returns the command that makes a key. The text is `KEY` or `KEY of MEMBER`, and `under ROOT` may
-/// follow.
+/// Returns the command that makes a key. The text is `KEY` or `KEY of MEMBER`, with an optional
+/// `under ROOT` at the end.
 fn key_of(known: &Known, text: &str) -> Result<Command, Fault> {
     let (text, root) = text.split_once(" under ").unwrap_or((text, "first"));
     let (key, member) = text.split_once(" of ").unwrap_or((text, member_in(text)));

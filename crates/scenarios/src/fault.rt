@@ -1,17 +1,17 @@
-//! The faults that end playing a file early.
+//! The faults that stop playing a file.
 
 use pass_forms::FormFault;
 use std::alloc::{AllocError, AllocFailed};
 use std::fmt;
 
-/// Why playing a file stops at a line.
+/// The reason why playing a file stops at a line.
 #[derive(Debug, Drop)]
 pub(crate) enum Fault {
-    /// The line breaks this rule of the language.
+    /// The line breaks this rule of the scenario language.
     Rule(&'static str),
-    /// The line states the answer `wanted`, but the player's answer is `found`.
+    /// The line states the answer `wanted`, but the player returned the answer `found`.
     Differs { wanted: String, found: String },
-    /// The player failed, for this reason.
+    /// The player failed for this reason.
     Player(&'static str),
     Memory,
 }
@@ -48,7 +48,7 @@ impl From<FormFault> for Fault {
     }
 }
 
-/// Returns the value. If there is none, fails because the line breaks this rule.
+/// Returns the value. If there is no value, fails because the line breaks this rule.
 pub(crate) fn needed<T: Drop>(value: Option<T>, rule: &'static str) -> Result<T, Fault> {
     match value {
         Some(value) => Ok(value),

@@ -1,42 +1,43 @@
-//! The names that the lines of a file have defined so far.
+//! The names that the previous lines of a file have defined.
 
 use crate::fault::{Fault, needed};
 use club_http::{Moment, Name, Root};
 use std::alloc::Global;
 
-/// The name and the bytes of the root that a key gets unless its line names another root.
+/// The name and the bytes of the default root. A key gets this root unless its line names another
+/// root.
 const FIRST: &[u8] = b"first";
 
 const FIRST_ROOT: &[u8] = b"\x00\x11\x22\x33\x44\x55\x66\x77\x88\x99\xaa\xbb\xcc\xdd\xee\xff";
 
-/// A root with a name, which is the name of the root or of a key.
+/// A root and its name. The name can also be the name of a key.
 #[derive(Clone, Copy)]
 struct Named {
     name: Name,
     root: Root,
 }
 
-/// A text with a name, which can replace a pass.
+/// A text and its name. A line can use the text in place of a pass.
 #[derive(Drop)]
 struct NamedText {
     name: Name,
     text: Vec<u8>,
 }
 
-/// The names that the lines of a file have defined so far, and the state of playing the file.
+/// The names that the previous lines of a file have defined, and the state of playing the file.
 #[derive(Drop)]
 pub(crate) struct Known {
     roots: Vec<Named>,
     keys: Vec<Named>,
     texts: Vec<NamedText>,
-    /// The text of the latest line that makes a club.
+    /// The text of the last line that made a club.
     pub(crate) club: String,
     pub(crate) moment: Option<Moment>,
-    /// Whether the next line is stopped by a crash and then repeated.
+    /// True if a crash stops the next line, so that the line is played again.
     pub(crate) crashes: bool,
 }
 
-/// Parses a name, or returns a fault of the line.
+/// Parses a name, or fails with a fault of the line.
 pub(crate) fn name(text: &str) -> Result<Name, Fault> {
     needed(Name::read(text.as_bytes()), "no name")
 }
@@ -51,7 +52,7 @@ fn root_in_hex(text: &str) -> Option<Root> {
     Root::new(&bytes[..len])
 }
 
-/// Returns the root that was defined last under this name.
+/// Returns the last root that was defined under this name.
 fn last_named(named: &[Named], name: &Name) -> Option<Root> {
     let mut found = None;
     for it in named {
@@ -63,7 +64,7 @@ fn last_named(named: &[Named], name: &Name) -> Option<Root> {
 }
 
 impl Known {
-    /// Returns what is known before the first line.
+    /// Returns the names that are known before the first line.
     pub(crate) fn new(alloc: Global) -> Result<Known, Fault> {
         let mut known = Known {
             roots: Vec::new(alloc),
@@ -81,7 +82,8 @@ impl Known {
         Ok(known)
     }
 
-    /// Returns the root of this name, or the root that the text spells in hexadecimal.
+    /// Returns the root with this name. If no root has this name, parses the text as a root in
+    /// hexadecimal.
     pub(crate) fn root(&self, text: &str) -> Result<Root, Fault> {
         let named = match Name::read(text.as_bytes()) {
             Some(name) => last_named(&self.roots, &name),
@@ -98,12 +100,12 @@ impl Known {
         Ok(self.roots.push(Named { name, root })?)
     }
 
-    /// Returns the first root of a key of the club, or `None` if there is no such key.
+    /// Returns the first root of a key of the club, or `None` if the club has no such key.
     pub(crate) fn root_of_key(&self, key: &Name) -> Option<Root> {
         last_named(&self.keys, key)
     }
 
-    /// Adds a key with its first root, unless there is a key with this name.
+    /// Adds a key with its first root. If a key with this name exists, the call changes nothing.
     pub(crate) fn add_key(&mut self, name: Name, root: Root) -> Result<(), Fault> {
         if last_named(&self.keys, &name).is_none() {
             self.keys.push(Named { name, root })?;
@@ -111,7 +113,7 @@ impl Known {
         Ok(())
     }
 
-    /// Forgets the keys, because a line makes another club.
+    /// Removes all keys, because a line makes a new club.
     pub(crate) fn forget_keys(&mut self) {
         self.keys.clear();
     }

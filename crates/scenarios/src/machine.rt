@@ -1,5 +1,6 @@
-//! The reference machine as a player. The machine doesn't read bytes. So the player decodes each
-//! request, and finds the roots of the club's keys under which its pass is signed.
+//! A player that uses the reference machine. The machine can't read bytes, so the player decodes
+//! each request. The player also finds the roots of the club's keys under which the request's pass
+//! is signed.
 
 use crate::fault::Fault;
 use crate::player::{Maker, Player};
@@ -15,14 +16,15 @@ use pass_json::read_any;
 use std::alloc::{AllocError, Global};
 use std::cmp::Ordering;
 
-/// A name that no member has, so that all bookings of a slot count as bookings of others.
+/// A name that no member has. The player uses the name to count all bookings of a slot as other
+/// members' bookings.
 const NOBODY: &[u8] = b"nobody";
 
-/// Makes players that are machines.
+/// Makes players that use the reference machine.
 #[derive(Clone, Copy)]
 pub(crate) struct Machines;
 
-/// The machine, and the routes with which requests are decoded for it.
+/// The machine, and the routes for decoding requests.
 #[derive(Drop)]
 pub(crate) struct Machine {
     alloc: Global,
@@ -49,7 +51,7 @@ pub(crate) fn text_of(alloc: Global, reply: &Reply) -> Result<String, Fault> {
     text_in(alloc, &room[..len])
 }
 
-/// Returns the text with these bytes, which are UTF-8.
+/// Returns the text with these bytes, which must be valid UTF-8.
 pub(crate) fn text_in(alloc: Global, bytes: &[u8]) -> Result<String, Fault> {
     match std::str::from_utf8(bytes) {
         Ok(text) => Ok(String::from_str(alloc, text)?),
@@ -57,7 +59,7 @@ pub(crate) fn text_in(alloc: Global, bytes: &[u8]) -> Result<String, Fault> {
     }
 }
 
-/// Returns why a text isn't a pass, or `None` if memory was refused.
+/// Returns the reason why a text isn't a pass, or `None` if memory ran out.
 fn pass_fault(fault: FormFault) -> Option<PassFault> {
     match fault {
         FormFault::TooLong => Some(PassFault::TooLong),
@@ -68,12 +70,12 @@ fn pass_fault(fault: FormFault) -> Option<PassFault> {
     }
 }
 
-/// Returns the key's name from the identifier of a pass.
+/// Returns the key's name in the identifier of a pass.
 fn key_in(identifier: &[u8]) -> Option<Name> {
     Name::read(identifier.strip_prefix(b"key:")?)
 }
 
-/// Adds those roots of a key under which the pass is signed.
+/// Adds the roots of a key under which the pass is signed.
 fn push_roots(roots: &mut Vec<Root>, key: &Key, pass: &SentPass) -> Result<(), AllocError> {
     if pass.is_signed(key.root.as_bytes()) {
         roots.push(key.root)?;
@@ -94,7 +96,7 @@ fn copies(alloc: Global, texts: &[Vec<u8>]) -> Result<Vec<Vec<u8>>, AllocError> 
     Ok(copies)
 }
 
-/// Returns the order of two rows in a sheet: by facility, hour, key and number.
+/// Compares two rows of a sheet by facility, hour, key and number.
 fn order(one: &Booking, other: &Booking) -> Ordering {
     one.slot
         .facility
@@ -108,7 +110,7 @@ fn yes_or_no(holds: bool) -> &'static str {
     if holds { "yes" } else { "no" }
 }
 
-/// Returns the text of the moment until which a key's older root is valid.
+/// Returns the moment until which a key's older root is valid, as a text.
 fn older_text(alloc: Global, key: &Key) -> Result<String, AllocError> {
     match &key.older {
         None => String::from_str(alloc, "none"),
@@ -117,7 +119,7 @@ fn older_text(alloc: Global, key: &Key) -> Result<String, AllocError> {
 }
 
 impl Machine {
-    /// Returns what the machine sees of a pass.
+    /// Returns the parts of a pass that the machine reads.
     fn seen(&self, pass: &SentPass) -> Result<Pass, AllocError> {
         let mut roots = Vec::new(self.alloc);
         for key in self.club.keys() {
@@ -130,7 +132,7 @@ impl Machine {
         })
     }
 
-    /// Returns the pass that a text spells, or why the text isn't a pass.
+    /// Returns the pass that a text encodes, or the reason why the text isn't a pass.
     fn read(&self, text: &[u8]) -> Result<Result<Pass, PassFault>, Fault> {
         match read_any(self.alloc, text) {
             Ok((_, pass)) => Ok(Ok(self.seen(&pass)?)),
@@ -141,7 +143,7 @@ impl Machine {
         }
     }
 
-    /// Returns the reply to a request with this text as its pass.
+    /// Returns the reply to a request whose pass is this text.
     fn ask(
         &mut self,
         moment: Moment,
@@ -155,7 +157,7 @@ impl Machine {
         Ok(self.club.ask(&words, moment)?)
     }
 
-    /// Returns how many of a member's bookings are open at a moment.
+    /// Returns the number of a member's open bookings at a moment.
     fn open_count(&self, member: &Name, moment: Moment) -> usize {
         self.club
             .bookings()
@@ -168,7 +170,7 @@ impl Machine {
             .count()
     }
 
-    /// Returns whether a key belongs to this member.
+    /// Returns true if a key belongs to this member.
     fn is_of(&self, key: &Name, member: &Name) -> bool {
         self.club
             .keys()
@@ -188,7 +190,7 @@ impl Machine {
         spent
     }
 
-    /// Returns the account of a key, as the desk lists it.
+    /// Returns the account of a key in the desk's format.
     fn account_of(&self, key: &Key, moment: Moment) -> Result<Option<String>, Fault> {
         let mut members = self.club.members().iter();
         let Some(member) = members.find(|member| member.name == key.member) else {

@@ -1,8 +1,11 @@
-//! Plays the scenarios in the data folder, whose lines state a desk's answers. Each file is played
-//! by the reference machine, by the desk over tables in memory, and by exchanges from bytes to
-//! bytes. The exchanges play it three times, once for each form of pass.
+//! Plays the scenarios in the data folder. The lines of a scenario state a desk's answers. Three
+//! kinds of players play each file:
 //!
-//! Prints each file with the number of its lines, or the first line whose answer is different.
+//! - The reference machine.
+//! - The desk over tables in memory.
+//! - Exchanges from bytes to bytes. They play the file three times, once for each form of pass.
+//!
+//! For each file, the program prints the number of lines, or the first line with another answer.
 #![tactic(auto)]
 
 mod command;
@@ -27,19 +30,19 @@ use std::alloc::{AllocError, Global};
 use std::fs;
 use tables::{AskedBy, InMemory};
 
-/// The suffix of the files' names.
+/// The suffix of the scenario files.
 const ENDING: &str = ".txt";
 
 static FORMS: [Form; 3] = [Form::V1, Form::V2, Form::Json];
 
-/// A fault of a line, and the name of the player that found it.
+/// A fault of a line, and the name of the player that found the fault.
 #[derive(Drop)]
 struct Found {
     player: &'static str,
     at: FaultAt,
 }
 
-/// Returns the names of the files in sorted order.
+/// Returns the names of the scenario files in sorted order.
 fn names(rt: &HostRuntime) -> Result<Vec<String>> {
     let mut names = Vec::new(rt.alloc());
     for entry in fs::read_dir(rt, ".")? {
@@ -52,7 +55,7 @@ fn names(rt: &HostRuntime) -> Result<Vec<String>> {
     Ok(names)
 }
 
-/// Plays lines with each player. `keeps` says whether a line's first try before a crash is kept.
+/// Plays lines with each player. `keeps` is true if a line takes effect before a crash.
 fn play_each(alloc: Global, lines: &[&str], keeps: bool) -> Result<Count, Found> {
     let form = Form::V2;
     let way = Way { form, keeps };
@@ -74,7 +77,8 @@ fn lines_of<'a>(alloc: Global, text: &'a str) -> Result<Vec<&'a str>, AllocError
     text.lines().collect(alloc)
 }
 
-/// Plays a text. If it has a line that crashes, run_lines it again and keeps the first tries.
+/// Plays a text. If the text has a crash, plays the text once more with `keeps`, so that lines take
+/// effect before a crash.
 fn play_text(alloc: Global, lines: &[&str]) -> Result<Count, Found> {
     let count = play_each(alloc, lines, false)?;
     if lines.iter().any(|line| line.starts_with("crash")) {
@@ -83,7 +87,8 @@ fn play_text(alloc: Global, lines: &[&str]) -> Result<Count, Found> {
     Ok(count)
 }
 
-/// Plays a file, and prints its count or its fault. Returns whether the file has no fault.
+/// Plays a file, and prints its number of lines or its fault. Returns true if the file has no
+/// fault.
 fn play_file(rt: &HostRuntime, name: &str) -> Result<bool> {
     let text = fs::read_to_string(rt, name)?;
     let lines = lines_of(rt.alloc(), text.as_str())?;
@@ -99,7 +104,7 @@ fn play_file(rt: &HostRuntime, name: &str) -> Result<bool> {
     }
 }
 
-/// Prints whether each odd text is refused, and returns this.
+/// Prints if the player refuses all odd texts. Returns true if it refuses all of them.
 fn refuse_odd_texts(rt: &HostRuntime) -> Result<bool> {
     match odd::first_played_of_all(rt.alloc())? {
         None => {

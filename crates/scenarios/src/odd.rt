@@ -1,15 +1,16 @@
-//! Texts that break a rule of the language. The player must refuse each at the line that breaks it.
+//! Odd texts, which break a rule of the scenario language. The player must refuse each text at the
+//! line that breaks the rule.
 
 use crate::machine::Machines;
 use crate::play::{Way, play};
 use pass_forms::Form;
 use std::alloc::{AllocError, Global};
 
-/// The two lines before each text, which state a club and a moment.
+/// The two lines before each text. They make a club and set a moment.
 const CLUB: &str = "club  members amy 5 100; court-1 court 4 200 8-22; keys amy-1\n\
     at  2026-04-20T12:00\n";
 
-/// Texts that follow these two lines, each with the number of the line that must be refused.
+/// Texts after the two lines of `CLUB`. The number is the line that the player must refuse.
 static AFTER_A_CLUB: [(&str, usize); 29] = [
     ("", 2),
     ("amy-1", 3),
@@ -42,7 +43,8 @@ static AFTER_A_CLUB: [(&str, usize); 29] = [
     ("root  third", 3),
 ];
 
-/// More such texts, with a crash or with indented lines that follow no line they can belong to.
+/// More texts after the two lines of `CLUB`. They have a misplaced crash or misplaced indented
+/// lines.
 static MORE_LINES: [(&str, usize); 5] = [
     ("crash  at noon", 3),
     (
@@ -58,7 +60,7 @@ static MORE_LINES: [(&str, usize); 5] = [
     ("office  credit amy 1  done\n# a comment\n  more", 5),
 ];
 
-/// Texts of complete files, each with the number of the line that must be refused.
+/// Texts of complete files. The number is the line that the player must refuse.
 static WHOLE: [(&str, usize); 10] = [
     ("amy-1  GET account  200 {}", 1),
     ("club  again", 1),
@@ -72,7 +74,7 @@ static WHOLE: [(&str, usize); 10] = [
     ("club  empty\nnobody  GET account  200 {}", 2),
 ];
 
-/// Returns whether playing a text stops at the line with this number.
+/// Returns true if playing a text stops at the line with this number.
 fn is_refused(alloc: Global, text: &str, line: usize) -> Result<bool, AllocError> {
     let lines: Vec<&str> = text.lines().collect(alloc)?;
     let way = Way {
@@ -85,7 +87,8 @@ fn is_refused(alloc: Global, text: &str, line: usize) -> Result<bool, AllocError
     }
 }
 
-/// Plays texts after `front`. Returns the first text that isn't refused at its line.
+/// Plays texts after the lines in `front`. Returns the first text that the player doesn't refuse at
+/// its line.
 fn first_played<'a>(
     alloc: Global,
     front: &str,
@@ -100,7 +103,8 @@ fn first_played<'a>(
     Ok(None)
 }
 
-/// Returns the first odd text that isn't refused at its line, or `None` if all are refused.
+/// Returns the first odd text that the player doesn't refuse at its line, or `None` if the player
+/// refuses all odd texts.
 pub(crate) fn first_played_of_all(alloc: Global) -> Result<Option<&'static str>, AllocError> {
     if let Some(text) = first_played(alloc, CLUB, &AFTER_A_CLUB)? {
         return Ok(Some(text));

@@ -2,21 +2,23 @@
 
 use std::alloc::{AllocError, Global};
 
-/// At least this many spaces separate two columns.
+/// The separator of two columns. More spaces are allowed.
 const GAP: &str = "  ";
 
-/// The words that can begin a line. A single space may separate such a word from the next column.
+/// The words that can begin a line. A single space can separate such a word from the next column.
 static WORDS: [&str; 11] = [
     "club", "root", "text", "at", "bytes", "office", "sheet", "account", "slot", "crash", "reopen",
 ];
 
-/// Returns the lines that belong to the line above them. Such lines begin with spaces.
+/// Returns the indented lines at the start of `lines`. Indented lines belong to the line above
+/// them.
 pub(crate) fn below<'a>(lines: &'a [&'a str]) -> &'a [&'a str] {
     let next = lines.iter().position(|line| !line.starts_with(' '));
     &lines[..next.unwrap_or(lines.len())]
 }
 
-/// Returns the word of the language with which a line begins, if any, and the rest of the line.
+/// Splits a line into its first word and the rest. Returns `None` if no word of the scenario
+/// language begins the line.
 fn first_word(line: &str) -> Option<(&str, &str)> {
     let (word, rest) = line.split_once(' ').unwrap_or((line, ""));
     if WORDS.contains(&word) {

@@ -1,4 +1,4 @@
-//! Makes the passes that lines describe.
+//! Makes the passes that the lines of a scenario describe.
 
 use crate::fault::Fault;
 use crate::known::{Known, name};
@@ -9,10 +9,10 @@ use pass_forms::{Form, Pass, PassParts, narrow};
 use pass_json::write_any;
 use std::alloc::Global;
 
-/// The part of a pass that says that the club doesn't have the pass's key.
+/// The part of a pass that marks its key as unknown to the club.
 const UNKNOWN: &str = "unknown";
 
-/// A description of a pass that the player then makes.
+/// The description of a pass that the player makes.
 #[derive(Drop)]
 struct Draft {
     root: Root,
@@ -33,7 +33,8 @@ pub(crate) fn form_named(text: &str) -> Option<Form> {
     }
 }
 
-/// Replaces a text by the text of a part, whose quotes are removed and whose escapes are decoded.
+/// Replaces a text by the text of a part. Removes the quotes around the part, and decodes its
+/// escapes.
 fn replace(text: &mut Vec<u8>, part: &str) -> Result<(), Fault> {
     text.clear();
     push_unescaped(text, unquoted(part))
@@ -52,7 +53,7 @@ fn forged(pass: Pass) -> Pass {
 }
 
 impl Draft {
-    /// Returns the description of a key's pass as the office makes it.
+    /// Returns the description of the pass that the office makes for a key.
     fn of_key(alloc: Global, key: &Name, root: &Root, form: Form) -> Result<Draft, Fault> {
         let mut identifier = Vec::from_slice(alloc, b"key:")?;
         identifier.extend_from_slice(key.as_bytes())?;
@@ -66,7 +67,7 @@ impl Draft {
         })
     }
 
-    /// Adds a caveat as many times as the part says.
+    /// Adds a caveat to the description. A part can state that the caveat is added several times.
     fn add_caveats(&mut self, alloc: Global, part: &str) -> Result<(), Fault> {
         let (count, text) = repeated(part);
         for _ in 0..count {
@@ -77,7 +78,7 @@ impl Draft {
         Ok(())
     }
 
-    /// Changes the description by one part between the pass's brackets.
+    /// Changes the description by one part from the pass's brackets.
     fn change(&mut self, alloc: Global, known: &Known, part: &str) -> Result<(), Fault> {
         let (word, rest) = part.split_once(' ').unwrap_or((part, ""));
         if let Some(form) = form_named(part) {
@@ -95,7 +96,7 @@ impl Draft {
         Ok(())
     }
 
-    /// Makes the pass that this describes.
+    /// Makes the described pass.
     fn pass(&self, alloc: Global) -> Result<Pass, Fault> {
         let root = self.root.as_bytes();
         let mut pass = Pass::mint(alloc, root, &self.location, &self.identifier)?;
@@ -106,7 +107,7 @@ impl Draft {
     }
 }
 
-/// Splits a holder into the name of a key and the parts between brackets.
+/// Splits a holder into the name of a key and the parts in brackets.
 fn key_and_parts(holder: &str) -> Result<(&str, &str), Fault> {
     match holder.split_once(" [") {
         None => Ok((holder, "")),
@@ -117,8 +118,8 @@ fn key_and_parts(holder: &str) -> Result<(&str, &str), Fault> {
     }
 }
 
-/// Returns the root of a key. If the club doesn't have the key, it must be marked `unknown`, and
-/// gets the first root.
+/// Returns the root of a key. A key that the club doesn't have must have the mark `unknown`. The
+/// root of such a key is the default root.
 fn root_of(known: &Known, key: &Name, parts: &str) -> Result<Root, Fault> {
     let is_unknown = parts.split("; ").any(|part| part == UNKNOWN);
     match known.root_of_key(key) {
@@ -129,8 +130,8 @@ fn root_of(known: &Known, key: &Name, parts: &str) -> Result<Root, Fault> {
     }
 }
 
-/// Adds a holder's pass to the bytes. The holder is `KEY [PART; PART]` or `text NAME`. The pass has
-/// this form unless a part names another form.
+/// Adds a holder's pass to the bytes. The holder is `KEY [PART; PART]` or `text NAME`. `form` is
+/// the form of the pass, unless a part names another form.
 pub(crate) fn push_pass(
     bytes: &mut Vec<u8>,
     known: &Known,
@@ -154,7 +155,7 @@ pub(crate) fn push_pass(
     Ok(bytes.extend_from_slice(text.as_bytes())?)
 }
 
-/// Returns the text of a key's pass, as the office makes it.
+/// Returns the text of the pass that the office makes for a key.
 pub(crate) fn office_pass(
     alloc: Global,
     key: &Name,

@@ -22,23 +22,23 @@ const ANSWER: &str = "no expectation";
 
 const NO_CLUB: &str = "no club before it";
 
-/// The options with which a file is played.
+/// The options for playing a file.
 #[derive(Clone, Copy)]
 pub(crate) struct Way {
-    /// The form of a pass, unless its line names a form.
+    /// The form of a pass whose line names no form.
     pub(crate) form: Form,
-    /// Whether a line that is stopped by a crash takes effect before the crash.
+    /// True if a line that a crash stops takes effect before the crash.
     pub(crate) keeps: bool,
 }
 
-/// The numbers of clubs and lines that were played.
+/// The number of clubs and the number of lines that were played.
 #[derive(Clone, Copy)]
 pub(crate) struct Count {
     pub(crate) clubs: u32,
     pub(crate) lines: u32,
 }
 
-/// A fault, and the number of the line with the fault.
+/// A fault, and the number of the line that has the fault.
 #[derive(Drop)]
 pub(crate) struct FaultAt {
     pub(crate) line: usize,
@@ -59,14 +59,14 @@ where
     count: Count,
 }
 
-/// The columns of a line, and the indented lines below that belong to it.
+/// The columns of a line, and the indented lines that belong to the line.
 #[derive(Clone, Copy)]
 struct Line<'a> {
     columns: &'a [&'a str],
     below: &'a [&'a str],
 }
 
-/// Fails unless the player's answer equals the answer that the line states.
+/// Fails if the player's answer differs from the answer that the line states.
 fn expect(alloc: Global, wanted: &str, found: &str) -> Result<(), Fault> {
     if wanted == found {
         return Ok(());
@@ -77,7 +77,7 @@ fn expect(alloc: Global, wanted: &str, found: &str) -> Result<(), Fault> {
     })
 }
 
-/// Returns the lines of a text as one line, in which commas separate them.
+/// Joins the lines of a text with commas.
 fn on_one_line(alloc: Global, text: &str) -> Result<String, Fault> {
     let mut line = String::new(alloc);
     for value in text.lines() {
@@ -90,12 +90,12 @@ fn on_one_line(alloc: Global, text: &str) -> Result<String, Fault> {
 }
 
 impl<'a> Line<'a> {
-    /// Returns the column with this number, or a fault if the line has fewer columns.
+    /// Returns the column with this number. Fails if the line has too few columns.
     fn column(&self, number: usize, rule: &'static str) -> Result<&'a str, Fault> {
         needed(self.columns.get(number).copied(), rule)
     }
 
-    /// Returns the columns from this number on.
+    /// Returns all columns from this number to the last.
     fn rest(&self, number: usize) -> &'a [&'a str] {
         &self.columns[number.min(self.columns.len())..]
     }
@@ -108,7 +108,7 @@ impl<'a> Line<'a> {
         }
     }
 
-    /// Fails unless the line has exactly `count` columns.
+    /// Fails if the line doesn't have exactly `count` columns.
     fn has(&self, count: usize) -> Result<(), Fault> {
         if self.columns.len() == count {
             Ok(())
@@ -117,7 +117,7 @@ impl<'a> Line<'a> {
         }
     }
 
-    /// Returns the text of the first column, followed by the texts of the lines below.
+    /// Joins the text of the first column and the texts of the indented lines.
     fn whole(&self, alloc: Global) -> Result<String, Fault> {
         let mut text = String::new(alloc);
         for part in self.rest(1).iter().chain(self.below.iter()) {
@@ -130,7 +130,7 @@ impl<'a> Line<'a> {
     }
 }
 
-/// Returns a command's outcome in the language of lines: its output, or why it was refused.
+/// Returns the outcome of a command: its output, or the reason why the command was refused.
 fn outcome(
     alloc: Global,
     command: &Command,
@@ -149,8 +149,8 @@ fn outcome(
     }
 }
 
-/// Returns the output that the outcome in a line stands for. For a key's command, `done` stands for
-/// the key's pass.
+/// Returns the output that a line states. If the line states `done` for a key's command, the output
+/// is the key's pass.
 fn wanted_outcome(
     alloc: Global,
     command: &Command,
@@ -222,8 +222,9 @@ where
         }
     }
 
-    /// Returns whether the line's first try is kept before a crash. If so, the caller run_lines the
-    /// line, then reopens the tables and run_lines the line again.
+    /// Returns true if the line takes effect before a crash. In this case, the caller plays the
+    /// line, reopens the tables, and plays the line again. Otherwise, this function reopens the
+    /// tables.
     fn was_kept(&mut self) -> Result<bool, Fault> {
         let crashes = self.known.crashes;
         self.known.crashes = false;
@@ -262,7 +263,7 @@ where
         self.ask(&request, line.rest(1))
     }
 
-    /// Defines a text with a name, or sends a text as the pass of a request.
+    /// Defines a name for a text, or sends a text as the pass of a request.
     fn text(&mut self, line: &Line) -> Result<(), Fault> {
         let named = line.column(1, "a text has a name")?;
         if line.columns.len() > 2 {
@@ -386,7 +387,7 @@ where
         }
     }
 
-    /// Fails if a crash is stated for a line that can't be stopped.
+    /// Fails if the line before states a crash. A crash can't stop this line.
     fn isnt_stopped(&self) -> Result<(), Fault> {
         if self.known.crashes {
             Err(Fault::Rule("a crash is followed by a request or a command"))
@@ -420,7 +421,7 @@ where
         }
     }
 
-    /// Plays a line, together with the lines that belong to it.
+    /// Plays a line and the indented lines that belong to it.
     fn run_lines<'x>(&mut self, text: &'x str, below: &'x [&'x str]) -> Result<(), Fault> {
         if text.starts_with(' ') {
             return Err(Fault::Rule("a line with spaces before it belongs to none"));
@@ -434,7 +435,8 @@ where
 
     /// Plays all lines of a file.
     fn plays_all(&mut self, lines: &[&str]) -> Result<(), FaultAt> {
-        // the number of lines played so far, which includes the indented lines of the last one
+        // The number of lines that were played. The number includes the indented lines after the
+        // last line.
         let mut played = 0;
         for number in 0..lines.len() {
             let text = lines[number];
@@ -452,7 +454,7 @@ where
     }
 }
 
-/// Plays a file once, with a player of this maker.
+/// Plays a file once. `maker` makes the player for each club.
 pub(crate) fn play<M: Maker>(
     alloc: Global,
     maker: &M,

@@ -1,13 +1,13 @@
-//! The traits of scenario players, and of their makers.
+//! The traits of scenario players, and of makers of players.
 
 use crate::fault::Fault;
 use club_gate::OfficeReply;
 use club_http::{Command, Day, Moment, Name, Slot};
 use std::alloc::Global;
 
-/// A club, together with the desk or the machine that answers for it.
+/// A club with a desk or a machine that answers requests.
 pub(crate) trait Player {
-    /// Returns the bytes of the reply to a request, given as bytes.
+    /// Returns the reply to a request. The request and the reply are bytes.
     fn reply(&mut self, moment: Moment, request: &[u8]) -> Result<String, Fault>;
 
     fn command(&mut self, command: &Command) -> Result<OfficeReply, Fault>;
@@ -21,15 +21,16 @@ pub(crate) trait Player {
     /// Returns the listing of a slot, or `None` if there is no such facility.
     fn slot(&mut self, slot: &Slot) -> Result<Option<String>, Fault>;
 
-    /// Returns the player after its tables were closed and reopened. They may be reopened as the
+    /// Closes and reopens the player's tables. `as_version_1` first turns the tables into the
     /// tables of an older program.
     fn reopened(self, as_version_1: bool) -> Result<Self, Fault>;
 }
 
-/// Makes players, each for an empty club.
+/// Makes players. Each player begins with an empty club.
 pub(crate) trait Maker {
-    /// The type of the players, which callers require to be `Player + Drop`. With that bound in
-    /// this place, Rattle couldn't check the impl for `InMemory`, whose player is generic.
+    /// The type of the players. Callers require that the type is `Player + Drop`. The requirement
+    /// isn't here, because Rattle then couldn't check the impl for `InMemory`, whose player is
+    /// generic.
     type Made;
 
     fn make(&self, alloc: Global) -> Result<Self::Made, Fault>;

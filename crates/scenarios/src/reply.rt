@@ -1,4 +1,4 @@
-//! Makes the bytes of the replies that lines state.
+//! Makes the bytes of the replies that the lines of a scenario state.
 
 use crate::fault::{Fault, needed};
 use crate::text::{halves, number};
@@ -22,7 +22,8 @@ fn phrase(status: &str) -> Option<&'static str> {
     }
 }
 
-/// Returns the methods in the column after a reply with status 405, and `None` for other statuses.
+/// Returns the methods in the column after a reply with status 405. Returns `None` for other
+/// statuses.
 fn methods<'a>(status: &str, columns: &[&'a str]) -> Result<Option<&'a str>, Fault> {
     let mut found = None;
     for column in columns {
@@ -35,7 +36,7 @@ fn methods<'a>(status: &str, columns: &[&'a str]) -> Result<Option<&'a str>, Fau
     }
 }
 
-/// Returns the header field that only replies with this status have, with its line end.
+/// Returns the header field, with its line end, that only replies with this status have.
 fn own_field(alloc: Global, status: &str, methods: Option<&str>) -> Result<String, AllocError> {
     match methods {
         Some("GET") => String::from_str(alloc, "Allow: GET\r\n"),
@@ -45,7 +46,8 @@ fn own_field(alloc: Global, status: &str, methods: Option<&str>) -> Result<Strin
     }
 }
 
-/// Checks a count, such as `43 bytes` for the body or `133 in all`. Fails if the count is wrong.
+/// Checks a number of bytes, such as `43 bytes` for the body or `133 in all`. Fails if the number
+/// is wrong.
 fn expect_count(count: &str, body: usize, all: usize) -> Result<(), Fault> {
     let (digits, what) = halves(count, ' ', "a count has a number")?;
     let found = match what {
@@ -72,7 +74,8 @@ fn expect_counts(columns: &[&str], body: usize, all: usize) -> Result<(), Fault>
     Ok(())
 }
 
-/// Returns the reply that the columns describe: `STATUS BODY`, then the methods, then counts.
+/// Returns the reply that the columns describe. The columns are `STATUS BODY`, then the methods,
+/// then the numbers of bytes.
 pub(crate) fn reply_of(alloc: Global, columns: &[&str]) -> Result<String, Fault> {
     let Some((reply, others)) = columns.split_first() else {
         return Err(Fault::Rule("no expectation"));

@@ -7,14 +7,14 @@ use crate::text::{halves, push_repeated};
 use pass_forms::Form;
 use std::alloc::Global;
 
-/// The holder in a line that sends a request without a pass.
+/// The holder of a request without a pass.
 const NOBODY: &str = "nobody";
 
 fn push(bytes: &mut Vec<u8>, text: &str) -> Result<(), Fault> {
     Ok(bytes.extend_from_slice(text.as_bytes())?)
 }
 
-/// Returns the prefix of a path, which is empty if the line states the full path.
+/// Returns the prefix of a path. The prefix is empty if the line states the full path.
 fn front_of(path: &str) -> &'static str {
     if path.starts_with('/') {
         ""
@@ -55,7 +55,8 @@ pub(crate) fn request_of(
     Ok(bytes)
 }
 
-/// Adds a line of a request. A text between `<` and `>` is a holder, whose pass replaces it.
+/// Adds a line of a request. A text between `<` and `>` is a holder, and the holder's pass replaces
+/// the text.
 fn push_pieces(bytes: &mut Vec<u8>, known: &Known, form: Form, line: &str) -> Result<(), Fault> {
     let mut is_first = true;
     for piece in line.split('<') {
@@ -71,7 +72,7 @@ fn push_pieces(bytes: &mut Vec<u8>, known: &Known, form: Form, line: &str) -> Re
     Ok(())
 }
 
-/// Returns the bytes of the request that these lines spell.
+/// Returns the bytes of the request in these lines.
 pub(crate) fn request_in(
     alloc: Global,
     known: &Known,

@@ -1,4 +1,5 @@
-//! The desk over tables as a player. It gets each request in words or as the bytes of an exchange.
+//! A player that uses the desk over tables. The desk gets each request as decoded words or as the
+//! bytes of an exchange.
 
 use crate::fault::Fault;
 use crate::machine::{text_in, text_of};
@@ -13,16 +14,17 @@ use club_store::Store;
 use sqlite::{Alter, Connection, MemStore};
 use std::alloc::Global;
 
-/// Turns tables into those of an older program, which had no older roots and only the first index.
+/// The SQL that turns tables into the tables of an older program. The older program had no older
+/// roots and only the first index.
 const AS_VERSION_1: &str = "DROP TABLE old_roots; DROP INDEX IF EXISTS bookings_by_key; \
     UPDATE desk SET version = 1";
 
 /// The way in which a desk gets a request.
 #[derive(Clone, Copy)]
 pub(crate) enum AskedBy {
-    /// It gets the words that were decoded from a request.
+    /// The desk gets the decoded words of a request.
     Words,
-    /// It gets the bytes of an exchange, and returns bytes.
+    /// The desk gets the bytes of a request, and returns the bytes of the reply.
     Bytes,
 }
 
@@ -32,7 +34,7 @@ pub(crate) struct InMemory {
     pub(crate) asked_by: AskedBy,
 }
 
-/// A desk, and the routes with which requests are decoded for it.
+/// A desk, and the routes for decoding requests.
 #[derive(Drop)]
 pub(crate) struct Counter<S: Alter> {
     alloc: Global,
@@ -49,7 +51,7 @@ fn fault_of(fault: StoreFault) -> Fault {
     }
 }
 
-/// Returns the lines of a listing, or `None` if the desk knows no such name.
+/// Returns the lines of a listing, or `None` if the desk doesn't know the name.
 fn shown(shown: Result<String, DeskFault>) -> Result<Option<String>, Fault> {
     match shown {
         Ok(text) => Ok(Some(text)),

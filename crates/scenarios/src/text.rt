@@ -7,13 +7,13 @@ const NO_ESCAPE: &str = "no escape";
 /// The state of decoding an escape.
 #[derive(Clone, Copy)]
 enum Escape {
-    /// No escape was begun.
+    /// No escape has begun.
     None,
-    /// A backslash was read.
+    /// The decoder has read a backslash.
     Begun,
-    /// `\x` was read.
+    /// The decoder has read `\x`.
     Hex,
-    /// `\x` and the first digit were read.
+    /// The decoder has read `\x` and the first digit.
     Digit(u8),
 }
 
@@ -25,7 +25,7 @@ fn digit(byte: u8) -> Result<u8, Fault> {
     }
 }
 
-/// Returns the byte for a letter that follows a backslash.
+/// Returns the byte for a letter after a backslash.
 fn simple(letter: u8) -> Result<u8, Fault> {
     match letter {
         b'r' => Ok(b'\r'),
@@ -36,7 +36,7 @@ fn simple(letter: u8) -> Result<u8, Fault> {
     }
 }
 
-/// Reads one byte. Returns the new state, and the next decoded byte if it is complete.
+/// Reads one byte. Returns the new state, and a decoded byte if the escape is complete.
 fn step(state: Escape, byte: u8) -> Result<(Escape, Option<u8>), Fault> {
     match state {
         Escape::None if byte == b'\\' => Ok((Escape::Begun, None)),
@@ -51,7 +51,7 @@ fn step(state: Escape, byte: u8) -> Result<(Escape, Option<u8>), Fault> {
     }
 }
 
-/// Adds a text to the bytes, with its escapes decoded.
+/// Adds a text to the bytes, and decodes the text's escapes.
 pub(crate) fn push_unescaped(bytes: &mut Vec<u8>, text: &str) -> Result<(), Fault> {
     let mut state = Escape::None;
     for byte in text.as_bytes() {
@@ -76,7 +76,7 @@ pub(crate) fn number(text: &str) -> Result<u32, Fault> {
     }
 }
 
-/// Splits `64 times TEXT` into a count and a text. A text without a count is taken once.
+/// Splits `64 times TEXT` into a count and a text. Without a count in the text, the count is 1.
 pub(crate) fn repeated(text: &str) -> (u32, &str) {
     let Some((count, what)) = text.split_once(" times ") else {
         return (1, text);
@@ -87,7 +87,7 @@ pub(crate) fn repeated(text: &str) -> (u32, &str) {
     }
 }
 
-/// Adds a text to the bytes as many times as its count says, with its escapes decoded.
+/// Decodes a text's escapes, and adds the text to the bytes as often as its count states.
 pub(crate) fn push_repeated(bytes: &mut Vec<u8>, text: &str) -> Result<(), Fault> {
     let (count, what) = repeated(text);
     for _ in 0..count {
@@ -96,7 +96,7 @@ pub(crate) fn push_repeated(bytes: &mut Vec<u8>, text: &str) -> Result<(), Fault
     Ok(())
 }
 
-/// Returns a text without the double quotes around it, if it has them.
+/// Removes the double quotes around a text, if the text has quotes.
 pub(crate) fn unquoted(text: &str) -> &str {
     match text.strip_prefix('"') {
         Some(rest) => rest.strip_suffix('"').unwrap_or(text),
@@ -104,7 +104,7 @@ pub(crate) fn unquoted(text: &str) -> &str {
     }
 }
 
-/// Splits a text at a delimiter, and returns the parts before and after it.
+/// Splits a text at a delimiter, and returns the parts before and after the delimiter.
 pub(crate) fn halves<'a>(
     text: &'a str,
     delimiter: char,
