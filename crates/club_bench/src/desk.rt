@@ -42,8 +42,8 @@ pub(crate) fn compare(rt: &HostRuntime, count: u16) -> Result<()> {
     Ok(())
 }
 
-/// A line of the output. It shows the rate of each kind of request under these passes, at the first
-/// desk.
+/// A line of the output. The line shows the rate of each kind of request under these passes, at the
+/// first desk.
 #[derive(Clone, Copy)]
 struct Row<'a> {
     passes: &'a [String],

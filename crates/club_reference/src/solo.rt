@@ -1,5 +1,6 @@
-//! The solo machine, which has only one member's part of the club. With each request, it gets the
-//! number of other members' persons in the slot. It gets no other information about other members.
+//! The solo machine, which has only one member's part of the club. With each request, the solo
+//! machine gets the number of other members' persons in the slot. The solo machine gets no other
+//! information about other members.
 
 ghost use Rattle.std.specs.Prelude.{◌≡◌, ◌≤◌, ◌<◌, ◌^◌, IfOk, IfSome, OnOk, OnErr, filter};
 ghost use Rattle.std.specs.{Prelude.option_map, Str.bytes_eq};
@@ -69,7 +70,7 @@ fn taken_by_others(keys: &[Key], bookings: &[Booking], member: &Name, slot: &Slo
         .sum()
 }
 
-/// Adds other members' persons in the slot to a view, and sets if the slot is closed.
+/// Adds other members' persons in the slot to a view. Marks the slot as closed or open.
 fn with_outside(seen: Option<KeyView>, others: SlotUse) -> Option<KeyView>
     requires { IfSome seen (λ s. s.view.taken ≤ 50) }
     ensures { result ≡ option_map (with_outside others) seen }
@@ -103,7 +104,7 @@ impl Club {
         })
     }
 
-    /// Returns the number of other members' persons in the requested slot, and if the slot is
+    /// Returns the number of other members' persons in the requested slot, and whether the slot is
     /// closed. If the request has no slot, the number is 0 and the slot isn't closed.
     #[tactic(auto, using(crate::proofs::WidthLemmas::sum_filtered_le))]
     pub fn outside(&self, member: &Name, slot: Option<Slot>) -> SlotUse

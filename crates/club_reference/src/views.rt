@@ -35,7 +35,7 @@ impl Club {
     ghost use Rattle.club_core.specs.{Basis.slot_use_by, Office.command_view};
     ghost use Rattle.club_reference.specs.computed.Words.{words_model};
 
-    /// Returns the number of persons in a slot, and if the slot is closed. Without a slot, the
+    /// Returns the number of persons in a slot, and whether the slot is closed. Without a slot, the
     /// number is 0 and the slot isn't closed.
     fn slot_use(&self, slot: Option<Slot>) -> SlotUse
         ensures value { result ≡ slot_use_by self.now.bookings self.now slot }

@@ -12,7 +12,7 @@ use pass_caveats::{Ask, CaveatFault, first_fault};
 /// The parts of a parsed pass that the club's rules read.
 #[derive(Drop)]
 pub struct Pass {
-    /// The name of the key in the identifier. It is `None` if the identifier names no key.
+    /// The name of the key in the identifier, or `None` if the identifier names no key.
     pub key: Option<Name>,
     /// The texts of the caveats, in the order in the pass.
     pub caveats: Vec<Vec<u8>>,

@@ -10,7 +10,7 @@ charge_of facility guests = facility.price * (guests + 1)
 abbrev pub is_open_at : Facility → ℕ → Bool
 is_open_at facility hour = nat_le facility.opens hour && nat_lt hour facility.shuts
 
--- The maximum time between a booking and the start of the slot. The time is 60 days, in minutes.
+-- The maximum number of minutes between a booking and the start of the slot: 60 days.
 abbrev pub booking_window : ℕ
 booking_window = 60 * minutes_a_day
 

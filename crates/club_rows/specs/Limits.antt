@@ -19,7 +19,7 @@ price_limit = 9_999
 abbrev pub shutting_limit : ℕ
 shutting_limit = hours_a_day
 
--- The highest charge of a booking, in points. It is the charge for all places at the highest price.
+-- The highest charge of a booking, in points: all places at the highest price.
 abbrev pub charge_limit : ℕ
 charge_limit = places_limit * price_limit
 

@@ -9,15 +9,14 @@ use crate::facility::{MAX_PLACES, MAX_PRICE};
 use crate::guests::Guests;
 use club_values::{MINUTES_A_DAY, Moment, Name, Slot};
 
-/// The highest charge of a booking, in points. It is the charge for all places at the highest
-/// price.
+/// The highest charge of a booking, in points: all places at the highest price.
 pub const MAX_CHARGE: u32 = MAX_PLACES * MAX_PRICE;
 
 /// The most places that remain in a slot after a booking. A booking takes at least one place.
 const MAX_LEFT: u32 = MAX_PLACES - 1;
 
-/// The minimum time between a cancellation with full refund and the start of the slot. The time is
-/// one day, in minutes.
+/// The minimum number of minutes between a cancellation with full refund and the start of the slot:
+/// one day.
 const FULL_REFUND_MINUTES: u64 = MINUTES_A_DAY as u64;
 
 /// A booking of a slot. A cancelled booking keeps its row.
@@ -33,7 +32,7 @@ pub struct Booking {
     /// The number of free places in the slot just after this booking.
     pub left: u8,
     pub cancelled: bool,
-    /// The refund for the booking, in points. It is 0 if the booking isn't cancelled.
+    /// The refund for the booking, in points, or 0 if the booking isn't cancelled.
     pub refund: u32,
 }
 
@@ -57,8 +56,8 @@ impl Booking {
     ghost use Rattle.club_rows.specs.{Booking.refund_at, Columns.IsBookingOf};
 
     /// Returns the refund in points for a cancellation at this moment. At least one day before the
-    /// start of the slot, the refund is the whole charge. Later, the refund is half of the charge,
-    /// rounded down.
+    /// start of the slot, the refund is the whole charge. Less than one day before the start, the
+    /// refund is half of the charge, rounded down.
     pub fn refund_at(&self, moment: Moment) -> u32
         ensures { result ≡ refund_at self.now moment }
     {

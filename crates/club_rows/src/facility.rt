@@ -27,7 +27,7 @@ pub struct Facility {
     pub price: u16,
     /// The first hour of the day that members can book, from 0 to 23.
     pub opens: u8,
-    /// The hour at which the last slot ends. It is later than `opens` and at most 24.
+    /// The hour at which the last slot ends, later than `opens` and at most 24.
     pub shuts: u8,
 }
 

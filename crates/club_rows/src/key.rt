@@ -52,7 +52,7 @@ pub struct Key {
     pub name: Name,
     pub member: Name,
     pub root: Root,
-    /// The key's root before the last rotation. It is `None` if the key has never been rotated.
+    /// The key's root before the last rotation, or `None` if the key has never been rotated.
     pub older: Option<OlderRoot>,
     pub revoked: bool,
 }

@@ -1,4 +1,4 @@
--- Defines the job for which arguments ask.
+-- Defines the job that a run's arguments ask for.
 use Rattle.std.specs.{Borrow.Bor, Option.{ok_or, unwrap_or}}
 use Rattle.std.specs.Prelude.{◌≡◌, ℕ, Bool, true, false, List, Option, Some, None, option_map, option_and_then, Result, Ok, Err, codes}
 use Rattle.clap.specs.Words.{Row, Text, first_of}
@@ -186,7 +186,7 @@ module _ (read : Readers) where
     slot ← slot_in rows
     Some (Office (ShowSlot slot))
 
-  -- The work for which a command's arguments ask, or the reason why there is no such work.
+  -- The work that a command's arguments ask for, or the reason why the arguments are refused.
   abbrev pub work_named : CommandName → List Row → Result Work (Refusal Unit)
   work_named command.AddMember rows = unless_bad (add_member_of rows)
   work_named command.Credit rows = unless_bad (credit_of rows)
@@ -205,7 +205,7 @@ module _ (read : Readers) where
   work_named command.ShowAccount rows = unless_bad (show_account_of rows)
   work_named command.ShowSlot rows = unless_bad (show_slot_of rows)
 
-  -- The job for which a command's arguments ask, or the reason why there is no such job.
+  -- The job that a command's arguments ask for, or the reason why the arguments are refused.
   abbrev pub job_of : JobOf CommandName JobModel Unit
   job_of name rows = over_file (value_in (codes "FILE") rows) (work_named name rows)
 

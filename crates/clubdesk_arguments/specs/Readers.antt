@@ -10,8 +10,8 @@ pub record Readers : Type 0 where
   pub hour : List ℕ → Option ℕ
   pub moment : List ℕ → Option ℕ
 
--- Each function returns a value if and only if the text encodes the value. For this reason, any two
--- exact readers return the same values.
+-- Each function returns a value if and only if the text encodes the value. Any two exact readers
+-- therefore return the same values.
 pub record ReadExactly (read : Readers) : Type 0 where
   pub names : (text name : List ℕ) → (read.name text ≡ Some name) ↔ (IsName text × (name ≡ text))
   pub kinds : (text : List ℕ) (kind : Kind) → (read.kind text ≡ Some kind) ↔ (text ≡ kind_text kind)

@@ -18,7 +18,7 @@ use command_line::{ArgumentsFault, is_set, value_of};
 use pass_forms::Form;
 use std::alloc::Global;
 
-/// Returns the work for which this command's arguments ask.
+/// Returns the work that this command's arguments ask for.
 ///
 /// # Errors
 ///

@@ -18,7 +18,7 @@ impl<'a> command_line::Job<'a> for Job<'a> {
 
     ghost Reads = { ReadsValues };
 
-    /// Returns the job for which the arguments ask. The root is checked first, then the form, then
+    /// Returns the job that the arguments ask for. The root is checked first, then the form, then
     /// the other values. The root must come either from an argument or from standard input.
     ///
     /// # Errors

@@ -1,4 +1,4 @@
-//! The command line of `clubdesk`: its commands and options, the job for which arguments ask, and
+//! The command line of `clubdesk`: its commands and options, the job that arguments ask for, and
 //! the faults with their exit statuses.
 #![tactic(auto)]
 

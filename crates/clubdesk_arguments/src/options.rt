@@ -36,8 +36,8 @@ pub fn given<'a>(arguments: &ArgMatches<'a>, id: &str) -> Option<&'a str>
     arguments.get_str(id)
 }
 
-/// Returns the argument with a key's new root. Returns `None` if the arguments contain no root. In
-/// this case, the argument in the root's place is the moment.
+/// Returns the argument with a key's new root. Returns `None` if the arguments contain no root. If
+/// the arguments contain no root, the argument in the root's place is the moment.
 pub fn rotation_root<'a>(arguments: &ArgMatches<'a>) -> Option<&'a str>
     ensures { option_map (λ text. text.now) result
         ≡ spec.rotation_root_in (rows_of (found_of arguments.now)) }

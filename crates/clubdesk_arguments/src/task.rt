@@ -1,4 +1,4 @@
-//! The jobs for which arguments can ask.
+//! The jobs that arguments can ask for.
 
 use club_clock::Clock;
 use club_core::Command;

@@ -13,7 +13,7 @@ use Rattle.desk_server.specs.declared.log.LogEvent.{LogEvent, TheVariants.{Absen
 use Rattle.desk_server.specs.declared.office.{Answer.Answer, Carried.Carried}
 use Rattle.desk_server.specs.Served as served
 
--- A change of one desk from `old` to `new` matches a change of another desk by `Gives`.
+-- If one desk changes from `old` to `new`, another desk changes by the relation `Gives`.
 module _ {D E : Type 0} (Alike : D → D → (E → E → Type 0) → Type 0)
     (same : (old new : D) (Gives : E → E → Type 0) → new ≡ old → ((e : E) → Gives e e) → Alike old new Gives)
     (after : (old mid new : D) (First Second Wanted : E → E → Type 0) → Alike old mid First → Alike mid new Second

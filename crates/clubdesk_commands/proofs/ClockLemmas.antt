@@ -9,7 +9,7 @@ use Rattle.clubdesk_commands.proofs.AlikeLemmas.{run_alike}
 use Rattle.desk_server.specs.{Served.{CommandRelation, Turn}, declared.office.Answer.Answer}
 
 module _ {S Machine : Type 0} (machine : Machine) where
-  -- The clock stays the same, and the store changes by `Gives`.
+  -- The clock stays the same, and the store changes by the relation `Gives`.
   record Keeps (old new : S × Machine) (Gives : S → S → Type 0) : Type 0 where
     pub kept : old.1 ≡ machine → new.1 ≡ machine
     pub gives : old.1 ≡ machine → Gives old.0 new.0

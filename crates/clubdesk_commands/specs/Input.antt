@@ -12,8 +12,8 @@ root_of_text text = if is_utf8 text then key_root_of text else None
 abbrev pub root_in_input : List ℕ → Option (List ℕ)
 root_in_input bytes = root_of_text (strip_last 10 bytes)
 
--- The program decodes the root from the first 130 bytes of the input, or from all of a shorter
--- input. A root in hexadecimal and a line feed have at most 129 bytes together.
+-- The program reads at most 130 bytes of the input, and decodes the root from these bytes. A root
+-- in hexadecimal and a line feed have at most 129 bytes together.
 abbrev pub TakesRoot : Option (List ℕ) → Option (List ℕ) → Result (List ℕ) Fault → Type 0
 TakesRoot left left' (Ok root) = (bytes : List ℕ) × ReadsAtMost 130 left left' bytes × (root_in_input bytes ≡ Some root)
 TakesRoot left left' (Err BadValue) = (bytes : List ℕ) × ReadsAtMost 130 left left' bytes × (root_in_input bytes ≡ None)

@@ -4,9 +4,9 @@ use Rattle.command_line.specs.Output.{AppendsFront}
 use Rattle.desk_server.specs.{Served.{AreNoted, Turn}, declared.log.Log.Ghosts as LogWords}
 use Rattle.clubdesk_arguments.specs.declared.fault.Fault.{Fault, TheVariants.{Arguments, BadValue, ClockOutOfRange, InputOutput}}
 
--- The bytes of a reader or a writer before and after a run, if the bytes are known. For a reader,
--- the bytes are those that remain to be read. For a writer, the bytes are those written so far.
--- `no_change` states that the run didn't change the reader or the writer.
+-- The bytes of a reader or a writer before and after a run, if the bytes are known. A reader's
+-- bytes are the bytes that remain to be read. A writer's bytes are the bytes that have been written
+-- so far. `no_change` states that the run didn't change the reader or the writer.
 pub record Stream : Type 1 where
   pub before : Option (List ℕ)
   pub after : Option (List ℕ)

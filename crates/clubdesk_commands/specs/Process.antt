@@ -23,8 +23,7 @@ module _ {D S R V Machine : Type 0} (databases : DatabasesWords D S R V) (visits
     (Shows : Machine → Option Timestamp → Type 0) (machine : Machine) (Given : List Text → Type 0) (Asked : Option (List ℕ) → Type 0)
   where
     -- The effect of a process. The process runs the program on its arguments. If an argument isn't
-    -- valid UTF-8, or if memory for the arguments runs out, the process does nothing else than
-    -- print the fault.
+    -- valid UTF-8, or if memory for the arguments runs out, the process only prints the fault.
     pub data RunsProcess (given : Stream) (old new : D) (written : Stream) (log : LogChange) (status : ℕ) : Type 0 where
       process_ran : (arguments : List Text) (ended : Result Unit Fault) → Given arguments
           → Runs databases visits stores Shows machine arguments given old new written log ended → EndsWith Asked ended status

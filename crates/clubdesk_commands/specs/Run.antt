@@ -78,8 +78,8 @@ module _ {Store Machine : Type 0} (Clean : Store → Type 0) (Represents : Store
     (Shows : Machine → Option Timestamp → Type 0) (machine : Machine)
   where
     -- If the disk stayed clean, a server over the club has the same turns as the server over the
-    -- store. Each reply and each answer is the machine's. Failed events change nothing. At the end,
-    -- the store represents the machine's club.
+    -- store. The server over the club returns the machine's replies and answers. Failed events
+    -- change nothing. At the end, the store represents the machine's club.
     abbrev pub FollowsMachine : Service → List Turn → Store → Store → (List Turn → Type 0) → Result Unit Fault → Type 0
     FollowsMachine service turns store left Noted result =
         Clean left → (club : Club) (others : List Club) → Represents store club others

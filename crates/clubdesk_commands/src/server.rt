@@ -24,8 +24,8 @@ use std::time::Duration;
 const LOOPBACK: &str = "127.0.0.1";
 
 /// Serves the database with this name. The server opens the database before it writes the address,
-/// and closes the database at the end. Meanwhile, the office's commands come through the database's
-/// door.
+/// and closes the database at the end. While the server runs, the office's commands come through
+/// the database's door.
 ///
 /// # Errors
 ///
@@ -72,8 +72,8 @@ pub fn serve_file<C: Instants + MonotonicClock, D: Databases, W: Write, G: Log>(
     outcome
 }
 
-/// Listens on the loopback address, and writes the address and the port. Then serves clients, and
-/// carries out the commands that come through the door.
+/// Listens on the loopback address, and writes the address and the port. The server then serves
+/// clients, and carries out the commands that come through the door.
 ///
 /// If the service has a fixed time, the server uses it for each client. Otherwise, the server takes
 /// the time from the machine's clock, in the service's zone. The machine's clock also measures the
@@ -85,7 +85,7 @@ pub fn serve_file<C: Instants + MonotonicClock, D: Databases, W: Write, G: Log>(
 ///   no client.
 /// - Fails with `Memory` if memory runs out. The server has served no client.
 /// - Fails with `ClockOutOfRange` if a client comes when the clock shows no minute within the
-///   club's years. This fault ends the server.
+///   club's years. `ClockOutOfRange` ends the server.
 pub fn serve<D: Office, C: Instants + MonotonicClock, W: Write, G: Log>(
     rt: &HostRuntime,
     machine: &C,

@@ -6,7 +6,7 @@ use Rattle.std.specs.Prelude.{◌≡◌, ℕ, List, Option, IsSomeAnd}
 abbrev pub Handing : Type 0 → Type 1
 Handing Servers = Servers → List ℕ → Option (ℕ × List ℕ) → Servers → Type 0
 
--- The status of the answer is 9. This status means that no server has carried out the command.
+-- The status of the answer is 9. Status 9 means that no server has carried out the command.
 abbrev pub IsNothingDone : Option (ℕ × List ℕ) → Type 0
 IsNothingDone answer = IsSomeAnd answer (λ told. told.0 ≡ 9)
 

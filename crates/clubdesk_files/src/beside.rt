@@ -15,7 +15,7 @@ use std::{fs, io};
 /// The mode of new files. Only the owner of a file can read and write it.
 pub(crate) const OWNERS_MODE: u32 = 0o600;
 
-/// The name of a database in memory. Such a database has no files.
+/// The name of a database in memory. A database in memory has no files.
 pub(crate) const IN_MEMORY: &str = ":memory:";
 
 /// The path of the current folder.
@@ -106,8 +106,8 @@ impl Place {
 }
 
 /// Returns true if a user may make the door of a database. The database's owner, the caller and
-/// root may make the door. Otherwise, anyone who can write to the folder could put a socket there,
-/// and would receive the office's commands.
+/// root may make the door. Without this check, anyone who can write to the folder could put a
+/// socket there and receive the office's commands.
 pub fn may_make_door(user: u32, owner: u32, caller: u32) -> bool
     ensures { IsTrue result ↔ ((user ≡ owner) ⊎ (user ≡ caller) ⊎ (user ≡ ROOT)) }
 {

@@ -49,7 +49,7 @@ impl<'a> FileDoor<'a> {
 }
 
 // Binds a socket at a path. The mode of the socket's file is the mode of its descriptor without the
-// bits of the umask. For this reason, other users can't connect at any time.
+// bits of the umask. The socket is therefore never open to other users.
 fn bind_private(rt: &HostRuntime, path: &str) -> io::Result<UnixListener> {
     let address = SocketAddr::from_pathname(path)?;
     let socket = rt.unix_socket()?;

@@ -75,8 +75,8 @@ impl<'a> Databases for Files<'a> {
         }
     }
 
-    // Committed changes are in the log next to the file. This call copies the changes into the
-    // file. If copying fails, the changes stay in the log until the database is opened again.
+    // Committed changes are in the log next to the file. `close` copies the changes into the file.
+    // If copying fails, the changes stay in the log until the database is opened again.
     fn close(&mut self, named: FileClub) {
         self.closed = self.closed.saturating_add(1);
         let NamedStore { store, file: _ } = named;

@@ -38,8 +38,8 @@ pub trait Servers {
 }
 
 /// Sends a command to a server, and returns the status and the text of the last answer. While the
-/// answer is `NOTHING_DONE`, the function retries for ten seconds. It never sends a command again
-/// that a server may have carried out. Returns `None` if there is no answer.
+/// answer is `NOTHING_DONE`, the function retries for ten seconds. The function never resends a
+/// command that a server may have carried out. Returns `None` if there is no answer.
 pub fn hand_over_until_done<S: Servers, C: Clock>(
     clock: &C,
     servers: &mut S,
@@ -93,8 +93,8 @@ pub fn hand_over_to(
     limit_answer(&stream).ok()?;
     match answered(alloc, &mut &stream, &mut &stream, command) {
         Ok(answer) => Some(answer),
-        // The server closed the connection before it had read all of the command. For this reason,
-        // the server can't carry out the command.
+        // The server closed the connection before it had read all of the command. The server
+        // therefore can't carry out the command.
         Err(error) => match error.kind() {
             ErrorKind::BrokenPipe | ErrorKind::ConnectionReset => nothing_done(alloc),
             _ => None,

@@ -15,8 +15,8 @@ pub trait DatabasesUser {
         ensures { outcomes self result };
 }
 
-/// Runs the code over databases in files. The code is proved for databases of any type. For this
-/// reason, its proof doesn't include the type of a store in a file, which contains the whole
+/// Runs the code over databases in files. The code is proved for databases of any type. The proof
+/// of the code therefore doesn't include the type of a store in a file, which contains the whole
 /// database engine.
 pub fn run_over_files<U: DatabasesUser>(rt: &HostRuntime, user: U) -> U::Outcome
     ensures { U.outcomes user result }

@@ -45,10 +45,11 @@ impl<'a> FileVisit<'a> {
 pub(crate) enum Found<'a> {
     /// A server that has sent its greeting.
     Server(FileVisit<'a>),
-    /// The server ended before it sent its greeting. It received no command.
+    /// The server ended before it sent its greeting, and received no command.
     Ended,
     /// No server listens on the door, the database's name is too long for a door, or only root can
-    /// use the door. In these cases, the lock of the file shows if a server has the file open.
+    /// use the door. Without a listening server, the lock of the file shows if a server has the
+    /// file open.
     Nobody,
 }
 

@@ -9,7 +9,7 @@ pub length_pieces : (lens bytes : List ℕ) → length (pieces_of lens bytes) �
 length_pieces [] bytes = refl
 length_pieces (len ∷ lens) bytes = ap suc (length_pieces lens (drop len bytes))
 
--- The bytes after overwriting them with a part from index `place`.
+-- The bytes after a part has overwritten them from index `place`.
 abbrev pub written : ℕ → List ℕ → List ℕ → List ℕ
 written place part bytes = take place bytes ++ (part ++ drop (place + length part) bytes)
 

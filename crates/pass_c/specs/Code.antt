@@ -65,7 +65,7 @@ fault_code ThirdParty = third_party_code
 fault_code TooMany = too_many_code
 fault_code Memory = memory_code
 
--- The code of a call that returns no value. It is the code of success or of a fault.
+-- The code of success or of a fault, for a call that returns no value.
 abbrev pub code_of : {A : Type 0} → Result A FormFault → ℕ
 code_of (Ok done) = ok_code
 code_of (Err fault) = fault_code fault

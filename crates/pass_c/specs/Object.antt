@@ -22,7 +22,7 @@ held object = record {
 abbrev pub form_in : PassObject → Form
 form_in object = form_with_number object.form
 
--- The result of a call that fills an object. It is the object's new form and pass, or the fault.
+-- The result of a call that fills an object: the object's new form and pass, or the fault.
 abbrev pub filled : Result (Unit {0}) FormFault → PassObject → Result (Form × Plain) FormFault
 filled (Ok done) object = Ok (form_in object, held object)
 filled (Err fault) object = Err fault

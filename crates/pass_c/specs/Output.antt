@@ -19,8 +19,8 @@ pub record IsLeft (why : ℕ) (old new : List ℕ) (len code : ℕ) : Type 0 whe
   pub reason : code ≡ why
 
 -- The text of a pass in a form, or the fault of the library's writer. The code copies a pass before
--- it writes the text. For this reason, memory can run out for any pass, even for a pass without a
--- text in this form.
+-- it writes the text. Memory can therefore run out for any pass, even for a pass without a text in
+-- this form.
 abbrev pub IsWrittenAs : Form → Plain → Result (List ℕ) FormFault → Type 0
 IsWrittenAs form pass (Ok text) =
     IsWritableText (IsTextIn form) pass text × IsAnyReading text (Ok (form, pass))

@@ -89,7 +89,7 @@ pub fn fault_code(fault: FormFault) -> u32
     }
 }
 
-/// Returns the code of a call that returns no value. It is the code of success or of a fault.
+/// Returns the code of success or of a fault, for a call that returns no value.
 pub fn code_of(ended: Result<(), FormFault>) -> u32
     ensures code { result ≡ spec.code_of ended }
     ensures back { spec.result_of result ≡ ended }

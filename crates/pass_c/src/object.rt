@@ -17,7 +17,7 @@ pub const ROOM: usize = 8192;
 #[repr(C)]
 #[derive(Drop)]
 pub struct PassObject {
-    /// The number of the form from which the pass was read. It is 0 if the pass wasn't read from a
+    /// The number of the form from which the pass was read, or 0 if the pass wasn't read from a
     /// text.
     pub form: u32,
     pub location_len: u32,

@@ -1,4 +1,4 @@
--- Defines the command for which arguments ask.
+-- Defines the command that a run's arguments ask for.
 use Rattle.std.specs.Option.{ok_or}
 use Rattle.std.specs.Prelude.{◌↔◌, ℕ, ◌+◌, Bool, IsTrue, not, if◌then◌else◌, List, [], Option, Some, None, Result, Ok, Err, codes, position, unwrap_or}
 use Rattle.clap.specs.Words.{Row, Text, all_of}

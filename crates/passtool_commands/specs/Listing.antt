@@ -22,7 +22,7 @@ escaped_text bytes = flat_map escaped_byte bytes
 abbrev pub value_line : List ℕ → List ℕ → List ℕ
 value_line name bytes = with_line_feed (name ++ 32 ∷ escaped_text bytes)
 
--- The lines of the caveats. `n` is the number of the first line.
+-- The lines of the caveats. The first caveat has this number.
 unfoldable pub caveat_lines : ℕ → List (List ℕ) → List ℕ
 caveat_lines number [] = []
 caveat_lines number (caveat ∷ caveats) =

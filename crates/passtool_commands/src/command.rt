@@ -34,7 +34,7 @@ pub enum Command<'a> {
     Narrow(Caveats<'a>),
     /// Writes a pass in another form.
     Convert(Form),
-    /// Checks whether a pass is signed under the root.
+    /// Checks if a pass is signed under the root.
     Verify(Root),
 }
 

@@ -16,8 +16,8 @@ use std::io::{Read, Write};
 /// Runs the program on its arguments. The first argument is the program's name.
 ///
 /// The program checks the arguments before it reads the input. `clap` checks the arguments first.
-/// Then the program checks the form, the root and the caveats. The program reads at most 8,194
-/// bytes of the input. `mint` reads no input. The program writes nothing before the answer is
+/// After `clap`, the program checks the form, the root and the caveats. The program reads at most
+/// 8,194 bytes of the input. `mint` reads no input. The program writes nothing before the answer is
 /// complete. The texts of help and of the version come from `clap`.
 ///
 /// # Errors

@@ -3,7 +3,8 @@
 //!
 //! - The reference machine.
 //! - The desk over tables in memory.
-//! - Exchanges from bytes to bytes. They play the file three times, once for each form of pass.
+//! - The desk with exchanges from bytes to bytes. The player plays the file three times, once for
+//!   each form of pass.
 //!
 //! For each file, the program prints the number of lines, or the first line with another answer.
 #![tactic(auto)]
@@ -104,7 +105,8 @@ fn play_file(rt: &HostRuntime, name: &str) -> Result<bool> {
     }
 }
 
-/// Prints if the player refuses all odd texts. Returns true if it refuses all of them.
+/// Checks that the player refuses all odd texts, and prints the result. Returns true if the player
+/// refuses all odd texts.
 fn refuse_odd_texts(rt: &HostRuntime) -> Result<bool> {
     match odd::first_played_of_all(rt.alloc())? {
         None => {

@@ -6,7 +6,7 @@ use crate::play::{Way, play};
 use pass_forms::Form;
 use std::alloc::{AllocError, Global};
 
-/// The two lines before each text. They make a club and set a moment.
+/// The two lines before each text. The lines make a club and set a moment.
 const CLUB: &str = "club  members amy 5 100; court-1 court 4 200 8-22; keys amy-1\n\
     at  2026-04-20T12:00\n";
 
@@ -43,7 +43,7 @@ static AFTER_A_CLUB: [(&str, usize); 29] = [
     ("root  third", 3),
 ];
 
-/// More texts after the two lines of `CLUB`. They have a misplaced crash or misplaced indented
+/// More texts after the two lines of `CLUB`. The texts have a misplaced crash or misplaced indented
 /// lines.
 static MORE_LINES: [(&str, usize); 5] = [
     ("crash  at noon", 3),

@@ -36,7 +36,8 @@ fn simple(letter: u8) -> Result<u8, Fault> {
     }
 }
 
-/// Reads one byte. Returns the new state, and a decoded byte if the escape is complete.
+/// Reads one byte. Returns the new state. Also returns a decoded byte, unless an escape is
+/// incomplete.
 fn step(state: Escape, byte: u8) -> Result<(Escape, Option<u8>), Fault> {
     match state {
         Escape::None if byte == b'\\' => Ok((Escape::Begun, None)),

@@ -5,8 +5,8 @@ use Rattle.pass_caveats.specs.computed.CaveatOf.{caveat_of}
 use Rattle.club_core.specs.{Pass.{Pass, Words}, declared.pass_fault.PassFault.PassFault}
 use Rattle.club_reference.specs.declared.words.{Pass.Pass as PassInCode, Words.Words as WordsInCode}
 
--- The model of a pass. It contains the parsed caveats, and a root signs it if the root is in the
--- pass's list of roots.
+-- The model of a pass, with the parsed caveats. A root signs the model if and only if the root is
+-- in the pass's list of roots.
 abbrev pub pass_model : PassInCode → Pass
 pass_model pass = record {
   key = pass.key;
