@@ -1,4 +1,4 @@
--- Texts of the form `YYYY-MM-DD`, and the dates that they stand for.
+-- Lemmas on dates and their texts of the form `YYYY-MM-DD`.
 use Rattle.std.proofs.Common.{◌≡◌, ◌<◌, ℕ, ◌+◌, ◌*◌, length, List, [], ◌∷◌, get_or, arith, sym, ◌∙◌, subst, Option, Result, Ok, Err, ℤ, pos}
 use Rattle.std.proofs.lemmas.Slice.Eq.{text_from_reads}
 use Rattle.std.specs.{Prelude.{IsOk, IfOk}, Result.result_ok}
@@ -7,25 +7,21 @@ use Rattle.jiff_core.proofs.{CalendarLemmas.days_in_month_bounds, DateLemmas.civ
 use Rattle.club_values.specs.{Day.{IsDay, date_text, AreDateParts, IsDateText, SpellsDay}, Digits.two_digits, Reading.Reads}
 use Rattle.club_values.proofs.DigitLemmas.{two_digits_injective, four_digits_injective}
 
--- The year, month and day of a text of ten bytes, if each pair of digits was parsed.
 pub parts_from_reads : (text : List ℕ) (century y year month day : ℕ) → length text ≡ 10 → get_or text 4 0 ≡ 45 → get_or text 7 0 ≡ 45 → century < 100 →
     y < 100 → month < 100 → day < 100 → year ≡ century * 100 + y → get_or text 0 0 ∷ get_or text 1 0 ∷ [] ≡ two_digits century →
     get_or text 2 0 ∷ get_or text 3 0 ∷ [] ≡ two_digits y → get_or text 5 0 ∷ get_or text 6 0 ∷ [] ≡ two_digits month →
     get_or text 8 0 ∷ get_or text 9 0 ∷ [] ≡ two_digits day → AreDateParts text year month day
 parts_from_reads text century y year month day len four seven hc hy hm hd e ec ey em ed = grind (arith, text_from_reads text (date_text year month day) len)
 
--- Dates with the same text `YYYY-MM-DD` have the same year, month and day.
 pub parts_are_one : (y m d y₂ m₂ d₂ : ℕ) → date_text y m d ≡ date_text y₂ m₂ d₂ → (y ≡ y₂) × (m ≡ m₂) × (d ≡ d₂)
 parts_are_one y m d y₂ m₂ d₂ e = grind (arith, four_digits_injective, two_digits_injective)
 
 unfoldable pub date_record : (y m d : ℕ) → IsCivilDate (pos y) m d → Date
 date_record y m d h = record { year = pos y; month = m; day = d; year_in = h.0; month_in = h.1; day_in = h.2 }
 
--- A text that has no year, month and day isn't the text of a date.
 pub no_date : (text : List ℕ) → ((p : ℕ × ℕ × ℕ) → AreDateParts text p.0 p.1 p.2 → ⊥) → (d : Date) → IsDateText text d → ⊥
 no_date text never d t = grind (arith, signed_arith, days_in_month_bounds, civil, never (t.year, d.month, d.day))
 
--- If a text isn't the text of a date, it doesn't encode a day.
 pub no_day : (text : List ℕ) → ((d : Date) → IsDateText text d → ⊥) → (n : ℕ) → SpellsDay text n → ⊥
 unfolding date_record
 no_day text never n s = grind (arith, never (date_record s.year s.month s.day s.real.0))
@@ -36,7 +32,6 @@ of_civil y m d h = grind (arith, signed_arith)
 pub from_pos : (a b : ℕ) → pos a ≡ pos b → a ≡ b
 from_pos a b e = cc
 
--- If the constructor accepts exactly the real dates, it returns the date of the text with these parts.
 date_by_parts : {E : Type 0} (text : List ℕ) (y m d : ℕ) (r : Result Date E) → AreDateParts text y m d → (IsDate (pos y) (pos m) (pos d) → IsOk r) →
     IfOk r (IsYmd (pos y) (pos m) (pos d)) → Reads (IsDateText text) (result_ok r)
 date_by_parts text y m d (Ok date) p can h =
@@ -52,7 +47,6 @@ date_by_parts text y m d (Err e) p can h = λ date t.
     let error = can (rw (same.0, same.1, same.2) (of_civil t.year date.month date.day is)) in
     cc
 
--- The date of a text from its parts, given the integers that the code passes to the constructor.
 pub reads_date : {E : Type 0} (text : List ℕ) (y m d : ℕ) (yz mz dz : ℤ) (r : Result Date E) (o : Option Date) → AreDateParts text y m d → yz ≡ pos y →
     mz ≡ pos m → dz ≡ pos d → (IsDate yz mz dz → IsOk r) → IfOk r (IsYmd yz mz dz) → o ≡ result_ok r → Reads (IsDateText text) o
 reads_date text y m d yz mz dz r o p ey em ed can value e =
@@ -61,6 +55,5 @@ reads_date text y m d yz mz dz r o p ey em ed can value e =
 date_is : (text : List ℕ) (d : Date) (n : ℕ) → IsDateText text d → SpellsDay text n → epoch_day d ≡ pos n
 date_is text d n t s = grind (arith, parts_are_one)
 
--- If a text is the text of a date, the day that the text encodes is the day of this date.
 pub spells_by_date : (text : List ℕ) (d : Date) → IsDateText text d → (r : Option ℕ) → Reads (λ n. IsDay n × (epoch_day d ≡ pos n)) r → Reads (SpellsDay text) r
 spells_by_date text d t r h = grind (arith, civil, date_is)

@@ -1,4 +1,4 @@
--- Arithmetic on a day's number gives the date that the day has in the calendar.
+-- Lemmas for the proof that `year_of`, `month_of` and `day_of_month` compute the date of a day.
 use Rattle.std.proofs.Common.{◌≡◌, ℕ, ◌+◌, ◌-◌, ◌*◌, ◌/◌, ◌%◌, ◌<◌, ◌≤◌, ◌≢◌, cond, Bool, true, false, nat_lt, refl, suc, ◌∙◌, ltb-true, ltb-false, sym, List}
 use Rattle.std.proofs.{Common.{◌++◌, arith, to_z, of_z, w16, pos, ◌+ℤ◌}, lemmas.Bool.Decides.nat_tests}
 use Rattle.jiff_core.specs.{Calendar.{IsCivilDate, days_from_civil, day_count}, Date.epoch_day, March.march_days, declared.civil.date.Date.Date}
@@ -8,7 +8,6 @@ use Rattle.jiff_core.proofs.SignedLemmas.{signed_arith, back_small}
 use Rattle.club_values.specs.Day.{IsDay, IsDateOf, march_year, day_of_march_year, year_of, month_of, day_of_month, date_text, day_text, SpellsDay}
 use Rattle.club_values.proofs.{DateTextLemmas.{date_record, from_pos}, DigitLemmas.{two_digits_injective, four_digits_injective}}
 
--- Bounds on a day's year, and on the day's place in this year, if years begin on 1 March.
 pub march_year_bounds : (n : ℕ) → IsDay n →
     (3 ≤ march_year n) × (march_year n ≤ 103) × (day_of_march_year n < 366) × (n ≡ 9556 + 365 * march_year n + march_year n / 4 + day_of_march_year n)
 march_year_bounds n h = (omega arith, omega arith, omega arith, omega arith)
@@ -17,7 +16,7 @@ march_year_bounds n h = (omega arith, omega arith, omega arith, omega arith)
 march_days-1996 : (q : ℕ) → 3 ≤ q → q ≤ 103 → march_days (11996 + q) ≡ 4381449 + 365 * q + q / 4
 march_days-1996 q low high = omega arith
 
--- If a year that begins on 1 March has 366 days, it ends in a leap year.
+-- A year that begins on 1 March has 366 days only if its last day is 29 February.
 leap_day-march : (q r : ℕ) → 3 ≤ q → q ≤ 102 → r < 366 → (q % 4 ≢ 3 → r < 365) → r < 365 + leap_day (pos (1997 + q))
 leap_day-march q r low high leap common = grind (arith, nat_tests)
 
@@ -64,7 +63,6 @@ dated q r n false test low high small common last e =
     let year : 1996 + q + 0 ≡ 1996 + q = omega arith in
     rw year (late_date q r n low high small e late)
 
--- The date that is computed for a day is a real date, and its day number is this day.
 pub civil_date : (n : ℕ) → IsDay n → IsDateOf (year_of n) (month_of n) (day_of_month n) n
 civil_date n h =
     let b = march_year_bounds n h in
@@ -88,18 +86,15 @@ year_bounds q r n b test low high small h e = grind arith
 pub date_bounds : (n : ℕ) → IsDay n → (2000 ≤ year_of n) × (year_of n ≤ 2099) × (month_of n ≤ 12) × (day_of_month n ≤ 31)
 date_bounds n h = grind (arith, march_year_bounds, year_bounds, civil_date, days_in_month_bounds)
 
--- The year of a day's date is unchanged after the code casts it to 16 bits.
 pub year_after_cast : (n : ℕ) (d : Date) → IsDay n → epoch_day d ≡ pos n → to_z w16 (of_z w16 d.year) ≡ pos (year_of n)
 year_after_cast n d h e = grind (arith, date_bounds, date_of_day, back_small w16)
 
--- The text of a day's date is the text of the day.
 pub date_text-day_text : (n y m d : ℕ) → IsDay n → IsDateOf y m d n → date_text y m d ≡ day_text n
 unfolding day_text
 date_text-day_text n y m d h is =
     let same = one_date n y m d (year_of n) (month_of n) (day_of_month n) is (civil_date n h) in
     rw (same.0, same.1, same.2)
 
--- If a text encodes a day, it is the text of this day.
 pub spells-day_text : (text : List ℕ) (n : ℕ) → SpellsDay text n → text ≡ day_text n
 spells-day_text text n s = grind (arith, date_text-day_text)
 
@@ -115,7 +110,7 @@ day_text-spells n h =
       within = h;
     }
 
--- Different days have different texts, even if other text follows.
+-- Different days have different texts, whatever bytes come after the texts.
 pub day_text_injective : (a b : ℕ) (xs ys : List ℕ) → IsDay a → IsDay b → day_text a ++ xs ≡ day_text b ++ ys → a ≡ b
 unfolding day_text
 day_text_injective a b xs ys h k e = grind (arith, four_digits_injective, two_digits_injective, civil_date, from_pos)

@@ -1,4 +1,4 @@
--- Given the text of a day or of a moment, `day_of` and `moment_of` return this day or this moment.
+-- Lemmas for the proof that `day_of` and `moment_of` compute the value of a text.
 use Rattle.std.proofs.Common.{◌≡◌, ℕ, ◌+◌, ◌-◌, ◌*◌, ◌/◌, ◌%◌, ◌<◌, ◌≤◌, Bool, cond, nat_lt, List, ◌++◌, arith}
 use Rattle.jiff_core.proofs.MarchLemmas.{month_and_day}
 use Rattle.club_values.specs.{Day.{IsDay, year_of, month_of, day_of_month, day_text}, Moment.{IsMoment, moment_text}}
@@ -12,7 +12,6 @@ number_again : (q r n : ℕ) (b : Bool) → nat_lt 12 ((5 * r + 461) / 153) ≡ 
     number_of_date (1996 + q + cond b 1 0) (cond b ((5 * r + 461) / 153 - 12) ((5 * r + 461) / 153)) ((5 * r + 461) % 153 / 5 + 1) ≡ n
 number_again q r n b test low high small e = grind (arith, month_and_day r small)
 
--- Computing the day number of a day's date gives the day again.
 day_again : (n : ℕ) → IsDay n → number_of_date (year_of n) (month_of n) (day_of_month n) ≡ n
 day_again n h = grind (arith, march_year_bounds, number_again)
 

@@ -1,4 +1,4 @@
--- Texts of the form `YYYY-MM-DDTHH:MM`, and the moments that they stand for.
+-- Lemmas on moments and their texts of the form `YYYY-MM-DDTHH:MM`.
 use Rattle.std.proofs.{Common.{◌≡◌, ℕ, ◌/◌, ◌%◌, List, [], ◌∷◌, take, drop, get_or, ap, refl, arith}, lemmas.Grind.common_steps}
 use Rattle.club_values.specs.{Day.{SpellsDay, day_text}, Digits.two_digits, Moment.{IsMoment, time_text, SpellsTime, SpellsMoment, moment_text}}
 use Rattle.club_values.proofs.{DayLemmas.{day_text-spells, spells-day_text, day_text_injective}, DigitLemmas.two_digits_injective}
@@ -13,7 +13,6 @@ no_day_no_moment text never n s = grind (arith, parts_of, never s.day)
 pub no_time_no_moment : (text : List ℕ) → ((n : ℕ) → SpellsTime (drop 10 text) n → ⊥) → (n : ℕ) → SpellsMoment text n → ⊥
 no_time_no_moment text never n s = grind (arith, parts_of, never s.minute)
 
--- If a text encodes a moment, it is the text of this moment.
 pub spells-moment_text : (text : List ℕ) (n : ℕ) → SpellsMoment text n → (text ≡ moment_text n) × IsMoment n
 unfolding moment_text
 spells-moment_text text n s =
@@ -53,7 +52,6 @@ moment_text_injective a b h k e =
     let minute = two_digits_injective (a % 60) (b % 60) [] [] (ap (drop 14) e) in
     omega arith
 
--- The text that the code joins from a date, an hour and a minute is the text of the moment.
 pub joined_text : (date t₁ t₂ : List ℕ) (day minute n : ℕ) → SpellsDay date day → t₁ ≡ two_digits (minute / 60) → t₂ ≡ two_digits (minute % 60) →
     day ≡ n / 1440 → minute ≡ n % 1440 →
     get_or date 0 0 ∷ get_or date 1 0 ∷ get_or date 2 0 ∷ get_or date 3 0 ∷ get_or date 4 0 ∷ get_or date 5 0 ∷ get_or date 6 0 ∷ get_or date 7 0 ∷ get_or date

@@ -1,4 +1,4 @@
--- The bytes of a name are ASCII, so they are a valid string.
+-- A name consists of ASCII bytes, so a name is valid UTF-8.
 use Rattle.std.proofs.{Common.{◌≡◌, ◌<◌, true, ℕ, List, arith}, lemmas.{Bool.Decides.nat_tests, Str.Ascii.IsAscii-from_all}}
 use Rattle.std.specs.Str.{IsAscii}
 use Rattle.club_values.specs.Name.{is_name_byte, IsName}

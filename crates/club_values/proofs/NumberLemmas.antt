@@ -1,4 +1,4 @@
--- Decimal digits and the numbers that they encode.
+-- Lemmas on decimal digits and the numbers that they encode.
 use Rattle.std.proofs.Common.{◌≡◌, ℕ, ◌<◌, ◌≤◌, ◌^◌, Bool, true, List, length, get_or, Result, arith, rules, Decides}
 use Rattle.std.proofs.lemmas.Bool.Decides.{Decides-like, Decides-and, Decides-not, Decides-ltb, Decides-eqb, nat_tests}
 use Rattle.std.proofs.lemmas.Fmt.{decimal-digits_value, digits_decimal, digits_value-decimal, decimal_nonempty, length-decimal-le, first_decimal, decimal_digit}
@@ -29,18 +29,16 @@ pub digits_read : {E : Type 0} (text read : List ℕ) (r : Result ℕ E) → are
     result_ok r ≡ number_of_digits text
 digits_read text read r few e parses = grind (arith, Decides-few_digits, value_below, parse_gives own 32 text r)
 
--- The text starts with a zero and has more bytes after it.
+-- The text has at least two bytes, and the first byte is the digit zero.
 abbrev pub leads_with_zero : List ℕ → Bool
 leads_with_zero text = nat_lt 1 (length text) && slice_index text 0 == 48
 
--- Decimal digits without a leading zero are the text of the number that they encode.
 spells_value : (text : List ℕ) → AreFewDigits text → ¬ ((1 < length text) × (get_or text 0 0 ≡ 48)) → SpellsNumber text (digits_value 10 text)
 spells_value text h no_zero = grind (arith, value_below, decimal-digits_value own text)
 
 leading_zero : (n : ℕ) → n < 2 ^ 64 → get_or (decimal n) 0 0 ≡ 48 → length (decimal n) ≡ 1
 leading_zero n h e = grind (arith, common_steps, first_decimal, decimal_digit)
 
--- If a text encodes a number, it consists of decimal digits without a leading zero.
 are_digits_of : (text : List ℕ) (n : ℕ) → SpellsNumber text n → AreFewDigits text × (¬ ((1 < length text) × (get_or text 0 0 ≡ 48)))
 are_digits_of text n s = grind (arith, decimal_nonempty n, length-decimal-le 9 n, digits_decimal own n, leading_zero n)
 

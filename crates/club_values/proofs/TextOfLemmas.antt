@@ -1,4 +1,4 @@
--- Each function `.._of_text` returns a value if and only if the text encodes this value.
+-- Lemmas for the laws of the functions `.._of_text`.
 use Rattle.std.proofs.Common.{◌≡◌, ◌↔◌, ℕ, Bool, true, cond, List, [], Option, Some, None, refl, sym, subst, Decides, arith}
 use Rattle.std.proofs.lemmas.{Bool.Decides.{Decides-like, Decides-ltb}, Slice.Eq.bytes_eq-Decides}
 use Rattle.std.specs.{Prelude.{◌&&◌, not}, Str.Parse.digits_value}
@@ -12,18 +12,15 @@ use Rattle.club_values.proofs.{DayLemmas.{day_text-spells, spells-day_text}, Gue
 use Rattle.club_values.proofs.{MomentLemmas.{moment_text-spells, spells-moment_text}, NumberLemmas.{leads_with_zero, Decides-number, value_of-number}}
 use Rattle.club_values.proofs.TestLemmas.{Decides-is_name, Decides-range}
 
--- If a text can encode only the guessed value, testing the guess decides which value the text encodes.
 found : {A : Type 0} (Spells : A → Type 0) (guess : A) (test : Bool) → Decides test (Spells guess) → ((x : A) → Spells x → guess ≡ x) → (x : A) →
     (cond test (Some guess) None ≡ Some x) ↔ Spells x
 found Spells guess test d same x = grind arith
 
--- Given a function that guesses the value of a text, `where_spelled` returns a value if and only if the text encodes it.
 found_where : {A : Type 0} (text : List ℕ) (Spells Fits : A → Type 0) (guess : List ℕ → A) (text_of : A → List ℕ) (fits : A → Bool) →
     ((x : A) → Decides (fits x) (Fits x)) → ((x : A) → Spells x → Fits x × (text ≡ text_of x)) → ((x : A) → Fits x → text ≡ text_of x → Spells x) →
     ((x : A) → Fits x → guess (text_of x) ≡ x) → (x : A) → (where_spelled text (guess text) (text_of (guess text)) (fits (guess text)) ≡ Some x) ↔ Spells x
 found_where text Spells Fits guess text_of fits decides to from again x = grind (arith, found, decides, to, from, again, bytes_eq-Decides)
 
--- A parser and a function that both return exactly the encoded values return the same result.
 pub same_reading : {A : Type 0} (Spells : A → Type 0) (found r : Option A) → ((x : A) → (found ≡ Some x) ↔ Spells x) → Reads Spells r → r ≡ found
 same_reading Spells found (Some x) agrees h = sym ((agrees x).1 h)
 same_reading Spells None None agrees h = refl

@@ -1,4 +1,4 @@
--- The actions of requests, and their texts (ours).
+-- The texts of the actions that a request can ask for.
 use Rattle.std.specs.Prelude.{ℕ, List, codes}
 use Rattle.club_values.specs.declared.action.Action.{Action, TheVariants.{View, Book, Cancel, Account}}
 

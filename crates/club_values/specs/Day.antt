@@ -1,9 +1,10 @@
--- Days and their texts.
+-- Days, dates and their texts.
 use Rattle.std.specs.Prelude.{◌≡◌, ℕ, ◌+◌, ◌-◌, ◌*◌, ◌/◌, ◌%◌, ◌<◌, ◌≤◌, List, ◌∷◌, ◌++◌, nat_lt, if◌then◌else◌, pos}
 use Rattle.jiff_core.specs.{Calendar.{IsCivilDate, days_from_civil}, declared.civil.date.Date.Date}
 use Rattle.club_values.specs.Digits.{two_digits, four_digits}
 
--- The days 2000-01-01 and 2099-12-31, as days since 1970-01-01 (ours).
+-- The first supported day is 2000-01-01, and the last supported day is 2099-12-31. Each day is a
+-- number of days since 1970-01-01.
 abbrev pub first_day : ℕ
 first_day = 10_957
 
@@ -13,15 +14,16 @@ last_day = 47_481
 abbrev pub IsDay : ℕ → Type 0
 IsDay n = (first_day ≤ n) × (n ≤ last_day)
 
--- The text `YYYY-MM-DD` (RFC 3339, full-date).
+-- The text `YYYY-MM-DD` of a date (RFC 3339, full-date).
 abbrev pub date_text : ℕ → ℕ → ℕ → List ℕ
 date_text year month day = four_digits year ++ 45 ∷ two_digits month ++ 45 ∷ two_digits day
 
--- The date exists, and `n` is its day number (proleptic Gregorian calendar, as in jiff).
+-- The date exists in the proleptic Gregorian calendar, and `n` is the number of days from
+-- 1970-01-01 to the date. The calendar is defined in `jiff_core`.
 abbrev pub IsDateOf : ℕ → ℕ → ℕ → ℕ → Type 0
 IsDateOf year month day n = IsCivilDate (pos year) month day × (days_from_civil (pos year) month day ≡ pos n)
 
--- The text is that of a real date in range, and `n` is the day of this date (ours).
+-- The text encodes a real date from 2000 to 2099, and `n` is the day of this date.
 pub record SpellsDay (text : List ℕ) (n : ℕ) : Type 0 where
   pub year : ℕ
   pub month : ℕ
@@ -30,29 +32,30 @@ pub record SpellsDay (text : List ℕ) (n : ℕ) : Type 0 where
   pub real : IsDateOf year month day n
   pub within : IsDay n
 
--- The text has the form `YYYY-MM-DD` with these numbers.
+-- The text has the form `YYYY-MM-DD`, with these numbers as its year, month and day.
 pub record AreDateParts (text : List ℕ) (year month day : ℕ) : Type 0 where
   pub short_year : year < 10000
   pub short_month : month < 100
   pub short_day : day < 100
   pub spelling : text ≡ date_text year month day
 
--- The text is that of this date, and the date's year has four digits.
+-- The text is the text of this date, and the year of the date isn't negative.
 pub record IsDateText (text : List ℕ) (date : Date) : Type 0 where
   pub year : ℕ
   pub same_year : date.year ≡ pos year
   pub spelling : text ≡ date_text year date.month date.day
 
--- These functions compute the date of a day. Here a year begins on 1 March, so that a leap day is
--- the last day of its year. Day 9556 is 1996-03-01, and `march_year` counts the years since then.
+-- The next functions compute the date of a day. They use years that begin on 1 March, so that a
+-- leap day is the last day of a year. Day 9556 is 1996-03-01. The function `march_year` counts the
+-- years since that day.
 abbrev pub march_year : ℕ → ℕ
 march_year n = (4 * (n - 9556) + 3) / 1461
 
--- The days since the last 1 March.
+-- The number of days since the last 1 March.
 abbrev pub day_of_march_year : ℕ → ℕ
 day_of_march_year n = n - 9556 - 1461 * march_year n / 4
 
--- The month, numbered from 3 to 14, so that 13 is January and 14 is February.
+-- The month, numbered from 3 (March) to 14. January is month 13, and February is month 14.
 abbrev pub march_month : ℕ → ℕ
 march_month n = (5 * day_of_march_year n + 461) / 153
 
@@ -65,6 +68,6 @@ month_of n = if nat_lt 12 (march_month n) then march_month n - 12 else march_mon
 abbrev pub day_of_month : ℕ → ℕ
 day_of_month n = (5 * day_of_march_year n + 461) % 153 / 5 + 1
 
--- The only text of a day.
+-- The text `YYYY-MM-DD` of a day. Each day has exactly one text.
 unfoldable pub day_text : ℕ → List ℕ
 day_text n = date_text (year_of n) (month_of n) (day_of_month n)

@@ -1,10 +1,10 @@
--- Decimal digits of a fixed width (ours).
+-- Decimal digits of numbers, with a fixed number of digits.
 use Rattle.std.specs.Prelude.{ℕ, ◌+◌, ◌/◌, ◌%◌, List, [], ◌∷◌, ◌++◌}
 
--- The two digits of a number below 100.
+-- The two decimal digits of a number below 100.
 abbrev pub two_digits : ℕ → List ℕ
 two_digits n = (48 + n / 10) ∷ (48 + n % 10) ∷ []
 
--- The four digits of a number below 10,000.
+-- The four decimal digits of a number below 10,000.
 abbrev pub four_digits : ℕ → List ℕ
 four_digits n = two_digits (n / 100) ++ two_digits (n % 100)

@@ -1,4 +1,4 @@
--- A short string of bytes, stored in a buffer of fixed length.
+-- Short strings of bytes, stored in a buffer of fixed length.
 use Rattle.std.specs.Prelude.{◌≡◌, ℕ, ◌-◌, ◌≤◌, List, ◌++◌, length, take, replicate}
 use Rattle.std.proofs.{Common.{sym, ap, ◌∙◌}, lemmas.List.length-take-le}
 use Rattle.club_values.specs.declared.inline_bytes.InlineBytes.TheInside.{Inside}
@@ -7,7 +7,7 @@ module _ {n : ℕ} where
   abbrev pub stored_bytes : Inside n → List ℕ
   stored_bytes a = take a.len a.buffer
 
--- The bytes, followed by zeros up to the length `n`.
+-- The bytes, followed by zeros up to a total length of `n`.
 abbrev pub with_padding : ℕ → List ℕ → List ℕ
 with_padding n bytes = bytes ++ replicate (n - length bytes) 0
 

@@ -1,4 +1,4 @@
--- The kinds of facilities, and their texts (ours).
+-- The texts of the kinds of facilities.
 use Rattle.std.specs.Prelude.{ℕ, List, codes}
 use Rattle.club_values.specs.declared.kind.Kind.{Kind, TheVariants.{Court, Boat, Room}}
 

@@ -1,12 +1,12 @@
--- Laws of the definitions.
+-- Laws of the definitions of texts and values.
 use Rattle.std.specs.Prelude.{◌≡◌, ◌↔◌, ℕ, List, Some}
 use Rattle.club_values.specs.{Action.action_text, Day.{IsDay, SpellsDay, day_text}, Hour.SpellsHour, Kind.kind_text}
 use Rattle.club_values.specs.{Moment.{IsMoment, SpellsMoment, moment_text}, Name.IsName, Number.SpellsNumber}
 use Rattle.club_values.specs.computed.TextOf.{name_of_text, decimal_of_text, kind_of_text, action_of_text, day_of_text, hour_of_text, moment_of_text}
 use Rattle.club_values.specs.declared.{action.Action.Action, kind.Kind.Kind}
 
--- Each function `.._of_text` returns a value if and only if the text encodes this value. The text
--- may be any list of numbers. The value of a name is the text itself.
+-- Each function `.._of_text` returns a value if and only if the text encodes this value. These laws
+-- hold for any list of numbers as the text. The value of a name is the text itself.
 abbrev pub ReadsNames : Type 0
 ReadsNames = (text name : List ℕ) → (name_of_text text ≡ Some name) ↔ (IsName text × (name ≡ text))
 
@@ -28,15 +28,15 @@ ReadsHours = (text : List ℕ) (n : ℕ) → (hour_of_text text ≡ Some n) ↔ 
 abbrev pub ReadsMoments : Type 0
 ReadsMoments = (text : List ℕ) (n : ℕ) → (moment_of_text text ≡ Some n) ↔ SpellsMoment text n
 
--- The text of a day encodes the day, and no other text does.
+-- A text encodes a day if and only if it is the text that `day_text` returns for this day.
 abbrev pub IsTextOfDay : Type 0
 IsTextOfDay = (text : List ℕ) (n : ℕ) → SpellsDay text n ↔ (IsDay n × (text ≡ day_text n))
 
--- The text of a moment encodes the moment, and no other text does.
+-- A text encodes a moment if and only if it is the text that `moment_text` returns for this moment.
 abbrev pub IsTextOfMoment : Type 0
 IsTextOfMoment = (text : List ℕ) (n : ℕ) → SpellsMoment text n ↔ (IsMoment n × (text ≡ moment_text n))
 
--- Different days have different texts. Different moments have different texts, too.
+-- Different days have different texts. Different moments have different texts.
 abbrev pub DistinctDayTexts : Type 0
 DistinctDayTexts = (a b : ℕ) → IsDay a → IsDay b → day_text a ≡ day_text b → a ≡ b
 

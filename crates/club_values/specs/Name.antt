@@ -5,11 +5,12 @@ use Rattle.std.specs.{Int.is_in_range, List.AllPass, Prelude.{◌≢◌, ◌==�
 abbrev pub is_name_byte : ℕ → Bool
 is_name_byte byte = is_in_range 97 122 byte || is_in_range 48 57 byte || byte == 45
 
--- The maximum length of a name, in bytes (ours).
+-- The maximum length of a name, in bytes.
 abbrev pub max_name_len : ℕ
 max_name_len = 24
 
--- A name is 1 to `max_name_len` such bytes, and the first one isn't a hyphen (ours).
+-- The text is a name. A name has 1 to 24 bytes, each a letter `a` to `z`, a digit or a hyphen. The
+-- first byte isn't a hyphen.
 pub record IsName (bytes : List ℕ) : Type 0 where
   pub nonempty : 0 < length bytes
   pub short : length bytes ≤ max_name_len

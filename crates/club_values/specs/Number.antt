@@ -1,8 +1,8 @@
--- Numbers of a few decimal digits.
+-- Numbers of at most nine decimal digits.
 use Rattle.std.specs.{Char.is_ascii_digit, Fmt.decimal, List.list_all}
 use Rattle.std.specs.{Prelude.{◌≡◌, ℕ, ◌≤◌, ◌&&◌, Bool, List, length, nat_lt, nat_le, if◌then◌else◌, Option, Some, None}, Str.Parse.digits_value}
 
--- The maximum number of digits, and the greatest number that they can encode (ours).
+-- A number has at most nine digits, so the greatest number is 999,999,999.
 abbrev pub max_digits : ℕ
 max_digits = 9
 
@@ -12,11 +12,12 @@ number_limit = 999_999_999
 abbrev pub are_few_digits : List ℕ → Bool
 are_few_digits text = nat_lt 0 (length text) && nat_le (length text) max_digits && list_all is_ascii_digit text
 
--- The number that one to nine decimal digits encode, or `None` for any other text. Leading zeros are allowed.
+-- The number that one to nine decimal digits encode, or `None` for any other text. Leading zeros
+-- are allowed.
 abbrev pub number_of_digits : List ℕ → Option ℕ
 number_of_digits text = if are_few_digits text then Some (digits_value 10 text) else None
 
--- The text is the number's decimal digits without leading zeros, as Rust writes a number.
+-- The text consists of the decimal digits of the number `n`, without leading zeros.
 pub record SpellsNumber (text : List ℕ) (n : ℕ) : Type 0 where
   pub spelling : text ≡ decimal n
   pub within : n ≤ number_limit

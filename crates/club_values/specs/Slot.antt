@@ -1,11 +1,11 @@
--- Slots.
+-- Limits of bookings, and the start of a slot. A slot is an hour of a facility on a day.
 use Rattle.std.specs.Prelude.{ℕ, ◌+◌, ◌*◌}
 use Rattle.club_values.specs.{Moment.{minutes_a_day, minutes_an_hour}, declared.slot.Slot.Slot}
 
--- The minute at which a slot begins, counted from 1970-01-01T00:00 (ours).
+-- The number of minutes from 1970-01-01T00:00 to the start of a slot.
 abbrev pub start_of : Slot → ℕ
 start_of slot = slot.day * minutes_a_day + slot.hour * minutes_an_hour
 
--- The maximum number of guests in a booking (ours).
+-- The maximum number of guests in a booking.
 abbrev pub guests_limit : ℕ
 guests_limit = 49

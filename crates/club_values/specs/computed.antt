@@ -1,3 +1,4 @@
--- Functions that compute what the other definitions of `specs/` state. Laws state that both agree.
+-- Functions that compute the values of texts. Laws state that the functions agree with the other
+-- definitions in `specs/`.
 
 pub mod TextOf

@@ -32,7 +32,8 @@ fn action_in(text: &[u8]) -> Option<Action>
 }
 
 impl Action {
-    /// Returns the action with this text: `view`, `book`, `cancel` or `account`.
+    /// Returns the action with this text (`view`, `book`, `cancel` or `account`), or `None` for any
+    /// other text.
     pub fn read(text: &[u8]) -> Option<Action>
         ensures spelled { Reads (λ action. text.now ≡ action_text action) result }
         ensures function { result ≡ action_of_text text.now }

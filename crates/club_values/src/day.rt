@@ -12,16 +12,16 @@ use jiff_core::civil::{Date, Weekday};
 use std::fmt;
 use std::marker::Model;
 
-/// The number of the first day, 2000-01-01.
+/// The day number of 2000-01-01, the first supported day.
 pub(crate) const FIRST_DAY: u16 = 10_957;
 
-/// The number of the last day, 2099-12-31.
+/// The day number of 2099-12-31, the last supported day.
 pub(crate) const LAST_DAY: u16 = 47_481;
 
 /// The number of days from the earliest date of `jiff_core` to 1970-01-01.
 const DAYS_BEFORE_1970: u32 = 4_371_587;
 
-/// A day from 2000-01-01 to 2099-12-31. Contracts see it as its number, the days since 1970-01-01.
+/// A day from 2000-01-01 to 2099-12-31. In contracts, a day is its number of days since 1970-01-01.
 /// Days are ordered by time.
 #[derive(Clone, Copy, Debug, PartialEq, Eq, PartialOrd, Ord)]
 pub struct Day {
@@ -42,7 +42,8 @@ impl Model for Day {
     ghost inverse = { λ n. record { number = n } };
 }
 
-/// Returns the year, month and day of a text `YYYY-MM-DD`. They needn't be a real date.
+/// Returns the year, month and day of a text `YYYY-MM-DD`, or `None` for any other text. The three
+/// numbers needn't be a real date.
 fn parts_of(text: &[u8]) -> Option<(u16, u8, u8)>
     ensures { Reads (λ p. AreDateParts text.now p.0 p.1 p.2) result }
 {
@@ -56,7 +57,7 @@ fn parts_of(text: &[u8]) -> Option<(u16, u8, u8)>
     Some((u16::from(century) * 100 + u16::from(year), month, day))
 }
 
-/// Returns the date of a text `YYYY-MM-DD`.
+/// Returns the date of a text `YYYY-MM-DD`, or `None` if the text isn't a real date.
 fn date_of(text: &[u8]) -> Option<Date>
     ensures { Reads (IsDateText text.now) result }
 {
@@ -83,7 +84,7 @@ impl Day {
         Some(Day { number })
     }
 
-    /// Returns the days since 1970-01-01.
+    /// Returns the number of days since 1970-01-01.
     pub fn number(self) -> u16
         ensures value { result ≡ self }
         ensures within { IsDay result }
@@ -99,7 +100,7 @@ impl Day {
         Day::from_number(number)
     }
 
-    /// Returns the day's date in the calendar.
+    /// Returns the calendar date of the day.
     pub fn date(self) -> Date
         ensures same { epoch_day result ≡ pos self }
         ensures within { IsDay self }
@@ -124,7 +125,7 @@ impl Day {
         self.date().weekday()
     }
 
-    /// Returns the text `YYYY-MM-DD`.
+    /// Returns the text of the day, `YYYY-MM-DD`.
     pub fn text(self) -> [u8; 10]
         ensures value { result ≡ day_text self }
         ensures spelled { SpellsDay result self }

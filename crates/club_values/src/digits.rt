@@ -8,13 +8,13 @@ ghost use Rattle.club_values.specs.Number as number;
 
 use crate::ascii::text_of;
 
-/// The maximum number of digits of a number.
+/// The maximum number of decimal digits in a number.
 const MAX_DIGITS: usize = 9;
 
-/// The greatest number of `MAX_DIGITS` digits.
+/// The greatest number with nine decimal digits.
 pub const MAX_NUMBER: u32 = 999_999_999;
 
-/// Returns the number that two decimal digits encode, or `None` if either isn't a digit.
+/// Returns the number that two decimal digits encode, or `None` if a byte isn't a digit.
 pub fn read_two(tens: u8, ones: u8) -> Option<u8>
     ensures { Reads (λ n. (n < 100) × (tens ∷ ones ∷ [] ≡ spec.two_digits n)) result }
 {
@@ -67,8 +67,8 @@ fn number_in(text: &[u8]) -> Option<u32>
     read_digits(text)
 }
 
-/// Returns the number that decimal digits encode, up to 999,999,999. Returns `None` for any other
-/// text. Leading zeros aren't allowed.
+/// Returns the number that one to nine decimal digits encode, or `None` for any other text. Leading
+/// zeros aren't allowed.
 #[tactic(auto, using(crate::proofs::TextOfLemmas::reads_numbers))]
 pub fn read_number(text: &[u8]) -> Option<u32>
     ensures spelled { Reads (SpellsNumber text.now) result }

@@ -13,7 +13,7 @@ use std::marker::Model;
 /// The number of hours in a day.
 pub const HOURS_A_DAY: u8 = 24;
 
-/// An hour of a day, 0 to 23. Contracts see an `Hour` as its number.
+/// An hour of a day, 0 to 23. In contracts, an hour is its number. Hours are ordered by time.
 #[derive(Clone, Copy, Debug, PartialEq, Eq, PartialOrd, Ord)]
 pub struct Hour {
     number: u8,
@@ -69,7 +69,7 @@ impl Hour {
         hour_in(text)
     }
 
-    /// Returns the two digits of the hour.
+    /// Returns the text of the hour, two digits.
     pub fn text(self) -> [u8; 2]
         ensures value { result ≡ digits.two_digits self }
         ensures spelled { SpellsHour result self }

@@ -4,7 +4,8 @@ ghost use Rattle.std.specs.Prelude.{◌≡◌, ◌≤◌, ◌↔◌, length, IsS
 
 use std::marker::Model;
 
-/// At most `N` bytes, stored without a heap allocation. Contracts see them as a list of bytes.
+/// A string of at most `N` bytes, stored without a heap allocation. In contracts, the string is a
+/// list of bytes.
 #[derive(Clone, Copy)]
 pub struct InlineBytes<const N: usize> {
     buffer: [u8; N],
@@ -29,7 +30,7 @@ impl<const N: usize> Model for InlineBytes<N> {
 }
 
 impl<const N: usize> InlineBytes<N> {
-    /// Stores these bytes, or returns `None` if there are more than `N`.
+    /// Stores these bytes, or returns `None` if there are more than `N` bytes.
     pub fn new(bytes: &[u8]) -> Option<InlineBytes<N>>
         ensures within { IsSome result ↔ (length bytes.now ≤ N) }
         ensures value { IfSome result (λ stored. stored ≡ bytes.now) }
@@ -45,7 +46,7 @@ impl<const N: usize> InlineBytes<N> {
         })
     }
 
-    /// Returns the bytes.
+    /// Returns the stored bytes.
     pub fn as_bytes(&self) -> &[u8]
         ensures value { result.now ≡ self.now }
         ensures within { length result.now ≤ N }

@@ -5,7 +5,7 @@ ghost use Rattle.club_values.specs.{Kind.kind_text, Reading.Reads, computed.Text
 
 use std::fmt;
 
-/// The kind of a facility.
+/// The kind of a facility: a court, a boat or a room.
 #[derive(Clone, Copy, Debug, PartialEq, Eq)]
 pub enum Kind {
     Court,

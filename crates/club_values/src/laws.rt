@@ -1,4 +1,5 @@
-//! Laws of the definitions. Each law is the contract of a function with an empty body.
+//! Laws of the definitions of texts and values. Each law is the contract of a function with an
+//! empty body.
 
 ghost use Rattle.club_values.specs.Laws.{ReadsNames, ReadsNumbers, ReadsKinds, ReadsActions};
 ghost use Rattle.club_values.specs.Laws.{ReadsDays, ReadsHours, ReadsMoments, IsTextOfDay};
@@ -41,12 +42,13 @@ pub fn reads_moments()
     ensures { ReadsMoments }
 {}
 
-/// The text of a day encodes the day, and no other text does.
+/// A text encodes a day if and only if it is the text that `day_text` returns for this day.
 pub fn is_text_of_day()
     ensures { IsTextOfDay }
 {}
 
-/// The text of a moment encodes the moment, and no other text does.
+/// A text encodes a moment if and only if it is the text that `moment_text` returns for this
+/// moment.
 pub fn is_text_of_moment()
     ensures { IsTextOfMoment }
 {}

@@ -1,5 +1,5 @@
 //! The values of the club: names, kinds, actions, days, hours, moments and slots. Each value except
-//! a slot has exactly one text. No function allocates memory.
+//! a slot has exactly one text. The functions of this crate allocate no memory.
 #![tactic(auto)]
 
 mod action;

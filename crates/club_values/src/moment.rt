@@ -1,4 +1,4 @@
-//! Moments: civil minutes from 2000 to 2099, and their texts.
+//! Moments and their texts. A moment is a minute on the club's clock, from 2000 to 2099.
 
 ghost use Rattle.std.specs.Prelude.{◌≡◌, ◌+◌, ◌*◌, ◌/◌, ◌%◌, ◌<◌, ◌↔◌, IsSome, IfSome, Some};
 ghost use Rattle.club_values.specs.{Day.IsDay, Moment.{IsMoment, SpellsTime, SpellsMoment}};
@@ -18,14 +18,14 @@ pub const MINUTES_AN_HOUR: u16 = 60;
 /// The number of minutes in a day.
 pub const MINUTES_A_DAY: u16 = HOURS_A_DAY as u16 * MINUTES_AN_HOUR;
 
-/// The number of the first moment, 2000-01-01T00:00.
+/// The number of minutes from 1970-01-01T00:00 to the first moment, 2000-01-01T00:00.
 const FIRST_MOMENT: u32 = FIRST_DAY as u32 * MINUTES_A_DAY as u32;
 
-/// The number of the last moment, 2099-12-31T23:59.
+/// The number of minutes from 1970-01-01T00:00 to the last moment, 2099-12-31T23:59.
 const LAST_MOMENT: u32 = (LAST_DAY as u32 + 1) * MINUTES_A_DAY as u32 - 1;
 
-/// A civil minute from 2000-01-01T00:00 to 2099-12-31T23:59. Contracts see it as its number, the
-/// minutes since 1970-01-01T00:00. Moments are ordered by time.
+/// A minute on the club's clock, from 2000-01-01T00:00 to 2099-12-31T23:59. In contracts, a moment
+/// is its number of minutes since 1970-01-01T00:00. Moments are ordered by time.
 #[derive(Clone, Copy, Debug, PartialEq, Eq, PartialOrd, Ord)]
 pub struct Moment {
     number: u32,
@@ -45,7 +45,7 @@ impl Model for Moment {
     ghost inverse = { λ n. record { number = n } };
 }
 
-/// Returns the minute of the day for a text `THH:MM`.
+/// Returns the number of minutes since midnight for a text `THH:MM`, or `None` for any other text.
 fn minute_of(text: &[u8]) -> Option<u16>
     ensures { Reads (SpellsTime text.now) result }
 {
@@ -74,7 +74,8 @@ fn moment_in(text: &[u8]) -> Option<Moment>
 }
 
 impl Moment {
-    /// Returns the moment with this number of minutes since 1970-01-01T00:00; `None` out of range.
+    /// Returns the moment with this number of minutes since 1970-01-01T00:00, or `None` if it is
+    /// out of range.
     pub fn from_number(number: u32) -> Option<Moment>
         ensures within { IsSome result ↔ IsMoment number }
         ensures value { IfSome result (λ moment. moment ≡ number) }
@@ -86,6 +87,7 @@ impl Moment {
     }
 
     /// Returns the moment at this minute of a day, or `None` if the minute is 1,440 or more.
+    /// Minutes of a day count from 0.
     pub fn new(day: Day, minute: u16) -> Option<Moment>
         ensures within { IsSome result ↔ (minute < minutes_a_day) }
         ensures value { IfSome result (λ moment. moment ≡ day * minutes_a_day + minute) }
@@ -106,7 +108,7 @@ impl Moment {
         self.number
     }
 
-    /// Returns the day of the moment.
+    /// Returns the day on which the moment occurs.
     pub fn day(self) -> Day
         ensures value { result ≡ self / minutes_a_day }
         ensures within { IsDay result }
@@ -115,7 +117,7 @@ impl Moment {
         Day::from_number(number as u16).unwrap()
     }
 
-    /// Returns the number of minutes since the day began, 0 to 1,439.
+    /// Returns the number of minutes since midnight, 0 to 1,439.
     pub fn minute_of_day(self) -> u16
         ensures value { result ≡ self % minutes_a_day }
         ensures within { result < minutes_a_day }
@@ -123,7 +125,8 @@ impl Moment {
         (self.number % u32::from(MINUTES_A_DAY)) as u16
     }
 
-    /// Returns the moment of a text `YYYY-MM-DDTHH:MM`, or `None` if the text isn't one in range.
+    /// Returns the moment of a text `YYYY-MM-DDTHH:MM`, or `None` if the text isn't a real time in
+    /// range.
     pub fn read(text: &[u8]) -> Option<Moment>
         ensures spelled { Reads (SpellsMoment text.now) result }
         ensures function { result ≡ moment_of_text text.now }
@@ -131,7 +134,7 @@ impl Moment {
         moment_in(text)
     }
 
-    /// Returns the text `YYYY-MM-DDTHH:MM`.
+    /// Returns the text of the moment, `YYYY-MM-DDTHH:MM`.
     pub fn text(self) -> [u8; 16]
         ensures value { result ≡ moment_text self }
         ensures spelled { SpellsMoment result self }

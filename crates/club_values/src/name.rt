@@ -20,7 +20,8 @@ use std::marker::Model;
 pub const MAX_NAME_LEN: usize = 24;
 
 /// A name of a member, a key or a facility: 1 to 24 bytes of `a` to `z`, `0` to `9` and `-`. The
-/// first byte isn't `-`. Contracts see it as its bytes. Names are ordered by their bytes.
+/// first byte isn't `-`. In contracts, a name is its list of bytes. Names are ordered by their
+/// bytes.
 #[derive(Clone, Copy)]
 pub struct Name {
     bytes: InlineBytes<MAX_NAME_LEN>,
@@ -58,7 +59,7 @@ fn name_in(text: &[u8]) -> Option<Name>
 }
 
 impl Name {
-    /// Returns whether the bytes are a name.
+    /// Returns whether the bytes form a valid name.
     pub fn is_name(text: &[u8]) -> bool
         ensures { IsTrue result ↔ IsName text.now }
     {
@@ -67,7 +68,7 @@ impl Name {
             && text.iter().all(|byte| is_name_byte(*byte))
     }
 
-    /// Returns the text as a name, or `None` if it isn't one.
+    /// Returns the text as a name, or `None` if the text isn't a valid name.
     pub fn read(text: &[u8]) -> Option<Name>
         ensures named { IsSome result ↔ IsName text.now }
         ensures value { IfSome result (λ name. name ≡ text.now) }

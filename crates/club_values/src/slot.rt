@@ -1,4 +1,4 @@
-//! Slots. Each one is an hour of a facility on a day.
+//! Slots. A slot is an hour of a facility on a day.
 
 ghost use Rattle.std.specs.Prelude.{◌≡◌, ◌+◌, ◌≤◌};
 ghost use Rattle.club_values.specs.Moment.{last_moment, minutes_an_hour};
@@ -11,7 +11,7 @@ use crate::name::Name;
 /// The maximum number of guests in a booking. The member who books isn't a guest.
 pub const MAX_GUESTS: u8 = 49;
 
-/// An hour of a facility on a day.
+/// A slot: an hour of a facility on a day.
 #[derive(Clone, Copy, Debug, PartialEq, Eq)]
 pub struct Slot {
     pub facility: Name,
@@ -22,10 +22,11 @@ pub struct Slot {
 impl Slot {
     ghost use Rattle.club_values.specs.Slot.{start_of};
 
-    /// Returns the minute at which the slot begins, counted from 1970-01-01T00:00.
+    /// Returns the number of minutes from 1970-01-01T00:00 to the start of the slot.
     pub fn start(&self) -> u32
         ensures value { result ≡ start_of self.now }
-        // A slot ends no later than the last day, because no day in range follows it.
+        // The last slot begins at 23:00 on the last supported day, so every slot ends by midnight
+        // of that day.
         ensures bound { result + minutes_an_hour ≤ last_moment + 1 }
     {
         u32::from(self.day.number()) * u32::from(MINUTES_A_DAY)

@@ -1,4 +1,6 @@
--- Functions that compute the values of texts. `IsName`, `SpellsDay` and similar definitions state the meaning. The contracts of the parsers use both.
+-- Functions that compute the values of texts. `IsName`, `SpellsDay` and similar definitions
+-- describe the same values without computing them. The contracts of the parsers use the functions
+-- and the descriptions.
 use Rattle.std.specs.{Int.is_in_range, List.list_all}
 use Rattle.std.specs.Prelude.{ℕ, ◌+◌, ◌-◌, ◌*◌, ◌/◌, ◌==◌, ◌&&◌, not, Bool, true, List, length, slice_index, nat_lt, nat_le, if◌then◌else◌, Option, Some, None}
 use Rattle.std.specs.Str.{bytes_eq}
@@ -12,18 +14,18 @@ is_name bytes =
     nat_lt 0 (length bytes) && nat_le (length bytes) max_name_len && list_all is_name_byte bytes
     && not (slice_index bytes 0 == 45)
 
--- The number that the two digits at index `i` encode.
+-- The number that the two digits at index `i` of the text encode.
 abbrev pub two_at : List ℕ → ℕ → ℕ
 two_at text i = 10 * (slice_index text i - 48) + (slice_index text (i + 1) - 48)
 
--- The day of a date. The computation uses years that begin on 1 March.
+-- The number of days from 1970-01-01 to a date. The computation uses years that begin on 1 March.
 abbrev pub number_of_date : ℕ → ℕ → ℕ → ℕ
 number_of_date year month day =
     let years = if nat_lt month 3 then year - 1997 else year - 1996 in
     let march_month = if nat_lt month 3 then month + 12 else month in
     9556 + 365 * years + years / 4 + (153 * march_month - 457) / 5 + (day - 1)
 
--- The day, or the moment, that the digits at the front of the text encode.
+-- The day or the moment that the digits at the start of the text encode.
 abbrev pub day_of : List ℕ → ℕ
 day_of text = number_of_date (100 * two_at text 0 + two_at text 2) (two_at text 5) (two_at text 8)
 
@@ -39,14 +41,16 @@ candidate_action text =
     else (if slice_index text 0 == 98 then Book
     else (if slice_index text 0 == 99 then Cancel else Account))
 
--- The value, if `fits` is true and `text` equals the text of the value, `spelled`.
+-- Returns `value` if `fits` is true and `text` equals `spelled`, the text of the value. Returns
+-- `None` otherwise.
 abbrev pub where_spelled : {A : Type 0} → List ℕ → A → List ℕ → Bool → Option A
 where_spelled text value spelled fits = if fits && bytes_eq text spelled then Some value else None
 
 unfoldable pub name_of_text : List ℕ → Option (List ℕ)
 name_of_text text = if is_name text then Some text else None
 
--- The number that decimal digits without leading zeros encode.
+-- The number that one to nine decimal digits without leading zeros encode, or `None` for any other
+-- text.
 unfoldable pub decimal_of_text : List ℕ → Option ℕ
 decimal_of_text text = if nat_lt 1 (length text) && slice_index text 0 == 48 then None else number_of_digits text
 
