@@ -1,14 +1,12 @@
--- Lemmas on a request that arrives in pieces.
+-- Lemmas on a request whose bytes arrive in several pieces.
 use Rattle.std.proofs.{Common.{◌≡◌, ℕ, ◌+◌, ◌≤◌, ◌↔◌, Bool, false, List, ◌++◌, length, take, sym, ap, ◌∙◌, arith}, Math.Seq.take-append-add}
 use Rattle.std.proofs.lemmas.List.{take-append-le, length-take, length-take-le}
 use Rattle.std.specs.Prelude.{IsTrue}
 use borrow.Rule.Slice.PartMut.{put_mid}
 
--- if n is at most the limit of a request, so is the length of the first n bytes of a buffer
 pub within_request : (room : List ℕ) (n : ℕ) → n ≤ 16640 → length (take n room) ≤ 16640
 within_request room n few = rw (length-take n room) (omega arith)
 
--- after n bytes are read into a buffer at position `len`, its first `len + n` bytes are the earlier bytes, then the new ones
 pub filled : (room part : List ℕ) (len n k : ℕ) → len ≤ length room → n ≤ length part → take (len + n) (put_mid len k room part) ≡ take len room ++ take n part
 filled room part len n k within few =
     let front = length-take-le len room within in
@@ -16,6 +14,5 @@ filled room part len n k within few =
     ∙ take-append-add (take len room) _ n
     ∙ ap (λ (l : List ℕ). take len room ++ l) (take-append-le n part _ few)
 
--- if a test is false, the tested property doesn't hold
 pub not_so : (test : Bool) (P : Type 0) → test ≡ false → IsTrue test ↔ P → ¬ P
 not_so test P fails is holds = let passes : IsTrue test = is.1 holds in cc

@@ -1,4 +1,4 @@
--- The reply to the received bytes is also the reply to everything that the reader would return.
+-- Lemmas for the proof that bytes after a complete request don't change the reply.
 use Rattle.std.proofs.Common.{ℕ, inl, inr, List, ◌++◌, Option, Some, None, Result, Ok, Err, append-nil, IfSome}
 use Rattle.club_core.specs.declared.reply.Reply.{Reply}
 use Rattle.http_request.specs.{Frame.IsWhole, Laws.{WholeKeepsItsReading, BodyStays}}
@@ -25,7 +25,6 @@ replied_to_all Answers (Some all) (Some rest) bytes old reply new keeps stays re
   | inr none ↦ rw (received.came, none, append-nil) replied
 ]
 
--- if a request was received, the reply of its exchange is also the reply to everything that the reader would return
 pub exchanged_to_all : {Desk : Type 0} (Answers : AnswerRelation Desk) (before after : Option (List ℕ)) (bytes : List ℕ) (old new : Desk) (Unasked : Type 0)
     (Writes : List ℕ → Type 0) → WholeKeepsItsReading → BodyStays → Receives before after bytes → (outcome : Result Reply AnswerFault)
     → Exchanges (λ reply. IsReplied Answers bytes old reply new) ⊥ Writes outcome

@@ -1,11 +1,12 @@
--- The desk's reply to a decoded request (ours).
+-- The desk's reply to a decoded request.
 use Rattle.std.specs.Prelude.{◌≡◌, ℕ, List, Option, Err}
 use Rattle.pass_forms.specs.declared.fault.FormFault.{FormFault}
 use Rattle.pass_json.specs.AnyForm.{IsAnyReading}
 use Rattle.club_core.specs.{Club.Club, Pass.Words, declared.{change.Change.Change, reply.Reply.Reply, request.Request.Request, store.StoreFault.StoreFault}}
 use Rattle.club_gate.specs.{DecodedPass.AreWordsOf, Desk.{DecidesOrFails, FailsForCause, OfItsClub}, Served.{IsLawful, RefusesByFormFault}}
 
--- the desk replied and its store changed as the rules say, provided that the store's disk was clean
+-- If the store's disk is clean, the desk's reply and the store's new state obey the rules of the
+-- club. A clean disk returns exactly the bytes that were written to it.
 pub record AnswersBy {S : Type 0} (IsClean : S → Type 0)
     (Represents : S → Club → List Club → Type 0)
     (Fails : Option Change → S → StoreFault → S → Type 0) (moment : ℕ) (text : List ℕ)
@@ -13,8 +14,9 @@ pub record AnswersBy {S : Type 0} (IsClean : S → Type 0)
   pub was_clean : IsClean new → IsClean old
   pub steps : IsClean new → (words : Words) × AreWordsOf text request words × DecidesOrFails Represents old new words moment reply
   pub lawful : OfItsClub IsClean Represents old new (λ club. IsLawful club text request moment reply)
-  -- the reply is `Unavailable` only if the store itself failed, or the text is JSON
+  -- The reply is `Unavailable` only if the store failed or the text is JSON.
   pub failed : OfItsClub IsClean Represents old new (λ club. FailsForCause Fails old new club text request moment reply)
-  -- a text that isn't a pass is refused without calling the store; the refusal needs memory only if the text is JSON
+  -- If a text isn't a pass, the desk refuses the text without calling the store. The refusal needs
+  -- memory only if the text is JSON.
   pub no_change : (fault : FormFault) → IsAnyReading text (Err fault) → new ≡ old
   pub in_place : RefusesByFormFault text reply

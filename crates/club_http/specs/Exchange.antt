@@ -1,19 +1,20 @@
--- An exchange (ours): it reads bytes, gets the desk's reply, and writes the text of the reply.
+-- An exchange with a client: reading a request, asking the desk, and writing the text of the reply.
 use Rattle.std.specs.Prelude.{ℕ, ◌<◌, List, length, take, Option, IfSome, Result, Ok, Err}
 use Rattle.club_core.specs.declared.reply.Reply.{Reply}
 use Rattle.club_http.specs.{Ends.one_more, Received.Receives, Replied.{AnswerRelation, IsReplied}, declared.fault.AnswerFault.AnswerFault}
 use Rattle.club_http.specs.declared.fault.AnswerFault.TheVariants.{Read, Write}
 use Rattle.http_response.specs.Text.{reply_text}
 
--- the desk replied to the bytes that were received
+-- The exchange received the bytes, and `reply` is the reply to these bytes.
 pub record Replies {Desk : Type 0} (Answers : AnswerRelation Desk) (before after : Option (List ℕ))
     (bytes : List ℕ) (old : Desk) (reply : Reply) (new : Desk) : Type 0 where
   pub receives : Receives before after bytes
   pub reply_is : IsReplied Answers bytes old reply new
-  -- the reply is also the reply to everything that the reader would return up to its end
+  -- The whole input would get the same reply, including the bytes that the exchange didn't read.
   pub to_all : IfSome before (λ all. IsReplied Answers all old reply new)
 
--- The effect of an exchange. Either the desk replied and the reply's text or a prefix of it was written, or the desk wasn't asked.
+-- The effect of an exchange. Either the exchange got a reply, and wrote all or a prefix of the
+-- reply's text. Or reading failed, and the exchange didn't ask the desk.
 abbrev pub Exchanges :
     (Reply → Type 0) → Type 0 → (List ℕ → Type 0) → Result Reply AnswerFault → Type 0
 Exchanges Decides Unasked Writes (Ok reply) = Decides reply × Writes (reply_text reply)
@@ -21,13 +22,13 @@ Exchanges Decides Unasked Writes (Err Read) = Unasked
 Exchanges Decides Unasked Writes (Err (Write n)) =
     (reply : Reply) × Decides reply × (n < length (reply_text reply)) × Writes (take n (reply_text reply))
 
--- the count of the reader's failures after an exchange
+-- The count of the reader's failures after an exchange.
 abbrev pub reader_failures : ℕ → Result Reply AnswerFault → ℕ
 reader_failures failures (Err Read) = one_more failures
 reader_failures failures (Err (Write n)) = failures
 reader_failures failures (Ok reply) = failures
 
--- the count of the writer's failures after an exchange
+-- The count of the writer's failures after an exchange.
 abbrev pub writer_failures : ℕ → Result Reply AnswerFault → ℕ
 writer_failures failures (Err Read) = failures
 writer_failures failures (Err (Write n)) = one_more failures

@@ -1,4 +1,4 @@
--- The texts of an exchange's faults (ours).
+-- The texts of the faults with which an exchange can fail.
 use Rattle.std.specs.{Fmt.decimal, Prelude.{ℕ, List, ◌++◌, codes}}
 use Rattle.club_http.specs.declared.fault.AnswerFault.{AnswerFault, TheVariants.{Read, Write}}
 

@@ -1,9 +1,10 @@
--- Laws of the reply to a request's bytes (ours).
+-- Laws of the reply to the bytes of a request.
 use Rattle.std.specs.Prelude.{ℕ, List, Option, IfSome}
 use Rattle.club_core.specs.declared.reply.Reply.{Reply}
 use Rattle.club_http.specs.{Received.Receives, Replied.{AnswerRelation, IsReplied}}
 
--- at each moment, the reply to the received bytes is also the reply to everything that the reader would return up to its end
+-- At every moment, the whole input gets the same reply as the received bytes. A moment is the
+-- minute when a request arrives.
 abbrev pub RepliesToAll : {Desk : Type 0} → (ℕ → AnswerRelation Desk) → Type 0
 RepliesToAll {Desk} Answers = (moment : ℕ) (before after : Option (List ℕ)) (bytes : List ℕ) (old : Desk) (reply : Reply) (new : Desk)
     → Receives before after bytes → IsReplied (Answers moment) bytes old reply new → IfSome before (λ all. IsReplied (Answers moment) all old reply new)

@@ -1,14 +1,18 @@
--- The reply to the bytes of a request (ours).
+-- The reply to the bytes of a request.
 use Rattle.std.specs.Prelude.{◌≡◌, ℕ, List, Ok, Err}
 use Rattle.club_core.specs.declared.{refusal.Refusal.{Refusal, TheVariants.Unavailable}, reply.Reply.{Reply, TheVariants.Refused}, request.Request.Request}
 use Rattle.http_request.specs.Words.{DecodedRequest, IsRequestReading, HoldsBody}
 
--- the replies that a desk may give to the text of a pass and a request, with the desk before and after
+-- A relation between the text of a pass, a request, and the desk's reply. The relation also
+-- includes the state of the desk before and after the reply.
 abbrev pub AnswerRelation : Type 0 → Type 1
 AnswerRelation Desk = List ℕ → Request → Desk → Reply → Desk → Type 0
 
--- The reply to a request's bytes, with the desk before and after. It is the parser's refusal, the desk's reply, or `Unavailable` if there was no memory to
--- parse the body.
+-- The reply to the bytes of a request, with the state of the desk before and after the reply. The
+-- reply has one of three causes:
+-- - The parser refuses the bytes.
+-- - The desk answers the decoded request.
+-- - There is no memory to parse the body, and the reply is `Unavailable`.
 pub data IsReplied {Desk : Type 0} (Answers : AnswerRelation Desk) (bytes : List ℕ) (old : Desk)
     (reply : Reply) (new : Desk) : Type 0 where
   parser_refusal : (refusal : Refusal) → IsRequestReading bytes (Err refusal)

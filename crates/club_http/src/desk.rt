@@ -1,4 +1,4 @@
-//! Makes `Desk` a `Responder`.
+//! Implements `Responder` for `Desk`.
 
 use crate::responder::Responder;
 use club_core::{ClubStore, Reply};
@@ -6,7 +6,8 @@ use club_gate::Desk;
 use club_values::Moment;
 use http_request::Words;
 
-/// Answers with `Desk::ask`. The contract of a responder follows from the contract of that call.
+/// Answers requests by calling `Desk::ask`. The contract of `Desk::ask` implies the contract of a
+/// responder.
 impl<S: ClubStore> Responder for Desk<S> {
     ghost use Rattle.club_http.specs.Desk.{AnswersBy};
 

@@ -2,22 +2,23 @@
 
 use std::io::{Read, Write};
 
-/// The reader of an exchange, which yields the request.
+/// The reader from which an exchange receives a request.
 pub trait Inlet {
     ghost use Rattle.std.specs.Prelude.{◌≡◌, ◌≤◌, ℕ, List, length, Option, IfSome};
     ghost use Rattle.club_http.specs.{Calls.Call, Ends.{Fills, read_failures}};
 
-    // the bytes still to come, if they are known
+    // The bytes that the reader hasn't returned yet, if these bytes are known.
     ghost to_come: { Self → Option (List ℕ) };
 
-    // the number of calls that failed
+    // The number of calls that failed.
     ghost failures: { Self → ℕ };
 
-    // the known effects of one call
+    // The known effects of one call of `fill`.
     ghost fills: { Call Self };
 
-    /// Reads the next bytes into the front of the buffer `room`, and returns how many. 0 means the
-    /// end of the input, unless the buffer is empty. `None` means that the call failed.
+    /// Reads the next bytes into the start of the buffer `room`, and returns the number of bytes
+    /// read. The result 0 means the end of the input, unless the buffer is empty. The result `None`
+    /// means that the call failed.
     fn fill(&mut self, room: &mut [u8]) -> Option<usize>
         ensures within { IfSome result (λ n. n ≤ length room.new) }
         ensures bytes { Fills (to_come self.old) (to_come self.new) result room.new }
@@ -25,21 +26,22 @@ pub trait Inlet {
         ensures called { fills self.old result room.new self.new };
 }
 
-/// The writer of an exchange, which takes the reply.
+/// The writer to which an exchange sends the reply.
 pub trait Outlet {
     ghost use Rattle.std.specs.Prelude.{◌≡◌, ◌≤◌, ℕ, List, length, Option, IfSome};
     ghost use Rattle.club_http.specs.{Calls.Call, Ends.{Takes, put_failures}};
 
-    // the bytes that the writer took, if they are known
+    // The bytes that the writer has taken, if these bytes are known.
     ghost taken: { Self → Option (List ℕ) };
 
-    // the number of calls that failed, or took nothing although they were given bytes
+    // The number of calls that failed, or took no bytes although there were bytes to write.
     ghost failures: { Self → ℕ };
 
-    // the known effects of one call on the bytes that are passed to it
+    // The known effects of one call of `put`.
     ghost puts: { Call Self };
 
-    /// Takes a prefix of the bytes, and returns its length. `None` means that the call failed.
+    /// Takes a prefix of the bytes, and returns the length of the prefix. The result `None` means
+    /// that the call failed.
     fn put(&mut self, bytes: &[u8]) -> Option<usize>
         ensures within { IfSome result (λ n. n ≤ length bytes.now) }
         ensures bytes { Takes (taken self.old) (taken self.new) result bytes.now }
@@ -47,7 +49,7 @@ pub trait Outlet {
         ensures called { puts self.old result bytes.now self.new };
 }
 
-/// An inlet over a reader of `std`, such as a connection.
+/// An inlet that reads from a `std::io::Read`, such as a connection.
 #[derive(Drop)]
 pub struct ReadInlet<R> {
     reader: R,
@@ -57,7 +59,7 @@ pub struct ReadInlet<R> {
 impl<R: Read> ReadInlet<R> {
     ghost use Rattle.std.specs.Prelude.{◌≡◌};
 
-    /// Makes an inlet with no failures.
+    /// Makes an inlet whose count of failures is 0.
     pub fn new(reader: R) -> ReadInlet<R>
         ensures { result ≡ record { reader = reader; failures = 0 } }
     {
@@ -89,7 +91,7 @@ impl<R: Read> Inlet for ReadInlet<R> {
     }
 }
 
-/// An outlet over a writer of `std`, such as a connection.
+/// An outlet that writes to a `std::io::Write`, such as a connection.
 #[derive(Drop)]
 pub struct WriteOutlet<W> {
     writer: W,
@@ -99,7 +101,7 @@ pub struct WriteOutlet<W> {
 impl<W: Write> WriteOutlet<W> {
     ghost use Rattle.std.specs.Prelude.{◌≡◌};
 
-    /// Makes an outlet with no failures.
+    /// Makes an outlet whose count of failures is 0.
     pub fn new(writer: W) -> WriteOutlet<W>
         ensures { result ≡ record { writer = writer; failures = 0 } }
     {

@@ -1,4 +1,4 @@
-//! One exchange: a request in, a reply out.
+//! One exchange with a client: reads a request, asks the desk, and writes the reply.
 
 ghost use Rattle.std.specs.{Io.KnownBytes.Appends, Prelude.{◌≡◌, Err}};
 ghost use Rattle.club_http.specs.Calls.{ReadsNoFurther};
@@ -13,19 +13,20 @@ use club_core::Reply;
 use club_values::Moment;
 use http_request::laws::{body_stays, whole_keeps_its_reading};
 
-/// Reads a request, asks the desk, and writes the text of its reply.
+/// Reads a request, asks the desk, and writes the text of the desk's reply.
 ///
-/// Stops calling the reader once the request is complete. If the input ends before that, the bytes
-/// that arrived are the request. A call may also read bytes after the request into the buffer. Such
-/// bytes change nothing. At most `MAX_REQUEST_LEN` bytes are read in all, and the face keeps them.
-/// Parsing the body and asking the desk need memory; after the desk has replied, no memory is
-/// needed.
+/// Stops calling the reader once the request is complete. If the input ends early, the bytes that
+/// arrived are the request. A call of the reader may also return bytes after the request. Bytes
+/// after the request have no effect on the reply. In all, this function reads at most
+/// `MAX_REQUEST_LEN` bytes, and the face keeps these bytes. Parsing the body and asking the desk
+/// need memory. Writing the reply needs no memory.
 ///
 /// # Errors
 ///
-/// Fails with `Read` if the reader failed before the request was complete. Then the desk wasn't
-/// asked, and nothing was written. Fails with `Write(n)` if the writer failed or took nothing after
-/// the first n bytes of the reply's text. The desk's decision isn't undone.
+/// - `Read` if the reader failed before the request was complete. The desk wasn't asked, and
+///   nothing was written.
+/// - `Write(n)` if the writer failed or took nothing after the first `n` bytes of the reply's text.
+///   The desk's decision isn't undone.
 pub fn answer<D: Responder, R: Inlet, W: Outlet>(
     face: &mut Face,
     desk: &mut D,

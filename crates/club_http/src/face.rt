@@ -1,4 +1,4 @@
-//! The face of the desk: the routes and the buffer that its exchanges share.
+//! Defines `Face`: the routes and the buffer that all exchanges of a server share.
 
 ghost use Rattle.std.specs.Io.KnownBytes.{Appends};
 ghost use Rattle.std.specs.Prelude.{◌≡◌, ◌↔◌, [], IfNone, IfOk, IfSome, IsTrue};
@@ -18,8 +18,9 @@ use http_request::{HeadScan, MAX_REQUEST_LEN, Routes, words_by_scan};
 use std::alloc::{AllocError, Global};
 use std::marker::Model;
 
-/// The routes of the desk, and a buffer with room for any request. One face serves all exchanges of
-/// a server. It keeps the bytes read for the last request, and contracts see it as these bytes.
+/// The routes of the desk, and a buffer with room for any request. All exchanges of a server share
+/// one `Face`. The buffer keeps the bytes that were read for the last request. In contracts, a
+/// `Face` is the list of these bytes.
 #[derive(Drop)]
 pub struct Face {
     routes: Routes,
@@ -39,7 +40,7 @@ impl Model for Face {
         × (face.len ≤ max_request_len) };
 }
 
-/// Returns the reply to the bytes of a request, which the scan covers.
+/// Returns the reply to the bytes of a request. The scan must cover all of these bytes.
 fn reply_to<D: Responder>(
     routes: &Routes,
     bytes: &[u8],
@@ -57,7 +58,7 @@ fn reply_to<D: Responder>(
 }
 
 impl Face {
-    /// Makes a face without a request: the routes, and a buffer of `MAX_REQUEST_LEN` bytes.
+    /// Makes a `Face` without a request: the routes, and a buffer of `MAX_REQUEST_LEN` bytes.
     ///
     /// # Errors
     ///
@@ -74,8 +75,8 @@ impl Face {
         })
     }
 
-    /// Returns the bytes of the last request, and any bytes after it that the reader returned in
-    /// the same call. If the reader failed, these are the bytes that arrived before the failure.
+    /// Returns the bytes of the last request, and any later bytes that the reader returned in the
+    /// same call. If the reader failed, returns the bytes that arrived before the failure.
     pub fn request(&self) -> &[u8]
         ensures { result.now ≡ self.now }
     {
@@ -85,10 +86,10 @@ impl Face {
     /// Reads a request and keeps its bytes. Returns `None` if the reader fails before the request
     /// is complete.
     ///
-    /// Stops calling the reader once the request is complete. If the input ends before that, the
-    /// bytes that arrived are the request. A call may also read bytes after the request into the
-    /// buffer, at most `MAX_REQUEST_LEN` bytes in all. The returned scan covers the bytes that were
-    /// read.
+    /// Stops calling the reader once the request is complete. If the input ends early, the bytes
+    /// that arrived are the request. A call of the reader may also return bytes after the request.
+    /// In all, this method reads at most `MAX_REQUEST_LEN` bytes. The returned scan covers all of
+    /// the bytes read.
     pub fn receive<R: Inlet>(&mut self, reader: &mut R) -> Option<HeadScan>
         ensures covered { IfSome result (λ scan. Covers scan self.new) }
         ensures received { IfSome result
@@ -111,8 +112,8 @@ impl Face {
         }
     }
 
-    /// Returns the reply to the request in the face, which the scan covers. Bytes after the request
-    /// change nothing.
+    /// Returns the reply to the last request. The scan must cover the bytes of this request. Bytes
+    /// after the request have no effect on the reply.
     pub fn reply<D: Responder>(&self, scan: &HeadScan, desk: &mut D, moment: Moment) -> Reply
         requires { Covers scan.now self.now }
         ensures { IsReplied (D.answers moment) self.now desk.old result desk.new }
@@ -120,12 +121,13 @@ impl Face {
         reply_to(&self.routes, self.request(), scan, desk, moment)
     }
 
-    /// Asks the desk for the reply to the request in the face, and writes the reply's text. The
-    /// scan covers that request. This is the second step of an exchange, after `receive`.
+    /// Asks the desk for the reply to the last request, and writes the text of the reply. The scan
+    /// must cover the bytes of this request. This is the second step of an exchange, after
+    /// `receive`.
     ///
     /// # Errors
     ///
-    /// Fails with `Write(n)` if the writer failed or took nothing after the first n bytes of the
+    /// Fails with `Write(n)` if the writer failed or took nothing after the first `n` bytes of the
     /// reply's text. The desk's decision isn't undone.
     pub fn respond<D: Responder, W: Outlet>(
         &self,
@@ -150,7 +152,7 @@ impl Face {
         }
     }
 
-    /// Returns whether the face has exactly one request, with nothing after it.
+    /// Returns whether the buffer contains exactly one request, with no bytes after the request.
     pub fn is_over(&self, scan: &HeadScan) -> bool
         requires { Covers scan.now self.now }
         ensures { IsTrue result ↔ IsOneRequest self.now }

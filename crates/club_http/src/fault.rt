@@ -1,4 +1,4 @@
-//! The reason why an exchange failed.
+//! The reasons why an exchange can fail.
 
 use std::error::Error;
 use std::fmt;
@@ -9,8 +9,8 @@ pub enum AnswerFault {
     /// The reader failed before the request was complete. The desk wasn't asked, and nothing was
     /// written.
     Read,
-    /// The writer failed or took nothing, after this many bytes of the reply. The desk's decision
-    /// isn't undone.
+    /// The writer failed or took nothing, after this number of bytes of the reply. The desk's
+    /// decision isn't undone.
     Write(usize),
 }
 

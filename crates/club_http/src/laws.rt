@@ -1,12 +1,13 @@
-//! Laws of the definitions of an exchange. Each is the contract of a function that does nothing.
+//! Laws of the definitions of an exchange. Each law is the contract of a function with an empty
+//! body.
 
 ghost use Rattle.club_http.specs.Laws.{RepliesToAll};
 
 use crate::responder::Responder;
 use http_request::laws::{body_stays, whole_keeps_its_reading};
 
-/// The reply to the received bytes of a request is also the reply to everything that its reader
-/// would return up to its end.
+/// The reply to the received bytes is also the reply to the whole input. The input may have more
+/// bytes, which the exchange didn't read.
 pub fn replies_to_all<D: Responder>()
     ensures { RepliesToAll D.answers }
 {

@@ -1,7 +1,7 @@
-//! One HTTP/1.1 exchange with the desk: it reads a request, asks the desk, and writes the reply.
+//! One HTTP/1.1 exchange with the desk: reads a request, asks the desk, and writes the reply.
 //!
-//! It re-exports what a program needs of the crates below: the desk and its commands, their values
-//! and rows, and the status lines of replies.
+//! This crate re-exports the types and constants that a program needs. They describe the desk and
+//! its commands, the values and rows of a club, and the status lines of replies.
 #![tactic(auto)]
 
 mod desk;

@@ -8,9 +8,10 @@ ghost use Rattle.club_http.specs.Received.{Receives, IsCutOff};
 use crate::ends::Inlet;
 use http_request::HeadScan;
 
-/// Reads a request into the buffer `room` until it is complete or the input ends, and returns how
-/// many bytes arrived. Each call may fill the rest of the buffer, so bytes after the request may be
-/// among them. Afterwards the scan covers all these bytes.
+/// Reads a request into the buffer `room`, and returns the number of bytes that arrived. Stops when
+/// the request is complete or the input ends. Each call of the reader may fill the rest of the
+/// buffer, so the buffer may also contain bytes after the request. Afterwards the scan covers all
+/// bytes that arrived.
 ///
 /// # Errors
 ///

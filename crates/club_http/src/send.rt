@@ -7,7 +7,7 @@ use crate::ends::Outlet;
 use club_core::Reply;
 use http_response::{MAX_REPLY_LEN, reply_bytes};
 
-/// Writes all the bytes, in as many calls as needed.
+/// Writes all of the bytes, with as many calls of the writer as needed.
 ///
 /// # Errors
 ///

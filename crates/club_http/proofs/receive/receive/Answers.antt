@@ -15,7 +15,7 @@ loop-reader-init g c = record {
   counted = refl;
 }
 
--- a call of `fill` leaves the earlier bytes of the buffer unchanged
+-- A call of `fill` leaves the earlier bytes of the buffer unchanged.
 before : (g : given.Over) (c : After-fill g)
     → take c.loop-reader.len (put_mid c.loop-reader.len (length c.loop-reader.room - c.loop-reader.len) c.loop-reader.room c.fill.new.room)
     ≡ take c.loop-reader.len c.loop-reader.room
