@@ -1,4 +1,4 @@
--- The database that a crash leaves, and the result of opening it.
+-- Lemmas on the database that a crash leaves, and on the store that opens the database afterwards.
 use Rattle.std.proofs.{Common.{◌≡◌, List, [], ◌∷◌, length, IsTrue, inl, inr, map, refl, sym, ap, subst, arith}, Math.Logic.{∥∥₁_map}}
 use Rattle.std.specs.List.{AllZip}
 use Rattle.sqlite_catalog.specs.Listing.{IsSound, AreListed, IsTableRow, IsIndexRow, IsViewRow, cut}
@@ -12,17 +12,15 @@ use Rattle.club_core.specs.Club.{Club, empty_club}
 use Rattle.club_tables.specs.{Schema.no_schema, Tables.{HoldsClubAnyVersion, IsLeftOf, Represents, IsFound}}
 use Rattle.club_store.specs.Crash.{RepresentsOne, OneIsFound, HoldsOneOf, CrashLeaves}
 
--- every crash leaves the last committed trees
+-- Every crash leaves exactly the committed trees of the state.
 abbrev IsSettled : State → Type 0
 IsSettled state = (trees : Trees) → IsTrue state.is_open → state.may_leave trees → trees ≡ state.committed.trees
 
--- no trees belong to two schemas
 pub schema_once : (one other : Schema) (trees : Trees) → IsSound one trees → IsSound other trees → one ≡ other
 schema_once one other trees p q =
     let read = reads (trees catalog_tree) one p.lists in
     read_once (map cut (trees catalog_tree)) one other read.tables read.indexes read.views (reads (trees catalog_tree) other q.lists)
 
--- a database is determined by its trees
 pub database_once : (one other : Database) → IsDatabase one → IsDatabase other → one.trees ≡ other.trees → one ≡ other
 database_once one other p q same =
     let schemas = schema_once one.schema other.schema other.trees (subst (IsSound one.schema) same p) q in
@@ -34,14 +32,12 @@ is_database db club (inl (inr unindexed)) = unindexed.holds_rows.database
 is_database db club (inr (inl first)) = first.holds_rows.database
 is_database db club (inr (inr blank)) = blank.2
 
--- the trees that a crash left belong to a database
 pub left_is_sound : (trees : Trees) (clubs : List Club) → IsLeftOf trees clubs → (schema : Schema) × IsSound schema trees
 left_is_sound trees [] left = absurd left
 left_is_sound trees (club ∷ clubs) (inl here) = (here.0.schema, subst (IsSound here.0.schema) here.1 (is_database here.0 club here.2))
 left_is_sound trees (club ∷ clubs) (inr there) = left_is_sound trees clubs there
 
 module _ (now : State) (opened : Opens now) (live : IsLive now) (settled : IsSettled now) where
-  -- the opened connection has the club that the crash left
   holds_left : (club : Club) → (db : Database) → db.trees ≡ now.committed.trees → HoldsClubAnyVersion db club → HoldsClubAnyVersion now.committed club
   holds_left club db same holds =
       subst (λ (d : Database). HoldsClubAnyVersion d club) (database_once db now.committed (is_database db club holds) (live opened.is_open).1 same) holds
@@ -65,7 +61,6 @@ module _ (now : State) (opened : Opens now) (live : IsLive now) (settled : IsSet
   one_found next keeps (club ∷ clubs) (inl here) = inl (keeps club [] (finds club (holds_left club here.0 here.1 here.2)))
   one_found next keeps (club ∷ clubs) (inr there) = inr (one_found next keeps clubs there)
 
--- files that a crash leaves hold a database of one of the clubs
 pub files_hold : {D : Type 0} {g : Ghosts D} (it : FileStore D g) (clubs : List Club) (left : Image) → CrashLeaves it clubs left → ∥ HoldsOneOf left clubs ∥₁
 files_hold it clubs left crash =
     let sound : AreDatabases (recovers it) = λ trees allowed. left_is_sound trees clubs (crash.one_of crash.clean trees allowed) in
@@ -76,7 +71,6 @@ lists_nothing : {X Y : Type 0} (R : X → Y → Type 0) (ys : List Y) → AllZip
 lists_nothing R [] h = refl
 lists_nothing R (y ∷ ys) h = absurd h
 
--- trees that list no schema have no tables
 unlisted : (schema : Schema) → AreListed [] schema → schema ≡ no_schema
 unlisted schema listed = λ i. record {
   tables = lists_nothing IsTableRow schema.tables listed.tables i;
@@ -87,7 +81,7 @@ unlisted schema listed = λ i. record {
 blank_if_unlisted : (db : Database) → IsDatabase db → db.trees catalog_tree ≡ [] → HoldsClubAnyVersion db empty_club
 blank_if_unlisted db sound none = inr (inr (unlisted db.schema (subst (λ rows. AreListed rows db.schema) none sound.lists.listed), refl, sound))
 
--- an empty file has no tables
+-- An empty file has no tables.
 pub new_is_blank : (start : Image) (opened : State) → start.db ≡ [] → FindsIn start opened → IsDatabase opened.committed
     → HoldsClubAnyVersion opened.committed empty_club
 new_is_blank start opened none found sound = elim found.reads [
@@ -95,7 +89,6 @@ new_is_blank start opened none found sound = elim found.reads [
   | inr new ↦ blank_if_unlisted opened.committed sound new.1.1
 ]
 
--- if only one club is possible, the state represents that club
 pub the_one : (state : State) (club : Club) → RepresentsOne state (club ∷ []) → Represents state club []
 the_one state club (inl represents) = represents
 the_one state club (inr none) = absurd none

@@ -1,4 +1,5 @@
--- A failure after a read also counts from the state before the read. A change leaves sound clubs.
+-- Lemmas for the proof that `Store` implements `ClubStore`: on its reads, its failures and its
+-- changes.
 use Rattle.std.specs.Prelude.{Option, Some, None, Result, Ok, Err, IfErr}
 use Rattle.std.proofs.{Common.{arith, [], ◌∷◌, Ok, Err}, lemmas.{List.Elements.{All-cons, All-head, All-nil, All-tail}, Result.MatchResult-weaker}}
 use Rattle.club_core.specs.{After.after, Club.{Club, IsSound}, Store.{Changes, ReadsStore}, declared.{change.Change.Change, store.StoreFault.StoreFault}}
@@ -14,7 +15,6 @@ module _ {S A : Type 0} (g : Ghosts S) (old new : Held S) (first : Result A Stor
   fails_since None fault later it = later_fault g old new later first IsReturned fault clean reads it
   fails_since (Some change) fault later it = change_fault g old new later first IsReturned change fault clean reads it
 
--- a read of the tables is a read of a store whose clubs are sound
 pub reads_sound : {S A : Type 0} {g : Ghosts S} {old new : Held S} {result : Result A StoreFault} {IsReturned : Club → A → Type 0}
     → ReadsClub g old new result IsReturned → ReadsStore (λ (held : Held S). HasCleanDisk (state g held)) (sound_in g) (Fails g) old new result IsReturned
 reads_sound {g = g} {old = old} {new = new} {result = result} {IsReturned = IsReturned} reads = record {
@@ -24,7 +24,6 @@ reads_sound {g = g} {old = old} {new = new} {result = result} {IsReturned = IsRe
   failed = λ clean. MatchResult-weaker result (reads.fault clean) (λ _ _. fails_since g old new result IsReturned reads clean) (λ fault is. is);
 }
 
--- if a change failed, it failed with one of the store's faults
 pub change_failed : {S : Type 0} (g : Ghosts S) (change : Change) (old new : Held S) (result : Result (Unit {0}) StoreFault)
     → ChangesClub g change old new result → HasCleanDisk (state g new) → IfErr result (λ fault. Fails g (Some change) old fault new)
 change_failed g change old new (Ok done) made clean = tt
@@ -33,7 +32,8 @@ change_failed g change old new (Err fault) made clean = record {
   error_if_fits = λ club others represents fits. made.fault_if_fits clean club others represents fits;
 }
 
--- If the clubs are sound before a change, they are sound after it: the current club, and each possible crash state.
+-- If every club of the store is sound before a change, every club of the store is sound after the
+-- change.
 pub sound_changes : {S E : Type 0} (g : Ghosts S) (change : Change) (old new : Held S) (result : Result (Unit {0}) E)
     → Changes (represents_in g) change old new result → Changes (sound_in g) change old new result
 sound_changes g change old new (Ok done) made = λ club others represents.

@@ -1,4 +1,4 @@
--- Reads that follow one another, and a change after a read.
+-- Lemmas on calls of the store that read several times, or read and then apply a change.
 use Rattle.std.proofs.Common.{◌≡◌, Result, Ok, Err, IfOk, IsErrAnd, refl, inl, inr, sym, ◌∙◌, arith}
 use Rattle.std.proofs.lemmas.Result.{IfOk-weaker, IfErr-weaker, err_from_is_err_and}
 use Rattle.sqlite.specs.{Held.{Held, state}, State.{State, HasCleanDisk}, Store.Ghosts}
@@ -14,7 +14,6 @@ untouched_then a b c earlier first next rest clean is_open =
     let before = kept after.0 in
     (before.0, after.1 ∙ before.2, after.2 ∙ before.2)
 
--- reads after a first read also count from the state before the first read
 after_reading : {S A : Type 0} (g : Ghosts S) (a b c : Held S) (first : Result A StoreFault) (IsFirst : Club → A → Type 0) → HasCleanDisk (state g b)
     → ReadsClub g a b first IsFirst → IsAfterReadings g b c → IsAfterReadings g a c
 after_reading g a b c first IsFirst clean reads after = record {
@@ -23,13 +22,11 @@ after_reading g a b c first IsFirst clean reads after = record {
   fault_count = omega (arith, reads.survives.counts, after.fault_count);
 }
 
--- the fault of a later read also counts from the state before the first read
 pub later_fault : {S A : Type 0} (g : Ghosts S) (a b c : Held S) (first : Result A StoreFault) (IsFirst : Club → A → Type 0) (fault : StoreFault)
     → HasCleanDisk (state g b) → ReadsClub g a b first IsFirst → IsReadFault g b c fault → IsReadFault g a c fault
 later_fault g a b c first IsFirst fault clean reads it =
     record { from = it.from; after = after_reading g a b it.from first IsFirst clean reads it.after; reading = it.reading; failure = it.failure }
 
--- two consecutive reads count as one read, and both results are correct for the same club
 pub both_read : {S A B : Type 0} {g : Ghosts S} {a b c : Held S} {one : Result A StoreFault} {two : Result B StoreFault} {IsOne : Club → A → Type 0}
     {IsTwo : Club → B → Type 0} → ReadsClub g a b one IsOne → ReadsClub g b c two IsTwo
     → ReadsClub g a c two (λ club answer. IfOk one (IsOne club) × IsTwo club answer)
@@ -44,7 +41,6 @@ both_read {g = g} {a = a} {b = b} {c = c} {one = one} {two = two} {IsOne = IsOne
       fault = λ clean. IfErr-weaker two _ _ (λ fault it. later_fault g a b c one IsOne fault (earlier clean) first it) (next.fault clean);
     }
 
--- a computation on the result of a read counts as part of the read
 pub read_as : {S A B : Type 0} {g : Ghosts S} {a b : Held S} {x : A} {y : B} {Is : Club → A → Type 0} {IsReturned : Club → B → Type 0}
     → ReadsClub g a b (Ok x) Is → ((club : Club) → Is club x → IsReturned club y) → ReadsClub g a b (Ok y) IsReturned
 read_as reads returned = record {
@@ -55,7 +51,6 @@ read_as reads returned = record {
   fault = λ clean. tt;
 }
 
--- a call that fails with the fault of its read counts as a failed read
 pub read_failed : {S A C : Type 0} {g : Ghosts S} {a b : Held S} {fault : StoreFault} {result : Result C StoreFault} {Is : Club → A → Type 0}
     {IsReturned : Club → C → Type 0} → ReadsClub g a b (Err fault) Is → IsErrAnd result (λ other. other ≡ fault) → ReadsClub g a b result IsReturned
 read_failed {result = result} reads is = let failed = err_from_is_err_and result is in rw (failed.1, failed.2) (record {
@@ -66,7 +61,6 @@ read_failed {result = result} reads is = let failed = err_from_is_err_and result
   fault = reads.fault;
 })
 
--- the fault of a change after a read also counts from the state before the read
 pub change_fault : {S A : Type 0} (g : Ghosts S) (a b c : Held S) (first : Result A StoreFault) (IsFirst : Club → A → Type 0) (change : Change)
     (fault : StoreFault) → HasCleanDisk (state g b) → ReadsClub g a b first IsFirst → FailsToChange g change b fault c → FailsToChange g change a fault c
 change_fault g a b c first IsFirst change fault clean reads it = record {
@@ -79,7 +73,6 @@ change_fault g a b c first IsFirst change fault clean reads it = record {
       record { from = run.from; after = after_reading g a b run.from first IsFirst clean reads run.after; failure = run.failure };
 }
 
--- an opening that does nothing leaves the same possible crash states
 pub opens_nothing : {S : Type 0} (g : Ghosts S) (held : Held S) → SurvivesOpening g held held
 opens_nothing g held = record {
   clean = omega arith;

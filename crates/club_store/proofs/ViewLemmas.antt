@@ -1,4 +1,4 @@
--- The view of a request, from the rows that were read one after another.
+-- Lemmas for the proof of `Store::view`, which reads the rows of a view one after another.
 use Rattle.std.proofs.{Common.{◌≡◌, ℕ, suc, Bool, true, List, [], ◌∷◌, Option, Some, None, refl, sym, ap, subst, ◌∙◌, arith, inl, inr}, lemmas.Bool.cases_Bool}
 use Rattle.std.proofs.lemmas.Slice.Eq.{bytes_eq-Decides}
 use Rattle.std.specs.{Prelude.{find, Contains, option_map, option_and_then}, Str.bytes_eq}
@@ -8,7 +8,6 @@ use Rattle.club_core.specs.{Laws.{OwnBookings, HasOwnBookings}, Request.{request
 use Rattle.club_core.specs.{Sums.{balance_of, booking_under, count_to_come, spent_under}, declared.account.MemberAccount.MemberAccount}
 use Rattle.club_core.specs.declared.request.Request.{Request}
 
--- an element that a search finds is in the list and passes the test
 pub found : {X : Type 0} (p : X → Bool) (xs : List X) (x : X) → find p xs ≡ Some x → Contains xs x × (p x ≡ true)
 found p [] x h = absurd (cc)
 found p (y ∷ xs) x h = elim (cases_Bool (p y)) [
@@ -30,7 +29,8 @@ accounted club (Some member) account h =
     let same : member ≡ account.member = ap (λ (a : MemberAccount). a.member) (sym e) in
     (ap Some same, ap (λ (a : MemberAccount). a.balance) e ∙ ap (λ (m : Member). balance_of m (bookings_of m.name club)) same)
 
--- the view of a key from its member's bookings equals the view from all bookings of the club
+-- The view of a key can be computed from its member's bookings alone, instead of from all bookings
+-- of the club.
 pub seen_is : OwnBookings → (club : Club) (name : List ℕ) (key : Key) (account : MemberAccount) (request : Request) (moment : ℕ)
     → key_named name club ≡ Some key → Some account ≡ account_named key.member club → key_view_in club name request moment ≡ Some (record {
       key = key;
@@ -58,7 +58,6 @@ seen_is law club name key account request moment named owned =
     (at_number club key own (request_number request)) in
     rw (named, member.0) cc
 
--- the stored row of a key and its stored older root together are the key
 pub with_older : (found : Option Key) (row : KeyRow) (older : Option OlderRoot) → Some row ≡ option_map row_of_key found
     → older ≡ option_and_then (λ (k : Key). k.older) found → Some (key_of_row row older) ≡ found
 with_older None row older h e = absurd cc

@@ -1,4 +1,4 @@
--- The state of a store after a crash, and the club that reopening recovers (ours).
+-- The state of a store after a crash, and the club that reopening the store recovers.
 use Rattle.std.specs.Prelude.{List, [], ◌∷◌, ◌⊎◌, IsTrue}
 use Rattle.sqlite_disk.specs.declared.Disk as disk
 use Rattle.sqlite.specs.{Files.{HoldsDatabase, over_files}, Recovery.Image, State.{State, Opens, IsLive}, Store.Ghosts, Tree.Trees, View.IsClean}
@@ -7,31 +7,33 @@ use Rattle.sqlite.specs.FileStore as file
 use Rattle.club_core.specs.Club.{Club}
 use Rattle.club_tables.specs.Tables.{IsLeftOf, Represents, IsFound}
 
--- after any crash, the store is a database of one of these clubs
+-- After any crash, the store contains the database of one of these clubs.
 abbrev pub LeavesOneOf : {S : Type 0} → Ghosts S → S → List Club → Type 0
 LeavesOneOf g store clubs = IsClean (g.view store) → (trees : Trees) → g.recovers store trees → IsLeftOf trees clubs
 
--- a newly opened connection, over a database of one of these clubs
+-- A newly opened connection, whose database is the database of one of these clubs.
 pub record IsOpenedOn (state : State) (clubs : List Club) : Type 0 where
   pub opening : Opens state
   pub live : IsLive state
   pub left : IsLeftOf state.committed.trees clubs
 
--- the state represents one of these clubs, and every crash recovers that club
+-- The state represents one of these clubs, and every crash recovers that club.
 abbrev pub RepresentsOne : State → List Club → Type 0
 RepresentsOne state [] = ⊥
 RepresentsOne state (club ∷ clubs) = Represents state club [] ⊎ RepresentsOne state clubs
 
--- the state has one of these clubs, and every crash recovers that club
+-- The state has one of these clubs, and every crash recovers that club. The state may also have
+-- tables of an older version.
 abbrev pub OneIsFound : State → List Club → Type 0
 OneIsFound state [] = ⊥
 OneIsFound state (club ∷ clubs) = IsFound state club [] ⊎ OneIsFound state clubs
 
--- the file and its log hold a database of one of these clubs
+-- The file and its log contain the database of one of these clubs.
 abbrev pub HoldsOneOf : Image → List Club → Type 0
 HoldsOneOf image clubs = (trees : Trees) × HoldsDatabase image trees × IsLeftOf trees clubs
 
--- a crash may leave this image of a store's file and log; these clubs are the store's possible crash states
+-- A crash may leave this image of a store's file and log. The listed clubs are the clubs that the
+-- store may have after a crash.
 pub record CrashLeaves {D : Type 0} {g : disk.Ghosts D} (store : FileStore D g) (clubs : List Club) (left : Image) : Type 0 where
   pub clean : IsClean (file.view store)
   pub numbers : IsTrue (file.view store).is_numbered

@@ -1,15 +1,16 @@
--- A file that another program has open (ours).
+-- The remains of an opening that failed: a connection, files, or nothing.
 use Rattle.std.specs.Prelude.{◌≡◌, ◌≢◌, Option, None}
 use Rattle.sqlite_disk.specs.declared.Disk as disk
 use Rattle.sqlite.specs.declared.{error.{Error.{Error, TheVariants.SqliteFailure}, ErrorCode.TheVariants.DatabaseBusy}, file.Leftover.Leftover}
 use Rattle.club_store.specs.declared.failed_opening.FailedOpening.{FailedOpening}
 use Rattle.club_store.specs.declared.failed_opening.FailedOpening.TheVariants as failed
 
--- the error for a file that another program has open
+-- The error for a file that another program has open.
 abbrev pub busy : Error
 busy = SqliteFailure DatabaseBusy
 
--- The remains of a file that wasn't opened, by the error. There are none if another program has the file open; else they are what the engine returns.
+-- The remains of an opening that failed with this error. Nothing remains if another program has the
+-- file open. Otherwise the file and its log remain, as the database engine returned them.
 pub data IsFailedOpening {D : Type 0} {g : disk.Ghosts D} (error : Error) (rest : Option (Leftover D g)) (left : FailedOpening D g) : Type 0 where
   in_use : error ≡ busy → rest ≡ None → left ≡ failed.InUse → IsFailedOpening error rest left
   files : (rest ≡ None → error ≢ busy) → left ≡ failed.Files rest → IsFailedOpening error rest left

@@ -3,6 +3,6 @@ pub mod FailedOpening
 pub mod Opening
 pub mod Limits
 pub mod Failing
--- re-exports the definitions of tables, reads and changes
+-- Re-exports the definitions of tables, reads and changes.
 pub use Rattle.club_tables.specs.Tables
 pub use Rattle.club_tables.specs.ReadsAndChanges

@@ -1,9 +1,9 @@
--- The limits of a key and of the rows of its view (ours).
+-- The limits of a key and of the rows that answer a request.
 use Rattle.std.specs.Prelude.{IfSome}
 use Rattle.club_core.specs.declared.view.KeyView.{KeyView}
 use Rattle.club_rows.specs.Rows.{IsMember, IsFacility, IsKey, IsBooking}
 
--- the key and the rows of its view are within their limits
+-- The values of the key, its member, the facility and the booking are within their limits.
 pub record HasLimits (seen : KeyView) : Type 0 where
   pub key : IsKey seen.key
   pub member : IsMember seen.view.member

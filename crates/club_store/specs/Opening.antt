@@ -1,4 +1,4 @@
--- The results of opening a file and its log (ours).
+-- The results of opening the file of a club and its log.
 use Rattle.std.specs.Prelude.{◌≡◌, ◌⊎◌, false, List, [], Option, None, IfSome, IsTrue}
 use Rattle.sqlite_disk.specs.declared.Disk as disk
 use Rattle.sqlite_disk.specs.declared.Files.{Files}
@@ -12,22 +12,27 @@ use Rattle.club_tables.specs.Transaction.{MayCommit, IsKept, fault_by}
 use Rattle.club_store.specs.{Crash.{HoldsOneOf, IsOpenedOn, RepresentsOne, OneIsFound}, FailedOpening.busy, declared.failed_opening.FailedOpening.FailedOpening}
 use Rattle.club_store.specs.declared.failed_opening.FailedOpening.TheVariants as failed
 
--- the possible crash states are those from before the opening, and the state that the opening's batch left
+-- The states that a crash after an opening may leave: the states that were possible before the
+-- opening, and the state after the SQL statements of the opening.
 abbrev pub SurvivesOpening : {S : Type 0} → Ghosts S → Held S → Held S → Type 0
 SurvivesOpening g old new = Survives (state g old) (state g new) (MayCommit g 0 IsOpeningBatch old)
 
--- A connection that an opening returns because it doesn't accept the tables. The connection still has the same club, and the same database if it isn't in a
--- transaction. The possible crash states are those from before the opening, and the state that the opening's batch left.
+-- The connection that a failed opening returns. The connection still has the club that it had
+-- before the opening. If the connection isn't in a transaction, the database is also unchanged. A
+-- crash leaves a state that was possible before the opening, or the state after the SQL statements
+-- of the opening.
 pub record IsHandedBack {S : Type 0} (g : Ghosts S) (old new : Held S) : Type 0 where
   pub clean : HasCleanDisk (state g new) → HasCleanDisk (state g old)
   pub kept : HasCleanDisk (state g new) → KeepsClub (found_in g) old new
   pub mode : new.in_transaction ≡ old.in_transaction
   pub same_database : old.in_transaction ≡ false → IsKept (state g old) (state g new)
   pub survives : SurvivesOpening g old new
-  -- if a crash left a database with one of these clubs, the connection has exactly that club
+  -- If a crash left a database with one of these clubs, the connection has exactly one of these
+  -- clubs.
   pub again : HasCleanDisk (state g new) → (clubs : List Club) → IsOpenedOn (state g old) clubs → OneIsFound (state g new) clubs
 
--- the files held a database, its tables were accepted, and the store represents the club of that database
+-- The store was opened from files with this image. The opening accepted the tables of the database,
+-- and the store represents the club of the database.
 pub record OpensFrom {D : Type 0} {g : disk.Ghosts D} (start : Image) (now : Held (FileStore D g)) : Type 0 where
   pub was : Held (FileStore D g)
   pub opening : IsOpened was
@@ -35,49 +40,56 @@ pub record OpensFrom {D : Type 0} {g : disk.Ghosts D} (start : Image) (now : Hel
   pub acceptance : IsTrue (file_state now).is_open → AcceptsTables over_files was now
   pub survives : SurvivesOpening over_files was now
   pub represents : (club : Club) (others : List Club) → IsFound (file_state was) club others → Represents (file_state now) club others
-  -- if a crash left files with one of these clubs, the store represents exactly that club
+  -- If a crash left files with one of these clubs, the store represents exactly one of these clubs.
   pub again : (clubs : List Club) → HoldsOneOf start clubs → RepresentsOne (file_state now) clubs
-  -- a new file gets the tables of the empty club
+  -- A store on a new file represents the empty club.
   pub fresh : start.db ≡ [] → Represents (file_state now) empty_club []
 
--- the reasons why a database in memory isn't opened: memory ran out, or its tables can't be created
+-- The fault of opening a database in memory. Either memory ran out, or the tables of the empty club
+-- couldn't be created.
 abbrev pub IsMemoryFault : StoreFault → Type 0
 IsMemoryFault fault = (fault ≡ Memory) ⊎ ((was : _) × (now : _) × IsEmpty (state over_memory was) × IsOpeningFault over_memory was now fault)
 
--- The fault of a file that isn't opened, by the error. Nothing remains without a file or without memory; else the engine refused the file and its log.
+-- The fault of a file that wasn't opened. If no files remain, the file couldn't be opened, or
+-- memory ran out. If files remain, the database engine refused the file and its log.
 pub record IsFileFault {D : Type 0} {g : disk.Ghosts D} (start : Image) (rest : Option (Leftover D g)) (fault : StoreFault) : Type 0 where
   pub error : Error
   pub without_files : rest ≡ None → (error ≡ SqliteFailure CannotOpen) ⊎ (error ≡ SqliteFailure OutOfMemory)
   pub cause : IfSome rest (λ left. (files : Files D) × (image_of g files ≡ start) × (IsCleanLeft left → FailsToOpenFiles files left error))
   pub fault_is : fault ≡ fault_by error
 
--- the fault of a connection with tables that an opening doesn't accept
+-- The fault of a connection whose tables the opening doesn't accept.
 pub record IsTablesFault {D : Type 0} {g : disk.Ghosts D} (start : Image) (now : Held (FileStore D g)) (fault : StoreFault) : Type 0 where
   pub was : Held (FileStore D g)
   pub opening : HasCleanDisk (file_state was) → IsOpened was × FindsIn start (file_state was)
   pub failure : HasCleanDisk (file_state now) → IsOpeningFault over_files was now fault
 
--- the fault of a file that isn't opened: another program has it open, the engine refuses it, or its tables aren't accepted
+-- The fault of a failed opening. The opening fails in one of three cases:
+-- - Another program has the file open.
+-- - The database engine refuses the file.
+-- - The opening doesn't accept the tables in the file.
 abbrev pub FailsFrom : {D : Type 0} {g : disk.Ghosts D} → Image → FailedOpening D g → StoreFault → Type 0
 FailsFrom start failed.InUse fault = fault ≡ fault_by busy
 FailsFrom start (failed.Files rest) fault = IsFileFault start rest fault
 FailsFrom start (failed.Connection now) fault = IsTablesFault start now fault
 
--- the remains of files that held this image and weren't opened; the engine's contract says what a crash may leave of these files
+-- The remaining files of a failed opening. Before the opening, the files had the image `start`. The
+-- contract of the database engine defines which bytes a crash may leave in the files.
 pub record IsLeftOfFiles {D : Type 0} {g : disk.Ghosts D} (start : Image) (left : Leftover D g) : Type 0 where
   pub files : Files D
   pub held : image_of g files ≡ start
   pub one_outcome : (image : Image) → outcomes g files.log files.db image → image ≡ start
   pub leaves : IsCleanLeft left → LeavesFiles files left
 
--- the returned connection to a file whose tables aren't accepted; the connection still has the file's club
+-- The connection that a failed opening returns. The opening doesn't accept the tables in the file,
+-- and the connection still has the club of the file.
 pub record IsLeftOpen {D : Type 0} {g : disk.Ghosts D} (start : Image) (now : Held (FileStore D g)) : Type 0 where
   pub was : Held (FileStore D g)
   pub opening : HasCleanDisk (file_state was) → IsOpened was × FindsIn start (file_state was)
   pub back : IsHandedBack over_files was now
   pub again : HasCleanDisk (file_state now) → (clubs : List Club) → HoldsOneOf start clubs → OneIsFound (file_state now) clubs
 
--- the remains of files that held this image and weren't opened
+-- The remains of a failed opening. Before the opening, the files had the image `start`.
 abbrev pub LeavesFrom : {D : Type 0} {g : disk.Ghosts D} → Image → FailedOpening D g → Type 0
 LeavesFrom start failed.InUse = Unit {0}
 LeavesFrom start (failed.Files rest) = IfSome rest (IsLeftOfFiles start)

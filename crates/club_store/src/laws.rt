@@ -1,4 +1,4 @@
-//! Laws of stores. Each law is the contract of a function that does nothing.
+//! Laws of stores. Each law is the contract of a function with an empty body.
 
 ghost use Rattle.std.specs.Prelude.{List};
 ghost use Rattle.sqlite.specs.{Files.file_state, Held.state, Recovery.Image, State.HasCleanDisk};
@@ -11,15 +11,15 @@ use crate::Store;
 use sqlite::{FileFrom, FileStore, MemStore, Start};
 use sqlite_disk::{Disk, Fuse, Memory};
 
-/// After a crash, a store's file and log hold a database of one of the store's possible crash
-/// states.
+/// After a crash, the store's file and log contain the database of one of the store's possible
+/// crash states.
 pub fn files_hold_one_of<D: Disk>(store: &FileStore<D>)
     ensures { (clubs : List Club) (left : Image) → CrashLeaves store.now clubs left →
         ∥ HoldsOneOf left clubs ∥₁ }
 {}
 
-/// The crash law. Reopening the files after a crash recovers exactly one of the clubs that the old
-/// store could recover to. Every later crash recovers the same club.
+/// The crash law. Reopening the files after a crash recovers exactly one club. This club is one
+/// that the old store could recover to. Every later crash recovers the same club.
 pub fn one_club_recovered<D: Disk, Q: Start>(
     before: &FileStore<D>,
     after: &Store<FileStore<FileFrom<Q>>>,
@@ -28,19 +28,21 @@ pub fn one_club_recovered<D: Disk, Q: Start>(
         OpensFrom left after.now → ∥ RepresentsOne (file_state after.now) clubs ∥₁ }
 {}
 
-/// The disk of a store in memory is clean: reads return what was written, and nobody else writes to
-/// the disk.
+/// The disk of a store in memory is clean: reads return the bytes that were written, and no other
+/// program writes to the disk.
 pub fn memory_disk_is_clean(store: &Store<MemStore>)
     ensures { HasCleanDisk (state over_memory store.now) }
 {}
 
-/// The disk of a store over files in memory is clean.
+/// The disk of a store over files in memory is clean: reads return the bytes that were written, and
+/// no other program writes to the disk.
 pub fn disk_of_files_in_memory_is_clean(store: &Store<FileStore<Memory>>)
     ensures { HasCleanDisk (file_state store.now) }
 {}
 
-/// The disk of a store over files in memory stays clean even if all calls fail from some call on. A
-/// crash stops the machine, but no read returns bytes other than those written.
+/// The disk of a store over files in memory stays clean even if every call fails after some point.
+/// Such failing calls model a crash of the machine. No read returns bytes other than the bytes that
+/// were written.
 pub fn disk_of_files_that_stop_is_clean(store: &Store<FileStore<Fuse<Memory>>>)
     ensures { HasCleanDisk (file_state store.now) }
 {}

@@ -1,4 +1,5 @@
-//! The store of a club in SQLite: opens it, reads and changes it, and recovers it after a crash.
+//! The store of a club in SQLite. The store opens a database, reads and changes the club, and
+//! recovers the club after a crash.
 #![tactic(auto)]
 
 mod club;

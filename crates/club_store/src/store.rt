@@ -1,4 +1,4 @@
-//! The store: openings, reads, and changes.
+//! The store of a club: opens a database, reads rows, and applies changes.
 
 ghost use Rattle.std.specs.Prelude.{◌≡◌, ℕ, false, List, [], ◌∷◌, All, IsTrue, IfOk, IfErr, IfSome};
 ghost use Rattle.std.specs.Prelude.{option_and_then, IsErrAnd, codes};
@@ -36,8 +36,8 @@ use std::alloc::Global;
 use std::marker::Model;
 use std::rt::HostRuntime;
 
-/// The tables of a club over a connection. Between calls, the connection isn't in a transaction.
-/// Contracts describe the store by its connection.
+/// The tables of a club, and the connection to their database. Between calls, the connection isn't
+/// in a transaction. In contracts, a store is its connection.
 #[derive(Drop)]
 pub struct Store<S: Alter> {
     pub(crate) tables: Tables<S>,
@@ -55,7 +55,7 @@ impl<S: Alter> Model for Store<S> {
 }
 
 impl Store<MemStore> {
-    /// Returns a new database in memory, with the tables of an empty club.
+    /// Returns a store on a new database in memory, with the tables of an empty club.
     pub fn open_in_memory(alloc: Global) -> Result<Store<MemStore>, StoreFault>
         ensures opened { IfOk result (λ store. Represents (state over_memory store) empty_club []) }
         ensures fault { IfErr result IsMemoryFault }
@@ -72,11 +72,11 @@ impl Store<MemStore> {
 }
 
 impl<Q: Start> Store<FileStore<FileFrom<Q>>> {
-    /// Opens the tables in the file at a path, and creates the file if it is missing. `start`
-    /// represents the contents of the file and its log. On failure, returns the fault with the
-    /// connection that `adopt` refused, or with the files that weren't opened. Returns only the
-    /// fault if another program has the file open. The path `:memory:` names no file and fails with
-    /// `Storage`.
+    /// Opens the tables in the file at a path, and creates the file if it is missing. The argument
+    /// `start` represents the contents of the file and its log. On failure, returns the fault and
+    /// the remains of the opening. The remains are the connection that `adopt` refused, or the
+    /// files that weren't opened. Nothing remains if another program has the file open. The path
+    /// `:memory:` fails with `Storage`, because it isn't the name of a file.
     pub fn open_file(
         rt: &HostRuntime,
         path: &str,
@@ -104,10 +104,11 @@ impl<Q: Start> Store<FileStore<FileFrom<Q>>> {
 }
 
 impl<S: Alter + Drop> Store<S> {
-    /// Takes over a connection whose database has the tables of a club. Creates the tables of an
-    /// empty club in an empty database, and migrates tables of version 1. On failure, changes
-    /// nothing, and returns the fault with the connection. The fault is `Storage` for another
-    /// version, other tables, or a connection in a transaction.
+    /// Makes a store from a connection whose database has the tables of a club. Creates the tables
+    /// of an empty club if the database is empty. Migrates tables of version 1 to the current
+    /// version. On failure, changes nothing, and returns the fault and the connection. The fault is
+    /// `Storage` if the tables have another version, the tables aren't those of a club, or the
+    /// connection is in a transaction.
     pub fn adopt(
         alloc: Global,
         connection: Connection<S>,
@@ -145,7 +146,7 @@ impl<S: Alter + Drop> Store<S> {
     }
 
     /// Consumes the connection, and returns the engine's store below the connection. After a crash,
-    /// the engine's store holds the current club or one of the possible crash states. A crash
+    /// the engine's store contains the current club or one of the possible crash states. A crash
     /// during a call is also covered: the disk then fails from that point on.
     pub fn into_store(self) -> S
         ensures was_clean { IsClean (S.Store.view result) → HasCleanDisk (state S.Store self) }
@@ -169,8 +170,8 @@ impl<S: Alter> Store<S> {
         self.tables.into_connection()
     }
 
-    /// Returns the key with this name; `None` if no key has this name. Fails with `Storage` if the
-    /// row is outside its limits.
+    /// Returns the key with this name, or `None` if no key has this name. Fails with `Storage` if a
+    /// value in the row is outside its limits.
     pub fn key(&mut self, name: &Name) -> Result<Option<Key>, StoreFault>
         ensures reads { ReadsClub S.Store self.old self.new result
             (λ club key. key ≡ key_named name.now club) }
@@ -183,8 +184,8 @@ impl<S: Alter> Store<S> {
         Ok(Some(Key::new(row, older)))
     }
 
-    /// Returns the member with this name; `None` if no member has this name. Fails with `Storage`
-    /// if the row is outside its limits.
+    /// Returns the member with this name, or `None` if no member has this name. Fails with
+    /// `Storage` if a value in the row is outside its limits.
     pub fn member(&mut self, name: &Name) -> Result<Option<Member>, StoreFault>
         ensures reads { ReadsClub S.Store self.old self.new result
             (λ club member. member ≡ member_named name.now club) }
@@ -196,8 +197,8 @@ impl<S: Alter> Store<S> {
         }
     }
 
-    /// Returns the member with this name and its balance, in points; `None` if no member has this
-    /// name. Fails with `Storage` if the row is outside its limits.
+    /// Returns the member with this name and its balance in points, or `None` if no member has this
+    /// name. Fails with `Storage` if a value in the row is outside its limits.
     pub fn account(&mut self, member: &Name) -> Result<Option<MemberAccount>, StoreFault>
         ensures reads { ReadsClub S.Store self.old self.new result
             (λ club account. account ≡ account_named member.now club) }
@@ -213,7 +214,7 @@ impl<S: Alter> Store<S> {
     }
 
     /// Returns the number of a member's open bookings at a moment. A booking is open if it isn't
-    /// cancelled and its slot begins later.
+    /// cancelled and its slot begins after the moment.
     pub fn open_count(&mut self, member: &Name, moment: Moment) -> Result<u64, StoreFault>
         ensures reads { ReadsClub S.Store self.old self.new result
             (λ club count. count ≡ count_to_come moment (bookings_of member.now club)) }
@@ -229,8 +230,8 @@ impl<S: Alter> Store<S> {
         self.tables.spent(key)
     }
 
-    /// Returns the facility with this name; `None` if no facility has this name. Fails with
-    /// `Storage` if the row is outside its limits.
+    /// Returns the facility with this name, or `None` if no facility has this name. Fails with
+    /// `Storage` if a value in the row is outside its limits.
     pub fn facility(&mut self, name: &Name) -> Result<Option<Facility>, StoreFault>
         ensures reads { ReadsClub S.Store self.old self.new result
             (λ club facility. facility ≡ facility_named name.now club) }
@@ -239,8 +240,8 @@ impl<S: Alter> Store<S> {
         self.tables.facility(name)
     }
 
-    /// Returns the highest number of persons in any slot of the facility with this name, on any
-    /// day. Returns 0 if nobody booked such a slot.
+    /// Returns the highest number of persons in any slot of this facility, over all days. Returns 0
+    /// if the facility has no bookings.
     pub fn most_taken(&mut self, facility: &Name) -> Result<u32, StoreFault>
         ensures reads { ReadsClub S.Store self.old self.new result
             (λ club most. most ≡ most_taken_in facility.now club.bookings) }
@@ -248,7 +249,8 @@ impl<S: Alter> Store<S> {
         self.tables.most_taken(facility)
     }
 
-    /// Returns the use of a slot: the number of persons who booked it, and whether it is closed.
+    /// Returns the use of a slot: the number of persons who booked the slot, and whether the slot
+    /// is closed.
     pub fn slot(&mut self, slot: &Slot) -> Result<SlotUse, StoreFault>
         ensures reads { ReadsClub S.Store self.old self.new result
             (λ club found. found ≡ slot_use club slot.now) }
@@ -256,8 +258,8 @@ impl<S: Alter> Store<S> {
         self.tables.slot(slot)
     }
 
-    /// Returns the day's bookings that aren't cancelled, in the order of the day sheet: by
-    /// facility, hour, key and number.
+    /// Returns the bookings of a day that aren't cancelled. The bookings are sorted by facility,
+    /// hour, key and number, as in the day sheet.
     pub fn day(&mut self, day: Day) -> Result<Vec<Booking>, StoreFault>
         ensures reads { ReadsClub S.Store self.old self.new result
             (λ club rows. AreRowsOf club day rows.items) }
@@ -266,8 +268,8 @@ impl<S: Alter> Store<S> {
         self.tables.day(self.alloc, day)
     }
 
-    /// Returns the facility of a request's slot; `None` if the facility is unknown or the request
-    /// has no slot.
+    /// Returns the facility of a request's slot. Returns `None` if the request has no slot or the
+    /// club has no such facility.
     fn facility_for(&mut self, request: &Request) -> Result<Option<Facility>, StoreFault>
         ensures reads { ReadsClub S.Store self.old self.new result
             (λ club facility. facility ≡ (state_of club (request_slot request.now)).facility) }
@@ -279,7 +281,8 @@ impl<S: Alter> Store<S> {
         }
     }
 
-    /// Returns the use of a request's slot; without a slot, an open slot without persons.
+    /// Returns the use of a request's slot. If the request has no slot, returns the use of an open
+    /// slot without persons.
     fn use_for(&mut self, request: &Request) -> Result<SlotUse, StoreFault>
         ensures reads { ReadsClub S.Store self.old self.new result
             (λ club found. found ≡ (state_of club (request_slot request.now)).held) }
@@ -293,8 +296,8 @@ impl<S: Alter> Store<S> {
         }
     }
 
-    /// Returns the key's booking with the request's number; `None` if the request has no number or
-    /// the key has no such booking.
+    /// Returns the key's booking with the request's number. Returns `None` if the request has no
+    /// number or the key has no such booking.
     fn booking_for(&mut self, key: &Name, request: &Request) -> Result<Option<Booking>, StoreFault>
         ensures reads { ReadsClub S.Store self.old self.new result
             (λ club found. found ≡ option_and_then
@@ -308,10 +311,16 @@ impl<S: Alter> Store<S> {
         }
     }
 
-    /// Returns the key with this name and its older root, and the view of a request at a moment.
-    /// The view has the key's spent points and its booking with the request's number; the member's
-    /// row, balance and open bookings; and the slot's state. Returns `None` if the key is unknown.
-    /// Fails with `Storage` if a row is outside its limits.
+    /// Returns the key with this name and the rows that answer a request at a moment. Returns
+    /// `None` if no key has this name. Fails with `Storage` if a value in a row is outside its
+    /// limits.
+    ///
+    /// The result contains:
+    /// - the key, with its older root
+    /// - the points that the key has spent
+    /// - the key's booking with the request's number
+    /// - the member's row, balance and number of open bookings
+    /// - the facility and the use of the request's slot
     pub fn view(
         &mut self,
         key: &Name,
@@ -348,16 +357,16 @@ impl<S: Alter> Store<S> {
         Ok(Some(KeyView { key, view }))
     }
 
-    /// Applies a change in one transaction. The change must fit the club: its values are those of
+    /// Applies a change in one transaction. The change must fit the club: the change's values match
     /// the club's rows, and the changed club is sound. A change that doesn't fit fails without
     /// effect. If the call fails for another reason, the club is unchanged, but a crash may still
     /// leave the changed club.
     ///
     /// # Errors
     ///
-    /// Fails if the database refuses a statement or the commit. A change that doesn't fit has a
-    /// value outside its limits, or a statement that breaks a rule of the tables or writes no row.
-    /// Such a change fails with `Storage`, unless memory was refused first.
+    /// Fails if the database refuses a statement or the commit. Fails with `Storage` if the change
+    /// doesn't fit, unless the call ran out of memory first. For such a change, a value is outside
+    /// its limits, or a statement breaks a rule of the tables or writes no row.
     pub fn apply(&mut self, change: &Change) -> Result<(), StoreFault>
         ensures makes { ChangesClub S.Store change.now self.old self.new result }
     {
@@ -395,8 +404,8 @@ impl<S: Alter> Store<S> {
         }
     }
 
-    /// Returns a key's booking with this number; `None` if the key has no such booking. Fails with
-    /// `Storage` if the row is outside its limits.
+    /// Returns a key's booking with this number, or `None` if the key has no such booking. Fails
+    /// with `Storage` if a value in the row is outside its limits.
     pub fn booking(
         &mut self,
         key: &Name,
@@ -411,21 +420,22 @@ impl<S: Alter> Store<S> {
         self.tables.booking(key, number)
     }
 
-    /// Inserts a member, in one transaction. Fails as `apply` does.
+    /// Inserts a member, in one transaction. Fails in the same cases as `apply`.
     pub fn insert_member(&mut self, member: &Member) -> Result<(), StoreFault>
         ensures makes { ChangesClub S.Store (InsertMember member.now) self.old self.new result }
     {
         self.tables.insert_member(member)
     }
 
-    /// Adds points to a member's credit, in one transaction. Fails as `apply` does.
+    /// Adds points to a member's credit, in one transaction. Fails in the same cases as `apply`.
     pub fn add_credit(&mut self, member: &Name, points: u32) -> Result<(), StoreFault>
         ensures makes { ChangesClub S.Store (AddCredit member.now points) self.old self.new result }
     {
         self.tables.add_credit(member, points)
     }
 
-    /// Subtracts points from a member's credit, in one transaction. Fails as `apply` does.
+    /// Subtracts points from a member's credit, in one transaction. Fails in the same cases as
+    /// `apply`.
     pub fn take_credit(&mut self, member: &Name, points: u32) -> Result<(), StoreFault>
         ensures makes { ChangesClub S.Store (TakeCredit member.now points)
             self.old self.new result }
@@ -433,7 +443,7 @@ impl<S: Alter> Store<S> {
         self.tables.take_credit(member, points)
     }
 
-    /// Sets a member's quota, in one transaction. Fails as `apply` does.
+    /// Sets a member's quota, in one transaction. Fails in the same cases as `apply`.
     pub fn replace_quota(&mut self, member: &Name, quota: u8) -> Result<(), StoreFault>
         ensures makes { ChangesClub S.Store (ReplaceQuota member.now quota)
             self.old self.new result }
@@ -441,14 +451,15 @@ impl<S: Alter> Store<S> {
         self.tables.replace_quota(member, quota)
     }
 
-    /// Inserts a facility, in one transaction. Fails as `apply` does.
+    /// Inserts a facility, in one transaction. Fails in the same cases as `apply`.
     pub fn insert_facility(&mut self, facility: &Facility) -> Result<(), StoreFault>
         ensures makes { ChangesClub S.Store (InsertFacility facility.now) self.old self.new result }
     {
         self.tables.insert_facility(facility)
     }
 
-    /// Sets a facility's places, price and hours, in one transaction. Fails as `apply` does.
+    /// Sets a facility's places, price and hours, in one transaction. Fails in the same cases as
+    /// `apply`.
     pub fn replace_numbers(
         &mut self,
         facility: &Name,
@@ -464,23 +475,24 @@ impl<S: Alter> Store<S> {
             .replace_numbers(facility, places, price, opens, shuts)
     }
 
-    /// Inserts a key, in one transaction. Fails as `apply` does. Also fails with `Storage` if the
-    /// key has an older root.
+    /// Inserts a key, in one transaction. Fails in the same cases as `apply`. Also fails with
+    /// `Storage` if the key has an older root.
     pub fn insert_key(&mut self, key: &Key) -> Result<(), StoreFault>
         ensures makes { ChangesClub S.Store (InsertKey key.now) self.old self.new result }
     {
         self.tables.insert_key(key)
     }
 
-    /// Marks a key as revoked, in one transaction. Fails as `apply` does.
+    /// Marks a key as revoked, in one transaction. Fails in the same cases as `apply`.
     pub fn revoke_key(&mut self, key: &Name) -> Result<(), StoreFault>
         ensures makes { ChangesClub S.Store (MarkRevoked key.now) self.old self.new result }
     {
         self.tables.revoke_key(key)
     }
 
-    /// Sets a key's root, in one transaction. The former root becomes the older root, is valid
-    /// until the given moment, and replaces any earlier one. Fails as `apply` does.
+    /// Sets a key's root, in one transaction. The previous root becomes the key's older root, and
+    /// is valid until the given moment. The previous root replaces any older root that the key
+    /// already had. Fails in the same cases as `apply`.
     pub fn replace_root(
         &mut self,
         key: &Name,
@@ -502,14 +514,14 @@ impl<S: Alter> Store<S> {
         self.tables.replace_root(&rotation)
     }
 
-    /// Marks a slot as closed, in one transaction. Fails as `apply` does.
+    /// Marks a slot as closed, in one transaction. Fails in the same cases as `apply`.
     pub fn close_slot(&mut self, slot: &Slot) -> Result<(), StoreFault>
         ensures makes { ChangesClub S.Store (MarkClosed slot.now) self.old self.new result }
     {
         self.tables.close_slot(slot)
     }
 
-    /// Marks a slot as open, in one transaction. Fails as `apply` does.
+    /// Marks a slot as open, in one transaction. Fails in the same cases as `apply`.
     pub fn open_slot(&mut self, slot: &Slot) -> Result<(), StoreFault>
         ensures makes { ChangesClub S.Store (MarkOpen slot.now) self.old self.new result }
     {

@@ -17,7 +17,8 @@ are_few_digits text = nat_lt 0 (length text) && nat_le (length text) max_digits 
 abbrev pub number_of_digits : List ℕ → Option ℕ
 number_of_digits text = if are_few_digits text then Some (digits_value 10 text) else None
 
--- The text consists of the decimal digits of the number `n`, without leading zeros.
+-- The text consists of the decimal digits of the number `n`, without leading zeros. The number is
+-- at most 999,999,999.
 pub record SpellsNumber (text : List ℕ) (n : ℕ) : Type 0 where
   pub spelling : text ≡ decimal n
   pub within : n ≤ number_limit

@@ -30,23 +30,21 @@ returns-in-Ok-adopt-clause-opened g c clean =
       fresh = λ none. the_one _ empty_club (again (empty_club ∷ []) (inl (was.committed, refl, new_is_blank _ was none found (opened.1 opened.0.is_open).1)));
     }
 
--- the bytes that a read returns after these calls, if the file is the log or the database
+-- The bytes of the log or of the database after these calls.
 abbrev seen_bytes : List ℕ → List ℕ → Bool → List Event → List ℕ
 seen_bytes log db is_log history = (replay (cond is_log log db) history).seen
 
--- a crash may leave these bytes of the file after these calls
+-- A crash after these calls may leave these bytes in the log or in the database.
 abbrev MayLeaveOf : Bool → List ℕ → List ℕ → Bool → List Event → List ℕ → Type 0
 MayLeaveOf mixes log db is_log history c =
     MayLeave mixes (replay (cond is_log log db) history).seen (replay (cond is_log log db) history).synced (replay (cond is_log log db) history).steps c
 
--- a crash leaves the bytes that the file had
 leaves_same : (mixes : Bool) (log db : List ℕ) (is_log which : Bool) (history : List Event) (key : ℕ) → is_log ≡ which → history ≡ settled key ∷ []
     → (c : List ℕ) → MayLeaveOf mixes log db is_log history c → c ≡ cond which log db
 leaves_same mixes log db is_log which history key is fresh =
     subst₂ (λ (i : Bool) (h : List Event). (c : List ℕ) → MayLeaveOf mixes log db i h c → c ≡ cond which log db) (sym is) (sym fresh) (λ c may.
     elim may [ inl same ↦ same | inr reached ↦ reached ])
 
--- a property of the remains of a file that wasn't opened holds if it holds in both cases
 by_left : {D : Type 0} {g : disk.Ghosts D} (P : FailedOpening D g → Type 0) (error : Error) (rest : Option (Leftover D g)) (left : FailedOpening D g)
     → IsFailedOpening error rest left → (error ≡ busy → P failed.InUse) → ((rest ≡ None → error ≢ busy) → P (failed.Files rest)) → P left
 by_left P error rest left (spec.in_use is none held) when_held other = subst P (sym held) (when_held is)
