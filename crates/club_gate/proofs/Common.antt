@@ -1,4 +1,4 @@
--- Re-exports the names that most proofs here cite. Declares nothing.
+-- Re-exports the names that most proofs in this crate use. Declares no names.
 pub use Rattle.std.proofs.Common.{◌≡◌, ◌∙◌, sym, refl, List, Some, ℕ, Option, Ok, ◌∷◌, ap, true, [], None, Err, Result, false, subst, inl, inr, length, rules}
 pub use Rattle.std.proofs.Common.{map, ◌++◌, arith, Bool, All, ◌≤◌, cond, is_some, ◌≢◌, IfOk, take, drop, ◌+◌, option_map, ◌↔◌, Contains, append_assoc}
 pub use Rattle.std.proofs.Common.{option_and_then, ◌-◌, IsTrue, ◌⊎◌, OnOk, codes, if◌then◌else◌, zero, suc, not, find, sum_by, IsErr, MatchResult, Bor, ◌^◌}

@@ -1,4 +1,4 @@
--- Lemmas on the pass that a text decodes to, and on the machine's event for an event at the desk.
+-- Lemmas for the proof that `decoded_pass` and `machine_event` compute the decoded values.
 use Rattle.club_gate.proofs.Common.{◌≡◌, ◌↔◌, ℕ, Bool, true, false, IsTrue, List, [], ◌∷◌, map, Option, Some, None, Result, Ok, Err, All, refl, sym, ap, ◌∙◌}
 use Rattle.club_gate.proofs.Common.{subst, All-head, All-tail, IsBytes, Caveat, caveat_of, ReadsWhatIsUnderstood, FormFault, Form, Plain, IsSigned}
 use Rattle.club_gate.proofs.Common.{DecidesSigned, is_signed, IsAnyReading, ReadsAnyFormExactly, reading, Request, Pass, Words, AreWordsOf, IsDecoded, IsSeenAs}
@@ -13,13 +13,10 @@ use Rattle.club_core.specs.Run as machine
 use Rattle.club_gate.specs.declared.event.Event.{Event}
 use Rattle.club_gate.specs.declared.event.Event.TheVariants as events
 
--- two options are equal if they contain the same values
 same_found : {A : Type 0} (a b : Option A) (P : A → Type 0) → ((x : A) → (a ≡ Some x) ↔ P x) → ((x : A) → (b ≡ Some x) ↔ P x) → a ≡ b
 same_found None None P h k = refl
 same_found None (Some x) P h k = (h x).1 ((k x).0 refl)
 same_found (Some x) b P h k = sym ((k x).1 ((h x).0 refl))
-
--- ---- one caveat, and a list of caveats
 
 abbrev IsSeenCaveat : List ℕ → Option Caveat → Type 0
 IsSeenCaveat text one = (caveat : Caveat) → (one ≡ Some caveat) ↔ Understood text caveat
@@ -38,8 +35,6 @@ same_caveats reads [] (one ∷ seen) h = absurd h
 same_caveats reads (text ∷ texts) [] h = absurd h
 same_caveats reads (text ∷ texts) (one ∷ seen) h =
     rw (same_found (caveat_of text) one (Understood text) (seen_caveat reads text) h.0, same_caveats reads texts seen h.1) refl
-
--- ---- a pass
 
 same_test : (a b : Bool) (P : Type 0) → IsTrue a ↔ P → IsTrue b ↔ P → a ≡ b
 same_test true b P h k = sym (k.1 (h.0 refl))
@@ -67,9 +62,6 @@ module _ (finds : FindsNames) (understood : ReadsWhatIsUnderstood) (signed : Dec
   pub seen_alike : SeenAlike
   seen_alike pass seen = (machine_alike pass seen, λ e. subst (λ (p : Pass). IsSeenAs pass p) e (machine_seen pass))
 
--- ---- a text
-
--- if a text parses as a pass, it decodes to that pass as the rules see it
 pub decodes_as : ReadsAnyFormExactly → (text : List ℕ) (form : Form) (pass : Plain) → IsBytes text → IsAnyReading text (Ok (form, pass))
     → decoded_pass text ≡ Ok (machine_pass pass)
 decodes_as reads text form pass bytes h =
@@ -102,8 +94,6 @@ words_are law text request words bytes are =
 
 pub decoded_text : Decodes → (text : List ℕ) → IsBytes text → IsDecoded text (decoded_pass text)
 decoded_text law text bytes = (law text (decoded_pass text) bytes).1 refl
-
--- ---- events
 
 pub event_is : Decodes → (event : Event) (seen : machine.Event) → IsEventOfBytes event → IsEventOf event seen → machine_event event ≡ seen
 event_is law (events.Asked words moment) seen bytes h =

@@ -1,4 +1,4 @@
--- Proves the laws of the desk from its response to one event.
+-- Lemmas for the proof that each reply of the desk satisfies the law of the desk.
 use Rattle.club_gate.proofs.Common.{◌≡◌, ◌≢◌, ◌⊎◌, inl, inr, ℕ, List, [], ◌∷◌, ◌++◌, map, Option, Some, None, Result, Ok, Err, All, refl, sym, ap, ◌∙◌, subst}
 use Rattle.club_gate.proofs.Common.{map-append, All-nil, All-cons, All-head, All-tail, IsBytes, Ask, Caveat, caveat_of, Allowed, Allows, ReadsWhatIsUnderstood}
 use Rattle.club_gate.proofs.Common.{FormFault, Form, Plain, DecidesSigned, IsAnyReading, ReadsAnyFormExactly, reading, Key, Unavailable, Reply, Request}
@@ -9,24 +9,21 @@ use Rattle.club_gate.proofs.{Common.{decoded_words, AreWordsOf, Decodes, NamesIt
 use Rattle.club_core.specs.{Acceptance.{IsAllowedBy, IsServed}, declared.pass_fault.PassFault.PassFault}
 use Rattle.club_gate.specs.Served.{EntitlesTo, IsLawful, IsNarrowedText}
 
--- a reply other than `Unavailable` is the verdict's reply
 pub reply_or_failure : {S : Type 0} (Represents : S → Club → List Club → Type 0) (new : S) (club : Club) (others : List Club) (verdict : Verdict)
     (reply : Reply) → IsDecidedBy Represents new club others verdict reply ⊎ HasFailed Represents new club others verdict reply
     → reply ≢ unavailable → reply ≡ verdict.reply
 reply_or_failure Represents new club others verdict reply (inl decided) some = decided.reply_is
 reply_or_failure Represents new club others verdict reply (inr failed) some = absurd (some failed.unavailable)
 
--- the reply of the machine to a request with this text
+-- The reply of the machine to a request with this text as its pass.
 abbrev pub reply_in : Club → List ℕ → Request → ℕ → Reply
 reply_in club text request moment = (verdict_in club (decoded_words text request) moment).reply
 
--- a decoded pass comes from a parsed pass by `machine_pass`
 decoded_read : (read : Result (Form × Plain) FormFault) (pass : Pass) → decoded_or_fault (without_form read) ≡ Ok pass
     → (found : Form × Plain) × (read ≡ Ok found) × (machine_pass found.1 ≡ pass)
 decoded_read (Ok found) pass e = let same : machine_pass found.1 ≡ pass = cc in (found, refl, same)
 decoded_read (Err fault) pass e = absurd (cc)
 
--- if a request's words name a key of the club, their basis is that key's basis
 basis_by_name : (club : Club) (words : Words) (key : Key) → key_of words.pass ≡ Some key.name → key_named key.name club ≡ Some key
     → basis_of club words ≡ basis_under club words.request key
 basis_by_name club words key name row = rw (name, row) refl
@@ -39,13 +36,11 @@ names_its_rows reads finds law club text words form pass key bytes decoded read 
 module _ (serves : ServesOnlyTheEntitled) (alone : DependsOnTheBasisAlone) (refuses : RefusesWithoutABasis) (more : MoreCaveatsNeverOpenMore)
     (reads : ReadsAnyFormExactly) (signs : DecidesSigned) (finds : FindsNames) (understood : ReadsWhatIsUnderstood) (law : Decodes) (club : Club)
     (text : List ℕ) (request : Request) (moment : ℕ) (bytes : IsBytes text) where
-  -- the machine gives the same reply to all words that a text decodes to
   replies_as : (other : List ℕ) (reply : Reply) → IsBytes other → reply ≡ reply_in club other request moment → (words : Words)
       → AreWordsOf other request words → reply ≡ (verdict_in club words moment).reply
   replies_as other reply its e words are =
       e ∙ ap (λ (w : Words). (verdict_in club w moment).reply) (words_are law other request words its are)
 
-  -- if a parsed caveat allows a request, so does the caveat's text
   allowed_text : (ask : Ask) (caveat_text : List ℕ) (caveat : Option Caveat) → caveat_of caveat_text ≡ caveat → IsAllowedBy ask caveat
       → Allows caveat_text ask
   allowed_text ask caveat_text None e h = absurd h
@@ -58,7 +53,6 @@ module _ (serves : ServesOnlyTheEntitled) (alone : DependsOnTheBasisAlone) (refu
       (allowed_text ask one (caveat_of one) refl (All-head (IsAllowedBy ask) (caveat_of one) (map caveat_of texts) h))
       (allowed_texts ask texts (All-tail (IsAllowedBy ask) (caveat_of one) (map caveat_of texts) h))
 
-  -- if a request with this text is served, the text entitles its holder to the request
   served_text : IsServed (reply_in club text request moment) → EntitlesTo club text request moment
   served_text h =
       let entitled = serves (decoded_words text request) moment club h in
@@ -86,14 +80,12 @@ module _ (serves : ServesOnlyTheEntitled) (alone : DependsOnTheBasisAlone) (refu
             (rw (ap (λ (p : Pass). p.caveats) found.2) entitled.permission);
       }
 
-  -- two texts that encode the same pass get the same reply
   forms_alike : (other : List ℕ) (form other_form : Form) (plain : Plain) → IsBytes other → IsAnyReading text (Ok (form, plain))
       → IsAnyReading other (Ok (other_form, plain)) → reply_in club text request moment ≡ reply_in club other request moment
   forms_alike other form other_form plain its h k =
       let same : decoded_pass text ≡ decoded_pass other = decodes_as reads text form plain bytes h ∙ sym (decodes_as reads other other_form plain its k) in
       ap (λ (s : Result Pass PassFault). (verdict_in club (record { pass = s; request = request }) moment).reply) same
 
-  -- an identifier that was made from a name names the key of that name
   named_by : (identifier name other : List ℕ) → key_name_in identifier ≡ Some name → identifier ≡ identifier_of other
       → key_name_in identifier ≡ Some other
   named_by identifier name other e f =
@@ -101,7 +93,6 @@ module _ (serves : ServesOnlyTheEntitled) (alone : DependsOnTheBasisAlone) (refu
       let same : name ≡ other = cc in
       e ∙ ap (λ (n : List ℕ). Some n) same
 
-  -- if a narrower pass is served, the wider pass gets the same reply
   opens_no_more : (wide : List ℕ) → IsBytes wide → IsNarrowedText club wide text moment → IsServed (reply_in club text request moment)
       → reply_in club text request moment ≡ reply_in club wide request moment
   opens_no_more wide wide_bytes n served =
@@ -127,7 +118,6 @@ module _ (serves : ServesOnlyTheEntitled) (alone : DependsOnTheBasisAlone) (refu
       let same = more broad narrow (map caveat_of n.more) n.key request moment club wide_name name caveats n.row signed there in
       ap reply narrow_decoded ∙ (ap (λ (v : Verdict). v.reply) (sym same) ∙ sym (ap reply broad_decoded))
 
-  -- a reply that is the machine's or `Unavailable` satisfies the law of the desk
   pub lawful : (reply : Reply) → (reply ≢ unavailable → reply ≡ reply_in club text request moment) → IsLawful club text request moment reply
   lawful reply returned =
       let same : IsServed reply → reply ≡ reply_in club text request moment = λ served. returned (λ e. served Unavailable e) in

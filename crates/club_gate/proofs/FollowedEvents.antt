@@ -1,4 +1,4 @@
--- Lemmas on one more event after a list of handled events.
+-- Lemmas on adding one event to a list of events that the desk has handled.
 use Rattle.club_gate.proofs.Common.{◌≡◌, ◌∙◌, inl, inr, Bool, true, false, cond, List, [], ◌∷◌, ◌++◌, length, All, Contains, Option, Some, None, Result, Ok}
 use Rattle.club_gate.proofs.Common.{Err, refl, sym, ap, subst, arith, append_assoc, length-append, All-nil, All-cons, All-append, All-weaker}
 use Rattle.club_gate.proofs.Common.{All-contains_itself, Change, Club, office_verdict, Event, Asked, Commanded, after_change, command_outcome, step, has_failed}
@@ -6,7 +6,6 @@ use Rattle.club_gate.proofs.Common.{IsStep, IsRun, IsAnsweredBy, IsRefusedBy, St
 use Rattle.club_gate.proofs.Common.{MayBeLeft, DeskResponse, events_answered, desk_presentation}
 use Rattle.club_core.specs.declared.command.OfficeFault.{OfficeFault}
 
--- an event without a change leaves the club unchanged
 kept_by : (club : Club) (event : Event) → change_of club event ≡ None → (step club event).club ≡ club
 kept_by club (Asked words moment) h = ap (λ (change : Option Change). after_change change club) h
 kept_by club (Commanded command) h = go (office_verdict club command) h
@@ -15,7 +14,6 @@ kept_by club (Commanded command) h = go (office_verdict club command) h
     go (Ok change) e = ap (λ (made : Option Change). after_change made club) e
     go (Err fault) e = refl
 
--- a run and one step after it are together a run
 ran_more : (club last next : Club) (events : List Event) (responses : List DeskResponse) (event : Event) (one : DeskResponse)
     → IsRun desk_presentation club events responses last
     → IsStep desk_presentation last event one next → IsRun desk_presentation club (events ++ event ∷ []) (responses ++ one ∷ []) next
@@ -29,7 +27,6 @@ one_before : (is_failed : Bool) (event : Event) (front rest : List Event)
 one_before true event front rest = refl
 one_before false event front rest = refl
 
--- the answered events of a list with one more event: those of the list, then the new event if it was answered
 answered_and_one : (events : List Event) (responses : List DeskResponse) (event : Event) (one : DeskResponse) → length responses ≡ length events
     → events_answered (events ++ event ∷ []) (responses ++ one ∷ []) ≡ events_answered events responses ++ events_answered (event ∷ []) (one ∷ [])
 answered_and_one [] [] event one e = refl
@@ -42,7 +39,6 @@ answered_and_one (other ∷ events) (first ∷ responses) event one e =
 abbrev Keeps : Club → Event → Type 0
 Keeps last event = change_of last event ≡ None
 
--- an event makes no change if it failed, or if it was answered without a change
 none_by_failure : (last : Club) (event : Event) (one : DeskResponse) → has_failed desk_presentation event one ≡ true
     → MakesNoChange last (event ∷ []) (one ∷ [])
 none_by_failure last event one h = rw h (All-nil (Keeps last))
@@ -58,7 +54,6 @@ no_change_more last events responses event one e before more =
     rw (answered_and_one events responses event one e)
     (All-append (Keeps last) (events_answered events responses) (events_answered (event ∷ []) (one ∷ [])) before more)
 
--- if a list of events and its responses have equal lengths before a place, they have equal lengths after it
 rest_beside : (events front rest : List Event) (event : Event) (responses before since : List DeskResponse) (response : DeskResponse)
     → events ≡ front ++ event ∷ rest → responses ≡ before ++ response ∷ since → length before ≡ length front → length responses ≡ length events
     → length since ≡ length rest
@@ -66,7 +61,6 @@ rest_beside events front rest event responses before since response place among 
     omega (arith, simp length-append at (ap length place), simp length-append at (ap length among), beside, e)
 
 module _ {S : Type 0} (Represents : S → Club → List Club → Type 0) where
-  -- the empty list of events is handled
   pub followed_none : (now : S) (club : Club) (others : List Club) → Represents now club others → IsFollowed Represents now club others [] []
   followed_none now club others h = record {
     last = club;
@@ -78,7 +72,7 @@ module _ {S : Type 0} (Represents : S → Club → List Club → Type 0) where
         (All-contains_itself others);
   }
 
-  -- one more event after the handled events
+  -- The next lemmas add one event to a list of handled events.
   module _ (now new : S) (club : Club) (others : List Club) (events : List Event) (responses : List DeskResponse) (event : Event) (one : DeskResponse)
       (e : length responses ≡ length events) (f : IsFollowed Represents now club others events responses) where
     abbrev all : List Event
@@ -87,7 +81,6 @@ module _ {S : Type 0} (Represents : S → Club → List Club → Type 0) where
     abbrev returned : List DeskResponse
     returned = responses ++ one ∷ []
 
-    -- if the new event makes no change, an earlier failure is still after the last change
     failed_before : MakesNoChange f.last (event ∷ []) (one ∷ []) → (other : Event) → FailedLast club f.last events responses other
         → FailedLast club f.last all returned other
     failed_before none other h = record {
@@ -113,7 +106,6 @@ module _ {S : Type 0} (Represents : S → Club → List Club → Type 0) where
           | inr h ↦ inr (h.0, failed_before none h.0 h.1, h.2)
         ]) f.left f.each
 
-    -- if the event was answered, `MayBeLeft` allows each possible crash state
     left_by_answer : has_failed desk_presentation event one ≡ false → (change : Option Change) → change_of f.last event ≡ change
         → All (MayBeLeft club others (step f.last event).club all returned) (others_after change f.left)
     left_by_answer success None is =

@@ -1,4 +1,4 @@
--- Proves the laws of runs for a list of handled events.
+-- Lemmas for the proof of the laws of runs.
 use Rattle.club_gate.proofs.Common.{◌≡◌, inl, inr, List, All, Some, Result, Ok, Err, IfOk, OnOk, sym, subst, Club, empty_club, member_named, IsSound, IsEvent}
 use Rattle.club_gate.proofs.Common.{Event, replies_of, IsRun, LeavesOutFailed, AreEventsOf, IsEventOfBytes, SeesEvents, machine_events, Conserves}
 use Rattle.club_gate.proofs.Common.{IsAnsweredRun, IsFollowed, IsLawfulRun, IsOnce, LeavesClub, MayBeLeft, DeskResponse, events_answered, club_left}
@@ -8,7 +8,6 @@ use Rattle.club_laws.specs.RunsWithFailures.{SoloLawOfTwoWithFailures, SoundWith
 use Rattle.club_laws.specs.RunsWithFailures.{CancellationsWithFailures}
 use Rattle.club_gate.specs.{Runs.ReturnsTheRecord, declared.event.{Event.Event as DeskEvent, OfficeReply.OfficeReply}}
 
--- The machine's events for a handled list are the computed ones. So a law that holds for the computed events and the responses holds for any such events.
 pub for_seen : {S T E : Type 0} (Represents : S → Club → List Club
     → Type 0) (new : S) (club : Club) (others : List Club) (events : List DeskEvent) (r : Result T E)
     (responses : T → List DeskResponse) (P : List Event → List DeskResponse → Type 0) → SeesEvents

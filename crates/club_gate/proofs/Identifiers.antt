@@ -1,4 +1,4 @@
--- Lemmas on the key name in a pass's identifier.
+-- Lemmas on the name of the key in a pass's identifier.
 use Rattle.club_gate.proofs.Common.{◌≡◌, ℕ, Bool, true, false, cond, List, take, drop, Option, Some, None, refl, sym, ap, ◌∙◌, codes, bytes_eq}
 use Rattle.club_gate.proofs.Common.{take-append-drop, key_name_in, identifier_of}
 use Rattle.std.proofs.lemmas.Slice.Eq.{bytes_eq-Decides}

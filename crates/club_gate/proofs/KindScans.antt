@@ -1,11 +1,11 @@
--- Lemmas on the result of a scan for caveats on the kind of a facility.
+-- Lemmas on the scan for caveats that depend on the kind of a facility.
 use Rattle.club_gate.proofs.Common.{◌≡◌, ℕ, ◌+◌, List, [], ◌∷◌, ◌++◌, map, Option, refl, sym, subst, Ask, caveat_of, first_fault_from, FindsTheFaultAt}
 use Rattle.club_gate.proofs.Common.{ReadsWhatIsUnderstood, PassField, caveat_field, signature_field, pass_fields, Plain, IsBlindPass}
 use Rattle.club_gate.proofs.Walking.{fault_is, fault_on}
 use Rattle.pass_caveats.specs.Kinds.{IsBlindToKind, at_kind}
 use Rattle.club_values.specs.declared.kind.Kind.{Kind}
 
--- each caveat among these fields has the same fault for every kind of facility
+-- Each caveat in these fields has the same fault for every kind of facility.
 abbrev pub AreBlind : List PassField → Type 0
 AreBlind [] = Unit {0}
 AreBlind (caveat_field bytes ∷ fields) = IsBlindToKind bytes × AreBlind fields
@@ -30,7 +30,6 @@ module _ (finds : FindsTheFaultAt) (reads : ReadsWhatIsUnderstood) (ask : Ask) (
         all_alike signature (n + 1) caveats blind.1,
       ) refl
 
--- if a scan to the last field finds no caveat on the kind, no caveat of the pass depends on the kind
 pub blind_at_last : FindsTheFaultAt → ReadsWhatIsUnderstood → (these left : List PassField) → left ≡ [] → (AreBlind left → AreBlind these)
     → (pass : Plain) → these ≡ pass_fields pass → IsBlindPass pass
 blind_at_last finds reads these left none all pass g ask kind =

@@ -1,4 +1,4 @@
--- Proves that the rows read for a signed pass give the same answer as the whole view of its key.
+-- Lemmas for the proof that the desk reads enough rows to answer a signed pass.
 use Rattle.club_gate.proofs.Common.{◌≡◌, inl, inr, ℕ, true, List, Ok, map, refl, sym, ap, ◌∙◌, Option, Some, None, is_some, option_map, option_and_then}
 use Rattle.club_gate.proofs.Common.{if◌then◌else◌, same_Some, caveat_of, first_fault_of, after_spending, Plain, Key, KeyRow, row_of_key, Request, View}
 use Rattle.club_gate.proofs.Common.{answer_by_view, ask_of, owed_at, verdict_in, Basis, account_named, slot_use, state_of, view_in, view_of, Club, IsSound}
@@ -11,13 +11,11 @@ use Rattle.club_core.specs.{Laws.OwnBookings, Looks.{bare_view, books_anew}, Req
 use Rattle.club_core.specs.declared.account.MemberAccount.{MemberAccount}
 use Rattle.club_core.specs.declared.request.Request.TheVariants as asked
 
--- ---- the rows that are read for a signed pass
-
--- the view with the state of a slot
+-- The view with the use of a slot added.
 abbrev pub with_slot : Club → Slot → View → View
 with_slot club slot view = record view { taken = (slot_use club slot).taken; closed = (slot_use club slot).closed }
 
--- the view with a member's row, balance and open bookings
+-- The view with a member's row, balance and number of open bookings added.
 abbrev pub with_account : Club → ℕ → View → MemberAccount → View
 with_account club moment view account = record view {
   member = account.member;
@@ -25,26 +23,29 @@ with_account club moment view account = record view {
   open_count = count_to_come moment (bookings_of account.member.name club);
 }
 
--- the view with the row, balance and open bookings of the key's member; none if the club has no such member
+-- The view with the row, balance and number of open bookings of the key's member added. The result
+-- is `None` if the club has no such member.
 abbrev pub with_member : Club → ℕ → View → Option View
 with_member club moment view = option_map (with_account club moment view) (account_named view.key.member club)
 
--- the view with a member's row, balance and open bookings, and with what the key has spent
+-- The view with the values of a member's account added, and with the points that the key has spent.
 abbrev pub with_all : Club → ℕ → View → MemberAccount → View
 with_all club moment view account = record (with_account club moment view account) { spent = spent_under view.key.name club.bookings }
 
 abbrev pub with_sums : Club → ℕ → View → Option View
 with_sums club moment view = option_map (with_all club moment view) (account_named view.key.member club)
 
--- adding what the key has spent to a view with the member's sums gives the view with all sums
 pub sums_read : (club : Club) (moment : ℕ) (view shown : View) (spent : ℕ) (account : Option MemberAccount)
     → spent ≡ spent_under shown.key.name club.bookings → Some shown ≡ option_map (with_account club moment view) account
     → Some (let all : View = record shown { spent = spent } in all) ≡ option_map (with_all club moment view) account
 sums_read club moment view shown spent None is e = absurd (cc)
 sums_read club moment view shown spent (Some account) is e = rw (is, same_Some shown (with_account club moment view account) e) refl
 
--- The view with the values that the decision depends on. For showing a slot, these are the slot's state. For a new booking, they are the slot's state and the
--- member's sums. For the account, they are the sums of the member and of the key. Otherwise nothing is added.
+-- The view with the rows and sums added that the decision depends on:
+-- - For a request to view a slot, these are the use of the slot.
+-- - For a new booking, these are the use of the slot and the sums of the member.
+-- - For the account, these are the sums of the member and of the key.
+-- - For other requests, nothing is added.
 abbrev pub last_view : Club → Request → ℕ → View → Option View
 last_view club (asked.View slot) moment view = Some (with_slot club slot view)
 last_view club (asked.Book slot number guests) moment view =
@@ -52,12 +53,10 @@ last_view club (asked.Book slot number guests) moment view =
 last_view club (asked.Cancel slot number) moment view = Some view
 last_view club asked.Account moment view = with_sums club moment view
 
--- a request whose number already has a booking owes nothing
 nothing_owed : (request : Request) (facility : Option Facility) → owed_at request true facility ≡ 0
 nothing_owed (asked.Book slot number guests) facility = refl
 nothing_owed request facility = refl
 
--- a caveat's fault refuses the request, whatever else the key's view contains
 refused_by_fault : (view other : View) (request : Request) (moment : ℕ) → view.key ≡ other.key → (fault : Option CaveatFault) → is_some fault ≡ true
     → answer_by_view (Some view) true fault request moment ≡ answer_by_view (Some other) true fault request moment
 refused_by_fault view other request moment e None some = absurd (cc)
@@ -65,7 +64,7 @@ refused_by_fault view other request moment e (Some (NotUnderstood n)) some = rw 
 refused_by_fault view other request moment e (Some (Denied n)) some = rw e refl
 
 module _ (club : Club) (key : Key) (moment : ℕ) (its : IsOwned club key) where
-  -- the whole view of a key of the club
+  -- The full view of a key of the club.
   abbrev whole : Request → View
   whole request =
       let bookings = bookings_of its.member.name club in
@@ -83,7 +82,6 @@ module _ (club : Club) (key : Key) (moment : ℕ) (its : IsOwned club key) where
       ≡ answer_by_view (Some (whole request)) (is_signed_under (machine_pass pass) key moment) (its_fault pass request) request moment
   answered pass request is = rw (is, its.is) refl
 
-  -- for any facility and booking, the last view gives the same decision as the whole view
   decided : (request : Request) (facility : Option Facility) (booking : Option Booking)
       → answer_by_view (last_view club request moment (record (bare_view (row_of_key key)) { facility = facility; booking = booking })) true None request moment
       ≡ answer_by_view (Some (record (whole request) { facility = facility; booking = booking })) true None request moment
@@ -95,7 +93,6 @@ module _ (club : Club) (key : Key) (moment : ℕ) (its : IsOwned club key) where
   decided (asked.Cancel slot number) facility booking = refl
   decided asked.Account facility booking = rw (its.is, its.spent) refl
 
-  -- if the request's number has a booking, the decision doesn't depend on the facility
   of_booking : (request : Request) (facility other : Option Facility) (booking : Option Booking) → booking ≡ (whole request).booking
       → is_some booking ≡ true
       → answer_by_view (Some (record (whole request) { facility = facility; booking = booking })) true None request moment
@@ -113,7 +110,6 @@ module _ (club : Club) (key : Key) (moment : ℕ) (its : IsOwned club key) where
     booked : view.booking ≡ (whole request).booking
     booked = agrees.booking_is ∙ at_number (request_number request)
 
-    -- the rows read for the decision give the same decision as the whole view
     decides : answer_by_view (last_view club request moment view) true None request moment
         ≡ answer_by_view (Some (whole request)) true None request moment
     decides =
@@ -124,7 +120,6 @@ module _ (club : Club) (key : Key) (moment : ℕ) (its : IsOwned club key) where
           | inr short ↦ of_booking request view.facility (whole request).facility view.booking booked short.1 ∙ rw booked refl
         ])
 
-    -- the rows read for the caveats give the same fault as the whole view
     same_fault : first_fault_of (map caveat_of pass.caveats) (after_spending (spent_under key.name club.bookings) (ask_of view request moment))
         ≡ its_fault pass request
     same_fault = elim agrees.facility_is [
@@ -137,9 +132,6 @@ module _ (club : Club) (key : Key) (moment : ℕ) (its : IsOwned club key) where
           rw (owed, none, its_owed, its.spent) (rw (its_owed, its.spent) at (blind (ask_of (whole request) request moment) None))
     ]
 
--- ---- the verdict
-
--- the last view gives the same answer as the key's whole view
 pub last_reads : OwnBookings → (club : Club) (request : Request) (moment : ℕ) (view : View) (found : Option View) → IsSound club
     → found ≡ last_view club request moment view → (pass : Plain) (row : KeyRow) → IsOnRecord club row
     → AgreesOnRecord club row pass request view → answer_by_view found true None request moment
@@ -148,7 +140,6 @@ last_reads own club request moment view found sound e pass row (key, named, is) 
     let its = owner own club key.name key sound named in
     rw (e, is, seen club key moment its request key.name named) (decides club key moment its pass request view (rw is at agrees))
 
--- the rows read for the signer of a pass give the same verdict as the machine
 pub verdict_read : OwnBookings → (club : Club) (row : KeyRow) (moment : ℕ) (pass : Plain) (request : Request) (view : View) (fault : Option CaveatFault)
     → IsSound club → signer_of pass moment (key_in club pass.identifier) ≡ Ok row → AgreesOnRecord club row pass request view
     → fault ≡ first_fault_of (map caveat_of pass.caveats) (after_spending (spent_under row.name club.bookings) (ask_of view request moment))
@@ -168,7 +159,6 @@ verdict_read own club row moment pass request view fault sound signer agrees f =
       λ some. refused_by_fault view (whole club is.key moment its request) request moment there.key_is fault some,
     )
 
--- the sums read for a key are the sums in the key's view of its account
 pub account_seen : OwnBookings → (club : Club) (name : List ℕ) (key : Key) (moment : ℕ) → IsSound club → key_named name club ≡ Some key
     → with_sums club moment (bare_view (row_of_key key)) ≡ view_in club name asked.Account moment
 account_seen own club name key moment sound row =

@@ -1,4 +1,4 @@
--- Lemmas on the key that a pass is signed under, found from the key's row alone, and on the key's member.
+-- Lemmas on the key that signed a pass, and on the member to whom the key belongs.
 use Rattle.club_gate.proofs.Common.{◌≡◌, ℕ, zero, suc, Bool, true, false, cond, not, List, [], ◌∷◌, map, refl, sym, ap, ◌∙◌, arith, Option, Some, None, Result}
 use Rattle.club_gate.proofs.Common.{Ok, Err, option_map, option_and_then, Contains, find, bytes_eq, All-contains, option_and_then_some, Plain, Key, KeyRow}
 use Rattle.club_gate.proofs.Common.{row_of_key, KeyRevoked, NotVerified, Request, Verdict, answer_to, verdict_in, basis_under, Club, IsSound, bookings_of}
@@ -8,9 +8,6 @@ use Rattle.std.proofs.lemmas.Slice.Eq.{bytes_eq-Decides}
 use Rattle.club_rows.specs.declared.member.Member.{Member}
 use Rattle.club_core.specs.{Laws.OwnBookings, Lines.{line_if, first_of}, Verdict.refusal_verdict, declared.refusal.Refusal.Refusal}
 
--- ---- finding rows
-
--- an element that `find` returns is in the list and passes the test
 pub found : {X : Type 0} (p : X → Bool) (xs : List X) (x : X) → find p xs ≡ Some x → Contains xs x × (p x ≡ true)
 found p [] x h = absurd (cc)
 found {X} p (y ∷ xs) x h = go (p y) refl (λ e. found p xs x e) h
@@ -22,7 +19,6 @@ found {X} p (y ∷ xs) x h = go (p y) refl (λ e. found p xs x e) h
 pub named : (club : Club) (name : List ℕ) (key : Key) → key_named name club ≡ Some key → key.name ≡ name
 named club name key e = (bytes_eq-Decides key.name name).0 (found (λ (k : Key). bytes_eq k.name name) club.keys key e).1
 
--- a search that finds a member among the other members also finds one in the whole list
 or_first : (test : Bool) (member : Member) (others : Option Member) → (found : Member) × (others ≡ Some found)
     → (found : Member) × (cond test (Some member) others ≡ Some found)
 or_first true member others rest = (member, refl)
@@ -35,7 +31,6 @@ member_there (member ∷ members) name (zero, short, same) = (member, rw ((bytes
 member_there (member ∷ members) name (suc k, short, same) =
     or_first (bytes_eq member.name name) member _ (member_there members name (k, omega arith, same))
 
--- a key that is found by its name is among the club's keys, and in a sound club it has a member
 among : (club : Club) (name : List ℕ) (key : Key) → key_named name club ≡ Some key → Contains club.keys key
 among club name key row = (found (λ (k : Key). bytes_eq k.name name) club.keys key row).0
 
@@ -45,7 +40,7 @@ member_of club name key sound row =
     let P : Key → Type 0 = λ k. Contains (map (λ (m : Member). m.name) club.members) k.member in
     member_there club.members key.member (All-contains P club.keys key sound.references.keys (among club name key row))
 
--- the key has a member, whose bookings include those of the key
+-- The club has the key's member, and the bookings of this member include all bookings of the key.
 pub record IsOwned (club : Club) (key : Key) : Type 0 where
   pub member : Member
   pub is : member_named key.member club ≡ Some member
@@ -60,9 +55,6 @@ owner own club name key sound row =
     let its = own club key (among club name key row) in
     record { member = has.0; is = has.1; spent = rw same its.spent; booking = rw same its.booking }
 
--- ---- the signer
-
--- the club's key that an identifier names is also found by the key's own name
 pub key_there : (club : Club) (identifier : List ℕ) (key : Key) → key_in club identifier ≡ Some key → key_named key.name club ≡ Some key
 key_there club identifier key e =
     option_and_then_some (λ (n : List ℕ). key_named n club) (key_name_in identifier) key e (λ name is row.
@@ -72,14 +64,15 @@ of_row : (key : Option Key) (row : KeyRow) → Some row ≡ option_map row_of_ke
 of_row None row e = absurd (cc)
 of_row (Some key) row e = (key, refl, cc)
 
--- the key that signed a pass, with its row
+-- The row is the row of the key that the pass names, and the pass is signed under this key.
 pub record IsSigner (club : Club) (pass : Plain) (moment : ℕ) (row : KeyRow) : Type 0 where
   pub key : Key
   pub is : key_in club pass.identifier ≡ Some key
   pub signed : is_signed_under (machine_pass pass) key moment ≡ true
   pub row_is : row ≡ row_of_key key
 
--- the result of testing a row: unsigned, revoked, or neither
+-- Returns `unsigned` if the pass isn't signed, `refused` if the key is revoked, and `last`
+-- otherwise.
 abbrev pub by_tests : {A : Type 0} → Bool → Bool → A → A → A → A
 by_tests is_signed revoked unsigned refused last = first_of (line_if (not is_signed) unsigned ∷ line_if revoked refused ∷ []) last
 
@@ -92,7 +85,6 @@ signer_by_tests club pass moment row is_signed e signed =
     let tests : KeyRow → Result KeyRow Refusal = λ r. by_tests is_signed r.revoked (Err NotVerified) (Err KeyRevoked) (Ok r) in
     rw (its.1, ← signed its.0 (key_there club pass.identifier its.0 its.1) its.2) (ap tests (sym its.2))
 
--- if the tests don't refuse a pass, it is signed, and they return its row
 passed : (is_signed revoked : Bool) (row other : KeyRow) → by_tests is_signed revoked (Err NotVerified) (Err KeyRevoked) (Ok row) ≡ Ok other
     → (is_signed ≡ true) × (other ≡ row)
 passed false revoked row other e = absurd (cc)
@@ -109,7 +101,6 @@ is_signer club pass moment row e = go (key_in club pass.identifier) refl e
         let its = passed (is_signed_under (machine_pass pass) key moment) key.revoked (row_of_key key) row h in
         record { key = key; is = is; signed = its.0; row_is = its.1 }
 
--- the tests give the same refusal, whether their results are rows or verdicts
 refused_alike : (is_signed revoked : Bool) (row : KeyRow) (last : Verdict) (refusal : Refusal)
     → by_tests is_signed revoked (Err NotVerified) (Err KeyRevoked) (Ok row) ≡ Err refusal
     → by_tests is_signed revoked (refusal_verdict NotVerified) (refusal_verdict KeyRevoked) last ≡ refusal_verdict refusal
@@ -117,7 +108,6 @@ refused_alike false revoked row last refusal e = cc
 refused_alike true true row last refusal e = cc
 refused_alike true false row last refusal e = absurd (cc)
 
--- a pass that isn't signed or has a revoked key gets that refusal as its verdict, whatever else the club contains
 pub refused_by_row : (club : Club) (pass : Plain) (request : Request) (moment : ℕ) → IsSound club → (refusal : Refusal)
     → signer_of pass moment (key_in club pass.identifier) ≡ Err refusal
     → refusal_verdict refusal ≡ verdict_in club (words_with (machine_pass pass) request) moment

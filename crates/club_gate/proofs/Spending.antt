@@ -1,10 +1,9 @@
--- A key has spent at most what its member's account has used.
+-- Lemmas for the proof that a key has spent at most the points that its member has used.
 use Rattle.club_gate.proofs.Common.{◌≡◌, ℕ, ◌-◌, ◌≤◌, Some, Ok, sym, subst, arith, sum_by, bytes_eq, Plain, Key, KeyRow, account_named, Club, IsSound}
 use Rattle.club_gate.proofs.{Common.{bookings_of, cost_of, spent_under, key_in, IsOnRecord, signer_of}, Signers.{found, is_signer, key_there}}
 use Rattle.club_core.specs.declared.account.MemberAccount.{MemberAccount}
 use Rattle.club_laws.specs.Spending.{AccountsShowWhatIsUsed, SpendsWithinItsMember}
 
--- if a pass is signed under a row, the row is that of a key of the club
 pub on_record : (club : Club) (pass : Plain) (moment : ℕ) (row : KeyRow) → signer_of pass moment (key_in club pass.identifier) ≡ Ok row
     → IsOnRecord club row
 on_record club pass moment row e =

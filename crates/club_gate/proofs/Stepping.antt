@@ -1,4 +1,4 @@
--- Lemmas on an event that was decided: its change was applied, or the store failed.
+-- Lemmas on the state of the store after the desk decided an event.
 use Rattle.club_gate.proofs.Common.{◌≡◌, ◌≢◌, inl, inr, ℕ, true, false, List, [], ◌∷◌, Option, Some, None, Result, Ok, Err, refl, sym, ap, ◌∙◌, IsErr, IsBytes}
 use Rattle.club_gate.proofs.Common.{Change, Unavailable, Reply, Request, StoreFault, Verdict, verdict_in, Club, IsSound, IsEvent, office_verdict, Words, Asked}
 use Rattle.club_gate.proofs.Common.{Commanded, after_change, done_answer, ToMember, ToOffice, is_unavailable, NeverUnavailable, IsRead, decoded_words}
@@ -7,7 +7,6 @@ use Rattle.club_gate.proofs.{Common.{others_after, answer_or_fault, is_failure, 
 use Rattle.club_core.specs.declared.{command.{Command.{Command, TheVariants.AddKey}, OfficeAnswer.OfficeAnswer}, reply.Reply.TheVariants.Refused}
 use Rattle.club_laws.specs.SoundRuns.{ChangesFit}
 
--- the reply to a completed command isn't a failure
 done_is_no_failure : (command : Command) → is_failure (office_reply_of (done_answer command)) ≡ false
 done_is_no_failure (AddKey name member root) = refl
 done_is_no_failure command = refl
@@ -24,13 +23,11 @@ other_reply : (reply : Reply) → reply ≢ unavailable → is_unavailable reply
 other_reply (Refused Unavailable) h = absurd (h refl)
 other_reply reply h = refl
 
--- the change of a successful command fits the club
 pub command_fits : ChangesFit → (club : Club) (command : Command) (change : Option Change) → IsSound club → IsEvent (Commanded command)
     → office_verdict club command ≡ Ok change → FitsIfAny change club
 command_fits fits club command None sound event is = tt
 command_fits fits club command (Some change) sound event is = fits club (Commanded command) change sound event is
 
--- the change of a request's verdict fits the club
 pub ask_fits : ChangesFit → (club : Club) (words : Words) (moment : ℕ) (verdict : Verdict) → IsSound club
     → IsEvent (Asked words moment) → verdict ≡ verdict_in club words moment → FitsIfAny verdict.change club
 ask_fits fits club words moment verdict sound event e = go verdict.change (ap (λ (v : Verdict). v.change) (sym e))
@@ -39,20 +36,17 @@ ask_fits fits club words moment verdict sound event e = go verdict.change (ap (�
     go None is = tt
     go (Some change) is = fits club (Asked words moment) change sound event is
 
--- the verdict on a request is never `Unavailable`
 pub always_decided : NeverUnavailable → (club : Club) (words : Words) (moment : ℕ) (verdict : Verdict) → verdict ≡ verdict_in club words moment
     → verdict.reply ≡ unavailable → ⊥
 always_decided never club words moment verdict e is =
     never club (Asked words moment) (ap (λ (v : Verdict). ToMember v.reply) (sym e) ∙ ap ToMember is)
 
--- a store that fails at the verdict's change, after a read, fails at the request's change
 pub changed_fault : {S : Type 0} (Fails : Option Change → S → StoreFault → S → Type 0) (old now new : S) (club : Club) (words : Words) (moment : ℕ)
     (verdict : Verdict) → verdict ≡ verdict_in club words moment → (fault : StoreFault) → IsRead Fails old now → Fails verdict.change now fault new
     → FailsAt Fails old new (verdict_in club words moment).change fault
 changed_fault {S} Fails old now new club words moment verdict e fault read failed =
     inr (rw (← e) (read verdict.change fault new failed))
 
--- a fault at the change for the computed words is a fault at the change for any words that the text decodes to
 pub fails_at_its_words : {S : Type 0} (Fails : Option Change → S → StoreFault → S → Type 0) (old new : S) (club : Club) (text : List ℕ)
     (request : Request) (moment : ℕ) (fault : StoreFault) → Decodes → IsBytes text
     → FailsAt Fails old new (verdict_in club (decoded_words text request) moment).change fault
@@ -84,7 +78,6 @@ module _ {S : Type 0} (Represents : S → Club → List Club → Type 0) (new : 
   ask_failed words moment verdict result err e represents =
       rw (← e) (record { unavailable = reply_fails result err; represents = inr represents })
 
--- a request that was decided or failed is a step of the machine
 pub asked_steps : {S : Type 0} (Represents : S → Club → List Club → Type 0) (old new : S) (words : Words) (moment : ℕ) (reply : Reply)
     → DecidesOrFails Represents old new words moment reply → Steps Represents old new (Asked words moment) (ToMember reply)
 asked_steps Represents old new words moment reply did club others represents = elim (did club others represents) [

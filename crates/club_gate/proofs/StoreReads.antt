@@ -1,4 +1,4 @@
--- A read of the store returns values of a sound club.
+-- A call that reads the store returns values of a sound club.
 use Rattle.club_gate.proofs.Common.{List, ◌∷◌, Option, None, Result, IfOk, All, MatchResult, All-head, Change, StoreFault, Club, IsSound, IsRead, KeepsClub}
 use Rattle.club_gate.proofs.Common.{ReadsStore}
 

@@ -1,4 +1,4 @@
--- Lemmas on the verdict: from the fields of a pass to the bytes of the pass, and from these to the text.
+-- Lemmas for the proof that `Desk::verdict` returns the verdict on a text.
 use Rattle.club_gate.proofs.Common.{◌≡◌, ◌≢◌, inl, inr, ℕ, ◌≤◌, length, List, Option, Result, Ok, Err, refl, ap, ◌∙◌, subst, IfOk, IsBytes, FormFault, Form}
 use Rattle.club_gate.proofs.Common.{PassField, pass_fields, ReadsExactly, Plain, IsReadingInForm, SpellsForm, ReadsAnyFormExactly, ReadsWhatIsWrapped, reading}
 use Rattle.club_gate.proofs.Common.{reading_in_form, Change, Request, StoreFault, Verdict, verdict_in, Club, words_with, machine_pass, without_form}
@@ -11,7 +11,6 @@ use Rattle.club_gate.specs.Served.{IsJson}
 abbrev IsVerdict : Result Verdict StoreFault → Verdict → Type 0
 IsVerdict result verdict = IfOk result (λ found. found ≡ verdict)
 
--- the verdict on the pass is the verdict on the bytes that encode it
 pub verdict_by_bytes : {fields : List PassField} (club : Club) (request : Request) (moment : ℕ) (form : Form) (bytes : List ℕ) (pass : Plain)
     (result : Result Verdict StoreFault) → reading_in_form form bytes ≡ Ok pass → fields ≡ pass_fields pass → length pass.caveats ≤ max_caveats
     → IfOk result (λ found. OfItsPass fields (λ it. found ≡ verdict_in club (words_with (machine_pass it) request) moment))
@@ -23,7 +22,6 @@ formless : (form : Form) (read : Result Plain FormFault) → without_form (in_fo
 formless form (Ok pass) = refl
 formless form (Err fault) = refl
 
--- the verdict on the bytes is the verdict on the text that wraps them
 pub verdict_by_text : (club : Club) (request : Request) (moment : ℕ) (text : List ℕ) (form : Form) (bytes : List ℕ)
     (result : Result Verdict StoreFault) → reading text ≡ in_form form (reading_in_form form bytes)
     → IsVerdict result (verdict_in club (words_in_form form bytes request) moment)
@@ -32,7 +30,6 @@ verdict_by_text club request moment text form bytes result wrapped h =
     let same : without_form (reading text) ≡ reading_in_form form bytes = ap without_form wrapped ∙ formless form (reading_in_form form bytes) in
     rw same h
 
--- if reading a text gives a fault, reading the bytes that it wraps gives the same fault
 pub fault_in : (form : Form) (read : Result Plain FormFault) (text : List ℕ) (fault : FormFault)
     → reading text ≡ in_form form read → reading text ≡ Err fault → read ≡ Err fault
 fault_in form (Ok pass) text fault wrapped e = absurd (cc)
@@ -43,14 +40,12 @@ with_its_form : (form : Form) (bytes : List ℕ) (read : Result Plain FormFault)
 with_its_form form bytes (Ok pass) h = (refl, h)
 with_its_form form bytes (Err fault) h = h
 
--- the readings of bytes and texts, from the laws of each form
 module _ (packets : ReadsExactly SpellsV1 reading_v1) (sections : ReadsExactly SpellsV2 reading_v2) (json : ReadsExactly SpellsJson reading_json) where
   reads_in : (form : Form) (bytes : List ℕ) → IsReadAs (length bytes) (SpellsForm form bytes) (reading_in_form form bytes)
   reads_in V1 bytes = (packets bytes (reading_v1 bytes)).1 refl
   reads_in V2 bytes = (sections bytes (reading_v2 bytes)).1 refl
   reads_in Json bytes = (json bytes (reading_json bytes)).1 refl
 
-  -- the reading of a text is the reading of the bytes that it wraps
   pub read_wrapped : ReadsAnyFormExactly → ReadsWhatIsWrapped → (text : List ℕ) (form : Form) (bytes : List ℕ) → IsBytes text
       → IsUnwrapped text (Ok (form, bytes)) → length bytes ≤ max_text_len
       → reading text ≡ in_form form (reading_in_form form bytes)
@@ -62,11 +57,9 @@ module _ (packets : ReadsExactly SpellsV1 reading_v1) (sections : ReadsExactly S
 json_in : (text : List ℕ) (form : Form) (bytes : List ℕ) → IsUnwrapped text (Ok (form, bytes)) → form ≡ Json → IsUnwrapped text (Ok (Json, bytes))
 json_in text form bytes h json = subst (λ (f : Form). IsUnwrapped text (Ok (f, bytes))) json h
 
--- if a text isn't JSON, the form of the bytes that it wraps isn't JSON either
 pub other_form : (text : List ℕ) (form : Form) (bytes : List ℕ) → IsUnwrapped text (Ok (form, bytes)) → ¬ IsJson text → form ≢ Json
 other_form text form bytes h in_place json = in_place (bytes, json_in text form bytes h json)
 
--- if there is no memory to parse JSON bytes, there is none to parse the text that wraps them
 pub lacks_memory : {S : Type 0} (Fails : Option Change → S → StoreFault → S → Type 0) (text : List ℕ) (form : Form) (bytes : List ℕ) (old new : S)
     (result : Result Verdict StoreFault) → IsUnwrapped text (Ok (form, bytes)) → ReadsOrLacksMemory Fails (form ≡ Json) old new result
     → ReadsOrLacksMemory Fails (IsJson text) old new result

@@ -1,4 +1,4 @@
--- Lemmas on the result of a scan of the caveats among the fields of a pass.
+-- Lemmas on scans of the caveats in the fields of a pass.
 use Rattle.club_gate.proofs.Common.{Bor, ◌≡◌, ℕ, ◌+◌, ◌-◌, ◌^◌, ◌≤◌, ◌<◌, min, List, [], ◌∷◌, ◌++◌, length, map, Option, Some, None, Bool, true, false, cond}
 use Rattle.club_gate.proofs.Common.{◌↔◌, is_some, refl, sym, ◌∙◌, arith, Ask, Caveat, caveat_of, IsFaultAt, first_fault_from, FindsTheFaultAt}
 use Rattle.club_gate.proofs.Common.{ReadsWhatIsUnderstood, PassField, caveat_field, signature_field, pass_fields, as_field, Plain}
@@ -8,25 +8,21 @@ use Rattle.pass_forms.specs.declared.field_source.Field.{Field}
 use Rattle.pass_forms.specs.declared.field_source.Field.TheVariants as fields
 use Rattle.club_values.specs.Reading.{Reads}
 
--- ---- the caveats
-
 parsed : ReadsWhatIsUnderstood → (text : List ℕ) (found : Option Caveat) → caveat_of text ≡ found → Reads (Understood text) found
 parsed reads text None e = λ caveat h. let x = (reads text caveat).0 h in absurd (cc)
 parsed reads text (Some caveat) e = (reads text caveat).1 e
 
--- a caveat's text has the same fault as the caveat that is parsed from it
 pub fault_is : FindsTheFaultAt → ReadsWhatIsUnderstood → (text : List ℕ) (n : ℕ) (ask : Ask) (fault : Option CaveatFault)
     → IsFaultAt text n ask fault ↔ (fault ≡ first_fault_from n (caveat_of text ∷ []) ask)
 fault_is finds reads text n ask fault = finds text (caveat_of text) n ask fault (parsed reads text (caveat_of text) refl)
 
--- the first fault of the caveats among these fields; the first caveat has number n
+-- The first fault of the caveats in these fields. The caveats are numbered from `n`.
 abbrev pub fault_in : Ask → ℕ → List PassField → Option CaveatFault
 fault_in ask n [] = None
 fault_in ask n (caveat_field bytes ∷ fields) =
     option_or (first_fault_from n (caveat_of bytes ∷ []) ask) (fault_in ask (min (n + 1) (2 ^ 64 - 1)) fields)
 fault_in ask n (field ∷ fields) = fault_in ask n fields
 
--- the first fault of a list of caveats is the first caveat's fault, or else that of the other caveats
 pub fault_on : (n : ℕ) (caveat : Option Caveat) (caveats : List (Option Caveat)) (ask : Ask)
     → option_or (first_fault_from n (caveat ∷ []) ask)
     (first_fault_from (n + 1) caveats ask) ≡ first_fault_from n (caveat ∷ caveats) ask
@@ -45,13 +41,11 @@ fault_behind ask signature n (caveat ∷ caveats) short =
     let next : min (n + 1) (2 ^ 64 - 1) ≡ n + 1 = omega arith in
     rw (next, fault_behind ask signature (n + 1) caveats (omega arith)) (fault_on n (caveat_of caveat) (map caveat_of caveats) ask)
 
--- if the fields that are left have the same first fault as all fields, the answer is the first fault of the pass
 pub fault_at_last : (ask : Ask) (n : ℕ) (fields left : List PassField) (answer : Option CaveatFault) → answer ≡ fault_in ask n left
     → fault_in ask n left ≡ fault_in ask 1 fields → (pass : Plain) → fields ≡ pass_fields pass → length pass.caveats ≤ 64
     → answer ≡ first_fault_from 1 (map caveat_of pass.caveats) ask
 fault_at_last ask n fields left answer e f pass g short = e ∙ f ∙ rw g (fault_behind ask pass.signature 1 pass.caveats (omega arith))
 
--- a walk ends in one of two ways: the next caveat refuses, or no field is left
 module _ (ask : Ask) (n : ℕ) (left : List PassField) where
   decided : (fault later : Option CaveatFault) → is_some fault ≡ true → option_or fault later ≡ fault
   decided None later h = absurd (cc)

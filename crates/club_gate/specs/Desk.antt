@@ -1,4 +1,4 @@
--- The state of the store below a desk after an event (ours).
+-- The state of the desk's store after an event.
 use Rattle.std.specs.Prelude.{◌≡◌, ◌≢◌, ◌⊎◌, ℕ, IsTrue, IsFalse, List, [], ◌∷◌, MatchResult, Option, Some, None, Result, Ok, Err}
 use Rattle.club_core.specs.{Answer.verdict_in, Club.Club, Office.office_verdict, Pass.Words, Run.{Event, Asked, Commanded, after_change, step, Response}}
 use Rattle.club_core.specs.{Store.{FitsClub, IsRead}, declared.{change.Change.Change, command.OfficeFault.OfficeFault, refusal.Refusal.TheVariants.Unavailable}}
@@ -9,7 +9,8 @@ use Rattle.club_gate.specs.{DecodedPass.AreWordsOf, Response.desk_presentation, 
 use Rattle.club_gate.specs.declared.fault.Fault.{Fault}
 use Rattle.club_gate.specs.declared.fault.Fault.TheVariants as faults
 
--- the property holds for every club that the store represented before the call, if the store's disk is clean after the call
+-- If the store's disk is clean after a call, the property `IsSo` is true for every club that the
+-- store represented before the call.
 abbrev pub OfItsClub : {S : Type 0} → (S → Type 0) → (S → Club → List Club → Type 0) → S → S → (Club → Type 0) → Type 0
 OfItsClub IsClean Represents old new IsSo = IsClean new → (club : Club) (others : List Club) → Represents old club others → IsSo club
 
@@ -17,90 +18,99 @@ abbrev pub change_by : Result (Option Change) OfficeFault → Option Change
 change_by (Ok change) = change
 change_by (Err fault) = None
 
--- the change that an event makes to a club, if any
+-- The change that an event makes to a club, or `None` if the event changes nothing.
 abbrev pub change_of : Club → Event → Option Change
 change_of club (Asked words moment) = (verdict_in club words moment).change
 change_of club (Commanded command) = change_by (office_verdict club command)
 
--- if there is a change, it fits the club
+-- The change fits the club, or there is no change.
 abbrev pub FitsIfAny : Option Change → Club → Type 0
 FitsIfAny None club = Unit {0}
 FitsIfAny (Some change) club = FitsClub change club
 
--- the other possible crash states: none after a committed change, unchanged if there was no change
+-- The possible crash states after an event, except the current club. A committed change removes all
+-- possible crash states. An event without a change leaves the possible crash states unchanged.
 abbrev pub others_after : Option Change → List Club → List Club
 others_after None others = others
 others_after (Some change) others = []
 
--- Either the store represents the club after the change, if any. Or it failed and represents the same club, but may recover to the changed club after a crash.
+-- If the call succeeded, the store represents the changed club. If the call failed, the store
+-- represents the same club as before, but a crash may leave the changed club. Without a change, the
+-- changed club is the same club.
 abbrev pub Settles : {S A E : Type 0} → (S → Club → List Club → Type 0) → S → Option Change → Result A E → Club → List Club → Type 0
 Settles Represents new change result club others = MatchResult result
     (λ _. Represents new (after_change change club) (others_after change others))
     (λ _. Represents new club (after_change change club ∷ others))
 
--- A request was decided by this verdict: the reply is the verdict's, and the store represents the club after the verdict's change.
+-- The reply is the reply of this verdict, and the store represents the club after the verdict's
+-- change. A verdict is a reply and an optional change.
 pub record IsDecidedBy {S : Type 0} (Represents : S → Club → List Club → Type 0) (new : S) (club : Club) (others : List Club)
     (verdict : Verdict) (reply : Reply) : Type 0 where
   pub available : reply ≢ member_replies.Refused Unavailable
   pub reply_is : reply ≡ verdict.reply
   pub represents : Represents new (after_change verdict.change club) (others_after verdict.change others)
 
--- A request failed instead of getting this verdict: the store represents the same club. Its possible crash states are the same as before, plus the club after
--- the verdict's change if the store failed to write that change.
+-- The request failed with `Unavailable`, and the store represents the same club as before. Either
+-- the possible crash states are unchanged, or the club after the verdict's change is a new possible
+-- crash state.
 pub record HasFailed {S : Type 0} (Represents : S → Club → List Club → Type 0) (new : S) (club : Club) (others : List Club)
     (verdict : Verdict) (reply : Reply) : Type 0 where
   pub unavailable : reply ≡ member_replies.Refused Unavailable
   pub represents : Represents new club others ⊎ Represents new club (after_change verdict.change club ∷ others)
 
--- For each club that the store may have represented, the request was decided by that club's verdict on these words, or the request failed.
+-- For each club that the store may represent, either the request was decided by this club's
+-- verdict, or the request failed.
 abbrev pub DecidesOrFails : {S : Type 0} → (S → Club → List Club → Type 0) → S → S → Words → ℕ → Reply → Type 0
 DecidesOrFails Represents old new words moment reply =
     (club : Club) (others : List Club) → Represents old club others
     → IsDecidedBy Represents new club others (verdict_in club words moment) reply ⊎ HasFailed Represents new club others (verdict_in club words moment) reply
 
--- An event was answered: its response is the machine's reply, and the store represents the machine's next club.
+-- The response to the event is the machine's reply, and the store represents the machine's next
+-- club. The machine is a function that computes the reply to an event and the next club.
 pub record IsAnsweredBy {S : Type 0} (Represents : S → Club → List Club → Type 0) (new : S) (club : Club) (others : List Club)
     (event : Event) (response : Response OfficeReply) : Type 0 where
   pub success : IsFalse (has_failed desk_presentation event response)
   pub reply : response ≡ present_reply desk_presentation (step club event).reply
   pub represents : Represents new (step club event).club (others_after (change_of club event) others)
 
--- An event failed: the store represents the same club. Its possible crash states are the same as before, plus the machine's next club if the store failed to
--- write the change.
+-- The event failed, and the store represents the same club as before. Either the possible crash
+-- states are unchanged, or the machine's next club is a new possible crash state.
 pub record IsRefusedBy {S : Type 0} (Represents : S → Club → List Club → Type 0) (new : S) (club : Club) (others : List Club)
     (event : Event) (response : Response OfficeReply) : Type 0 where
   pub failure : IsTrue (has_failed desk_presentation event response)
   pub represents : Represents new club others ⊎ Represents new club ((step club event).club ∷ others)
 
--- For each club that the store may have represented, the event was answered or failed.
+-- For each club that the store may represent, either the event was answered, or the event failed.
 abbrev pub Steps : {S : Type 0} → (S → Club → List Club → Type 0) → S → S → Event → Response OfficeReply → Type 0
 Steps Represents old new event response =
     (club : Club) (others : List Club) → Represents old club others
     → IsAnsweredBy Represents new club others event response ⊎ IsRefusedBy Represents new club others event response
 
--- The store failed with this fault, either at a read, or while it wrote the change if there is one.
+-- The store failed with this fault, while it read rows or applied the change.
 abbrev pub FailsAt : {S : Type 0} → (Option Change → S → StoreFault → S → Type 0) → S → S → Option Change → StoreFault → Type 0
 FailsAt Fails old new change fault = Fails None old fault new ⊎ Fails change old fault new
 
--- If the office's reply is a fault of the store, the store failed with exactly this fault.
+-- If the reply to the office is a fault of the store, the store failed with the same fault.
 abbrev pub NamesItsFault : {S : Type 0} → (Option Change → S → StoreFault → S → Type 0) → S → S → Club → Event → OfficeReply → Type 0
 NamesItsFault Fails old new club event reply =
     (fault : StoreFault) → reply ≡ Refused (faults.Store fault) → FailsAt Fails old new (change_of club event) fault
 
--- A reply to a request is `Unavailable` only for a cause. Either the store itself failed, at a read or while it wrote the request's change. Or the text is
--- JSON, which needs memory to be parsed, and the store is unchanged.
+-- The reply `Unavailable` to a request has one of two causes. Either the store failed, while it
+-- read rows or applied the request's change. Or the text is JSON, and the store is unchanged.
+-- Parsing JSON needs memory, which can run out.
 abbrev pub FailsForCause : {S : Type 0} → (Option Change → S → StoreFault → S → Type 0) → S → S → Club → List ℕ → Request → ℕ → Reply → Type 0
 FailsForCause Fails old new club text request moment reply =
     reply ≡ member_replies.Refused Unavailable
     → ((fault : StoreFault) × ((words : Words) → AreWordsOf text request words → FailsAt Fails old new (verdict_in club words moment).change fault))
     ⊎ (IsJson text × (new ≡ old))
 
--- the fault says that memory ran out or storage failed
+-- The fault is a fault of the store: memory ran out or storage failed.
 abbrev pub IsStoreFault : Fault → Type 0
 IsStoreFault (faults.Store failure) = Unit {0}
 IsStoreFault (faults.Refused refusal) = ⊥
 
--- Why there is no sheet: the store failed with this fault while it read the rows; or the rows were read, but there was no memory for the text.
+-- The fault with which printing a day's sheet fails. Either the store failed while it read the
+-- rows, or there was no memory for the text of the sheet.
 abbrev pub IsSheetFault : {S : Type 0} → (Option Change → S → StoreFault → S → Type 0) → S → S → Fault → Type 0
 IsSheetFault Fails old new fault =
     ((failure : StoreFault) × Fails None old failure new × (fault ≡ faults.Store failure)) ⊎ ((fault ≡ faults.Store Memory) × IsRead Fails old new)

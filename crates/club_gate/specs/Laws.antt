@@ -1,4 +1,4 @@
--- Laws of the definitions.
+-- Laws about decoded passes and about events at the desk.
 use Rattle.std.specs.Prelude.{◌≡◌, ◌↔◌, ℕ, List, All, Result, Ok, Err, Some}
 use Rattle.base64.specs.GeneralPurpose.{IsBytes}
 use Rattle.pass_forms.specs.{Pass.Plain, declared.{fault.FormFault.TheVariants.Memory, form.Form.Form}}
@@ -10,19 +10,21 @@ use Rattle.club_core.specs.Run as machine
 use Rattle.club_gate.specs.{DecodedPass.{IsDecoded, IsSeenAs}, Events.{AreEventsOf, IsEventOfBytes}, Minted.identifier_of}
 use Rattle.club_gate.specs.{computed.DecodedPass.{decoded_pass, machine_events, machine_pass}, declared.event.Event.Event}
 
--- the rules see a pass in exactly one way, which `machine_pass` computes
+-- `IsSeenAs` relates each pass to exactly one value, which `machine_pass` computes.
 abbrev pub SeenAlike : Type 0
 SeenAlike = (pass : Plain) (seen : Pass) → IsSeenAs pass seen ↔ (machine_pass pass ≡ seen)
 
--- `decoded_pass` is the only value that a text decodes to
+-- `IsDecoded` relates each text to exactly one pass or fault, which `decoded_pass` computes.
 abbrev pub Decodes : Type 0
 Decodes = (text : List ℕ) (seen : Result Pass PassFault) → IsBytes text → IsDecoded text seen ↔ (decoded_pass text ≡ seen)
 
--- the machine sees events at the desk as exactly one list of events, which `machine_events` computes
+-- `AreEventsOf` relates each list of events at the desk to exactly one list of machine events.
+-- `machine_events` computes this list.
 abbrev pub SeesEvents : Type 0
 SeesEvents = (events : List Event) (seen : List machine.Event) → All IsEventOfBytes events → AreEventsOf events seen ↔ (machine_events events ≡ seen)
 
--- The rows that the words of a text name are the club's rows for the key that the pass's identifier names.
+-- If a pass is for a key of the club, the basis of the request is the basis of this key. A basis is
+-- the set of rows that a reply may depend on.
 abbrev pub NamesItsRows : Type 0
 NamesItsRows =
     (club : Club) (text : List ℕ) (words : Words) (form : Form) (pass : Plain) (key : Key)
@@ -30,6 +32,6 @@ NamesItsRows =
     → IsName key.name → pass.identifier ≡ identifier_of key.name → key_named key.name club ≡ Some key
     → basis_of club words ≡ basis_under club words.request key
 
--- reading a text never gives the fault `Memory`
+-- The result of reading a text is never the fault `Memory`.
 abbrev pub ReadsNoLackOfMemory : Type 0
 ReadsNoLackOfMemory = (text : List ℕ) → ¬ IsAnyReading text (Err Memory)

@@ -1,4 +1,5 @@
--- Account and slot listings for the office (ours): a line for each value, which begins with the value's name.
+-- Account and slot listings for the office. Each line of a listing is the name of a value, a space,
+-- and the value.
 use Rattle.std.specs.{Fmt.decimal, Prelude.{◌≡◌, ◌⊎◌, ℕ, Bool, true, false, List, [], ◌∷◌, ◌++◌, codes, IfErr, Option, Some, None, option_and_then, option_map}}
 use Rattle.std.specs.{Prelude.{Result, Ok, Err, String}, String.string_bytes}
 use Rattle.club_values.specs.{Day.day_text, Kind.kind_text, Moment.moment_text, declared.{kind.Kind.Kind, slot.Slot.Slot}}
@@ -10,7 +11,7 @@ use Rattle.club_core.specs.declared.reply.Reply.TheVariants as replies
 use Rattle.club_core.specs.declared.request.Request.TheVariants as asked
 use Rattle.club_gate.specs.{Desk.OfItsClub, declared.fault.Fault.{Fault, TheVariants.{Refused, Store}}}
 
--- a line for each name with its value
+-- One line for each pair of a name and a value.
 abbrev pub lines : List (List ℕ × List ℕ) → List ℕ
 lines [] = []
 lines ((name, value) ∷ values) = name ++ 32 ∷ value ++ 10 ∷ lines values
@@ -19,12 +20,12 @@ abbrev pub yes_or_no : Bool → List ℕ
 yes_or_no true = codes "yes"
 yes_or_no false = codes "no"
 
--- the values that identify a slot
+-- The named values that identify a slot.
 abbrev pub values_of_slot : Slot → List (List ℕ × List ℕ)
 values_of_slot slot =
     (codes "facility", slot.facility) ∷ (codes "day", day_text slot.day) ∷ (codes "hour", decimal slot.hour) ∷ []
 
--- the facility's values, and how much of the slot is taken
+-- The named values of a slot's facility, and of the use of the slot.
 abbrev pub values_of_state : Kind → ℕ → ℕ → ℕ → Bool → List (List ℕ × List ℕ)
 values_of_state kind price places taken closed =
     (codes "kind", kind_text kind)
@@ -34,7 +35,7 @@ values_of_state kind price places taken closed =
     ∷ (codes "closed", yes_or_no closed)
     ∷ []
 
--- the values of a reply that shows an account or a slot; any other reply has none
+-- The named values of a reply that shows an account or a slot. Any other reply has no named values.
 abbrev pub named_values : Reply → List (List ℕ × List ℕ)
 named_values (AccountShown member balance quota open_count spent) =
     (codes "member", member)
@@ -46,39 +47,42 @@ named_values (AccountShown member balance quota open_count spent) =
 named_values (SlotShown slot kind price places taken closed) = values_of_slot slot ++ values_of_state kind price places taken closed
 named_values reply = []
 
--- the moment until which an older root is good, if there is one; the root itself is left out
+-- The text for a key's older root: `until` and the moment when the older root expires, or `none`.
+-- The text doesn't contain the root.
 abbrev pub older_text : Option OlderRoot → List ℕ
 older_text None = codes "none"
 older_text (Some older) = codes "until " ++ moment_text older.until
 
--- the values of a key, without its roots
+-- The named values of a key. The named values don't contain the roots of the key.
 abbrev pub values_of_key : Key → List (List ℕ × List ℕ)
 values_of_key key = (codes "revoked", yes_or_no key.revoked) ∷ (codes "older root", older_text key.older) ∷ []
 
--- the listing of a key's account: the values of the reply to a request for the account, and those of the key
+-- The listing of a key's account: the values that a request for the account shows, and then the
+-- values of the key.
 abbrev pub shown_account_text : Key → View → List ℕ
 shown_account_text key view = lines (named_values (account_verdict view).reply ++ values_of_key key)
 
--- the key of this name, with its view of its account at a moment
+-- The key with this name, and the view of the key's account at a moment.
 abbrev pub account_with_key : Club → List ℕ → ℕ → Option (Key × View)
 account_with_key club name moment =
     option_and_then (λ (key : Key). option_map (λ (view : View). (key, view)) (view_in club name asked.Account moment)) (key_named name club)
 
--- the account listing of the key of this name at a moment; none if the club has no such key
+-- The listing of a key's account at a moment, or `None` if the club has no such key.
 abbrev pub account_listing : Club → List ℕ → ℕ → Option (List ℕ)
 account_listing club name moment = option_map (λ (seen : Key × View). shown_account_text seen.0 seen.1) (account_with_key club name moment)
 
--- the reply that shows a slot, its facility and how much of it is taken; none if the facility is unknown
+-- The reply that shows a slot, its facility and its use, or `None` if the club has no such
+-- facility.
 abbrev pub slot_reply : Club → Slot → Option Reply
 slot_reply club slot =
     option_map (λ facility. SlotShown slot facility.kind facility.price facility.places (slot_use club slot).taken (slot_use club slot).closed)
     (facility_named slot.facility club)
 
--- the lines of a reply
+-- The lines of a reply, or `None` if there is no reply.
 abbrev pub reply_lines : Option Reply → Option (List ℕ)
 reply_lines reply = option_map (λ r. lines (named_values r)) reply
 
--- the listing of a slot
+-- The listing of a slot, or `None` if the club has no such facility.
 abbrev pub slot_listing : Club → Slot → Option (List ℕ)
 slot_listing club slot = reply_lines (slot_reply club slot)
 
@@ -86,37 +90,43 @@ abbrev pub unless_refused : Reply → Option Reply
 unless_refused (replies.Refused refusal) = None
 unless_refused reply = Some reply
 
--- A slot's listing has the values of the reply that every key of the club gets for it, at any moment. If that reply is a refusal, there is no listing.
+-- The listing of a slot shows the reply to a request to view the slot. Every key of the club gets
+-- the same reply, at every moment. If the reply is a refusal, there is no listing.
 abbrev pub ShowsSlotsToKeys : Type 0
 ShowsSlotsToKeys =
     (club : Club) (slot : Slot) (name : List ℕ) (moment : ℕ) (view : View)
     → view_in club name (asked.View slot) moment ≡ Some view
     → slot_listing club slot ≡ reply_lines (unless_refused (verdict_of view (asked.View slot) moment).reply)
 
--- the fault says why nothing is shown: nothing has the name, memory ran out, or storage failed
+-- The fault is a possible cause of a failed listing. The fault `Unknown` means that no key or
+-- facility has the name. A fault of the store means that memory ran out or storage failed.
 abbrev pub IsUnshown : Option (List ℕ) → Fault → Type 0
 IsUnshown shown (Refused Unknown) = shown ≡ None
 IsUnshown shown (Store failure) = Unit {0}
 IsUnshown shown fault = ⊥
 
--- the result of a listing: the text, or why there is none
+-- The result of a listing is the text of the listing, or the fault with which the listing failed.
 abbrev pub ReturnsListing : {Z : Type 0} → Option (List ℕ) → Result (String Z) Fault → Type 0
 ReturnsListing shown (Ok text) = shown ≡ Some (string_bytes text)
 ReturnsListing shown (Err fault) = IsUnshown shown fault
 
--- the faults with which a listing can fail
+-- The faults with which a listing can fail.
 abbrev pub IsShowingFault : Fault → Type 0
 IsShowingFault (Refused Unknown) = Unit {0}
 IsShowingFault (Store failure) = Unit {0}
 IsShowingFault fault = ⊥
 
--- Either the store failed at a read with this fault; or everything was read, but nothing has the name, or there was no memory for the text.
+-- The listing failed with this fault, for one of three reasons:
+-- - The store failed while it read rows.
+-- - No key or facility has the name.
+-- - There was no memory for the text.
 abbrev pub FailsToShow : {S : Type 0} → (Option Change → S → StoreFault → S → Type 0) → S → S → Fault → Type 0
 FailsToShow Fails old new fault =
     ((failure : StoreFault) × Fails None old failure new × (fault ≡ Store failure))
     ⊎ (((fault ≡ Refused Unknown) ⊎ (fault ≡ Store Memory)) × IsRead Fails old new)
 
--- A listing changes nothing, and its result satisfies this relation to the club.
+-- A listing doesn't change the club, and the result of the listing satisfies the property `IsSo` of
+-- the club.
 pub record ShowsClub {S A : Type 0} (IsClean : S → Type 0) (Represents : S → Club → List Club → Type 0)
     (Fails : Option Change → S → StoreFault → S → Type 0) (old new : S) (result : Result A Fault) (IsSo : Club → Type 0) : Type 0 where
   pub was_clean : IsClean new → IsClean old

@@ -1,5 +1,5 @@
--- The responses to a list of events, and the club and crash states of the store after it (ours). An event failed if its response says that memory ran out or
--- storage failed.
+-- The responses to a list of events, and the state of the store after the events. An event failed
+-- if its response is a fault of memory or storage.
 use Rattle.std.specs.Prelude.{◌≡◌, ◌⊎◌, ℕ, ◌≤◌, IsTrue, IsFalse, List, [], ◌∷◌, ◌++◌, length, map, sum_by, All, Contains, Option, Some, None}
 use Rattle.club_values.specs.declared.slot.Slot.{Slot}
 use Rattle.club_rows.specs.declared.{booking.Booking.Booking, member.Member.Member}
@@ -14,30 +14,32 @@ use Rattle.club_gate.specs.{Desk.{FailsForCause, NamesItsFault, OfItsClub, Steps
 use Rattle.club_gate.specs.declared.event.{Event.Event, EventReply.{EventReply, TheVariants.{Replied, Answered}}, OfficeReply.OfficeReply}
 use Rattle.club_gate.specs.declared.event.Event.TheVariants as events
 
--- the response to an event
+-- A response of the desk to an event.
 abbrev pub DeskResponse : Type 0
 DeskResponse = Response OfficeReply
 
 abbrev pub responses_of : List EventReply → List DeskResponse
 responses_of replies = map response_of replies
 
--- the events that were answered
+-- The events that were answered, in order. The result leaves out the events that failed.
 abbrev pub events_answered : List machine.Event → List DeskResponse → List machine.Event
 events_answered events responses = answered_events desk_presentation events responses
 
--- the club after the answered events
+-- The club after the answered events.
 abbrev pub club_left : Club → List machine.Event → List DeskResponse → Club
 club_left club events responses = club_after club (events_answered events responses)
 
--- the machine's run of the answered events gives these responses, and the failed events leave the club unchanged
+-- The responses to the answered events are the responses of the machine. The failed events leave
+-- the club unchanged.
 abbrev pub IsAnsweredRun : Club → List machine.Event → List DeskResponse → Type 0
 IsAnsweredRun club events responses = IsRun desk_presentation club events responses (club_left club events responses)
 
--- none of the answered events changes the club
+-- None of the answered events changes the club.
 abbrev pub MakesNoChange : Club → List machine.Event → List DeskResponse → Type 0
 MakesNoChange club events responses = All (λ event. change_of club event ≡ None) (events_answered events responses)
 
--- The event failed after the last change. The events before it lead to the club `last`, and no event after it changes that club.
+-- The event failed after the last change of the club. The events before the failed event lead to
+-- the club `last`. No event after the failed event changes the club `last`.
 pub record FailedLast (club last : Club) (events : List machine.Event) (responses : List DeskResponse) (event : machine.Event) : Type 0 where
   pub front : List machine.Event
   pub rest : List machine.Event
@@ -51,26 +53,29 @@ pub record FailedLast (club last : Club) (events : List machine.Event) (response
   pub failure : IsTrue (has_failed desk_presentation event response)
   pub no_change : MakesNoChange last rest since
 
--- the run changed nothing, and the club was a possible crash state before it
+-- The run changed nothing, and `left` was a possible crash state before the run.
 abbrev pub WasLeftBefore : Club → List Club → Club → List machine.Event → List DeskResponse → Club → Type 0
 WasLeftBefore club others last events responses left = (last ≡ club) × MakesNoChange last events responses × Contains others left
 
--- the club that one failed event would have made of the last club, if the event failed after the last change
+-- An event failed after the last change of the run. The club `left` is the club that the failed
+-- event would have made from the club `last`.
 abbrev pub IsLeftByFailure : Club → Club → List machine.Event → List DeskResponse → Club → Type 0
 IsLeftByFailure club last events responses left =
     (event : machine.Event) × FailedLast club last events responses event × (left ≡ (step last event).club)
 
--- a possible crash state after a run from `club`, with the crash states `others` before it, to the club `last`
+-- A crash after the run may leave the club `left`. The run starts from `club` with the possible
+-- crash states `others`, and leads to the club `last`.
 abbrev pub MayBeLeft : Club → List Club → Club → List machine.Event → List DeskResponse → Club → Type 0
 MayBeLeft club others last events responses left =
     WasLeftBefore club others last events responses left ⊎ IsLeftByFailure club last events responses left
 
--- the club itself, or a club that one event makes of it
+-- `now` is `club` itself, or the club after one more event.
 abbrev pub IsWithinOneEvent : Club → Club → Type 0
 IsWithinOneEvent club now = (now ≡ club) ⊎ ((event : machine.Event) × (now ≡ (step club event).club))
 
--- The store represents the club after the answered events, and `MayBeLeft` allows each of its other possible crash states. A repeat of a served request gets
--- the same response and changes nothing, in that club and in each club one event away from it.
+-- The store represents the club after the answered events. `MayBeLeft` allows each of the store's
+-- other possible crash states. A repeat of a served request gets the same response and changes
+-- nothing, in this club and after one more event.
 pub record LeavesClub {S : Type 0} (Represents : S → Club → List Club → Type 0) (new : S) (club : Club) (others : List Club) (events : List machine.Event)
     (responses : List DeskResponse) : Type 0 where
   pub left : List Club
@@ -78,14 +83,16 @@ pub record LeavesClub {S : Type 0} (Represents : S → Club → List Club → Ty
   pub each : All (MayBeLeft club others (club_left club events responses) events responses) left
   pub again : (now : Club) → IsWithinOneEvent (club_left club events responses) now → RepeatsServedReplies now events responses
 
--- the replies to a member's requests are the solo machine's replies on the member's part and own events
+-- A member's requests get the replies of the solo machine. The solo machine uses only the member's
+-- part of the club and the member's own events.
 abbrev pub IsSolo : Club → List machine.Event → List DeskResponse → Type 0
 IsSolo club events responses =
     (name : List ℕ)
     → replies_to name club (events_answered events responses) (answers desk_presentation events responses)
     ≡ map ToMember (solo_replies (part_of name club) (own_events name club (events_answered events responses)))
 
--- A second run may begin with the same part of a member, and have the same own events of the member. Then the member's requests get the same replies in it.
+-- Consider a second run that starts with the same part of a member and has the same own events of
+-- the member. In the second run, the member's requests get the same replies.
 abbrev pub IsAsInAnother : Club → List machine.Event → List DeskResponse → Type 0
 IsAsInAnother club events responses =
     (name : List ℕ) (other end : Club) (others : List machine.Event) (replies : List DeskResponse)
@@ -96,8 +103,8 @@ IsAsInAnother club events responses =
     → replies_to name club (events_answered events responses) (answers desk_presentation events responses)
     ≡ replies_to name other (events_answered others replies) (answers desk_presentation others replies)
 
--- If a booking or a cancellation was served, an accepted repeat of it anywhere later gets the same response, unless the repeat fails. If the repeat is left
--- out, all other responses and the club at the end are the same.
+-- A repeat of a served booking or cancellation gets the same response, if the repeat is accepted
+-- and doesn't fail. Leaving out the repeat changes neither the other responses nor the final club.
 abbrev pub IsOnce : Club → List machine.Event → List DeskResponse → Type 0
 IsOnce club events responses =
     (history rest : List machine.Event) (before since : List DeskResponse) (words : Words) (moment : ℕ) (reply : Reply) (again : DeskResponse)
@@ -109,8 +116,9 @@ IsOnce club events responses =
     → (IsFalse (has_failed desk_presentation (Asked words moment) again) → again ≡ ToMember reply)
     × IsRun desk_presentation club (history ++ rest) (before ++ since) (club_left club events responses)
 
--- If the office cancelled a booking, an accepted cancellation of it anywhere later gets the recorded refund, unless that request fails. If the request is left
--- out, all other responses and the club at the end are the same.
+-- A member may cancel a booking that the office has already cancelled. If the member's request is
+-- accepted and doesn't fail, the response is the recorded refund. Leaving out the member's request
+-- changes neither the other responses nor the final club.
 abbrev pub ReturnsTheRecord : Club → List machine.Event → List DeskResponse → Type 0
 ReturnsTheRecord club events responses =
     (history rest : List machine.Event) (before since : List DeskResponse) (words : Words) (moment : ℕ) (key : List ℕ) (number : ℕ) (booking : Booking)
@@ -125,7 +133,8 @@ ReturnsTheRecord club events responses =
     → (IsFalse (has_failed desk_presentation (Asked words moment) again) → again ≡ ToMember (Cancelled key number (refund_by_office booking)))
     × IsRun desk_presentation club (history ++ rest) (before ++ since) (club_left club events responses)
 
--- in a run from the empty club, points are conserved: a member's balance and its charges add up to its credits and refunds
+-- In a run from the empty club, points are conserved. A member's balance and charges add up to the
+-- member's credits and refunds.
 abbrev pub Conserves : Club → List machine.Event → List DeskResponse → Type 0
 Conserves club events responses =
     (name : List ℕ) (member : Member)
@@ -133,31 +142,34 @@ Conserves club events responses =
     → member_named name (club_left club events responses) ≡ Some member
     → IsConserved (club_left club events responses) (events_answered events responses) (replies_of club (events_answered events responses)) member
 
--- no member was charged more than it was credited
+-- No member was charged more points than the member's credit.
 abbrev pub IsNeverNegative : Club → Type 0
 IsNeverNegative club = All (λ (member : Member). sum_by cost_of (bookings_of member.name club) ≤ member.credited) club.members
 
--- no slot has more persons than places
+-- No slot has more persons than its facility has places.
 abbrev pub IsNeverOverbooked : Club → Type 0
 IsNeverOverbooked club = (slot : Slot) → HasPlaces slot club
 
--- The laws of a run from a club.
+-- The laws of a run that starts from `club`.
 pub record IsLawfulRun (club : Club) (events : List machine.Event) (responses : List DeskResponse) : Type 0 where
-  -- without the failed events, the replies are the machine's
+  -- The responses to the answered events are the responses of the machine.
   pub run : IsAnsweredRun club events responses
-  -- a member's replies depend on its own part and events, and on the places that others take in its slots
+  -- A member's replies depend only on the member's part of the club, the member's own events, and
+  -- the use of slots by other members.
   pub solo : IsSolo club events responses
   pub solo_of_two : IsAsInAnother club events responses
-  -- a repeat of a served request gets the same reply, and changes nothing
+  -- A repeat of a served request gets the same reply and changes nothing.
   pub once : IsOnce club events responses
-  -- a cancellation of a booking that the office cancelled gets the recorded refund, and changes nothing
+  -- If the office cancelled a booking, a later cancellation gets the recorded refund and changes
+  -- nothing.
   pub returns_the_record : ReturnsTheRecord club events responses
-  -- points are neither created nor lost, and no slot is overbooked
+  -- The run neither creates nor loses points. No balance is negative, and no slot is overbooked.
   pub conserves : Conserves club events responses
   pub never_negative : IsNeverNegative (club_left club events responses)
   pub never_overbooked : IsNeverOverbooked (club_left club events responses)
 
--- if an event failed, it failed for a cause that `Desk::ask` or `Desk::office` allows
+-- If an event failed, the contract of `Desk::ask` or `Desk::office` allows the cause of the
+-- failure.
 abbrev pub EventFailsForCause : {S : Type 0} → (Option Change → S → StoreFault → S → Type 0) → S → S → Club → Event → EventReply → Type 0
 EventFailsForCause Fails old new club (events.Asked words moment) (Replied reply) =
     FailsForCause Fails old new club words.pass.now words.request moment reply
@@ -165,19 +177,21 @@ EventFailsForCause Fails old new club (events.Commanded command) (Answered reply
 EventFailsForCause Fails old new club event reply = ⊥
 
 module _ {S : Type 0} (IsClean : S → Type 0) (Represents : S → Club → List Club → Type 0) (Fails : Option Change → S → StoreFault → S → Type 0) where
-  -- The desk handled one event, with the store before and after it.
+  -- The desk handled one event. `old` is the store before the event, and `new` is the store after
+  -- the event.
   pub record IsHandled (old : S) (event : Event) (reply : EventReply) (new : S) : Type 0 where
     pub was_clean : IsClean new → IsClean old
     pub steps : IsClean new → (seen : machine.Event) × IsEventOf event seen × Steps Represents old new seen (response_of reply)
     pub failed : OfItsClub IsClean Represents old new (λ club. EventFailsForCause Fails old new club event reply)
 
-  -- The desk handled the events in order, each with the store that the previous event left.
+  -- The desk handled the events in order. Each event starts with the store that the previous event
+  -- left.
   pub data AreHandled (old : S) : List Event → List EventReply → S → Type 0 where
     no_event : AreHandled old [] [] old
     one_event : (events : List Event) (replies : List EventReply) (event : Event) (reply : EventReply) (now new : S) → AreHandled old events replies now
         → IsHandled now event reply new → AreHandled old (events ++ event ∷ []) (replies ++ reply ∷ []) new
 
--- The desk has handled a list of events in their order: each was answered or failed.
+-- The desk handled a list of events in order. Each event was answered or failed.
 pub record IsFollowed {S : Type 0} (Represents : S → Club → List Club → Type 0) (new : S) (club : Club) (others : List Club) (events : List machine.Event)
     (responses : List DeskResponse) : Type 0 where
   pub last : Club

@@ -1,4 +1,4 @@
--- The law of the desk, stated for the texts that clients send it (ours).
+-- The law of the desk: the properties of each reply to a request with the text of a pass.
 use Rattle.std.specs.Prelude.{◌≡◌, ◌≢◌, ℕ, false, List, ◌++◌, Some, None, Ok, Err}
 use Rattle.base64.specs.GeneralPurpose.{IsBytes}
 use Rattle.pass_caveats.specs.Fault.{Allowed}
@@ -12,14 +12,17 @@ use Rattle.club_core.specs.declared.{reply.Reply.TheVariants.Refused, request.Re
 use Rattle.club_laws.specs.SingleRequest.{blind_refusal}
 use Rattle.club_gate.specs.{DecodedPass.{AreWordsOf, fault_of}, Minted.identifier_of}
 
--- the pass is signed under a root of this key, and the root is good at the moment
+-- The pass is signed under the key's root, or under the key's older root before the older root
+-- expires.
 pub record IsSignedFor (pass : Plain) (key : Key) (moment : ℕ) : Type 0 where
   pub root : List ℕ
   pub good : IsGoodRoot key moment root
   pub signed : IsSigned root pass
 
--- The text encodes a pass that entitles its holder to the request. The identifier names a key of the club that isn't revoked. The signature is the chain under
--- one of that key's roots, which is good at the moment. Each caveat allows the request, given the club's rows for that key.
+-- The text encodes a pass that entitles its holder to the request:
+-- - The identifier names a key of the club that isn't revoked.
+-- - The pass is signed under a root of this key that is good at the moment.
+-- - Each caveat allows the request, given the club's rows for this key.
 pub record EntitlesTo (club : Club) (text : List ℕ) (request : Request) (moment : ℕ) : Type 0 where
   pub form : Form
   pub pass : Plain
@@ -34,26 +37,30 @@ pub record EntitlesTo (club : Club) (text : List ℕ) (request : Request) (momen
   pub known : basis_under club request key ≡ Some basis
   pub permission : Allowed pass.caveats (ask_of (view_of basis request moment) request moment)
 
--- In any other club where the text's words name the same rows, the reply is the same.
+-- The reply is the same for every club that has the same rows for the decoded words.
 abbrev pub DependsOnTheBasis : Club → List ℕ → Request → ℕ → Reply → Type 0
 DependsOnTheBasis club text request moment reply =
     (words : Words) (other : Club) → AreWordsOf text request words → basis_of other words ≡ basis_of club words
     → reply ≢ Refused Unavailable → reply ≡ (verdict_in other words moment).reply
 
--- If the words name no rows of the club, the reply is the fault of the text, or `NotVerified`.
+-- If the decoded words name no rows of the club, the reply is the fault of the text or
+-- `NotVerified`.
 abbrev pub IsBlind : Club → List ℕ → Request → Reply → Type 0
 IsBlind club text request reply =
     (words : Words) → AreWordsOf text request words → basis_of club words ≡ None
     → reply ≢ Refused Unavailable → reply ≡ Refused (blind_refusal words.pass)
 
--- Any other text that encodes the same pass, in any form, gets the same reply.
+-- Any other text that encodes the same pass gets the same reply. The two texts may have different
+-- forms.
 abbrev pub AnswersItsForms : Club → List ℕ → Request → ℕ → Reply → Type 0
 AnswersItsForms club text request moment reply =
     (other : List ℕ) (words : Words) (form other_form : Form) (pass : Plain) → IsBytes other
     → IsAnyReading text (Ok (form, pass)) → IsAnyReading other (Ok (other_form, pass)) → AreWordsOf other request words
     → reply ≢ Refused Unavailable → reply ≡ (verdict_in club words moment).reply
 
--- The narrow text encodes the wide text's pass with more caveats. Both have the same identifier, and the wide pass is signed for the key.
+-- The narrow text encodes the pass of the wide text with additional caveats. The narrow pass and
+-- the wide pass have the same identifier. The wide pass is signed under a good root of the key that
+-- the identifier names.
 pub record IsNarrowedText (club : Club) (wide narrow : List ℕ) (moment : ℕ) : Type 0 where
   pub form : Form
   pub other_form : Form
@@ -69,30 +76,33 @@ pub record IsNarrowedText (club : Club) (wide narrow : List ℕ) (moment : ℕ) 
   pub row : key_named key.name club ≡ Some key
   pub signed : IsSignedFor pass key moment
 
--- If a narrow text is served, each wide text that it narrows gets the same reply.
+-- If a request with a narrow text is served, the same request with the wide text gets the same
+-- reply.
 abbrev pub OpensNoMore : Club → List ℕ → Request → ℕ → Reply → Type 0
 OpensNoMore club text request moment reply =
     (wide : List ℕ) (words : Words) → IsBytes wide → IsNarrowedText club wide text moment → AreWordsOf wide request words
     → IsServed reply → reply ≡ (verdict_in club words moment).reply
 
--- The law of the desk, for one reply.
+-- The law of the desk for one reply.
 pub record IsLawful (club : Club) (text : List ℕ) (request : Request) (moment : ℕ) (reply : Reply) : Type 0 where
-  -- a request is served only if its pass entitles the holder to the request
+  -- A request is served only if its pass entitles the holder to the request.
   pub entitles : IsServed reply → EntitlesTo club text request moment
-  -- the reply depends on the words, the moment and the rows that the words name, and on nothing else
+  -- The reply depends only on the decoded words, the moment, and the rows that the words name.
   pub depends : DependsOnTheBasis club text request moment reply
-  -- if the words name no rows of the club, the reply depends on the words alone
+  -- If the decoded words name no rows of the club, the reply depends only on the words.
   pub blind : IsBlind club text request reply
-  -- the same pass in another form gets the same reply
+  -- The same pass in another form gets the same reply.
   pub forms : AnswersItsForms club text request moment reply
-  -- a request that is served with more caveats gets the same reply without them
+  -- If a request is served, the same request gets the same reply with a pass that has fewer
+  -- caveats.
   pub less : OpensNoMore club text request moment reply
 
--- The text is JSON, which needs memory to be parsed. Any other form is parsed in place, without memory.
+-- The text is in JSON. Parsing JSON needs memory, but the other forms are parsed without memory.
 abbrev pub IsJson : List ℕ → Type 0
 IsJson text = (bytes : List ℕ) × IsUnwrapped text (Ok (Json, bytes))
 
--- If a text is neither JSON nor a pass, the reply is always the text's fault, and never `Unavailable`.
+-- If a text isn't JSON and doesn't encode a pass, the reply is always the text's fault, and never
+-- `Unavailable`.
 abbrev pub RefusesByFormFault : List ℕ → Reply → Type 0
 RefusesByFormFault text reply =
     (fault : FormFault) → ¬ IsJson text → IsAnyReading text (Err fault) → reply ≡ Refused (form_refusal (fault_of fault))

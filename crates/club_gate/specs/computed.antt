@@ -1,2 +1,3 @@
--- Functions that compute what the definitions of `specs/` state. Laws state that both agree.
+-- Functions that compute decoded passes and machine events. Laws state that the functions agree
+-- with the other definitions in `specs/`.
 pub mod DecodedPass

@@ -1,4 +1,5 @@
-//! The desk over a store: requests of members, commands of the office, and the sheet of a day.
+//! The desk of a club: answers requests of members and commands of the office, and prints the sheet
+//! of a day.
 
 ghost use Rattle.std.specs.{Prelude.{◌≡◌, List, Err, IfErr, None, Ok}, String.string_bytes};
 ghost use Rattle.base64.specs.GeneralPurpose.{IsBytes};
@@ -38,10 +39,10 @@ use pass_json::laws::reads_any_form_exactly;
 use std::alloc::Global;
 use std::marker::Model;
 
-/// The desk of a club: it answers requests of members (`ask`) and commands of the office
+/// The desk of a club. A desk answers requests of members (`ask`) and commands of the office
 /// (`office`), and prints the sheet of a day (`sheet`).
 ///
-/// Everything that it knows of the club is in its store. Contracts see a desk as its store.
+/// A desk keeps all data of the club in its store. In contracts, a desk is its store.
 #[derive(Drop)]
 pub struct Desk<S: ClubStore> {
     pub(crate) store: S,
@@ -57,14 +58,14 @@ impl<S: ClubStore> Model for Desk<S> {
     ghost view = { λ desk. desk.store };
 }
 
-/// Each element of a `&[u8]` is a byte.
+/// Proves that every element of a `&[u8]` is a byte.
 pub(crate) fn are_bytes(text: &[u8])
     ensures { IsBytes text.now }
 {
     let _text = text;
 }
 
-/// Returns a view without rows, in which no place is taken.
+/// Returns a command view without rows, in which no place is taken.
 fn nothing_seen() -> CommandView
     ensures { result ≡ rows_seen None None None }
 {
@@ -94,7 +95,7 @@ impl<S: ClubStore> Desk<S> {
         }
     }
 
-    /// Returns the store, unchanged.
+    /// Returns the store, which is unchanged.
     pub fn into_store(self) -> S
         ensures { result ≡ self }
     {
@@ -106,8 +107,9 @@ impl<S: ClubStore> Desk<S> {
         store
     }
 
-    /// Applies a change to the store, if there is one. An event makes no other write. If the store
-    /// fails, the club is unchanged, but after a crash the store may recover to the changed club.
+    /// Applies a change to the store, or does nothing for `None`. An event makes no other write to
+    /// the store. If the store fails, the club is unchanged, but after a crash the store may
+    /// recover to the changed club.
     fn settle(&mut self, change: Option<Change>) -> Result<(), StoreFault>
         ensures was_clean { S.disk_is_clean self.new → S.disk_is_clean self.old }
         ensures settled { S.disk_is_clean self.new → (club : Club) (others : List Club)
@@ -124,8 +126,8 @@ impl<S: ClubStore> Desk<S> {
         }
     }
 
-    /// Decides a request at a moment, applies its change, and returns the reply. Fails if memory
-    /// ran out or storage failed.
+    /// Decides a request at a moment, applies the resulting change, and returns the reply. Fails if
+    /// memory ran out or storage failed.
     fn reply_to(&mut self, moment: Moment, words: &SentWords) -> Result<Reply, StoreFault>
         ensures was_clean { S.disk_is_clean self.new → S.disk_is_clean self.old }
         ensures steps { S.disk_is_clean self.new → DecidesOrFails S.represents self.old self.new
@@ -150,7 +152,7 @@ impl<S: ClubStore> Desk<S> {
         Ok(verdict.reply)
     }
 
-    /// Returns the member of this name; `None` if there is none.
+    /// Returns the member with this name, or `None` if the club has no such member.
     fn member(&mut self, name: &Name) -> Result<Option<Member>, StoreFault>
         ensures { ReadsStore S.disk_is_clean S.represents S.fails self.old self.new result
             (λ club member. member ≡ member_named name.now club) }
@@ -161,7 +163,7 @@ impl<S: ClubStore> Desk<S> {
         }
     }
 
-    /// Returns the key of this name, with its older root; `None` if there is none.
+    /// Returns the key with this name and its older root, or `None` if the club has no such key.
     pub(crate) fn key(&mut self, name: &Name) -> Result<Option<Key>, StoreFault>
         ensures { ReadsStore S.disk_is_clean S.represents S.fails self.old self.new result
             (λ club key. key ≡ key_named name.now club) }
@@ -211,8 +213,8 @@ impl<S: ClubStore> Desk<S> {
         Ok(view)
     }
 
-    /// Decides a command of the office, applies its change, and returns the answer. Fails if memory
-    /// ran out or storage failed.
+    /// Decides a command of the office, applies the resulting change, and returns the answer. Fails
+    /// if memory ran out or storage failed.
     fn answer_to(&mut self, command: &Command) -> Result<OfficeAnswer, StoreFault>
         ensures was_clean { S.disk_is_clean self.new → S.disk_is_clean self.old }
         ensures steps { S.disk_is_clean self.new → Steps S.represents self.old self.new
@@ -236,27 +238,33 @@ impl<S: ClubStore> Desk<S> {
     /// Answers a request at a moment. When `ask` returns, the change of a served request is stored.
     /// A refusal changes nothing.
     ///
-    /// A refusal names the first cause that applies: the form of the text, the pass, its caveats in
-    /// order, then the rules for the request. `Unavailable` means only that the store failed, or
-    /// that there was no memory to parse a pass in JSON. The club is then unchanged, but a store
-    /// that failed to write may recover to the changed club after a crash.
+    /// A refusal names the first cause that applies. The causes are checked in this order:
+    ///
+    /// 1. the form of the text
+    /// 2. the pass
+    /// 3. the caveats of the pass, in order
+    /// 4. the rules for the request
+    ///
+    /// `Unavailable` means only that the store failed, or that there was no memory to parse a pass
+    /// in JSON. In both cases the club is unchanged. A store that failed to write may recover to
+    /// the changed club after a crash.
     pub fn ask(&mut self, moment: Moment, words: &SentWords) -> Reply
         ensures was_clean { S.disk_is_clean self.new → S.disk_is_clean self.old }
-        // Either the reply is what the rules decide for the decoded text, and the store represents
-        // the club after that decision. Or the request failed, and the store represents the same
-        // club.
+        // Either the reply is the decision of the rules on the decoded text, and the store
+        // represents the club after this decision. Or the request failed, and the store represents
+        // the same club as before.
         ensures steps { S.disk_is_clean self.new → (decoded : Words)
             × AreWordsOf words.now.pass.now words.now.request decoded
             × DecidesOrFails S.represents self.old self.new decoded moment result }
         ensures lawful { OfItsClub S.disk_is_clean S.represents self.old self.new
             (λ club. IsLawful club words.now.pass.now words.now.request moment result) }
-        // `Unavailable` has only two causes. The store failed, at a read or at the request's
-        // change; or the text is JSON, and the store is unchanged.
+        // `Unavailable` has only two causes. Either the store failed, while it read rows or applied
+        // the request's change. Or the text is JSON, and the store is unchanged.
         ensures failed { OfItsClub S.disk_is_clean S.represents self.old self.new
             (λ club. FailsForCause S.fails self.old self.new club words.now.pass.now
             words.now.request moment result) }
-        // A text that isn't a pass leaves the store unchanged. Its refusal needs memory only if it
-        // is JSON.
+        // A text that isn't a pass leaves the store unchanged. The refusal of such a text needs
+        // memory only if the text is JSON.
         ensures untouched { (fault : FormFault) → IsAnyReading words.now.pass.now (Err fault)
             → self.new ≡ self.old }
         ensures in_place { RefusesByFormFault words.now.pass.now result }
@@ -295,7 +303,7 @@ impl<S: ClubStore> Desk<S> {
         }
     }
 
-    /// Answers an event with `ask` or `office`.
+    /// Answers an event: calls `ask` for a request and `office` for a command.
     pub(crate) fn event(&mut self, event: &Event) -> EventReply
         ensures { IsHandled S.disk_is_clean S.represents S.fails self.old event.now result
             self.new }
@@ -306,8 +314,8 @@ impl<S: ClubStore> Desk<S> {
         }
     }
 
-    /// Returns the text of a day's sheet, which the desk prints. The club and the possible crash
-    /// states are unchanged.
+    /// Returns the text of the sheet for a day. The club and the possible crash states are
+    /// unchanged.
     ///
     /// # Errors
     ///

@@ -1,4 +1,4 @@
-//! The events that come to the desk, and its replies.
+//! The events at the desk, and the desk's replies.
 
 use crate::fault::Fault;
 use crate::mint::key_signature;
@@ -20,13 +20,13 @@ pub enum Event<'a> {
 #[derive(Clone, Copy, PartialEq, Eq)]
 pub enum OfficeReply {
     Done,
-    /// The command added a key, or gave it a new root. `signature`, 32 bytes, is the signature of
-    /// the key's passes without caveats.
+    /// The command added a key, or gave a key a new root. `signature` is the 32-byte signature of
+    /// the key's pass without caveats.
     Key { signature: [u8; 32] },
     Refused(Fault),
 }
 
-/// Prints no byte of a signature, since anyone who has the signature can make a pass.
+/// Prints `Key(..)` instead of the signature, because anyone who has the signature can make a pass.
 impl fmt::Debug for OfficeReply {
     ghost use Rattle.std.specs.Prelude.{Some};
     ghost use Rattle.club_gate.specs.Response.{debug_text};

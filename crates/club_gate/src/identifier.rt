@@ -1,14 +1,14 @@
-//! The identifier of a pass, which names its key: `key:` and the name.
+//! The identifier of a pass: `key:` and the name of the pass's key.
 
 ghost use Rattle.std.specs.Prelude.{◌≡◌};
 ghost use Rattle.club_gate.specs.Identifier.{key_name_in as name_of};
 
 use club_values::Name;
 
-/// The prefix of a pass's identifier, before the name of its key.
+/// The prefix of an identifier, before the name of the key.
 pub(crate) const KEY_PREFIX: &[u8; 4] = b"key:";
 
-/// Returns the name of the key that an identifier names; `None` if it names none.
+/// Returns the name of the key that an identifier names, or `None` if the identifier names no key.
 #[tactic(auto, unfolding(crate::specs::Identifier::key_name_in))]
 pub(crate) fn key_name_in(identifier: &[u8]) -> Option<Name>
     ensures { result ≡ name_of identifier.now }

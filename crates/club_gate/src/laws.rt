@@ -1,4 +1,5 @@
-//! Laws of the definitions. Each is the contract of a function that does nothing.
+//! Laws about decoded passes and about events at the desk. Each law is the contract of a function
+//! with an empty body.
 
 ghost use Rattle.club_gate.specs.{Identifier.FindsNames, Laws.{Decodes, NamesItsRows}};
 ghost use Rattle.club_gate.specs.Laws.{ReadsNoLackOfMemory, SeenAlike, SeesEvents};
@@ -9,24 +10,26 @@ use pass_caveats::laws::reads_what_is_understood;
 use pass_forms::laws::decides_signed;
 use pass_json::laws::reads_any_form_exactly;
 
-/// An identifier gives a name if and only if it is `key:` followed by that name.
+/// An identifier names a key if and only if the identifier is `key:` followed by the key's name,
+/// and the name is valid.
 pub fn finds_names()
     ensures { FindsNames }
 {
     reads_names();
 }
 
-/// By its definition, the reading of a text is never the fault `Memory`.
+/// The result of reading a text is never the fault `Memory`.
 pub fn reads_no_lack_of_memory()
     ensures { ReadsNoLackOfMemory }
 {}
 
-/// `Desk::show_slot` shows the reply that every key of the club would get if it asked for the slot.
+/// `Desk::show_slot` lists the reply that every key of the club gets for a request to view the
+/// slot.
 pub fn shows_slots_to_keys()
     ensures { ShowsSlotsToKeys }
 {}
 
-/// The rules see a text's pass as exactly one model pass, which `machine_pass` computes.
+/// `IsSeenAs` relates each pass to exactly one value, which `machine_pass` computes.
 pub fn seen_alike()
     ensures { SeenAlike }
 {
@@ -43,7 +46,7 @@ pub fn decodes()
     seen_alike();
 }
 
-/// The machine sees events at the desk as exactly one list of events, which `machine_events`
+/// Each list of events at the desk has exactly one list of machine events, which `machine_events`
 /// computes.
 pub fn sees_events()
     ensures { SeesEvents }
@@ -51,7 +54,8 @@ pub fn sees_events()
     decodes();
 }
 
-/// If the pass of a text is for a key of the club, the text's words name the rows of that key.
+/// If a pass is for a key of the club, the basis of the request is the basis of this key. A basis
+/// is the set of rows that a reply may depend on.
 pub fn names_its_rows()
     ensures { NamesItsRows }
 {

@@ -1,5 +1,5 @@
-//! The desk: it verifies the pass of a request, asks the rules of the club for a decision, and
-//! stores the change.
+//! The desk: verifies the pass of a request, asks the rules of the club for a decision, and stores
+//! the change.
 #![tactic(auto)]
 
 mod desk;

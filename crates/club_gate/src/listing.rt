@@ -13,7 +13,7 @@ use club_values::{Kind, Moment, Name, Slot};
 use std::alloc::{AllocError, Global};
 
 impl<S: ClubStore> Desk<S> {
-    /// Lists what a key sees of its account at a moment, one value per line. Also lists whether the
+    /// Lists the values of a key's account at a moment, one value per line. Also lists whether the
     /// key is revoked, and until when its older root is good. Shows no root, and changes no row.
     ///
     /// # Errors
@@ -30,12 +30,13 @@ impl<S: ClubStore> Desk<S> {
         Ok(account_text(self.alloc, &key, &view)?)
     }
 
-    /// Lists what every key sees of a slot, one value per line. Changes no row.
+    /// Lists the use of a slot and the values of its facility, one value per line. Every key of the
+    /// club may see these values. Changes no row.
     ///
     /// # Errors
     ///
-    /// Fails with `Refused(Unknown)` if there is no such facility, and with `Store` if memory ran
-    /// out or storage failed.
+    /// Fails with `Refused(Unknown)` if the club has no such facility, and with `Store` if memory
+    /// ran out or storage failed.
     pub fn show_slot(&mut self, slot: &Slot) -> Result<String, Fault>
         ensures { spec.ShowsClub S.disk_is_clean S.represents S.fails self.old self.new result
             (λ club. spec.ReturnsListing (spec.slot_listing club slot.now) result) }
@@ -46,7 +47,7 @@ impl<S: ClubStore> Desk<S> {
         Ok(reply_text(self.alloc, &reply)?)
     }
 
-    // Returns a key and its view of its account; `None` if no key has the name.
+    // Returns a key and the view of its account, or `None` if no key has the name.
     fn account_view(
         &mut self,
         key: &Name,
@@ -65,8 +66,8 @@ impl<S: ClubStore> Desk<S> {
         }
     }
 
-    // Returns the reply to a request to view a slot, which is the same for every key; `None` if the
-    // facility is unknown.
+    // Returns the reply to a request to view a slot, or `None` if the facility is unknown. Every
+    // key gets the same reply.
     fn slot_reply(&mut self, slot: &Slot) -> Result<Option<Reply>, StoreFault>
         ensures { ReadsStore S.disk_is_clean S.represents S.fails self.old self.new result
             (λ club reply. reply ≡ spec.slot_reply club slot.now) }
@@ -86,7 +87,7 @@ impl<S: ClubStore> Desk<S> {
     }
 }
 
-// Returns the lines of an account and of the key that asks for it.
+// Returns the lines for an account and for the key of the account.
 fn account_text(alloc: Global, key: &Key, view: &View) -> Result<String, AllocError>
     ensures { IfOk result (λ text. string_bytes text ≡ spec.shown_account_text key.now view.now) }
 {
@@ -95,7 +96,8 @@ fn account_text(alloc: Global, key: &Key, view: &View) -> Result<String, AllocEr
     Ok(text)
 }
 
-// Returns the lines of a reply that shows an account or a slot. Any other reply has none.
+// Returns the lines of a reply that shows an account or a slot. Returns no lines for any other
+// reply.
 fn reply_text(alloc: Global, reply: &Reply) -> Result<String, AllocError>
     ensures { IfOk result (λ text. string_bytes text ≡ spec.lines (spec.named_values reply.now)) }
 {
@@ -125,7 +127,7 @@ fn reply_text(alloc: Global, reply: &Reply) -> Result<String, AllocError>
     }
 }
 
-// Returns the lines that name a slot.
+// Returns the lines that identify a slot.
 fn slot_name(alloc: Global, slot: &Slot) -> Result<String, AllocError>
     ensures { IfOk result
         (λ text. string_bytes text ≡ spec.lines (spec.values_of_slot slot.now)) }
@@ -137,7 +139,7 @@ fn slot_name(alloc: Global, slot: &Slot) -> Result<String, AllocError>
     )
 }
 
-// Appends the lines of a facility and of how much of a slot is taken.
+// Appends the lines for a facility and for the use of a slot.
 fn push_state(
     text: &mut String,
     kind: Kind,
@@ -156,7 +158,7 @@ fn push_state(
     )
 }
 
-// Appends the lines of a key, without its roots.
+// Appends the lines for a key. The lines contain no root.
 fn push_key(text: &mut String, key: &Key) -> Result<(), AllocError>
     ensures { OnOk result
         (string_bytes text.new ≡ string_bytes text.old ++ spec.lines (spec.values_of_key key.now)) }

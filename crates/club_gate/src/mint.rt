@@ -14,11 +14,11 @@ use std::alloc::{AllocError, Global};
 /// The location of the passes that the office issues.
 pub const LOCATION: &[u8; 9] = b"club-desk";
 
-/// The most bytes of a key's identifier.
+/// The maximum length of a key's identifier, in bytes.
 const MAX_IDENTIFIER_LEN: usize = 28;
 
-/// Returns the 32-byte signature of a key's pass without caveats: the chain of `key:NAME` under a
-/// root. Allocates nothing.
+/// Returns the 32-byte signature of a key's pass without caveats. The signature is computed from
+/// the identifier `key:NAME` and a root. Allocates no memory.
 pub fn key_signature(name: &Name, root: &Root) -> [u8; 32]
     ensures { result ≡ minted_signature name.now root.now }
 {

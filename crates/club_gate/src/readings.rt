@@ -1,5 +1,5 @@
-//! Reads from the club to answer a signed pass: only the rows and sums that the caveats and the
-//! decision depend on.
+//! Reads the rows that are needed to answer a signed pass. Reads only the rows and sums that the
+//! caveats and the decision depend on.
 
 ghost use Rattle.std.specs.Prelude.{◌≡◌, ◌≤◌, None, true, map, option_map};
 ghost use Rattle.pass_caveats.specs.{Fault.first_fault_of, Spending.after_spending};
@@ -22,9 +22,10 @@ use pass_caveats::{Ask, CaveatFault, Unspent};
 use pass_forms::FieldSource;
 
 impl<S: ClubStore> Desk<S> {
-    /// Reads the booking under the request's number, and the facility. Besides these, caveats
-    /// depend only on what the key has spent. If there is such a booking, the facility is read only
-    /// if a caveat looks at its kind. The source yields the fields of the pass.
+    /// Reads the booking with the request's number, and the facility of the request's slot. If the
+    /// booking exists, reads the facility only if a caveat depends on the facility's kind. Apart
+    /// from these rows, caveats depend only on the points that the key has spent. The source yields
+    /// the fields of the pass.
     pub(crate) fn first_view<'a, F: FieldSource<'a> + Drop>(
         &mut self,
         source: &F,
@@ -50,8 +51,9 @@ impl<S: ClubStore> Desk<S> {
     }
 
     /// Returns the first caveat that refuses a request with this key. The source yields the fields
-    /// of the pass. The points that the key has spent are read only if the points that its member
-    /// has used don't settle the result.
+    /// of the pass. If the result depends on the points that the key has spent, first reads the
+    /// points that the key's member has used. Reads the points that the key has spent only if the
+    /// member's points don't settle the result.
     pub(crate) fn caveat_fault<'a, F: FieldSource<'a> + Drop>(
         &mut self,
         source: &F,
@@ -74,8 +76,8 @@ impl<S: ClubStore> Desk<S> {
         Ok(fault_after(source, ask, spent))
     }
 
-    /// Returns whether the member of a key has used at most `most` points. If so, the key has also
-    /// spent at most `most`.
+    /// Returns whether the member of a key has used at most `most` points. A result of `true`
+    /// implies that the key has spent at most `most` points.
     fn has_spent_within(&mut self, key: &KeyRow, most: u64) -> Result<bool, StoreFault>
         ensures { ReadsStore S.disk_is_clean S.represents S.fails self.old self.new result
             (λ club within. within ≡ true → IsOnRecord club key.now
@@ -89,7 +91,7 @@ impl<S: ClubStore> Desk<S> {
         Ok(u64::from(account.used()) <= most)
     }
 
-    /// Adds the state of a slot to the view.
+    /// Adds the use of a slot to the view.
     fn with_slot(&mut self, view: View, slot: &Slot) -> Result<View, StoreFault>
         ensures { ReadsStore S.disk_is_clean S.represents S.fails self.old self.new result
             (λ club found. found ≡ record view {
@@ -105,8 +107,8 @@ impl<S: ClubStore> Desk<S> {
         })
     }
 
-    /// Adds the row, the balance and the open bookings of the key's member. Returns `None` if the
-    /// club has no such member.
+    /// Adds the row, the balance and the number of open bookings of the key's member to the view.
+    /// Returns `None` if the club has no such member.
     fn with_member(&mut self, view: View, moment: Moment) -> Result<Option<View>, StoreFault>
         ensures { ReadsStore S.disk_is_clean S.represents S.fails self.old self.new result
             (λ club found. found ≡ option_map (λ account. record view {
@@ -127,8 +129,8 @@ impl<S: ClubStore> Desk<S> {
         }))
     }
 
-    /// Adds all sums of an account to the view: those of the key's member, and what the key has
-    /// spent. Returns `None` if the club has no such member.
+    /// Adds all sums of an account to the view: the sums of the key's member, and the points that
+    /// the key has spent. Returns `None` if the club has no such member.
     pub(crate) fn with_sums(
         &mut self,
         view: View,
@@ -149,9 +151,9 @@ impl<S: ClubStore> Desk<S> {
         Ok(Some(View { spent, ..view }))
     }
 
-    /// Adds the rows and sums that the decision depends on to a view that has what the caveats
-    /// depend on. Returns `None` if the club doesn't have the key's member. The resulting view
-    /// gives the same answer as the key's full view.
+    /// Adds the rows and sums that the decision depends on to a view. The view already has the
+    /// values that the caveats depend on. Returns `None` if the club doesn't have the key's member.
+    /// The resulting view gives the same answer as the key's full view.
     pub(crate) fn last_view(
         &mut self,
         view: View,

@@ -1,4 +1,4 @@
-//! Runs: lists of events that the desk answers in their order.
+//! Runs: lists of events that the desk answers in order.
 
 ghost use Rattle.std.specs.Prelude.{◌≡◌, All, List, IfOk, OnOk, OnErr};
 ghost use Rattle.club_core.specs.{Club.Club, Events.IsEvent, Store.Returns};
@@ -19,7 +19,7 @@ use club_laws::runs_with_failures::{
 };
 use std::alloc::AllocError;
 
-/// The type of each value in an event ensures that the value is within its limits.
+/// Proves that every value in an event is within its limits.
 fn event_within(event: &Event)
     ensures within { IsEvent (machine_event event.now) }
     ensures bytes { IsEventOfBytes event.now }
@@ -34,26 +34,27 @@ fn event_within(event: &Event)
 }
 
 impl<S: ClubStore> Desk<S> {
-    /// Answers events in their order, each for the club that the previous event left.
+    /// Answers events in order. Each event is answered for the club that the previous event left.
     ///
     /// # Errors
     ///
-    /// Fails if there is no memory for the replies. Then no event was answered, and the desk is
-    /// unchanged.
+    /// Fails if there is no memory for the replies. In this case no event was answered, and the
+    /// desk is unchanged.
     pub fn run(&mut self, events: &[Event]) -> Result<Vec<EventReply>, AllocError>
         ensures was_clean { S.disk_is_clean self.new → S.disk_is_clean self.old }
         ensures err { OnErr result (self.new ≡ self.old) }
         ensures lawful { S.disk_is_clean self.new → Returns S.represents self.old result
             (λ club replies. (seen : List machine.Event) → AreEventsOf events.now seen
             → IsLawfulRun club seen (responses_of replies.items)) }
-        // Each event was answered by one step, or failed for a cause that `ask` or `office` allows.
+        // Each event was answered by one step of the machine, or failed for a cause that `ask` or
+        // `office` allows.
         ensures handled { IfOk result (λ replies. AreHandled S.disk_is_clean S.represents S.fails
             self.old events.now replies.items self.new) }
-        // After a crash the store has the club after the answered events, or that club after one
-        // more event, which failed since the last change. If the run changed nothing, the store may
-        // also have a club that a crash could have left before the run. A repeat of a served
-        // request gets the same reply and changes nothing. That holds in the club after the
-        // answered events and in each other club one event away from it.
+        // After a crash, the store has the club after the answered events, or that club after one
+        // more event. The additional event failed after the last change. If the run changed
+        // nothing, the store may also have a club that a crash could have left before the run. A
+        // repeat of a served request gets the same reply and changes nothing. The repeat may come
+        // in the club after the answered events, or in any club one event later.
         ensures represents { S.disk_is_clean self.new → (club : Club) (others : List Club)
             → S.represents self.old club others
             → IfOk result (λ replies. (seen : List machine.Event) → AreEventsOf events.now seen
@@ -73,7 +74,7 @@ impl<S: ClubStore> Desk<S> {
         self.follow(events)
     }
 
-    /// Answers events in their order, and returns their replies.
+    /// Answers events in order, and returns the replies.
     fn follow(&mut self, events: &[Event]) -> Result<Vec<EventReply>, AllocError>
         ensures was_clean { S.disk_is_clean self.new → S.disk_is_clean self.old }
         ensures err { OnErr result (self.new ≡ self.old) }

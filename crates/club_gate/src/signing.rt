@@ -1,4 +1,5 @@
-//! Tests whether a pass is signed under a root of its key that is good at the moment.
+//! Tests whether a pass is signed under a good root of its key. A good root is the key's root, or
+//! the key's older root before the older root expires.
 
 ghost use Rattle.std.specs.Prelude.{◌≡◌, Some, drop};
 ghost use Rattle.pass_forms.specs.{FieldSource.pass_fields, Pass.Plain};
@@ -15,11 +16,12 @@ use pass_mac::Chain;
 
 impl<S: ClubStore> Desk<S> {
     /// Returns whether a pass is signed under a root of this row's key that is good at the moment.
-    /// Reads the older root only if the pass isn't signed under the current root. The source has
-    /// already yielded the identifier.
+    /// Reads the older root only if the pass isn't signed under the current root. The caller has
+    /// already taken the identifier from the source.
     ///
-    /// The current root's derived key is cached once a pass is signed under it. Until then the
-    /// cache keeps the older root's derived key, if a pass was signed under it before the rotation.
+    /// Once a pass is signed under the current root, the cache keeps the derived key of the current
+    /// root. Until then, the cache keeps the older root's derived key if a pass was signed under
+    /// the older root before the rotation.
     pub(crate) fn is_signed<'a, F: FieldSource<'a> + Drop>(
         &mut self,
         source: &F,

@@ -1,7 +1,10 @@
-//! The verifier, which returns the verdict on a request. It checks the signature first. For this it
-//! reads only the row of the key that the pass names. If the pass isn't signed under the current
-//! root, it also reads the key's older root. Next it reads what the caveats depend on, and last
-//! what the decision depends on.
+//! The verifier: computes the verdict on a request. The verifier has four steps:
+//!
+//! 1. Read the row of the key that the pass names.
+//! 2. Check the signature. Read the key's older root if the pass isn't signed under the current
+//!   root.
+//! 3. Read the rows that the caveats depend on, and check the caveats.
+//! 4. Read the rows that the decision depends on.
 
 ghost use Rattle.std.specs.Prelude.{◌≡◌, ◌≢◌, ◌≤◌, ℕ, List, length, IfOk, IsSomeAnd, None, Some};
 ghost use Rattle.std.specs.Prelude.{Ok, Err, drop, option_map};
@@ -33,8 +36,8 @@ use pass_json::laws::{
 };
 use pass_json::{JsonFields, read_json};
 
-// The computed reading of a text is the reading of the bytes that it wraps, or the fault of its
-// envelope.
+// The result of reading a text is the result of reading the bytes that the text wraps, or the fault
+// of the text's envelope.
 fn reads_by_bytes(text: &[u8])
     ensures wrapped { (form : FormOfBytes) (bytes : List ℕ)
         → IsUnwrapped text.now (Ok (form, bytes)) → length bytes ≤ max_text_len
@@ -51,7 +54,7 @@ fn reads_by_bytes(text: &[u8])
     refuses_what_wraps_nothing();
 }
 
-/// Takes the location and the identifier of a pass from its source, and returns the identifier.
+/// Takes the location and the identifier of a pass from its source. Returns the identifier.
 fn identifier_from<'a, F: FieldSource<'a>>(source: &mut F) -> Option<&'a [u8]>
     ensures { (pass : Plain) → F.left source.old ≡ pass_fields pass
         → IsSomeAnd result (λ identifier. identifier.now ≡ pass.identifier)
@@ -66,7 +69,7 @@ fn identifier_from<'a, F: FieldSource<'a>>(source: &mut F) -> Option<&'a [u8]>
     }
 }
 
-/// Returns the verdict on a text that isn't a pass. Fails if the reader ran out of memory.
+/// Returns the verdict on a text that isn't a pass. Fails if parsing the text ran out of memory.
 fn verdict_of_fault(fault: FormFault) -> Result<Verdict, StoreFault>
     ensures memory { fault ≡ Memory → result ≡ Err store.Memory }
     ensures refused { fault ≢ Memory
@@ -84,7 +87,7 @@ fn verdict_of_fault(fault: FormFault) -> Result<Verdict, StoreFault>
 }
 
 impl<S: ClubStore> Desk<S> {
-    /// Reads the row of the key that an identifier names; `None` if it names no key of the club.
+    /// Returns the row of the key that an identifier names, or `None` if the club has no such key.
     fn key_row(&mut self, identifier: &[u8]) -> Result<Option<KeyRow>, StoreFault>
         ensures { ReadsStore S.disk_is_clean S.represents S.fails self.old self.new result
             (λ club row. row ≡ option_map row_of_key (key_in club identifier.now)) }
@@ -95,9 +98,10 @@ impl<S: ClubStore> Desk<S> {
         }
     }
 
-    /// Returns the row of the key that a pass names and is signed under, or the refusal. Reads
-    /// nothing else of the club, except the older root if the pass isn't signed under the current
-    /// one. An unknown key and a wrong signature get the same refusal.
+    /// Returns the row of the key that a pass names, or a refusal if the pass isn't signed under
+    /// this key or the key is revoked. Reads no other row of the club, except the older root if the
+    /// pass isn't signed under the current root. An unknown key and a wrong signature get the same
+    /// refusal.
     fn signer<'a, F: FieldSource<'a> + Drop>(
         &mut self,
         source: &F,
@@ -123,9 +127,9 @@ impl<S: ClubStore> Desk<S> {
         Ok(Ok(row))
     }
 
-    /// Returns the verdict on a request with a pass whose signer is this key. If a caveat refuses
-    /// the request, the call reads at most two sums: the member's use and the key's spending. It
-    /// reads them only if a caveat depends on them.
+    /// Returns the verdict on a request with a pass that is signed under this key. If a caveat
+    /// refuses the request, the call reads at most two sums: the points that the member has used,
+    /// and the points that the key has spent. The call reads a sum only if a caveat depends on it.
     fn verdict_under<'a, F: FieldSource<'a> + Drop>(
         &mut self,
         key: &KeyRow,
@@ -148,8 +152,9 @@ impl<S: ClubStore> Desk<S> {
         Ok(answer(view.as_ref(), true, None, request, moment))
     }
 
-    /// Returns the verdict on a request with the pass whose fields a source yields. Scans the
-    /// fields for the signature, and scans them again for the caveats only if the pass is signed.
+    /// Returns the verdict on a request with a pass. The source yields the fields of the pass.
+    /// Scans the fields for the signature. Scans the fields again for the caveats only if the pass
+    /// is signed.
     fn verdict_of<'a, F: FieldSource<'a> + Drop>(
         &mut self,
         source: &F,
@@ -167,8 +172,8 @@ impl<S: ClubStore> Desk<S> {
     }
 
     /// Returns the verdict on a request with the pass that these bytes encode in a form. A pass in
-    /// JSON is parsed first, which needs memory. In the other forms the fields are parts of the
-    /// bytes.
+    /// JSON is parsed first, which needs memory. In the other forms, the fields of the pass are
+    /// slices of the bytes.
     fn verdict_on(
         &mut self,
         form: Form,

@@ -11,7 +11,7 @@ use pass_forms::{Field, FieldSource};
 
 /// Returns the first caveat that isn't understood or denies a request, if the key has already spent
 /// `spent` points. Returns `None` if all caveats allow the request. The source yields the fields of
-/// the pass, and stays unchanged.
+/// the pass, and is unchanged.
 pub(crate) fn fault_after<'a, F: FieldSource<'a> + Drop>(
     source: &F,
     ask: &Ask,
@@ -35,8 +35,9 @@ pub(crate) fn fault_after<'a, F: FieldSource<'a> + Drop>(
     None
 }
 
-/// Returns the first caveat that refuses the request if the key has spent nothing. Also returns the
-/// most that the key may have spent for the same result. The source stays unchanged.
+/// Returns the first caveat that refuses the request if the key has spent no points. Also returns
+/// the greatest number of spent points for which this result stays the same. The source is
+/// unchanged.
 pub(crate) fn unspent_fault<'a, F: FieldSource<'a> + Drop>(source: &F, ask: &Ask) -> Unspent
     ensures { OfItsPass (F.left source.now) (λ pass. (spent : ℕ) → IsWithin result.slack spent
         → first_fault_of (map caveat_of pass.caveats) (after_spending spent ask.now)
@@ -63,7 +64,7 @@ pub(crate) fn unspent_fault<'a, F: FieldSource<'a> + Drop>(source: &F, ask: &Ask
     Unspent { fault: None, slack }
 }
 
-/// Returns the lower of two bounds.
+/// Returns the lower of two bounds. `None` means that there is no bound.
 fn least(bound: Option<u64>, other: Option<u64>) -> Option<u64>
     ensures { (spent : ℕ) → IsWithin result spent → IsWithin bound spent × IsWithin other spent }
 {
@@ -74,7 +75,7 @@ fn least(bound: Option<u64>, other: Option<u64>) -> Option<u64>
     }
 }
 
-/// Returns whether a caveat of a pass looks at the kind of the slot's facility. The source stays
+/// Returns whether a caveat of a pass depends on the kind of the slot's facility. The source is
 /// unchanged.
 pub(crate) fn has_kind<'a, F: FieldSource<'a> + Drop>(source: &F) -> bool
     ensures { OfItsPass (F.left source.now) (λ pass. result ≡ false → IsBlindPass pass) }

@@ -7,7 +7,6 @@ use Rattle.club_core.specs.declared.request.Request.TheVariants as asked
 use Rattle.club_gate.specs.Listing.{reply_lines, unless_refused}
 use Rattle.club_gate.proofs.laws.shows_slots_to_keys.Goals as goal
 
--- if a mapped option contains a value, the original option contains one that maps to it
 made_of : {A B P : Type 0} (f : A → B) (found : Option A) (b : B) → option_map f found ≡ Some b → ((a : A) → found ≡ Some a → f a ≡ b → P) → P
 made_of f None b e so = absurd (cc)
 made_of f (Some a) b e so = so a refl (same_Some (f a) b e)

@@ -2,7 +2,6 @@ use Rattle.club_gate.proofs.Common.{◌≡◌, List, ℕ, [], ◌∷◌, ◌++�
 use Rattle.club_gate.specs.Listing.{lines, values_of_slot, values_of_state}
 use Rattle.club_gate.proofs.listing.reply_text.Goals as goal
 
--- the lines of two concatenated lists of values are the lines of the first list, then those of the second
 lines-append : (values more : List (List ℕ × List ℕ)) → lines (values ++ more) ≡ lines values ++ lines more
 lines-append [] more = refl
 lines-append ((name, value) ∷ values) more =

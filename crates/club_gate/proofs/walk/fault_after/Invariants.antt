@@ -1,4 +1,4 @@
--- The first fault of the remaining fields is the first fault of all fields.
+-- The loop invariant of `fault_after`, which scans the fields of a pass.
 use Rattle.club_gate.proofs.{Common.{◌≡◌, length}, Walking.fault_in}
 use Rattle.club_gate.proofs.walk.fault_after.Given as goal
 

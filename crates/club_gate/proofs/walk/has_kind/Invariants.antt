@@ -1,4 +1,4 @@
--- If no caveat among the remaining fields depends on the kind, none among all fields does.
+-- The loop invariant of `has_kind`, which scans the fields of a pass.
 use Rattle.club_gate.proofs.{Common.length, KindScans.AreBlind}
 use Rattle.club_gate.proofs.walk.has_kind.Given as goal
 

@@ -1,4 +1,4 @@
--- For any amount within the slack, the first fault of the remaining fields is the first fault of all fields.
+-- The loop invariant of `unspent_fault`, which scans the fields of a pass.
 use Rattle.club_gate.proofs.{Common.{◌≡◌, ℕ, length, IsWithin, after_spending}, Walking.fault_in}
 use Rattle.club_gate.proofs.walk.unspent_fault.Given as goal
 

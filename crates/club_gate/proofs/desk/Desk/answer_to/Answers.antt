@@ -3,7 +3,6 @@ use Rattle.club_gate.proofs.{Stepping.{command_done, command_failed, command_fit
 use Rattle.club_gate.proofs.desk.Desk.answer_to.Given as given
 use Rattle.club_gate.proofs.desk.Desk.answer_to.Goals as goal
 
--- the command was decided for the club, and its change fits the club
 decided : (g : given.Over) (c : After-settle g) → g.S.ClubStore.disk_is_clean c.settle.new.self → (club : Club) (others : List Club)
     → g.S.ClubStore.represents c.args.self.now club others
     → (office_verdict club c.args.command.now ≡ Ok c.in-Ok.change) × g.S.ClubStore.represents c.command_view.new.self club others

@@ -4,7 +4,6 @@ use Rattle.pass_mac.specs.Chain.{derived_key}
 use Rattle.club_gate.proofs.desk.Desk.is_signed.Given as given
 use Rattle.club_gate.proofs.desk.Desk.is_signed.Goals as goal
 
--- the call `is_signed_by` tests whether the pass is signed under the current root
 by_current : (g : given.Over) (c : After-is_signed_by g) (pass : Plain) (key : Key) → c.args.identifier.now ≡ pass.identifier
     → g.F.FieldSource.left c.args.source.now ≡ drop 2 (pass_fields pass) → c.args.row.now ≡ row_of_key key
     → is_signed key.root pass ≡ c.is_signed_by.result

@@ -4,7 +4,6 @@ use Rattle.club_gate.proofs.desk.Desk.reply_to.Goals.{After-settle}
 use Rattle.club_gate.proofs.desk.Desk.reply_to.Given as given
 use Rattle.club_gate.proofs.desk.Desk.reply_to.Goals as goal
 
--- the request was decided for the club, and its change fits the club
 decided : (g : given.Over) (c : After-settle g) → g.S.ClubStore.disk_is_clean c.settle.new.self → (club : Club) (others : List Club)
     → g.S.ClubStore.represents c.args.self.now club others
     → (c.in_ok-verdict.verdict ≡ verdict_in club (decoded_words c.args.words.now.pass.now c.args.words.now.request) c.args.moment)

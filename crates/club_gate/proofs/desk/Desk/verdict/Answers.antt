@@ -4,7 +4,6 @@ use Rattle.pass_forms.specs.computed.Text.{in_form}
 use Rattle.club_gate.proofs.desk.Desk.verdict.Given as given
 use Rattle.club_gate.proofs.desk.Desk.verdict.Goals as goal
 
--- the reading of the text is the reading of the bytes that it wraps
 reads_by_bytes : (g : given.Over) (c : After-verdict_on g)
     → reading c.args.words.now.pass.now ≡ in_form c.in-Ok.unwrapped.form (reading_in_form c.in-Ok.unwrapped.form c.bytes-bytes.result.now)
 reads_by_bytes g c =
