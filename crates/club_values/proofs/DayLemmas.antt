@@ -110,7 +110,7 @@ day_text-spells n h =
       within = h;
     }
 
--- Different days have different texts, whatever bytes come after the texts.
+-- Different days have different texts.
 pub day_text_injective : (a b : ℕ) (xs ys : List ℕ) → IsDay a → IsDay b → day_text a ++ xs ≡ day_text b ++ ys → a ≡ b
 unfolding day_text
 day_text_injective a b xs ys h k e = grind (arith, four_digits_injective, two_digits_injective, civil_date, from_pos)

@@ -2,7 +2,7 @@
 use Rattle.std.proofs.Common.{◌≡◌, ℕ, ◌+◌, ◌/◌, ◌%◌, List, ◌++◌, get_or, ap, arith}
 use Rattle.club_values.specs.Digits.{two_digits, four_digits}
 
--- Different numbers have different pairs of digits, whatever bytes come after the digits.
+-- Different numbers have different pairs of digits.
 pub two_digits_injective : (a b : ℕ) (xs ys : List ℕ) → two_digits a ++ xs ≡ two_digits b ++ ys → a ≡ b
 two_digits_injective a b xs ys e =
     let tens : 48 + a / 10 ≡ 48 + b / 10 = ap (λ (bytes : List ℕ). get_or bytes 0 0) e in

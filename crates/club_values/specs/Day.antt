@@ -45,9 +45,9 @@ pub record IsDateText (text : List ℕ) (date : Date) : Type 0 where
   pub same_year : date.year ≡ pos year
   pub spelling : text ≡ date_text year date.month date.day
 
--- The next functions compute the date of a day. They use years that begin on 1 March, so that a
--- leap day is the last day of a year. Day 9556 is 1996-03-01. The function `march_year` counts the
--- years since that day.
+-- The next functions compute the date of a day, with years that begin on 1 March. The last day of
+-- such a year is the leap day, if the year has a leap day. Day 9556 is 1996-03-01. The function
+-- `march_year` counts the years since 1996-03-01.
 abbrev pub march_year : ℕ → ℕ
 march_year n = (4 * (n - 9556) + 3) / 1461
 

@@ -5,8 +5,8 @@ use Rattle.club_values.specs.{Moment.{IsMoment, SpellsMoment, moment_text}, Name
 use Rattle.club_values.specs.computed.TextOf.{name_of_text, decimal_of_text, kind_of_text, action_of_text, day_of_text, hour_of_text, moment_of_text}
 use Rattle.club_values.specs.declared.{action.Action.Action, kind.Kind.Kind}
 
--- Each function `.._of_text` returns a value if and only if the text encodes this value. These laws
--- hold for any list of numbers as the text. The value of a name is the text itself.
+-- Each function `.._of_text` returns a value if and only if the text encodes this value. In these
+-- laws, the text may be any list of numbers. The value of a name is the text itself.
 abbrev pub ReadsNames : Type 0
 ReadsNames = (text name : List ℕ) → (name_of_text text ≡ Some name) ↔ (IsName text × (name ≡ text))
 

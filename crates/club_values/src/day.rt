@@ -21,8 +21,8 @@ pub(crate) const LAST_DAY: u16 = 47_481;
 /// The number of days from the earliest date of `jiff_core` to 1970-01-01.
 const DAYS_BEFORE_1970: u32 = 4_371_587;
 
-/// A day from 2000-01-01 to 2099-12-31. In contracts, a day is its number of days since 1970-01-01.
-/// Days are ordered by time.
+/// A day from 2000-01-01 to 2099-12-31. Contracts represent a day by the number of days since
+/// 1970-01-01. Days are ordered by time.
 #[derive(Clone, Copy, Debug, PartialEq, Eq, PartialOrd, Ord)]
 pub struct Day {
     number: u16,

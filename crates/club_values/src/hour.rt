@@ -13,7 +13,7 @@ use std::marker::Model;
 /// The number of hours in a day.
 pub const HOURS_A_DAY: u8 = 24;
 
-/// An hour of a day, 0 to 23. In contracts, an hour is its number. Hours are ordered by time.
+/// An hour of a day, 0 to 23. Contracts represent an hour by its number. Hours are ordered by time.
 #[derive(Clone, Copy, Debug, PartialEq, Eq, PartialOrd, Ord)]
 pub struct Hour {
     number: u8,

@@ -4,8 +4,8 @@ ghost use Rattle.std.specs.Prelude.{◌≡◌, ◌≤◌, ◌↔◌, length, IsS
 
 use std::marker::Model;
 
-/// A string of at most `N` bytes, stored without a heap allocation. In contracts, the string is a
-/// list of bytes.
+/// A string of at most `N` bytes, stored without a heap allocation. Contracts represent the string
+/// by its list of bytes.
 #[derive(Clone, Copy)]
 pub struct InlineBytes<const N: usize> {
     buffer: [u8; N],

@@ -24,8 +24,8 @@ const FIRST_MOMENT: u32 = FIRST_DAY as u32 * MINUTES_A_DAY as u32;
 /// The number of minutes from 1970-01-01T00:00 to the last moment, 2099-12-31T23:59.
 const LAST_MOMENT: u32 = (LAST_DAY as u32 + 1) * MINUTES_A_DAY as u32 - 1;
 
-/// A minute on the club's clock, from 2000-01-01T00:00 to 2099-12-31T23:59. In contracts, a moment
-/// is its number of minutes since 1970-01-01T00:00. Moments are ordered by time.
+/// A minute on the club's clock, from 2000-01-01T00:00 to 2099-12-31T23:59. Contracts represent a
+/// moment by the number of minutes since 1970-01-01T00:00. Moments are ordered by time.
 #[derive(Clone, Copy, Debug, PartialEq, Eq, PartialOrd, Ord)]
 pub struct Moment {
     number: u32,

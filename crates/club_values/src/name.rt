@@ -20,8 +20,8 @@ use std::marker::Model;
 pub const MAX_NAME_LEN: usize = 24;
 
 /// A name of a member, a key or a facility: 1 to 24 bytes of `a` to `z`, `0` to `9` and `-`. The
-/// first byte isn't `-`. In contracts, a name is its list of bytes. Names are ordered by their
-/// bytes.
+/// first byte isn't `-`. Contracts represent a name by its list of bytes. Names are ordered by
+/// their bytes.
 #[derive(Clone, Copy)]
 pub struct Name {
     bytes: InlineBytes<MAX_NAME_LEN>,
