@@ -12,7 +12,7 @@ use Rattle.club_core.specs.Club.{Club, empty_club}
 use Rattle.club_tables.specs.{Schema.no_schema, Tables.{HoldsClubAnyVersion, IsLeftOf, Represents, IsFound}}
 use Rattle.club_store.specs.Crash.{RepresentsOne, OneIsFound, HoldsOneOf, CrashLeaves}
 
--- Every crash leaves exactly the committed trees of the state.
+-- Every crash leaves exactly the committed contents of the database.
 abbrev IsSettled : State → Type 0
 IsSettled state = (trees : Trees) → IsTrue state.is_open → state.may_leave trees → trees ≡ state.committed.trees
 

@@ -1,5 +1,4 @@
--- Lemmas for the proof that `Store` implements `ClubStore`: on its reads, its failures and its
--- changes.
+-- Lemmas for the proof that `Store` implements `ClubStore`.
 use Rattle.std.specs.Prelude.{Option, Some, None, Result, Ok, Err, IfErr}
 use Rattle.std.proofs.{Common.{arith, [], ◌∷◌, Ok, Err}, lemmas.{List.Elements.{All-cons, All-head, All-nil, All-tail}, Result.MatchResult-weaker}}
 use Rattle.club_core.specs.{After.after, Club.{Club, IsSound}, Store.{Changes, ReadsStore}, declared.{change.Change.Change, store.StoreFault.StoreFault}}

@@ -11,7 +11,7 @@ use Rattle.club_tables.specs.Tables.{IsLeftOf, Represents, IsFound}
 abbrev pub LeavesOneOf : {S : Type 0} → Ghosts S → S → List Club → Type 0
 LeavesOneOf g store clubs = IsClean (g.view store) → (trees : Trees) → g.recovers store trees → IsLeftOf trees clubs
 
--- A newly opened connection, whose database is the database of one of these clubs.
+-- A newly opened connection to the database of one of these clubs.
 pub record IsOpenedOn (state : State) (clubs : List Club) : Type 0 where
   pub opening : Opens state
   pub live : IsLive state

@@ -11,8 +11,8 @@ pub record FailsToChange {S : Type 0} (g : Ghosts S) (change : Change) (old : He
   pub error_if_fits : (club : Club) (others : List Club) → represents_in g old club others → FitsClub change club
       → IsRunFault g 0 (statements_of change) old new fault
 
--- A call failed with this fault. The call is a read if no change is given, and otherwise a call
--- that applies the change. The relation includes the state of the store before and after the call.
+-- A read or the given change failed with this fault. If no change is given, the failed call is a
+-- read. The relation includes the state of the store before and after the call.
 abbrev pub Fails : {S : Type 0} → Ghosts S → Option Change → Held S → StoreFault → Held S → Type 0
 Fails g None old fault new = IsReadFault g old new fault
 Fails g (Some change) old fault new = FailsToChange g change old fault new

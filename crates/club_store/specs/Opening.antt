@@ -31,8 +31,8 @@ pub record IsHandedBack {S : Type 0} (g : Ghosts S) (old new : Held S) : Type 0 
   -- clubs.
   pub again : HasCleanDisk (state g new) → (clubs : List Club) → IsOpenedOn (state g old) clubs → OneIsFound (state g new) clubs
 
--- The store was opened from files with this image. The opening accepted the tables of the database,
--- and the store represents the club of the database.
+-- The store was opened from files with the image `start`. The opening accepted the tables of the
+-- database, and the store represents the club of the database.
 pub record OpensFrom {D : Type 0} {g : disk.Ghosts D} (start : Image) (now : Held (FileStore D g)) : Type 0 where
   pub was : Held (FileStore D g)
   pub opening : IsOpened was
@@ -45,8 +45,8 @@ pub record OpensFrom {D : Type 0} {g : disk.Ghosts D} (start : Image) (now : Hel
   -- A store on a new file represents the empty club.
   pub fresh : start.db ≡ [] → Represents (file_state now) empty_club []
 
--- The fault of opening a database in memory. Either memory ran out, or the tables of the empty club
--- couldn't be created.
+-- The fault with which opening a database in memory fails. The cause is that memory ran out, or
+-- that the tables of the empty club couldn't be created.
 abbrev pub IsMemoryFault : StoreFault → Type 0
 IsMemoryFault fault = (fault ≡ Memory) ⊎ ((was : _) × (now : _) × IsEmpty (state over_memory was) × IsOpeningFault over_memory was now fault)
 

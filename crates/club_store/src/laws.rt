@@ -18,8 +18,8 @@ pub fn files_hold_one_of<D: Disk>(store: &FileStore<D>)
         ∥ HoldsOneOf left clubs ∥₁ }
 {}
 
-/// The crash law. Reopening the files after a crash recovers exactly one club. This club is one
-/// that the old store could recover to. Every later crash recovers the same club.
+/// The crash law. Reopening the files after a crash recovers exactly one of the clubs that the old
+/// store could recover to. Every later crash recovers the same club.
 pub fn one_club_recovered<D: Disk, Q: Start>(
     before: &FileStore<D>,
     after: &Store<FileStore<FileFrom<Q>>>,
@@ -41,8 +41,8 @@ pub fn disk_of_files_in_memory_is_clean(store: &Store<FileStore<Memory>>)
 {}
 
 /// The disk of a store over files in memory stays clean even if every call fails after some point.
-/// Such failing calls model a crash of the machine. No read returns bytes other than the bytes that
-/// were written.
+/// A crash of the machine is modelled by calls that fail. No read returns bytes other than the
+/// bytes that were written.
 pub fn disk_of_files_that_stop_is_clean(store: &Store<FileStore<Fuse<Memory>>>)
     ensures { HasCleanDisk (file_state store.now) }
 {}

@@ -37,7 +37,7 @@ use std::marker::Model;
 use std::rt::HostRuntime;
 
 /// The tables of a club, and the connection to their database. Between calls, the connection isn't
-/// in a transaction. In contracts, a store is its connection.
+/// in a transaction. Contracts represent a store by its connection.
 #[derive(Drop)]
 pub struct Store<S: Alter> {
     pub(crate) tables: Tables<S>,
@@ -107,8 +107,8 @@ impl<S: Alter + Drop> Store<S> {
     /// Makes a store from a connection whose database has the tables of a club. Creates the tables
     /// of an empty club if the database is empty. Migrates tables of version 1 to the current
     /// version. On failure, changes nothing, and returns the fault and the connection. The fault is
-    /// `Storage` if the tables have another version, the tables aren't those of a club, or the
-    /// connection is in a transaction.
+    /// `Storage` if the tables aren't the tables of a club, or have another version. The fault is
+    /// also `Storage` if the connection is in a transaction.
     pub fn adopt(
         alloc: Global,
         connection: Connection<S>,
@@ -147,7 +147,7 @@ impl<S: Alter + Drop> Store<S> {
 
     /// Consumes the connection, and returns the engine's store below the connection. After a crash,
     /// the engine's store contains the current club or one of the possible crash states. A crash
-    /// during a call is also covered: the disk then fails from that point on.
+    /// during a call is modelled by a disk that fails from some point on.
     pub fn into_store(self) -> S
         ensures was_clean { IsClean (S.Store.view result) → HasCleanDisk (state S.Store self) }
         ensures numbered { IsClean (S.Store.view result) → IsTrue
