@@ -31,7 +31,7 @@ pub record ReadsNoFurther {Reader : Type 0} (Fills : Call Reader) (old : Reader)
   pub within : length bytes ≤ max_request_len
   pub calls : Gives Fills old bytes new ⊎ EndsWithNone Fills old bytes new
 
--- The writer changed only by calls that write bytes.
+-- Only calls that write bytes changed the writer.
 pub data ArePut {Writer : Type 0} (Puts : Call Writer) (old : Writer) : Writer → Type 0 where
   not_put : ArePut Puts old old
   put_again : (result : Option ℕ) (bytes : List ℕ) (mid new : Writer) → ArePut Puts old mid → Puts mid result bytes new → ArePut Puts old new

@@ -13,8 +13,8 @@ pub record Replies {Desk : Type 0} (Answers : AnswerRelation Desk) (before after
   -- The whole input would get the same reply, including the bytes that the exchange didn't read.
   pub to_all : IfSome before (λ all. IsReplied Answers all old reply new)
 
--- The effect of an exchange. Either the exchange got a reply, and wrote all or a prefix of the
--- reply's text. Or reading failed, and the exchange didn't ask the desk.
+-- The effect of an exchange. If the exchange got a reply, the exchange wrote all or a prefix of the
+-- reply's text. If reading failed, the exchange didn't ask the desk.
 abbrev pub Exchanges :
     (Reply → Type 0) → Type 0 → (List ℕ → Type 0) → Result Reply AnswerFault → Type 0
 Exchanges Decides Unasked Writes (Ok reply) = Decides reply × Writes (reply_text reply)

@@ -19,8 +19,8 @@ use std::alloc::{AllocError, Global};
 use std::marker::Model;
 
 /// The routes of the desk, and a buffer with room for any request. All exchanges of a server share
-/// one `Face`. The buffer keeps the bytes that were read for the last request. In contracts, a
-/// `Face` is the list of these bytes.
+/// one `Face`. The buffer keeps the bytes that were read for the last request. Contracts represent
+/// a `Face` by the bytes of the last request.
 #[derive(Drop)]
 pub struct Face {
     routes: Routes,
@@ -122,8 +122,8 @@ impl Face {
     }
 
     /// Asks the desk for the reply to the last request, and writes the text of the reply. The scan
-    /// must cover the bytes of this request. This is the second step of an exchange, after
-    /// `receive`.
+    /// must cover the bytes of this request. In an exchange, the call of `respond` comes after the
+    /// call of `receive`.
     ///
     /// # Errors
     ///

@@ -1,7 +1,7 @@
 //! One HTTP/1.1 exchange with the desk: reads a request, asks the desk, and writes the reply.
 //!
-//! This crate re-exports the types and constants that a program needs. They describe the desk and
-//! its commands, the values and rows of a club, and the status lines of replies.
+//! This crate re-exports the types, constants and functions that a program needs. The re-exports
+//! cover the desk and its commands, the values and rows of a club, and the status lines of replies.
 #![tactic(auto)]
 
 mod desk;
