@@ -42,10 +42,10 @@ sums_read club moment view shown spent None is e = absurd (cc)
 sums_read club moment view shown spent (Some account) is e = rw (is, same_Some shown (with_account club moment view account) e) refl
 
 -- The view with the rows and sums added that the decision depends on:
--- - For a request to view a slot, these are the use of the slot.
--- - For a new booking, these are the use of the slot and the sums of the member.
--- - For the account, these are the sums of the member and of the key.
--- - For other requests, nothing is added.
+-- - A request to view a slot needs the use of the slot.
+-- - A new booking needs the use of the slot and the sums of the member.
+-- - A request for the account needs the sums of the member and of the key.
+-- - Other requests need no more rows or sums.
 abbrev pub last_view : Club → Request → ℕ → View → Option View
 last_view club (asked.View slot) moment view = Some (with_slot club slot view)
 last_view club (asked.Book slot number guests) moment view =

@@ -22,7 +22,7 @@ pub record IsSeenAs (pass : Plain) (seen : Pass) : Type 0 where
   pub signed : (root : List ℕ) → IsTrue (seen.is_signed root) ↔ IsSigned root pass
 
 -- Converts the fault of a text for the rules of the club. By the law `ReadsNoLackOfMemory`, no text
--- has the fault `Memory`. So the result for `Memory` doesn't matter.
+-- has the fault `Memory`, so the result for `Memory` doesn't matter.
 abbrev pub fault_of : FormFault → PassFault
 fault_of faults.TooLong = TooLong
 fault_of faults.Malformed = Malformed

@@ -35,8 +35,8 @@ others_after None others = others
 others_after (Some change) others = []
 
 -- If the call succeeded, the store represents the changed club. If the call failed, the store
--- represents the same club as before, but a crash may leave the changed club. Without a change, the
--- changed club is the same club.
+-- represents the same club as before the call, but a crash may leave the changed club. If there is
+-- no change, the club stays the same.
 abbrev pub Settles : {S A E : Type 0} → (S → Club → List Club → Type 0) → S → Option Change → Result A E → Club → List Club → Type 0
 Settles Represents new change result club others = MatchResult result
     (λ _. Represents new (after_change change club) (others_after change others))
@@ -50,9 +50,9 @@ pub record IsDecidedBy {S : Type 0} (Represents : S → Club → List Club → T
   pub reply_is : reply ≡ verdict.reply
   pub represents : Represents new (after_change verdict.change club) (others_after verdict.change others)
 
--- The request failed with `Unavailable`, and the store represents the same club as before. Either
--- the possible crash states are unchanged, or the club after the verdict's change is a new possible
--- crash state.
+-- The request failed with `Unavailable`, and the store represents the same club as before the
+-- request. Either the possible crash states are unchanged, or the club after the verdict's change
+-- is a new possible crash state.
 pub record HasFailed {S : Type 0} (Represents : S → Club → List Club → Type 0) (new : S) (club : Club) (others : List Club)
     (verdict : Verdict) (reply : Reply) : Type 0 where
   pub unavailable : reply ≡ member_replies.Refused Unavailable
@@ -73,8 +73,8 @@ pub record IsAnsweredBy {S : Type 0} (Represents : S → Club → List Club → 
   pub reply : response ≡ present_reply desk_presentation (step club event).reply
   pub represents : Represents new (step club event).club (others_after (change_of club event) others)
 
--- The event failed, and the store represents the same club as before. Either the possible crash
--- states are unchanged, or the machine's next club is a new possible crash state.
+-- The event failed, and the store represents the same club as before the event. Either the possible
+-- crash states are unchanged, or the machine's next club is a new possible crash state.
 pub record IsRefusedBy {S : Type 0} (Represents : S → Club → List Club → Type 0) (new : S) (club : Club) (others : List Club)
     (event : Event) (response : Response OfficeReply) : Type 0 where
   pub failure : IsTrue (has_failed desk_presentation event response)
@@ -95,9 +95,9 @@ abbrev pub NamesItsFault : {S : Type 0} → (Option Change → S → StoreFault 
 NamesItsFault Fails old new club event reply =
     (fault : StoreFault) → reply ≡ Refused (faults.Store fault) → FailsAt Fails old new (change_of club event) fault
 
--- The reply `Unavailable` to a request has one of two causes. Either the store failed, while it
--- read rows or applied the request's change. Or the text is JSON, and the store is unchanged.
--- Parsing JSON needs memory, which can run out.
+-- A request gets the reply `Unavailable` only if the store failed or the text is JSON. The store
+-- can fail while it reads rows or applies the request's change. Parsing JSON can fail because it
+-- needs memory, and leaves the store unchanged.
 abbrev pub FailsForCause : {S : Type 0} → (Option Change → S → StoreFault → S → Type 0) → S → S → Club → List ℕ → Request → ℕ → Reply → Type 0
 FailsForCause Fails old new club text request moment reply =
     reply ≡ member_replies.Refused Unavailable

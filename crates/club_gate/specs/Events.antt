@@ -8,7 +8,7 @@ use Rattle.club_gate.specs.{DecodedPass.AreWordsOf, declared.event.Event.Event}
 use Rattle.club_gate.specs.declared.event.Event.TheVariants as events
 
 -- `seen` is the machine's event for this event at the desk. For a request, the machine's event has
--- the decoded words. For a command, the machine's event is the same command.
+-- the decoded pass instead of the text. For a command, the machine's event is the same command.
 abbrev pub IsEventOf : Event → machine.Event → Type 0
 IsEventOf (events.Asked words moment) seen =
     (decoded : Words) × AreWordsOf words.pass.now words.request decoded × (seen ≡ machine.Asked decoded moment)

@@ -75,7 +75,7 @@ IsWithinOneEvent club now = (now ≡ club) ⊎ ((event : machine.Event) × (now 
 
 -- The store represents the club after the answered events. `MayBeLeft` allows each of the store's
 -- other possible crash states. A repeat of a served request gets the same response and changes
--- nothing, in this club and after one more event.
+-- nothing, in this club and in each club after one more event.
 pub record LeavesClub {S : Type 0} (Represents : S → Club → List Club → Type 0) (new : S) (club : Club) (others : List Club) (events : List machine.Event)
     (responses : List DeskResponse) : Type 0 where
   pub left : List Club

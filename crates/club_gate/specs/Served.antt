@@ -37,14 +37,14 @@ pub record EntitlesTo (club : Club) (text : List ℕ) (request : Request) (momen
   pub known : basis_under club request key ≡ Some basis
   pub permission : Allowed pass.caveats (ask_of (view_of basis request moment) request moment)
 
--- The reply is the same for every club that has the same rows for the decoded words.
+-- The reply is the same for every club that has the same rows for the decoded pass and the request.
 abbrev pub DependsOnTheBasis : Club → List ℕ → Request → ℕ → Reply → Type 0
 DependsOnTheBasis club text request moment reply =
     (words : Words) (other : Club) → AreWordsOf text request words → basis_of other words ≡ basis_of club words
     → reply ≢ Refused Unavailable → reply ≡ (verdict_in other words moment).reply
 
--- If the decoded words name no rows of the club, the reply is the fault of the text or
--- `NotVerified`.
+-- If the club has no rows for the decoded pass and the request, the reply is the fault of the text
+-- or `NotVerified`.
 abbrev pub IsBlind : Club → List ℕ → Request → Reply → Type 0
 IsBlind club text request reply =
     (words : Words) → AreWordsOf text request words → basis_of club words ≡ None
@@ -87,9 +87,10 @@ OpensNoMore club text request moment reply =
 pub record IsLawful (club : Club) (text : List ℕ) (request : Request) (moment : ℕ) (reply : Reply) : Type 0 where
   -- A request is served only if its pass entitles the holder to the request.
   pub entitles : IsServed reply → EntitlesTo club text request moment
-  -- The reply depends only on the decoded words, the moment, and the rows that the words name.
+  -- The reply depends only on the decoded pass, the request, the moment, and the club's rows for
+  -- the pass and the request.
   pub depends : DependsOnTheBasis club text request moment reply
-  -- If the decoded words name no rows of the club, the reply depends only on the words.
+  -- If the club has no rows for the pass and the request, the reply depends only on the pass.
   pub blind : IsBlind club text request reply
   -- The same pass in another form gets the same reply.
   pub forms : AnswersItsForms club text request moment reply

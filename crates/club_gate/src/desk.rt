@@ -42,7 +42,7 @@ use std::marker::Model;
 /// The desk of a club. A desk answers requests of members (`ask`) and commands of the office
 /// (`office`), and prints the sheet of a day (`sheet`).
 ///
-/// A desk keeps all data of the club in its store. In contracts, a desk is its store.
+/// A desk keeps all data of the club in its store. Contracts represent a desk by its store.
 #[derive(Drop)]
 pub struct Desk<S: ClubStore> {
     pub(crate) store: S,
@@ -250,16 +250,17 @@ impl<S: ClubStore> Desk<S> {
     /// the changed club after a crash.
     pub fn ask(&mut self, moment: Moment, words: &SentWords) -> Reply
         ensures was_clean { S.disk_is_clean self.new → S.disk_is_clean self.old }
-        // Either the reply is the decision of the rules on the decoded text, and the store
-        // represents the club after this decision. Or the request failed, and the store represents
-        // the same club as before.
+        // If the request didn't fail, the reply is the decision of the rules on the decoded text,
+        // and the store represents the club after this decision. If the request failed, the store
+        // represents the same club as before the request.
         ensures steps { S.disk_is_clean self.new → (decoded : Words)
             × AreWordsOf words.now.pass.now words.now.request decoded
             × DecidesOrFails S.represents self.old self.new decoded moment result }
         ensures lawful { OfItsClub S.disk_is_clean S.represents self.old self.new
             (λ club. IsLawful club words.now.pass.now words.now.request moment result) }
-        // `Unavailable` has only two causes. Either the store failed, while it read rows or applied
-        // the request's change. Or the text is JSON, and the store is unchanged.
+        // `Unavailable` means that the store failed, or that there was no memory to parse JSON. The
+        // store can fail while it reads rows or applies the request's change. Parsing JSON leaves
+        // the store unchanged.
         ensures failed { OfItsClub S.disk_is_clean S.represents self.old self.new
             (λ club. FailsForCause S.fails self.old self.new club words.now.pass.now
             words.now.request moment result) }

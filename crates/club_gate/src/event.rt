@@ -55,7 +55,7 @@ impl OfficeReply {
     ghost use Rattle.club_gate.specs.declared.event.OfficeReply.TheVariants.{Refused};
     ghost use Rattle.club_gate.specs.declared.fault.Fault.TheVariants.{Store};
 
-    /// Converts an answer from the rules into the office's reply.
+    /// Converts an answer from the rules into a reply to the office.
     pub(crate) fn from_answer(answer: OfficeAnswer) -> OfficeReply
         ensures { result ≡ office_reply_of answer }
     {
@@ -68,7 +68,7 @@ impl OfficeReply {
         }
     }
 
-    /// Converts a fault of the store into the office's reply.
+    /// Converts a fault of the store into a reply to the office.
     pub(crate) fn from_store_fault(fault: StoreFault) -> OfficeReply
         ensures { result ≡ Refused (Store fault) }
     {

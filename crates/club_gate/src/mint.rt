@@ -30,8 +30,8 @@ pub fn key_signature(name: &Name, root: &Root) -> [u8; 32]
     Chain::start(root.as_bytes(), &identifier[..end]).signature()
 }
 
-/// Makes a key's pass without caveats. Its location is `club-desk`, its identifier is `key:NAME`,
-/// and its signature is the given 32 bytes.
+/// Makes a key's pass without caveats. The location is `club-desk`, the identifier is `key:NAME`,
+/// and the signature is the given 32 bytes.
 ///
 /// # Errors
 ///

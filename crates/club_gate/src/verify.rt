@@ -98,10 +98,10 @@ impl<S: ClubStore> Desk<S> {
         }
     }
 
-    /// Returns the row of the key that a pass names, or a refusal if the pass isn't signed under
-    /// this key or the key is revoked. Reads no other row of the club, except the older root if the
-    /// pass isn't signed under the current root. An unknown key and a wrong signature get the same
-    /// refusal.
+    /// Returns the row of the key that a pass names. Returns a refusal if the pass isn't signed
+    /// under this key or the key is revoked. Reads no other row of the club, except the older root
+    /// if the pass isn't signed under the current root. An unknown key and a wrong signature get
+    /// the same refusal.
     fn signer<'a, F: FieldSource<'a> + Drop>(
         &mut self,
         source: &F,

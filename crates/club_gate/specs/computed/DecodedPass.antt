@@ -31,11 +31,11 @@ without_form (Err fault) = Err fault
 abbrev pub decoded_pass : List ℕ → Result Pass PassFault
 decoded_pass text = decoded_or_fault (without_form (reading text))
 
--- The decoded words of a request that has this text as its pass.
+-- The decoded pass of the text, together with the request.
 abbrev pub decoded_words : List ℕ → Request → Words
 decoded_words text request = record { pass = decoded_pass text; request = request }
 
--- The decoded words of a request whose pass is encoded by these bytes in this form.
+-- The pass that these bytes encode in this form, together with the request.
 abbrev pub words_in_form : Form → List ℕ → Request → Words
 words_in_form form bytes request = record { pass = decoded_or_fault (reading_in_form form bytes); request = request }
 
