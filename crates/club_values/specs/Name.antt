@@ -9,8 +9,8 @@ is_name_byte byte = is_in_range 97 122 byte || is_in_range 48 57 byte || byte ==
 abbrev pub max_name_len : ℕ
 max_name_len = 24
 
--- The text is a name. A name has 1 to 24 bytes, each a letter `a` to `z`, a digit or a hyphen. The
--- first byte isn't a hyphen.
+-- The text is a valid name. A name has 1 to 24 bytes, each a letter `a` to `z`, a digit or a
+-- hyphen. The first byte isn't a hyphen.
 pub record IsName (bytes : List ℕ) : Type 0 where
   pub nonempty : 0 < length bytes
   pub short : length bytes ≤ max_name_len

@@ -12,8 +12,8 @@ number_limit = 999_999_999
 abbrev pub are_few_digits : List ℕ → Bool
 are_few_digits text = nat_lt 0 (length text) && nat_le (length text) max_digits && list_all is_ascii_digit text
 
--- The number that one to nine decimal digits encode, or `None` for any other text. Leading zeros
--- are allowed.
+-- The number encoded by one to nine decimal digits, or `None` for any other text. Leading zeros are
+-- allowed.
 abbrev pub number_of_digits : List ℕ → Option ℕ
 number_of_digits text = if are_few_digits text then Some (digits_value 10 text) else None
 

@@ -14,7 +14,7 @@ const MAX_DIGITS: usize = 9;
 /// The greatest number with nine decimal digits.
 pub const MAX_NUMBER: u32 = 999_999_999;
 
-/// Returns the number that two decimal digits encode, or `None` if a byte isn't a digit.
+/// Returns the number encoded by two decimal digits, or `None` if a byte isn't a digit.
 pub fn read_two(tens: u8, ones: u8) -> Option<u8>
     ensures { Reads (λ n. (n < 100) × (tens ∷ ones ∷ [] ≡ spec.two_digits n)) result }
 {
@@ -45,7 +45,7 @@ fn are_few_digits(text: &[u8]) -> bool
     !text.is_empty() && text.len() <= MAX_DIGITS && are_digits(text)
 }
 
-/// Returns the number that 1 to 9 decimal digits encode, or `None` for any other text. Leading
+/// Returns the number encoded by one to nine decimal digits, or `None` for any other text. Leading
 /// zeros are allowed.
 #[tactic(auto, using(crate::proofs::NumberLemmas::digits_read))]
 pub fn read_digits(text: &[u8]) -> Option<u32>
@@ -67,7 +67,7 @@ fn number_in(text: &[u8]) -> Option<u32>
     read_digits(text)
 }
 
-/// Returns the number that one to nine decimal digits encode, or `None` for any other text. Leading
+/// Returns the number encoded by one to nine decimal digits, or `None` for any other text. Leading
 /// zeros aren't allowed.
 #[tactic(auto, using(crate::proofs::TextOfLemmas::reads_numbers))]
 pub fn read_number(text: &[u8]) -> Option<u32>

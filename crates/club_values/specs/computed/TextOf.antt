@@ -14,7 +14,7 @@ is_name bytes =
     nat_lt 0 (length bytes) && nat_le (length bytes) max_name_len && list_all is_name_byte bytes
     && not (slice_index bytes 0 == 45)
 
--- The number that the two digits at index `i` of the text encode.
+-- The number encoded by the two digits at index `i` of the text.
 abbrev pub two_at : List ℕ → ℕ → ℕ
 two_at text i = 10 * (slice_index text i - 48) + (slice_index text (i + 1) - 48)
 
@@ -25,7 +25,7 @@ number_of_date year month day =
     let march_month = if nat_lt month 3 then month + 12 else month in
     9556 + 365 * years + years / 4 + (153 * march_month - 457) / 5 + (day - 1)
 
--- The day or the moment that the digits at the start of the text encode.
+-- The day or the moment encoded by the digits at the start of the text.
 abbrev pub day_of : List ℕ → ℕ
 day_of text = number_of_date (100 * two_at text 0 + two_at text 2) (two_at text 5) (two_at text 8)
 
@@ -49,7 +49,7 @@ where_spelled text value spelled fits = if fits && bytes_eq text spelled then So
 unfoldable pub name_of_text : List ℕ → Option (List ℕ)
 name_of_text text = if is_name text then Some text else None
 
--- The number that one to nine decimal digits without leading zeros encode, or `None` for any other
+-- The number encoded by one to nine decimal digits without leading zeros, or `None` for any other
 -- text.
 unfoldable pub decimal_of_text : List ℕ → Option ℕ
 decimal_of_text text = if nat_lt 1 (length text) && slice_index text 0 == 48 then None else number_of_digits text
