@@ -96,8 +96,8 @@ NamesItsFault Fails old new club event reply =
     (fault : StoreFault) → reply ≡ Refused (faults.Store fault) → FailsAt Fails old new (change_of club event) fault
 
 -- A request gets the reply `Unavailable` only if the store failed or the text is JSON. The store
--- can fail while it reads rows or applies the request's change. Parsing JSON can fail because it
--- needs memory, and leaves the store unchanged.
+-- can fail while it reads rows or applies the request's change. Parsing JSON needs memory, and
+-- leaves the store unchanged.
 abbrev pub FailsForCause : {S : Type 0} → (Option Change → S → StoreFault → S → Type 0) → S → S → Club → List ℕ → Request → ℕ → Reply → Type 0
 FailsForCause Fails old new club text request moment reply =
     reply ≡ member_replies.Refused Unavailable
