@@ -1,4 +1,4 @@
--- Base64 decoding returns a list of bytes.
+-- Lemmas for the proof that base64 decoding returns bytes, which are numbers below 256.
 use Rattle.pass_forms.proofs.Common.{◌≡◌, ℕ, zero, suc, ◌+◌, ◌*◌, ◌/◌, ◌<◌, Bool, true, ltb, List, [], ◌∷◌, ◌++◌, length, take, drop, slice_index, refl, arith}
 use Rattle.pass_forms.proofs.Common.{list_all, lt-ltb, get_or-drop, take-append-drop, DecodeError, GeneralPurpose, IsBytes, decode_of, elements, nat_tests}
 use Rattle.pass_forms.proofs.Common.{IfOk}
@@ -11,7 +11,8 @@ use Rattle.base64.proofs.{Decoding.{IsLeftover, IsLeftover_next}, EngineFacts.{d
 abbrev TypeOf : {A : Type 0} → A → Type 0
 TypeOf {A} x = A
 
--- The state of the decoder after it scanned the last group. The decoder's own type for it has no public name.
+-- `Leftover` is the decoder's state after the scan of the last group of symbols. The decoder's own
+-- type for this state has no public name.
 abbrev Leftover : Type 0
 Leftover = TypeOf no_leftover
 
@@ -22,7 +23,6 @@ pub one_more : (byte : ℕ) (bytes : List ℕ) → byte < 256 → IsBytes bytes 
 one_more byte bytes h others zero = h
 one_more byte bytes h others (suc i) = others i
 
--- A list whose elements are all below 256 is a list of bytes.
 pub bytes_from_passes : (text : List ℕ) → list_all (λ byte. ltb byte 256) text ≡ true → IsBytes text
 bytes_from_passes [] e = nil_is_bytes
 bytes_from_passes (byte ∷ text) e = one_more byte text (grind (arith, nat_tests)) (bytes_from_passes text (grind arith))
@@ -36,21 +36,18 @@ append_is_bytes [] b front back i = back i
 append_is_bytes (x ∷ a) b front back zero = front 0
 append_is_bytes (x ∷ a) b front back (suc i) = append_is_bytes a b (λ k. front (suc k)) back i
 
--- Four values below 64 decode to three bytes.
 group_is_bytes : (m0 m1 m2 m3 : ℕ) → m0 < 64 → m1 < 64 → m2 < 64 → m3 < 64 → IsBytes (decode_group m0 m1 m2 m3)
 group_is_bytes m0 m1 m2 m3 l0 l1 l2 l3 zero = omega arith
 group_is_bytes m0 m1 m2 m3 l0 l1 l2 l3 (suc zero) = omega arith
 group_is_bytes m0 m1 m2 m3 l0 l1 l2 l3 (suc (suc zero)) = omega arith
 group_is_bytes m0 m1 m2 m3 l0 l1 l2 l3 (suc (suc (suc i))) = nil_is_bytes i
 
--- A group of four symbols that decodes without an error yields bytes.
 symbols_are_bytes : (dec s : List ℕ) (i : ℕ) → IsDecodeTable dec → IsBytes s → group_error dec s i ≡ None → IsBytes (group_bytes dec s i)
 symbols_are_bytes dec s i table bytes none =
     let value = λ (k : ℕ). table (slice_index s k) (bytes k) in
     group_is_bytes _ _ _ _ (grind (arith, nat_tests, value i)) (grind (arith, nat_tests, value (i + 1))) (grind (arith, nat_tests, value (i + 2)))
     (grind (arith, nat_tests, value (i + 3)))
 
--- All groups before the last one decode to bytes.
 groups_are_bytes : (dec s : List ℕ) (q : ℕ) → IsDecodeTable dec → IsBytes s → groups_error dec s q ≡ None → IsBytes (groups_bytes dec s q)
 unfolding groups_error groups_bytes
 groups_are_bytes dec s zero table bytes none = nil_is_bytes
@@ -58,7 +55,6 @@ groups_are_bytes dec s (suc q) table bytes none =
     append_is_bytes (groups_bytes dec s q) (group_bytes dec s (4 * q)) (groups_are_bytes dec s q table bytes (grind arith))
     (symbols_are_bytes dec s (4 * q) table bytes (grind arith))
 
--- During the scan of the last group, each stored value is below 64.
 module _ (dec : List ℕ) (pad at : ℕ) (table : IsDecodeTable dec) where
   push_keeps : (st : Leftover) (i b : ℕ) → IsLeftover st i → b < 256 → (next : Result Leftover DecodeError) → push_leftover dec pad at st i b ≡ next →
       IfOk next (λ st. IsLeftover st (i + 1))
@@ -76,7 +72,6 @@ module _ (dec : List ℕ) (pad at : ℕ) (table : IsDecodeTable dec) where
 zeros_below : (k : ℕ) → slice_index (0 ∷ 0 ∷ 0 ∷ 0 ∷ []) k < 64
 zeros_below k = grind (arith, elements)
 
--- The last group decodes to bytes.
 scan_is_bytes : (r : Result Leftover DecodeError) → IfOk r (λ st. (k : ℕ) → slice_index st.morsels k < 64) → IsBytes (scan_bytes r)
 scan_is_bytes (Ok st) small =
     let n : ℕ = st.morsels_count * 6 / 8 in
@@ -84,7 +79,6 @@ scan_is_bytes (Ok st) small =
     front_bytes (take n group) (drop n group) (rw take-append-drop (group_is_bytes _ _ _ _ (small 0) (small 1) (small 2) (small 3)))
 scan_is_bytes (Err e) small = nil_is_bytes
 
--- A text that decodes without an error yields bytes.
 decoded_are_bytes : (dec s : List ℕ) (pad : ℕ) (allow : Bool) (mode : DecodePaddingMode) → IsDecodeTable dec → IsBytes s
     → decode_error dec pad allow mode s ≡ None → IsBytes (decoded_bytes dec pad s)
 decoded_are_bytes dec s pad allow mode table bytes none =
@@ -96,7 +90,6 @@ decoded_are_bytes dec s pad allow mode table bytes none =
 no_error : (error : Option DecodeError) (bytes b : List ℕ) → decode_outcome error bytes ≡ Ok b → error ≡ None
 no_error error bytes b ok = grind arith
 
--- If the text is a list of bytes, the decoded result is a list of bytes too.
 pub decode_of_are_bytes : (e : GeneralPurpose) (s b : List ℕ) → IsBytes s → decode_of e s ≡ Ok b → IsBytes b
 decode_of_are_bytes e s b bytes ok =
     let table : IsDecodeTable e.decode_table = IsDecodeTable_from e.encode_table e.decode_table

@@ -1,4 +1,4 @@
--- Four base64 engines are tried in order. The first one that accepts a text returns the text's bytes.
+-- Lemmas for the proof of `decode_base64`.
 use Rattle.pass_forms.proofs.{Base64Bytes.{bytes_from_passes, passes_from_bytes}, Base64Spelling.{decoded-encode, decoded_spells, spelling_passes, spells_one}}
 use Rattle.pass_forms.proofs.Common.{◌≡◌, ℕ, Bool, true, false, cond, ltb, List, take, refl, ap, ◌∙◌, inl, inr, arith, list_all, IfErr, IfOk, result_ok}
 use Rattle.pass_forms.proofs.Common.{DecodeError, standard, standard_no_pad, url_safe, url_safe_no_pad, IsBytes, IsConsistent, IsDecodedInto, decode_of}
@@ -6,12 +6,12 @@ use Rattle.pass_forms.proofs.Common.{decoded_of, encode_of, GeneralPurpose, IsBa
 use Rattle.std.specs.{Option.{option_map, option_or, IfSome}, declared.{option.Option.{Option, TheVariants.{None, Some}}, result.Result.Result}}
 use Rattle.std.specs.declared.result.Result.TheVariants.{Ok, Err}
 
--- At least one of the four engines decodes the text to these bytes.
+-- `IsDecoded text bytes` means that at least one of the four base64 engines decodes `text` to
+-- `bytes`.
 abbrev IsDecoded : List ℕ → List ℕ → Type 0
 IsDecoded text b = (decoded_of url_safe_no_pad text ≡ Some b) ⊎ (decoded_of url_safe text ≡ Some b) ⊎ (decoded_of standard_no_pad text ≡ Some b)
     ⊎ (decoded_of standard text ≡ Some b)
 
--- If an engine decodes a text to bytes, the text is base64 of these bytes.
 decoded_is : (text b : List ℕ) → IsBytes text → IsDecoded text b → IsBase64 text b
 decoded_is text b bytes (inl e) = let s = decoded_spells url_safe_no_pad text b (refl, refl) bytes e in record { are_bytes = s.1; spelling = inl s.0 }
 decoded_is text b bytes (inr (inl e)) =
@@ -21,7 +21,6 @@ decoded_is text b bytes (inr (inr (inl e))) =
 decoded_is text b bytes (inr (inr (inr e))) =
     let s = decoded_spells standard text b (refl, refl) bytes e in record { are_bytes = s.1; spelling = inr (inr (inr s.0)) }
 
--- An engine decodes its own encoding of bytes to the same bytes.
 decoded_by : (e : GeneralPurpose) (text b : List ℕ) → IsConsistent e → IsBytes b → text ≡ encode_of e b → decoded_of e text ≡ Some b
 decoded_by e text b consistent bytes spelling = rw spelling (decoded-encode e b consistent bytes)
 
@@ -33,7 +32,6 @@ is_decoded text b is = elim is.spelling [
   | inr (inr (inr e)) ↦ inr (inr (inr (decoded_by standard text b refl is.are_bytes e)))
 ]
 
--- If the first of four results that isn't `None` is `b`, at least one of the four results is `b`.
 first_answer : (w x y z : Option (List ℕ)) (b : List ℕ) → option_or (option_or w x) (option_or y z) ≡ Some b →
     (w ≡ Some b) ⊎ (x ≡ Some b) ⊎ (y ≡ Some b) ⊎ (z ≡ Some b)
 first_answer w x y z b e = grind arith
@@ -45,7 +43,6 @@ one_answer None (Some c) y z b some one = ap (λ (l : List ℕ). Some l) (one c 
 one_answer None None (Some c) z b some one = ap (λ (l : List ℕ). Some l) (one c (inr (inr (inl refl))))
 one_answer None None None z b some one = grind arith
 
--- If the four engines, tried in order, return bytes, the text is base64 of these bytes.
 decoders_spell : (text b : List ℕ) → IsBytes text → by_decoders text ≡ Some b → IsBase64 text b
 unfolding by_decoders
 decoders_spell text b bytes found = decoded_is text b bytes (first_answer _ _ _ _ b found)
@@ -55,7 +52,6 @@ unfolding by_decoders
 spells_to_decoders text b bytes is =
     one_answer _ _ _ _ b (is_decoded text b is) (λ c found. spells_one text c b (decoded_is text c bytes found) is)
 
--- For a text of bytes, `from_base64` returns what `by_decoders` returns.
 pub from_base64_is : (text : List ℕ) → IsBytes text → from_base64 text ≡ by_decoders text
 unfolding from_base64
 from_base64_is text bytes = rw (passes_from_bytes text bytes) refl
@@ -73,7 +69,6 @@ spells_from_base64 text b is =
     let bytes : IsBytes text = bytes_from_passes text (spelling_passes (λ byte. ltb byte 256) text b refl refl refl refl is) in
     from_base64_is text bytes ∙ spells_to_decoders text b bytes is
 
--- After an engine's call, the front of the buffer contains the decoded bytes, or the engine refused the text.
 pub decoded_into : (e : GeneralPurpose) (text old new : List ℕ) (r : Result ℕ DecodeError) (answer : Option ℕ) → answer ≡ result_ok r
     → IfOk r (λ n. IsDecodedInto e text n old new) → IfErr r (λ error. decode_of e text ≡ Err error)
     → option_map (λ n. take n new) answer ≡ decoded_of e text
@@ -81,7 +76,6 @@ unfolding decoded_of
 decoded_into e text old new (Ok n) answer is ok err = rw (is, ok.0) refl
 decoded_into e text old new (Err error) answer is ok err = rw (is, err) refl
 
--- One call of an engine writes no more bytes than the buffer can hold.
 pub decoded_within : (e : GeneralPurpose) (text old new : List ℕ) (r : Result ℕ DecodeError) (answer : Option ℕ) (buffer : ℕ) → answer ≡ result_ok r
     → IfOk r (λ n. IsDecodedInto e text n old new) → length old ≤ buffer → IfSome answer (λ n. n ≤ buffer)
 decoded_within e text old new (Ok n) answer buffer is ok fits = rw is (omega arith)

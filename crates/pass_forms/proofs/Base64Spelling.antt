@@ -1,4 +1,4 @@
--- The base64 texts of a list of bytes, and the engines that decode them.
+-- Lemmas about base64 encoding and decoding.
 use Rattle.pass_forms.proofs.{Base64Bytes.decode_of_are_bytes, Base64Symbols.{encode_map, encode_passes, standard_symbol}, Common.{◌≡◌, ℕ, ◌==◌, not, Bool}}
 use Rattle.pass_forms.proofs.Common.{true, false, List, [], ◌∷◌, drop, map, refl, sym, ◌∙◌, inl, inr, Decides-eqb, list_all, result_ok, standard, url_safe}
 use Rattle.pass_forms.proofs.Common.{IsBytes, IsConsistent, IsStrict, decode_of, decoded_of, encode_of, engine_symbols, encode, DecodeError, GeneralPurpose}
@@ -8,7 +8,7 @@ use Rattle.std.specs.declared.{option.Option.TheVariants.Some, result.Result.{Re
 use Rattle.base64.specs.{Decode.decoded_bytes, declared.engine.DecodePaddingMode.TheVariants.Indifferent}
 use Rattle.base64.proofs.{EngineFacts.{decode_of-encode_of, decode_of_strict}, RoundTrip.decode-encode}
 
--- The symbols of the two alphabets, standard and URL-safe.
+-- The 64 symbols of the standard base64 alphabet (RFC 4648, section 4).
 abbrev standard_symbols : List ℕ
 standard_symbols = engine_symbols standard
 
@@ -18,23 +18,19 @@ url_safe_symbols = engine_symbols url_safe
 some_ok : (r : Result (List ℕ) DecodeError) (b : List ℕ) → result_ok r ≡ Some b → r ≡ Ok b
 some_ok r b some = grind arith
 
--- If a strict engine decodes a text to bytes, the text is the engine's encoding of these bytes.
 pub decoded_spells : (e : GeneralPurpose) (text b : List ℕ) → IsStrict e → IsBytes text → decoded_of e text ≡ Some b → (text ≡ encode_of e b) × IsBytes b
 unfolding decoded_of
 decoded_spells e text b strict bytes decoded =
     let ok = some_ok (decode_of e text) b decoded in
     (decode_of_strict e text b strict bytes ok, decode_of_are_bytes e text b bytes ok)
 
--- A consistent engine decodes its encoding of bytes to these bytes.
 pub decoded-encode : (e : GeneralPurpose) (b : List ℕ) → IsConsistent e → IsBytes b → decoded_of e (encode_of e b) ≡ Some b
 unfolding decoded_of
 decoded-encode e b consistent bytes = rw (decode_of-encode_of e b consistent bytes) refl
 
--- An encoding of bytes in the standard alphabet decodes to these bytes.
 standard_decodes : (b : List ℕ) (padding : Bool) → IsBytes b → decoded_bytes standard.decode_table 61 (encode standard_symbols 61 padding b) ≡ b
 standard_decodes b padding are = (decode-encode standard.encode_table standard.decode_table b 61 false Indifferent padding standard.tables are tt).1
 
--- A property that all four encodings of bytes have also holds for any base64 text of the bytes.
 spelled_by : (text b : List ℕ) (P : List ℕ → Type 0) → ((text ≡ encode_of url_safe_no_pad b) ⊎ (text ≡ encode_of url_safe b)
     ⊎ (text ≡ encode_of standard_no_pad b) ⊎ (text ≡ encode_of standard b)) →
     ((padding : Bool) → P (encode url_safe_symbols 61 padding b) × P (encode standard_symbols 61 padding b)) → P text
@@ -48,11 +44,9 @@ spelled_decodes text b is = spelled_by text b (λ t. decoded_bytes standard.deco
     let decodes = standard_decodes b padding is.are_bytes in
     (rw (encode_map url_safe_symbols b padding) decodes, rw (encode_map standard_symbols b padding) decodes))
 
--- A text is base64 of at most one list of bytes.
 pub spells_one : (text a b : List ℕ) → IsBase64 text a → IsBase64 text b → a ≡ b
 spells_one text a b left right = sym (spelled_decodes text a left) ∙ spelled_decodes text b right
 
--- Every byte of a base64 text passes a test, if 0, the padding and all symbols pass it.
 pub spelling_passes : (p : ℕ → Bool) (text b : List ℕ) → p 0 ≡ true → p 61 ≡ true → list_all p standard_symbols ≡ true → list_all p url_safe_symbols ≡ true
     → IsBase64 text b → list_all p text ≡ true
 spelling_passes p text b past padded std url is = spelled_by text b (λ t. list_all p t ≡ true) is.spelling (λ padding.

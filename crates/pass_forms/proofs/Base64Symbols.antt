@@ -1,15 +1,13 @@
--- The symbols of a base64 encoding: each is a byte, and each has a counterpart in the standard alphabet.
+-- Lemmas about the symbols of a base64 text.
 use Rattle.pass_forms.proofs.Common.{◌≡◌, ℕ, zero, suc, ◌+◌, ◌*◌, ◌/◌, ◌%◌, ◌==◌, if◌then◌else◌, Bool, true, List, [], ◌∷◌, replicate, slice_index, map, refl}
 use Rattle.pass_forms.proofs.Common.{ap, list_all, and_parts, encode, encode_symbols, arith, common_steps}
 
--- If 0 and each symbol of a table pass a test, the table's entry at any index passes it.
 passes_at : (p : ℕ → Bool) (t : List ℕ) (i : ℕ) → p 0 ≡ true → list_all p t ≡ true → p (slice_index t i) ≡ true
 passes_at p [] zero past all = past
 passes_at p [] (suc i) past all = past
 passes_at p (x ∷ xs) zero past all = (and_parts (p x) (list_all p xs) all).0
 passes_at p (x ∷ xs) (suc i) past all = passes_at p xs i past (and_parts (p x) (list_all p xs) all).1
 
--- If 0 and each symbol of a table pass a test, each symbol of an encoded message passes it.
 pub symbols_pass : (p : ℕ → Bool) (t m : List ℕ) → p 0 ≡ true → list_all p t ≡ true → list_all p (encode_symbols t m) ≡ true
 unfolding encode_symbols
 symbols_pass p t [] past all = refl
@@ -17,17 +15,16 @@ symbols_pass p t (a ∷ []) past all = grind (arith, passes_at)
 symbols_pass p t (a ∷ b ∷ []) past all = grind (arith, passes_at)
 symbols_pass p t (a ∷ b ∷ c ∷ rest) past all = grind (arith, passes_at p t, symbols_pass p t rest past all)
 
--- If a byte passes a test, each of its copies passes it.
 copies_pass : (p : ℕ → Bool) (x k : ℕ) → p x ≡ true → list_all p (replicate k x) ≡ true
 copies_pass p x zero passes = refl
 copies_pass p x (suc k) passes = rw passes (copies_pass p x k passes)
 
--- If 0, the padding and each symbol of the table pass a test, each byte of an encoding passes it.
 pub encode_passes : (p : ℕ → Bool) (t m : List ℕ) (pad : ℕ) (padding : Bool) → p 0 ≡ true → p pad ≡ true → list_all p t ≡ true
     → list_all p (encode t pad padding m) ≡ true
 encode_passes p t m pad padding past padded all = grind (arith, common_steps, symbols_pass, copies_pass)
 
--- The standard alphabet's symbol for the same six bits.
+-- Converts a symbol of the URL-safe base64 alphabet to the symbol of the standard alphabet with the
+-- same value.
 abbrev pub standard_symbol : ℕ → ℕ
 standard_symbol x = if x == 45 then 43 else if x == 95 then 47 else x
 
@@ -37,7 +34,6 @@ index_map [] (suc i) = refl
 index_map (x ∷ t) zero = refl
 index_map (x ∷ t) (suc i) = index_map t i
 
--- Replacing each symbol by its standard counterpart gives the encoding with the standard table.
 symbols_map : (t m : List ℕ) → map standard_symbol (encode_symbols t m) ≡ encode_symbols (map standard_symbol t) m
 unfolding encode_symbols
 symbols_map t [] = refl
@@ -50,6 +46,5 @@ padding_map : (k : ℕ) → map standard_symbol (replicate k 61) ≡ replicate k
 padding_map zero = refl
 padding_map (suc k) = ap (λ (rest : List ℕ). 61 ∷ rest) (padding_map k)
 
--- In an encoding with padding, replacing each symbol by its standard counterpart gives the encoding with the standard table.
 pub encode_map : (t m : List ℕ) (padding : Bool) → map standard_symbol (encode t 61 padding m) ≡ encode (map standard_symbol t) 61 padding m
 encode_map t m padding = grind (arith, common_steps, symbols_map, padding_map)

@@ -1,4 +1,4 @@
--- In V1, a reader finds exactly the caveats that were written.
+-- Lemmas for the proof that the V1 reader recovers a written pass's caveats.
 use Rattle.pass_forms.proofs.{CaveatTexts.Exact, Common.{◌≡◌, ℕ, ◌≤◌, List, ◌++◌, length, Option, Some, None, refl, sym, ap, subst, ◌∙◌, append_assoc, arith}}
 use Rattle.pass_forms.proofs.Common.{IfSome, same_Some, WideCaveat, packet, optional_packet, caveat_packets, FitsPacket, FitsCaveat, found_or_none, packet_at}
 use Rattle.pass_forms.proofs.{Common.{optional_at, caveat_at, common_steps}, Digits.bind_some, FieldNames.{caveat_key, verifier_id_key, caveat_location_key}}
@@ -33,7 +33,8 @@ caveat_takes bytes found e =
     let fits : FitsCaveat caveat = record { identifier = ti.1; verifier_id = tv.1; location = tl.1 } in
     subst (λ (x : WideCaveat × List ℕ). (bytes ≡ caveat_packets x.0 ++ x.1) × FitsCaveat x.0) (same_Some (caveat, l.1) found i.2) (whole, fits)
 
--- The bytes after a caveat don't begin with a packet that would belong to the caveat.
+-- `EndsCaveat rest` means that `rest` doesn't begin with a verifier id's packet or a caveat
+-- location's packet.
 pub record EndsCaveat (rest : List ℕ) : Type 0 where
   pub verifier_id : packet_at verifier_id_key rest ≡ None
   pub location : packet_at caveat_location_key rest ≡ None
@@ -42,7 +43,6 @@ optional_again : (key : List ℕ) (text : Option (List ℕ)) (rest : List ℕ) �
     optional_at key (optional_packet key text ++ rest) ≡ (text, rest)
 optional_again key text rest fits none = grind (arith, packet_again)
 
--- A packet with a caveat's location isn't read as a verifier id.
 no_verifier_id : (location : Option (List ℕ)) (rest : List ℕ) → EndsCaveat rest →
     packet_at verifier_id_key (optional_packet caveat_location_key location ++ rest) ≡ None
 no_verifier_id location rest ends = grind (arith, ends.verifier_id, packet_other verifier_id_key caveat_location_key)
@@ -56,7 +56,6 @@ caveat_again caveat rest fits ends =
     let second = optional_again verifier_id_key caveat.verifier_id (l ++ rest) fits.verifier_id (no_verifier_id caveat.location rest ends) in
     ap caveat_at (packets_assoc caveat rest) ∙ rw (packet_again caveat_key caveat.identifier (v ++ (l ++ rest)) fits.identifier, second, last) refl
 
--- The packets of the next caveat don't belong to the caveat before it.
 caveat_ends : (caveat : WideCaveat) (rest : List ℕ) → FitsCaveat caveat → EndsCaveat (caveat_packets caveat ++ rest)
 caveat_ends caveat rest fits = record {
   verifier_id = rw append_assoc (packet_other verifier_id_key caveat_key caveat.identifier _ (λ tail. refl));

@@ -1,22 +1,23 @@
--- A scan of caveats one by one, in either layout. The scanned caveats and the remaining ones are the whole list.
+-- Lemmas about scanning caveats one by one, in V1 or V2.
 use Rattle.pass_forms.proofs.Common.{◌≡◌, ℕ, zero, suc, ◌+◌, Bool, ◌||◌, List, [], length, Option, Some, None, option_map, refl, arith, list_any, and_others}
 use Rattle.pass_forms.proofs.Common.{caveats_at, summary, WideCaveat, is_third_party}
 
 abbrev pub Reader : Type 0
 Reader = List ℕ → Option (WideCaveat × List ℕ)
 
--- A list of caveats, and the bytes after it.
+-- A list of caveats, and the bytes after the last caveat.
 abbrev pub Run : Type 0
 Run = List WideCaveat × List ℕ
 
--- `count` and `third_party` describe the scanned caveats. Together with the remaining caveats (`left`), they describe the whole list.
+-- The invariant of a scan over the caveats in `whole`. The caveats in `left` are not scanned yet.
+-- `count` is the number of scanned caveats. `third_party` records whether a scanned caveat is a
+-- third-party caveat.
 pub record Keeps (count : ℕ) (third_party : Bool) (left whole : Run) : Type 0 where
   pub count_is : count + length left.0 ≡ length whole.0
   pub any : (third_party || list_any is_third_party left.0) ≡ list_any is_third_party whole.0
   pub after : left.1 ≡ whole.1
 
 module _ (at : Reader) where
-  -- One more step of a scan reads the next caveat, if there is one, and then the others.
   pub one_more : (fuel less : ℕ) (rest : List ℕ) → fuel ≡ suc less → caveats_at at fuel rest ≡ and_others (caveats_at at less) rest (at rest)
   unfolding caveats_at
   one_more fuel less rest e = rw e refl
@@ -29,7 +30,6 @@ module _ (at : Reader) where
   unfolding caveats_at
   none_follow fuel rest content = grind arith
 
-  -- If n caveats were found, a scan with the limit n finds the same caveats.
   pub as_many : (n : ℕ) (bytes : List ℕ) → caveats_at at (length (caveats_at at n bytes).0) bytes ≡ caveats_at at n bytes
   unfolding caveats_at
   as_many zero bytes = refl

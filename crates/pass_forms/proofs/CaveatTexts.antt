@@ -1,13 +1,14 @@
--- In either layout, a reader finds exactly the caveats that were written.
+-- Lemmas for the proof that a reader recovers a written pass's caveats, in V1 or V2.
 use Rattle.pass_forms.proofs.{CaveatRuns.Reader, Common.{◌≡◌, ℕ, zero, suc, ◌≤◌, List, [], ◌∷◌, ◌++◌, length, Some, None, refl, sym, ap, ◌∙◌, subst, arith}}
 use Rattle.pass_forms.proofs.Common.{flat_map, AllByRecursion, length-append, and_others, caveats_at, WideCaveat, common_steps}
 use Rattle.std.proofs.lemmas.List.Concat.{flat_map-cons}
 
--- A layout reads back each written caveat that fits the layout, if the bytes after it can't belong to the caveat.
+-- `Exact at text Fits Ends` means that the parser `at` accepts exactly the bytes that `text`
+-- returns for a caveat. `Fits` is the condition on the caveat, and `Ends` is the condition on the
+-- bytes after the caveat.
 pub record Exact (at : Reader) (text : WideCaveat → List ℕ) (Fits : WideCaveat → Type 0) (Ends : List ℕ → Type 0) : Type 0 where
   pub takes : (bytes : List ℕ) (found : WideCaveat × List ℕ) → at bytes ≡ Some found → (bytes ≡ text found.0 ++ found.1) × Fits found.0
   pub again : (caveat : WideCaveat) (rest : List ℕ) → Fits caveat → Ends rest → at (text caveat ++ rest) ≡ Some (caveat, rest)
-  -- The bytes of a caveat can't belong to the caveat before them.
   pub next : (caveat : WideCaveat) (rest : List ℕ) → Fits caveat → Ends (text caveat ++ rest)
 
 regrouped : (text : WideCaveat → List ℕ) (caveat : WideCaveat) (caveats : List WideCaveat) (rest : List ℕ) →
@@ -30,7 +31,6 @@ module _ (at : Reader) (text : WideCaveat → List ℕ) (Fits : WideCaveat → T
             (first.0 ∙ ap (λ (x : List ℕ). text found.0 ++ x) more.0 ∙ sym (regrouped text found.0 left.0 left.1), (first.1, more.1))
       ] refl
 
-  -- The bytes of the next caveat, or of the end, can't belong to the caveat before them.
   caveats_end : (caveats : List WideCaveat) (rest : List ℕ) → AllByRecursion Fits caveats → Ends rest → Ends (flat_map text caveats ++ rest)
   caveats_end [] rest fits ends = ends
   caveats_end (caveat ∷ caveats) rest fits ends =
@@ -47,7 +47,6 @@ module _ (at : Reader) (text : WideCaveat → List ℕ) (Fits : WideCaveat → T
       ap (caveats_at at (suc n)) (regrouped text caveat caveats rest)
       ∙ rw (exact.again caveat others fits.0 (caveats_end caveats rest fits.1 ends), caveats_again n caveats rest (omega arith) fits.1 ends none) refl
 
--- If every caveat has at least one byte, there are no more caveats than bytes.
 pub caveats_fit : (text : WideCaveat → List ℕ) → ((caveat : WideCaveat) → 1 ≤ length (text caveat)) → (caveats : List WideCaveat) →
     length caveats ≤ length (flat_map text caveats)
 caveats_fit text long [] = omega arith

@@ -1,11 +1,9 @@
--- If bytes encode at most one wide pass, a text with these bytes has exactly one reading.
+-- Lemmas for the proof that a text has exactly one reading.
 use Rattle.pass_forms.proofs.Common.{◌≡◌, ◌↔◌, ℕ, ◌≤◌, Bool, false, cond, ltb, ◌||◌, List, [], ◌∷◌, length, map, Option, Some, None, Result, Ok, Err, refl, ap}
 use Rattle.pass_forms.proofs.Common.{subst, arith, is_some, list_any, length-map, or_parts, le-ltb, lt-ltb, FormFault, TooLong, Malformed, ThirdParty, TooMany}
 use Rattle.pass_forms.proofs.Common.{Memory, ComputesSpelled, OnePassEach, Plain, WideCaveat, WidePass, is_third_party, has_third_party, widened_caveat}
 use Rattle.pass_forms.proofs.Common.{as_wide_pass, first_party_caveat, first_party, max_text_len, max_caveats, IsReadAs, nat_tests, common_steps}
 use Rattle.pass_forms.specs.computed.Reading.{checked_if_any, reading_of}
-
--- ---- a wide pass without third-party caveats is a pass
 
 is_first_party : (identifier : List ℕ) (verifier_id location : Option (List ℕ)) → (is_some verifier_id || is_some location) ≡ false → ◌≡◌ {A = WideCaveat}
     (widened_caveat identifier) (record { identifier = identifier; verifier_id = verifier_id; location = location })
@@ -31,9 +29,8 @@ no_third_party : (caveats : List (List ℕ)) → list_any is_third_party (map wi
 no_third_party [] = refl
 no_third_party (caveat ∷ caveats) = no_third_party caveats
 
--- ---- `IsReadAs` allows the computed reading and no other
-
--- The computed wide pass is the only one that `Spelled` allows.
+-- `Computes Spelled computed` means that `computed` is the only wide pass that satisfies `Spelled`.
+-- If no wide pass satisfies `Spelled`, `computed` is `None`.
 abbrev pub Computes : (WidePass → Type 0) → Option WidePass → Type 0
 Computes Spelled computed = (wide : WidePass) → Spelled wide ↔ (computed ≡ Some wide)
 
@@ -70,13 +67,10 @@ module _ (len : ℕ) (Spelled : WidePass → Type 0) where
   reading_determined computed (Err Memory) exact h = absurd h
   reading_determined computed answer exact h = rw (le-ltb max_text_len len h.0) (checked_determined computed answer exact h.0 h)
 
-  -- `IsReadAs` allows exactly one result: the computed one.
   pub exactly : (computed : Option WidePass) → Computes Spelled computed → (answer : Result Plain FormFault) →
       IsReadAs len Spelled answer ↔ (reading_of len computed ≡ answer)
   exactly computed exact answer =
       (reading_determined computed answer exact, λ e. subst (IsReadAs len Spelled) e (reading_by computed (ltb max_text_len len) refl exact))
-
--- ---- forms with a function that computes the encoded wide pass
 
 pub one_each : (Spells : List ℕ → WidePass → Type 0) (wide_at : List ℕ → Option WidePass) → ComputesSpelled Spells wide_at → OnePassEach Spells
 one_each Spells wide_at exact bytes one other h k = grind (arith, exact)

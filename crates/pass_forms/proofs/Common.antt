@@ -1,4 +1,4 @@
--- Re-exports the names that most proofs here cite. Declares nothing.
+-- Re-exports the names that the proofs of this crate use most.
 pub use Rattle.std.proofs.Common.{arith, ◌≡◌, ℕ, List, length, refl, [], ◌≤◌, ◌∙◌, ◌++◌, ◌∷◌, ap, sym, append_assoc, ◌+◌, rules, suc, ◌<◌, Bool, map, subst}
 pub use Rattle.std.proofs.Common.{◌↔◌, zero, ◌/◌, true, false, ◌*◌, ltb, inl, inr, ◌-◌, take, drop, ◌^◌, Result, Ok, cond, ◌%◌, slice_index, Option, None, Err}
 pub use Rattle.std.proofs.Common.{Some, ◌⊎◌, ◌==◌, ◌||◌, option_map, not, if◌then◌else◌, replicate, IfSome, is_some, codes, ◌&&◌, leb, Vec, Global, fold, IsOk}

@@ -1,4 +1,5 @@
--- Reading a written hexadecimal digit gives the same digit. Reading four written digits gives the same number.
+-- Lemmas for the proof that the V1 reader recovers a packet's length from its four hexadecimal
+-- digits.
 use Rattle.pass_forms.proofs.Common.{◌≡◌, ℕ, ◌+◌, ◌*◌, ◌^◌, ◌<◌, List, [], ◌∷◌, ◌++◌, Option, Some, None, refl, arith, nat_tests, same_Some, hex_digit}
 use Rattle.pass_forms.proofs.Common.{four_hex_digits, ◌>>=◌, digit_value, len_at}
 
@@ -15,7 +16,6 @@ digits_of_value : (x y z w : ℕ) → x < 16 → y < 16 → z < 16 → w < 16
     → four_hex_digits (value x y z w) ≡ hex_digit x ∷ hex_digit y ∷ hex_digit z ∷ hex_digit w ∷ []
 digits_of_value x y z w hx hy hz hw = grind arith
 
--- If two steps in sequence return a value, each of them returned a value.
 pub bind_some : {A B : Type 0} (o : Option A) (f : A → Option B) (y : B) → (o >>= f) ≡ Some y → (x : A) × (o ≡ Some x) × (f x ≡ Some y)
 bind_some None f y e = absurd cc
 bind_some (Some x) f y e = (x, refl, e)

@@ -1,11 +1,10 @@
--- A text wraps at most one list of bytes, and unwrapping the text has exactly one result.
+-- Lemmas for the proofs of the laws about pass texts and the bytes in them.
 use Rattle.pass_forms.proofs.{Base64Decoding.{from_base64_spells, spells_from_base64}, Base64Spelling.{spelling_brace, spells_one}, Common.{◌≡◌, ◌↔◌, ◌≤◌, ℕ}}
 use Rattle.pass_forms.proofs.Common.{false, List, length, refl, sym, subst, ◌∙◌, inl, inr, Result, Ok, Err, Option, None, Some, arith, rules, cases_Bool}
 use Rattle.pass_forms.proofs.Common.{cases_lt, lt-ltb, le-ltb, FormFault, TooLong, Malformed, Form, IsBase64, IsUnwrapped, Wraps, form_of, starts_with_brace}
 use Rattle.pass_forms.proofs.Common.{from_base64, unwrapping, with_its_form, max_text_len, option_map}
 use Rattle.std.specs.Option.{ok_or, option_and_then}
 
--- A text wraps at most one form and one list of bytes.
 pub wraps_one : (text : List ℕ) (f g : Form) (a b : List ℕ) → Wraps text f a → Wraps text g b → (f ≡ g) × (a ≡ b)
 wraps_one text f g a b (inl x) (inl y) = (x.1 ∙ sym y.1, x.2 ∙ sym y.2)
 wraps_one text f g a b (inl x) (inr y) = absurd (spelling_brace text b y.0 x.0)
@@ -18,7 +17,6 @@ wraps_one text f g a b (inr x) (inr y) =
 abbrev pub Answer : Type 0
 Answer = Result (Form × List ℕ) FormFault
 
--- The result for a text that is within the limit and doesn't start with a brace.
 decoded_answer : (text : List ℕ) (found : Option (List ℕ)) → ((b : List ℕ) → (found ≡ Some b) ↔ IsBase64 text b) → length text ≤ max_text_len →
     starts_with_brace text ≡ false → IsUnwrapped text (ok_or (option_and_then with_its_form found) Malformed)
 decoded_answer text None exact short brace = (short, none)
@@ -36,7 +34,6 @@ decoded_answer text (Some b) exact short brace = by_form (form_of b) refl
         none form other (inr is) = cc ((exact other).1 is.0, is.1, e)
     by_form (Some form) e = (short, inr ((exact b).0 refl, e))
 
--- `IsUnwrapped` allows the result that `unwrapping` computes.
 pub unwrapped_answers : (text : List ℕ) → IsUnwrapped text (unwrapping text)
 unfolding unwrapping
 unwrapped_answers text = elim (cases_lt max_text_len (length text)) [
@@ -49,7 +46,6 @@ unwrapped_answers text = elim (cases_lt max_text_len (length text)) [
   ]
 ]
 
--- `IsUnwrapped` allows at most one result for a text.
 one_answer : (text : List ℕ) (x y : Answer) → IsUnwrapped text x → IsUnwrapped text y → x ≡ y
 one_answer text (Ok (f, a)) (Ok (g, b)) left right =
     let same = wraps_one text f g a b left.1 right.1 in
@@ -60,11 +56,9 @@ one_answer text (Err TooLong) (Err TooLong) left right = refl
 one_answer text (Err Malformed) (Err Malformed) left right = refl
 one_answer text x y left right = first_of (search rules, omega arith)
 
--- `IsUnwrapped` allows exactly one result for a text: the one that `unwrapping` computes.
 pub unwrapped_is : (text : List ℕ) (answer : Answer) → (unwrapping text ≡ answer) ↔ IsUnwrapped text answer
 unwrapped_is text answer =
     (λ e. subst (IsUnwrapped text) e (unwrapped_answers text), one_answer text (unwrapping text) answer (unwrapped_answers text))
 
--- `IsUnwrapped` allows a result that equals the computed one.
 pub answers_as : (text : List ℕ) (answer : Answer) → answer ≡ unwrapping text → IsUnwrapped text answer
 answers_as text answer is = subst (IsUnwrapped text) (sym is) (unwrapped_answers text)

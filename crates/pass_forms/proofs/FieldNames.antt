@@ -1,4 +1,4 @@
--- Names for the keys of V1's packets, for use in lemmas.
+-- Short names for the keys of V1's packets.
 use Rattle.pass_forms.proofs.Common.{ℕ, List, codes}
 
 abbrev pub location_key : List ℕ

@@ -1,13 +1,10 @@
--- A reader finds exactly the fields that were written, whatever bytes follow them.
+-- Lemmas for the proof that the V2 reader recovers each written field.
 use Rattle.pass_forms.proofs.Common.{◌≡◌, ℕ, zero, suc, ◌+◌, ◌-◌, ◌*◌, ◌/◌, ◌%◌, ◌^◌, ◌<◌, ◌≤◌, List, [], ◌∷◌, ◌++◌, length, Option, Some, None, refl, sym, ap}
 use Rattle.pass_forms.proofs.Common.{◌∙◌, arith, inl, inr, cases_lt, lt-ltb, le-ltb, nat_tests, take-append-drop, groups, varint, field, optional_field}
 use Rattle.pass_forms.proofs.{Common.{varint_up_to, counted_at, field_at, common_steps}, Packets.{after_prefix_takes, after_prefix_again}}
 use Rattle.pass_forms.proofs.Varints.{varint_last, varint_more, above_some}
 use Rattle.pass_forms.specs.computed.V2Reading.{optional_at}
 
--- ---- numbers
-
--- A limit above the number of groups doesn't change the encoding.
 groups_enough : (more n : ℕ) → n < 128 → groups more n ≡ n ∷ []
 unfolding groups
 groups_enough more n small = grind (arith, nat_tests)
@@ -25,7 +22,6 @@ groups_same (suc more) (suc less) n m l = elim (cases_lt n 128) [
 ]
 groups_same more less n m l = groups_enough more n (omega arith) ∙ sym (groups_enough less n (omega arith))
 
--- The varint of a number of more than seven bits.
 pub varint_large : (n : ℕ) → 128 ≤ n → varint n ≡ (128 + n % 128) ∷ varint (n / 128)
 unfolding varint
 varint_large zero large = absurd (omega arith)
@@ -37,7 +33,6 @@ pub varint_small : (n : ℕ) → n < 128 → varint n ≡ n ∷ []
 unfolding varint
 varint_small n small = groups_enough n n small
 
--- The varint of a number of eight to fourteen bits.
 pub varint_of_two : (n : ℕ) → 128 ≤ n → n < 2 ^ 14 → varint n ≡ (128 + n % 128) ∷ n / 128 ∷ []
 varint_of_two n large small = grind (arith, varint_large, varint_small)
 
@@ -81,8 +76,6 @@ again_below (suc bound) most n rest b within = elim (cases_lt n 128) [
 
 varint_again : (n : ℕ) (rest : List ℕ) → n ≤ length (varint n ++ rest) → varint_up_to (length (varint n ++ rest)) (varint n ++ rest) ≡ Some (n, rest)
 varint_again n rest within = again_below n (length (varint n ++ rest)) n rest (omega arith) within
-
--- ---- fields
 
 counted_takes : (n : ℕ) (bytes text rest : List ℕ) → counted_at (n, bytes) ≡ Some (text, rest) → (bytes ≡ text ++ rest) × (length text ≡ n)
 counted_takes n bytes text rest e = grind (arith, common_steps, take-append-drop)

@@ -1,4 +1,4 @@
--- A reader finds exactly the packets that were written, whatever bytes follow them.
+-- Lemmas for the proof that the V1 reader recovers each written packet.
 use Rattle.pass_forms.proofs.Common.{◌≡◌, ℕ, ◌+◌, ◌-◌, ◌^◌, ◌<◌, ◌≤◌, ◌&&◌, leb, List, [], ◌∷◌, ◌++◌, length, take, drop, Some, None, refl, sym, ap, ◌∙◌}
 use Rattle.pass_forms.proofs.Common.{append_assoc, arith, and_parts, leb-true, cond_some, some_pair_parts, drop-take, take-take, take_at, drop_at}
 use Rattle.pass_forms.proofs.Common.{take-append-drop, length-append, length-take, length-drop, four_hex_digits, packet_len, packet, FitsPacket, after_prefix}
@@ -17,7 +17,6 @@ before_suffix_takes suffix bytes front e = grind (arith, common_steps, take-appe
 before_suffix_again : (suffix front : List ℕ) → before_suffix suffix (front ++ suffix) ≡ Some front
 before_suffix_again suffix front = grind (arith, common_steps, bytes_eq-Decides)
 
--- Bytes that begin with a packet's length, key and end are this packet, followed by other bytes.
 framed : (bytes more key text : List ℕ) (n : ℕ) → n < 2 ^ 16 → bytes ≡ four_hex_digits n ++ more → n ≤ length bytes →
     drop 4 (take n bytes) ≡ key ++ (text ++ 10 ∷ []) → (bytes ≡ packet key text ++ drop n bytes) × FitsPacket key text
 framed bytes more key text n fits begins within body =
@@ -59,11 +58,9 @@ packet_takes key bytes text rest e =
 pub length-packet : (key text : List ℕ) → length (packet key text) ≡ packet_len key text
 length-packet key text = grind (arith, common_steps)
 
--- The bytes of a packet after its four digits.
 behind_digits : (key text rest : List ℕ) → drop 4 (packet key text ++ rest) ≡ key ++ ((text ++ 10 ∷ []) ++ rest)
 behind_digits key text rest = grind (arith, common_steps)
 
--- A packet is read from bytes that begin with its length, its key and its text.
 packet_by : (key text rest bytes : List ℕ) (n : ℕ) → n ≡ packet_len key text → n ≤ length bytes → len_at bytes ≡ Some n →
     drop 4 bytes ≡ key ++ ((text ++ 10 ∷ []) ++ rest) → drop n bytes ≡ rest → packet_at key bytes ≡ Some (text, rest)
 unfolding packet_at
@@ -78,7 +75,6 @@ packet_again key text rest fits =
     packet_by key text rest bytes n refl (omega (arith, length-append (packet key text) rest, length-packet key text)) read (behind_digits key text rest)
     (drop_at (packet key text) rest n (length-packet key text))
 
--- If the first key isn't a prefix of the second, a packet with the second key isn't read as one with the first.
 pub packet_other : (key other text rest : List ℕ) → ((tail : List ℕ) → after_prefix key (other ++ tail) ≡ None) →
     packet_at key (packet other text ++ rest) ≡ None
 unfolding packet_at

@@ -1,4 +1,4 @@
--- If each form has a function that computes the wide pass of bytes, a text has exactly one reading.
+-- Lemmas for the proof that a text has exactly one reading, in any form.
 use Rattle.pass_forms.proofs.{Checking.{Computes, checked_if_any_is, checked_determined}, Common.{◌≡◌, ◌↔◌, ℕ, ◌≤◌, List, length, Option, Some, Result, Ok}}
 use Rattle.pass_forms.proofs.Common.{Err, refl, sym, ap, subst, ◌∙◌, arith, rules, FormFault, TooLong, Malformed, ThirdParty, TooMany, Form, Wraps, IsUnwrapped}
 use Rattle.pass_forms.proofs.{Common.{unwrapping, Plain, WidePass, as_wide_pass, max_text_len, IsReadAs}, EnvelopeLaws.{wraps_one, unwrapped_answers}}
@@ -17,7 +17,6 @@ module _ (wide_at : Reader) (text : List ℕ) where
   abbrev SpellsAny : WidePass → Type 0
   SpellsAny wide = (form : Form) × SpellsText (Spells wide_at) text form wide
 
-  -- If a text encodes a wide pass in any form, the form and the pass are those of the wrapped bytes.
   same_bytes : (form other : Form) (bytes : List ℕ) (wide : WidePass) → Wraps text form bytes → SpellsIn other wide →
       (other ≡ form) × (wide_at form bytes ≡ Some wide)
   same_bytes form other bytes wide wraps h = grind (arith, wraps_one text other form h.0 bytes h.1 wraps)
@@ -41,7 +40,6 @@ module _ (wide_at : Reader) (text : List ℕ) where
   reading_in_is (Err Malformed) h = (h.0, λ wide spelling. h.1 spelling.0 spelling.1.0 spelling.1.1)
   reading_in_is wrapped h = absurd h
 
-  -- A text that wraps bytes in a form has only one result.
   wrapped_determined : (form : Form) (bytes : List ℕ) (answer : Result (Form × Plain) FormFault) → length text ≤ max_text_len → Wraps text form bytes →
       IsTextReading (Spells wide_at) text answer → in_form form (checked_if_any (wide_at form bytes)) ≡ answer
   wrapped_determined form bytes (Ok (other, pass)) within wraps h =

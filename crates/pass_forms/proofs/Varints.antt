@@ -1,14 +1,12 @@
--- Varints: numbers in groups of seven bits, up to a bound.
+-- Lemmas about reading varints, which are numbers in groups of seven bits.
 use Rattle.pass_forms.proofs.Common.{◌≡◌, ℕ, ◌+◌, ◌-◌, ◌*◌, ◌/◌, ◌<◌, ◌≤◌, List, ◌∷◌, length, Option, Some, None, refl, arith, lt-ltb, le-ltb, nat_tests, above}
 use Rattle.pass_forms.proofs.Common.{varint_up_to, common_steps}
 
--- A byte of a varint that isn't the last one.
 pub varint_more : (most byte : ℕ) (rest : List ℕ) → byte ≤ most → 128 ≤ byte → byte < 256 →
     varint_up_to most (byte ∷ rest) ≡ above most (byte - 128) (varint_up_to (most / 128) rest)
 unfolding varint_up_to
 varint_more most byte rest within low top = rw (le-ltb most byte within, le-ltb byte 128 low, lt-ltb byte 256 top) refl
 
--- The last byte of a varint.
 pub varint_last : (most byte : ℕ) (rest : List ℕ) → byte ≤ most → byte < 128 → varint_up_to most (byte ∷ rest) ≡ Some (byte, rest)
 unfolding varint_up_to
 varint_last most byte rest within low = rw (le-ltb most byte within, lt-ltb byte 128 low) refl
@@ -23,8 +21,6 @@ above_some most low None n rest e = absurd cc
 above_some most low (Some (high, after)) n rest e =
     let parts = above_parts most low high after n rest e in
     (high, rw parts.2 refl, parts.0, parts.1)
-
--- ---- varints, from the first byte
 
 pub no_bytes : (most : ℕ) (bytes : List ℕ) → length bytes ≡ 0 → varint_up_to most bytes ≡ None
 unfolding varint_up_to

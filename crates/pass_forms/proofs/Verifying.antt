@@ -1,4 +1,4 @@
--- The fields of a pass are read in order, and the signature is compared with the chain.
+-- Lemmas for the proof of `is_signed_by`.
 use Rattle.pass_forms.proofs.Common.{◌≡◌, ℕ, List, [], ◌∷◌, ◌++◌, fold, map, Bool, false, refl, PassField, caveat_field, signature_field, location_field}
 use Rattle.pass_forms.proofs.Common.{identifier_field, ◌↔◌, arith, ap, sym, subst}
 use Rattle.std.specs.{Prelude.IsTrue, Str.bytes_eq}
@@ -6,7 +6,8 @@ use Rattle.std.proofs.lemmas.Slice.Eq.{bytes_eq-Decides}
 use Rattle.pass_mac.specs.Hmac.{hmac}
 use Rattle.pass_forms.specs.FieldSource.{AreSignedBy}
 
--- True if the fields end in the signature of the chain after their caveats.
+-- Returns true if the fields begin with caveats followed by a signature, and this signature is the
+-- chain's last signature after these caveats.
 abbrev pub signed_in : List ℕ → List PassField → Bool
 signed_in chain [] = false
 signed_in chain (location_field bytes ∷ fields) = false

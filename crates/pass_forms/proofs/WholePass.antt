@@ -1,12 +1,13 @@
--- The header, the caveats and the signature that were read one after another are the whole pass.
+-- Lemmas about reading the header, the caveats and the signature of a pass, in V1 or V2.
 use Rattle.pass_forms.proofs.{CaveatRuns.Reader, Common.{◌≡◌, ℕ, List, [], length, Option, Some, caveats_at, whole_at, ◌>>=◌, last_signature, WideCaveat}}
 use Rattle.pass_forms.proofs.Common.{WidePass, arith, common_steps, nat_tests}
 
--- The wide pass with this header, these caveats and this signature.
+-- Makes a wide pass from a header, caveats and a signature.
 abbrev pub made : List ℕ × List ℕ × List ℕ → List WideCaveat → List ℕ → WidePass
 made header caveats signature = record { location = header.0; identifier = header.1; caveats = caveats; signature = signature }
 
--- The parts that a reader found make up this wide pass.
+-- `Parts` contains the header and the signature that the parsers found, and the proof that the wide
+-- pass consists of the parsed parts.
 pub record Parts (header_at : List ℕ → Option (List ℕ × List ℕ × List ℕ)) (caveat_at : Reader) (footer_at : List ℕ → Option (List ℕ)) (bytes : List ℕ)
     (wide : WidePass) : Type 0 where
   pub header : List ℕ × List ℕ × List ℕ
@@ -27,9 +28,6 @@ pub whole_again : (header_at : List ℕ → Option (List ℕ × List ℕ × List
 unfolding whole_at
 whole_again header_at caveat_at footer_at bytes header caveats rest signature h c s = grind arith
 
--- ---- the signature
-
--- If a signature is found, it is all of the last part, and it has 32 bytes.
 pub last_takes : (found : Option (List ℕ × List ℕ)) (signature : List ℕ) → (found >>= last_signature) ≡ Some signature →
     (found ≡ Some (signature, [])) × (length signature ≡ 32)
 last_takes found signature e = grind (arith, common_steps, nat_tests)

@@ -1,4 +1,4 @@
--- The V1 reader accepts exactly the packets that encode a pass, and returns that pass.
+-- Lemmas for the proof that the V1 reader accepts exactly the bytes that encode a pass.
 use Rattle.pass_forms.proofs.{CaveatPackets.{EndsCaveat, exact_caveats, caveat_has_bytes}, CaveatTexts.{caveats_take, caveats_again, caveats_fit}}
 use Rattle.pass_forms.proofs.{Checking.exactly, Common.{◌≡◌, ℕ, ◌≤◌, List, [], ◌++◌, length, Some, None, refl, ap, subst, ◌∙◌, arith, flat_map, append-nil}}
 use Rattle.pass_forms.proofs.Common.{length-append, same_Some, WidePass, packet, caveat_packets, packets_of, FitsPacket, FitsCaveat, FitsPackets, SpellsV1}
@@ -12,7 +12,6 @@ signature_takes bytes signature e =
     let s = last_takes (packet_at signature_key bytes) signature e in
     ((packet_takes signature_key bytes signature [] s.0).0 ∙ append-nil (packet signature_key signature), s.1)
 
--- The packet of a 32-byte signature is read back, and it isn't read as a caveat or a part of one.
 signature_again : (signature : List ℕ) → length signature ≡ 32 → signature_at (packet signature_key signature) ≡ Some signature
 unfolding signature_at
 signature_again signature len = rw (← append-nil (packet signature_key signature)) (rw (packet_again signature_key signature [] (omega arith), len) refl)

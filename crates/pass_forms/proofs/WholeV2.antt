@@ -1,4 +1,4 @@
--- The V2 reader accepts exactly the sections that encode a pass, and returns that pass.
+-- Lemmas for the proof that the V2 reader accepts exactly the bytes that encode a pass.
 use Rattle.pass_forms.proofs.{CaveatTexts.{Exact, caveats_take, caveats_again, caveats_fit}, Checking.exactly, Common.{◌≡◌, ℕ, ◌≤◌, List, [], ◌∷◌, ◌++◌}}
 use Rattle.pass_forms.proofs.Common.{length, Option, Some, None, refl, sym, ap, subst, ◌∙◌, append_assoc, arith, flat_map, AllByRecursion, append-nil}
 use Rattle.pass_forms.proofs.Common.{length-append, caveats_at, WideCaveat, WidePass, field, optional_field, end_of_section, caveat_section, types, sections}
@@ -8,8 +8,6 @@ use Rattle.pass_forms.proofs.WholePass.{last_takes, made, whole_parts, whole_aga
 use Rattle.std.specs.Prelude.{unwrap_or}
 use Rattle.pass_forms.specs.computed.V2Reading.{caveat_at, header_at, wide_at}
 
--- ---- caveats
-
 section_assoc : (a b c rest : List ℕ) → (a ++ (b ++ (c ++ end_of_section))) ++ rest ≡ a ++ (b ++ (c ++ (end_of_section ++ rest)))
 section_assoc a b c rest = simp append_assoc
 
@@ -17,7 +15,7 @@ caveat_takes : (bytes : List ℕ) (found : WideCaveat × List ℕ) → caveat_at
 unfolding caveat_at
 caveat_takes bytes found e = grind (arith, common_steps, optional_takes, field_takes, after_prefix_takes)
 
--- A field of one type isn't read as a field of another type.
+-- The parser of a field doesn't accept a field of another type.
 not_location : (text rest : List ℕ) → field_at types.location (field types.identifier text ++ rest) ≡ None
 unfolding field_at
 not_location text rest = refl
@@ -45,8 +43,6 @@ exact_caveats = record { takes = caveat_takes; again = caveat_again; next = λ _
 caveat_has_bytes : (caveat : WideCaveat) → 1 ≤ length (caveat_section caveat)
 caveat_has_bytes caveat = grind (arith, common_steps)
 
--- ---- the signature
-
 footer_takes : (bytes signature : List ℕ) → footer_at bytes ≡ Some signature →
     (bytes ≡ end_of_section ++ field types.signature signature) × (length signature ≡ 32)
 unfolding footer_at
@@ -64,12 +60,9 @@ footer_again signature len =
     ap (field_at types.signature) (sym (append-nil (field types.signature signature))) ∙ field_again types.signature signature [] in
     rw (read, len) refl
 
--- The zero byte that ends the caveats isn't read as a caveat.
 end_is_no_caveat : (rest : List ℕ) → caveat_at (end_of_section ++ rest) ≡ None
 unfolding caveat_at field_at
 end_is_no_caveat rest = refl
-
--- ---- the whole pass
 
 pub record Heads (bytes : List ℕ) (header : List ℕ × List ℕ × List ℕ) : Type 0 where
   pub location : Option (List ℕ)

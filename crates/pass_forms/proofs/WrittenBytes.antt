@@ -1,11 +1,9 @@
--- If the parts of a pass are bytes, the written pass is bytes too.
+-- Lemmas for the proof that a writer produces bytes, which are numbers below 256.
 use Rattle.pass_forms.proofs.{Base64Bytes.{append_is_bytes, bytes_from_passes, nil_is_bytes, one_more}, Common.{◌≡◌, ℕ, zero, suc, ◌+◌, ◌/◌, ◌%◌, ◌^◌, ◌<◌}}
 use Rattle.pass_forms.proofs.Common.{◌≤◌, true, ltb, List, [], ◌∷◌, ◌++◌, map, refl, arith, inl, inr, AllByRecursion, flat_map, list_all, cases_lt, lt-ltb}
 use Rattle.pass_forms.proofs.Common.{le-ltb, nat_tests, IsBytes, Plain, as_wide_pass, widened_caveat, FitsPackets, FitsCaveat, FitsPacket, caveat_packets}
 use Rattle.pass_forms.proofs.Common.{four_hex_digits, hex_digit, packet, caveat_section, end_of_section, field, groups, optional_field, varint, types, HasBytes}
 use Rattle.pass_forms.proofs.{Common.{nonempty_location, v1_bytes, v2_bytes, rules}, FieldNames.{caveat_key, identifier_key, location_key, signature_key}}
-
--- ---- V1
 
 digit_is_byte : (n : ℕ) → n < 16 → hex_digit n < 256
 digit_is_byte n h = grind (arith, nat_tests)
@@ -43,8 +41,6 @@ v1_is_bytes pass fits are =
     (append_is_bytes caveats signature (packets_are_bytes pass.caveats fits.caveats are.caveats)
     (packet_is_bytes signature_key pass.signature refl fits_signature are.signature)))
 
--- ---- V2
-
 groups_are_bytes : (more n : ℕ) → n ≤ more → IsBytes (groups more n)
 unfolding groups
 groups_are_bytes zero n h = one_more n [] (omega arith) nil_is_bytes
@@ -62,7 +58,6 @@ location_is_bytes : (location : List ℕ) → IsBytes location → IsBytes (opti
 location_is_bytes [] are = nil_is_bytes
 location_is_bytes (byte ∷ bytes) are = field_is_bytes types.location (byte ∷ bytes) (omega arith) are
 
--- A field, the end of its section and the bytes after it are bytes.
 section_is_bytes : (type : ℕ) (bytes rest : List ℕ) → type < 256 → IsBytes bytes → IsBytes rest → IsBytes (field type bytes ++ (end_of_section ++ rest))
 section_is_bytes type bytes rest small are others =
     append_is_bytes (field type bytes) (end_of_section ++ rest) (field_is_bytes type bytes small are) (one_more 0 rest (omega arith) others)

@@ -1,11 +1,12 @@
--- The base64 text of a pass, in V1 or V2.
+-- Lemmas about writing the text of a pass, in V1 or V2.
 use Rattle.pass_forms.proofs.Common.{◌≡◌, ◌↔◌, ℕ, ◌≤◌, Bool, true, false, cond, ltb, List, length, Some, Result, Ok, Err, refl, arith, IsOk, MatchResult}
 use Rattle.pass_forms.proofs.Common.{ltb-false, ltb-true, IsBytes, FormFault, TooLong, TooMany, Memory, Form, form_of, Plain, WidePass, as_wide_pass}
 use Rattle.pass_forms.proofs.Common.{buffer_len, max_caveats, max_text_len, FailsAs, IsReadBack, IsWriteFault, IsWriting, IsTextBy, IsWritableText, in_base64}
 use Rattle.pass_forms.proofs.{Common.writing_of, WrittenTexts.{bytes_fit, unwraps}}
 use Rattle.std.proofs.Common.{IfErr, IfOk}
 
--- A form: the bytes of each pass in it, and the relation between bytes and the passes that they encode.
+-- A form of passes. `bytes_of` returns the bytes of a pass, and `Spells` relates bytes to the wide
+-- pass that they encode.
 pub record BytesForm : Type 1 where
   pub bytes_of : Plain → List ℕ
   pub Spells : List ℕ → WidePass → Type 0
@@ -20,9 +21,8 @@ module _ (f : BytesForm) (pass : Plain) where
   pub reads_back : (text : List ℕ) → IsBytes (f.bytes_of pass) → IsWritableText (IsTextIn f) pass text → IsReadBack f.Spells f.form (f.bytes_of pass) pass text
   reads_back text are written = grind (arith, bytes_fit, unwraps)
 
-  -- ---- the result, a text or a fault
-
-  -- `IsWriting` allows the computed result, which depends on two tests.
+  -- The result of a writer. The flag `many` is true for too many caveats, and `long` is true for
+  -- too long a text.
   abbrev result_by : Bool → Bool → Result (List ℕ) FormFault
   result_by many long = cond many (Err TooMany) (cond long (Err TooLong) (Ok (in_base64 (f.bytes_of pass))))
 
@@ -36,15 +36,12 @@ module _ (f : BytesForm) (pass : Plain) where
     few = ltb-false _ _ m;
   }
 
-  -- `IsWriting` allows at most one result for a pass.
   one_result : (one other : Result (List ℕ) FormFault) → IsWriting (IsTextIn f) pass one → IsWriting (IsTextIn f) pass other → one ≡ other
   one_result one other h k = grind arith
 
   pub exact : (answer : Result (List ℕ) FormFault) → (IsOk (writing_of (f.bytes_of pass) pass) → length pass.signature ≡ 32)
       → (writing_of (f.bytes_of pass) pass ≡ answer) ↔ IsWriting (IsTextIn f) pass answer
   exact answer len = grind (arith, allowed_by, one_result)
-
-  -- ---- the clauses of a writer's result
 
   pub record Promises (A : Type 0) (bytes : A → List ℕ) (result : Result A FormFault) : Type 0 where
     pub ok : IfOk result (λ text. IsWritableText (IsTextIn f) pass (bytes text))

@@ -1,4 +1,4 @@
--- The written form of a pass in V1.
+-- Lemmas for the proof of `write_v1`.
 use Rattle.pass_forms.proofs.Common.{◌≡◌, ◌↔◌, ℕ, ◌/◌, ◌<◌, ◌≤◌, List, [], ◌∷◌, length, map, Result, Some, refl, arith, flat_map, AllByRecursion, nat_tests}
 use Rattle.pass_forms.proofs.Common.{FormFault, form_of, form_of_byte, Plain, as_wide_pass, widened_caveat, buffer_len, FitsPackets, FitsCaveat, FitsPacket}
 use Rattle.pass_forms.proofs.Common.{SpellsV1, caveat_packets, hex_digit, packet, packet_len, packets_of, HasBytes, IsReadBack, IsV1Text, IsWritableText}
@@ -37,7 +37,6 @@ v1_form = record {
   has_form = λ pass spelling. form_v1 pass spelling.fits.location;
 }
 
--- If the parts of a pass are bytes, its V1 text is read back as the same pass.
 pub law_v1 : (pass : Plain) (text : List ℕ) → HasBytes pass → IsWritableText IsV1Text pass text → IsReadBack SpellsV1 V1 (v1_bytes pass) pass text
 law_v1 pass text are written =
     reads_back v1_form pass text (v1_is_bytes pass written.is_text.spelling.fits are) written

@@ -1,4 +1,4 @@
--- The written form of a pass in V2.
+-- Lemmas for the proof of `write_v2`.
 use Rattle.pass_forms.proofs.Common.{◌≡◌, ◌↔◌, ℕ, List, [], length, Result, Some, refl, FormFault, form_of, Plain, as_wide_pass, SpellsV2, HasBytes, IsReadBack}
 use Rattle.pass_forms.proofs.{Common.{IsV2Text, IsWritableText, IsWriting, nonempty_location, v2_bytes, writing_v2, arith}, WrittenBytes.v2_is_bytes}
 use Rattle.pass_forms.proofs.WrittenForm.{BytesForm, exact, reads_back}
@@ -25,7 +25,6 @@ v2_form = record {
   has_form = λ pass spelling. form_v2 pass;
 }
 
--- If the parts of a pass are bytes, its V2 text is read back as the same pass.
 pub law_v2 : (pass : Plain) (text : List ℕ) → HasBytes pass → IsWritableText IsV2Text pass text → IsReadBack SpellsV2 V2 (v2_bytes pass) pass text
 law_v2 pass text are written = reads_back v2_form pass text (v2_is_bytes pass are) written
 

@@ -1,4 +1,4 @@
--- The fields of a pass in order: the location (which may be empty), the identifier, the caveats, and the signature.
+-- Defines the fields of a pass. Their order is location, identifier, caveats, signature.
 use Rattle.std.specs.Prelude.{◌≡◌, ℕ, List, [], ◌∷◌, ◌++◌, map, fold, replicate, Option, None, Some, Result, Ok, Err}
 use Rattle.pass_mac.specs.Chain.{extended_signature}
 use Rattle.pass_forms.specs.{Pass.Plain, declared.{fault.FormFault.FormFault, field_source.Field.Field}}
@@ -10,24 +10,27 @@ pub data PassField : Type 0 where
   caveat_field : (bytes : List ℕ) → PassField
   signature_field : (bytes : List ℕ) → PassField
 
--- All fields of a pass, in order.
+-- Returns all fields of a pass, in order. The location may be empty.
 abbrev pub pass_fields : Plain → List PassField
 pass_fields pass =
     location_field pass.location ∷ identifier_field pass.identifier
     ∷ (map caveat_field pass.caveats ++ signature_field pass.signature ∷ [])
 
--- A list with this field, or an empty list if the field was already returned.
+-- Returns a list with the field, or an empty list if the field is `None`.
 abbrev pub if_left : {A : Type 0} → (A → PassField) → Option A → List PassField
 if_left field None = []
 if_left field (Some bytes) = field bytes ∷ []
 
--- The fields that a source hasn't returned yet. `None` stands for a field that it has returned, and `bytes` gives a field's bytes.
+-- Returns the fields that a source hasn't returned yet. The value of a field that the source has
+-- already returned is `None`. The function `bytes` converts a location or an identifier to its
+-- bytes.
 abbrev pub those_left : {A : Type 0} → (A → List ℕ) → Option A → Option A → List (List ℕ) → Option (List ℕ) → List PassField
 those_left bytes location identifier caveats signature =
     if_left (λ l. location_field (bytes l)) location ++ (if_left (λ i. identifier_field (bytes i)) identifier
     ++ (map caveat_field caveats ++ if_left signature_field signature))
 
--- The result of opening a pass: its fields, or the fault of the reading.
+-- Converts a result of reading to a result of opening. A fault stays unchanged, and the function
+-- `fields` returns the list of fields.
 abbrev pub opening_by : {A : Type 0} → (A → List PassField) → Result A FormFault → Result (List PassField) FormFault
 opening_by fields (Ok read) = Ok (fields read)
 opening_by fields (Err fault) = Err fault
@@ -35,25 +38,27 @@ opening_by fields (Err fault) = Err fault
 abbrev pub opening_of : Result Plain FormFault → Result (List PassField) FormFault
 opening_of reading = opening_by pass_fields reading
 
--- The result of opening is the fields of a pass, or a fault. `Reads` must allow this pass or this fault.
+-- The result of opening is a list of fields or a fault. `Reads` must allow the fault, or a pass
+-- with these fields.
 abbrev pub IsOpening : (Result Plain FormFault → Type 0) → Result (List PassField) FormFault → Type 0
 IsOpening Reads (Ok fields) = (pass : Plain) × Reads (Ok pass) × (fields ≡ pass_fields pass)
 IsOpening Reads (Err fault) = Reads (Err fault)
 
--- The field as contracts see it.
+-- Converts a field in the code to a field in contracts.
 abbrev pub as_field : Field → PassField
 as_field (Location bytes) = location_field bytes.now
 as_field (Identifier bytes) = identifier_field bytes.now
 as_field (Caveat bytes) = caveat_field bytes.now
 as_field (Signature bytes) = signature_field bytes
 
--- The fields begin with caveats and a signature. The signature is that of the chain after these caveats (NDSS 2014).
+-- The list of fields begins with caveats and a signature. The signature is the last signature of
+-- the chain after these caveats are added to it (Macaroons, NDSS 2014).
 pub record AreSignedBy (chain : List ℕ) (fields : List PassField) : Type 0 where
   pub caveats : List (List ℕ)
   pub rest : List PassField
   pub place : fields ≡ map caveat_field caveats ++ signature_field (extended_signature chain caveats) ∷ rest
 
--- The pass after one more field. Each field sets its value, and a caveat is appended to the list.
+-- Sets one field of a pass. If the field is a caveat, it is appended to the pass's caveats.
 abbrev pub with_field : Plain → PassField → Plain
 with_field pass (location_field bytes) = record pass { location = bytes }
 with_field pass (identifier_field bytes) = record pass { identifier = bytes }
@@ -63,6 +68,7 @@ with_field pass (signature_field bytes) = record pass { signature = bytes }
 abbrev pub with_fields : Plain → List PassField → Plain
 with_fields pass fields = fold with_field pass fields
 
--- A pass with empty fields, and with zeros as its signature.
+-- A pass with an empty location, an empty identifier and no caveats. The signature is 32 zero
+-- bytes.
 abbrev pub no_fields : Plain
 no_fields = record { location = []; identifier = []; caveats = []; signature = replicate 32 0 }

@@ -1,4 +1,4 @@
--- The text of a fault (ours).
+-- Defines the text of each fault.
 use Rattle.std.specs.Prelude.{ℕ, List, codes}
 use Rattle.pass_forms.specs.declared.fault.FormFault.{FormFault, TheVariants.{TooLong, Malformed, ThirdParty, TooMany, Memory}}
 

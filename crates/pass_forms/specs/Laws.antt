@@ -1,4 +1,4 @@
--- Laws of the definitions.
+-- Defines the laws of this crate. Each law relates definitions in `specs/` to each other.
 use Rattle.std.specs.Prelude.{◌≡◌, ◌↔◌, ℕ, List, length, Option, Some, Result, true}
 use Rattle.pass_forms.specs.{Envelope.{IsBase64, Wraps, IsUnwrapped}, Pass.{Plain, WidePass, IsSigned}, Reading.IsReadAs, Text.IsTextReading, V1.SpellsV1}
 use Rattle.pass_forms.specs.{V2.SpellsV2, Writing.{v1_bytes, v2_bytes, IsV1Text, IsV2Text, IsWritableText, IsWriting, IsReadBack, HasBytes, with_caveat}}
@@ -6,71 +6,69 @@ use Rattle.pass_forms.specs.computed.{Envelope.{from_base64, unwrapping}, Pass.i
 use Rattle.pass_forms.specs.{computed.Writing.{writing_v1, writing_v2}, declared.{fault.FormFault.FormFault, form.Form.{Form, TheVariants.{V1, V2}}}}
 use Rattle.base64.specs.GeneralPurpose.{IsBytes}
 
--- If the computed wide pass is the only one that a text encodes, `IsReadAs` allows exactly one result: the computed one.
+-- Suppose that a text encodes only the wide pass `computed`, or no wide pass if `computed` is
+-- `None`. Then `reading_of` returns the only result that `IsReadAs` allows.
 abbrev pub AnswersExactly : Type 0
 AnswersExactly = (len : ℕ) (computed : Option WidePass) (answer : Result Plain FormFault) →
     IsReadAs len (λ wide. computed ≡ Some wide) answer ↔ (reading_of len computed ≡ answer)
 
--- ---- one form: the relation `Spells` tells which wide passes bytes encode
-
--- Bytes encode at most one wide pass.
+-- A list of bytes encodes at most one wide pass. The relation `Spells` defines the encoding.
 abbrev pub OnePassEach : (List ℕ → WidePass → Type 0) → Type 0
 OnePassEach Spells = (bytes : List ℕ) (one other : WidePass) → Spells bytes one → Spells bytes other → one ≡ other
 
--- Bytes encode a wide pass if and only if `wide_at` computes this pass from them.
+-- A list of bytes encodes a wide pass if and only if `wide_at` returns this wide pass.
 abbrev pub ComputesSpelled : (List ℕ → WidePass → Type 0) → (List ℕ → Option WidePass) → Type 0
 ComputesSpelled Spells wide_at = (bytes : List ℕ) (wide : WidePass) → Spells bytes wide ↔ (wide_at bytes ≡ Some wide)
 
--- `IsReadAs` allows exactly one result for bytes: the computed reading.
+-- The function `reading` returns the only result that `IsReadAs` allows for a list of bytes.
 abbrev pub ReadsExactly : (List ℕ → WidePass → Type 0) → (List ℕ → Result Plain FormFault) → Type 0
 ReadsExactly Spells reading = (bytes : List ℕ) (answer : Result Plain FormFault) →
     IsReadAs (length bytes) (Spells bytes) answer ↔ (reading bytes ≡ answer)
 
--- ---- texts
-
--- A text wraps at most one list of bytes, in one form.
+-- A pass text wraps at most one list of bytes, and these bytes have only one form.
 abbrev pub WrapsOne : Type 0
 WrapsOne = (text : List ℕ) (form other_form : Form) (bytes other_bytes : List ℕ)
     → Wraps text form bytes → Wraps text other_form other_bytes
     → (form ≡ other_form) × (bytes ≡ other_bytes)
 
--- If a text is a list of bytes, its contents are a list of bytes too.
+-- If every element of a pass text is a byte, every element of the list that the text wraps is a
+-- byte too.
 abbrev pub WrapsBytes : Type 0
 WrapsBytes = (text : List ℕ) (form : Form) (bytes : List ℕ)
     → IsBytes text → Wraps text form bytes → IsBytes bytes
 
--- `from_base64` returns bytes if and only if the text is base64 of these bytes.
+-- `from_base64` returns a list of bytes if and only if the text is a base64 encoding of these
+-- bytes.
 abbrev pub FromBase64IsBase64 : Type 0
 FromBase64IsBase64 = (text bytes : List ℕ) → (from_base64 text ≡ Some bytes) ↔ IsBase64 text bytes
 
--- `IsUnwrapped` allows exactly one result for a text: the one that `unwrapping` computes.
+-- For each text, `unwrapping` returns the only result that `IsUnwrapped` allows.
 abbrev pub UnwrappedIsTheAnswer : Type 0
 UnwrappedIsTheAnswer = (text : List ℕ) (answer : Result (Form × List ℕ) FormFault) → (unwrapping text ≡ answer) ↔ IsUnwrapped text answer
 
--- `IsTextReading` allows exactly one result for a text: the computed reading.
+-- For each text, `text_reading` returns the only result that `IsTextReading` allows. The parameter
+-- `wide_at` decodes the bytes of each form.
 abbrev pub ReadsTextsExactly : Type 0
 ReadsTextsExactly = (wide_at : Form → List ℕ → Option WidePass) (text : List ℕ) (answer : Result (Form × Plain) FormFault) →
     IsTextReading (λ form bytes wide. wide_at form bytes ≡ Some wide) text answer ↔ (text_reading wide_at text ≡ answer)
 
--- ---- written texts
-
--- A text that was written in V1 or V2 is read back as the same pass.
+-- Reading a text that `write_v1` or `write_v2` wrote gives the same pass again.
 abbrev pub TextsReadBack : Type 0
 TextsReadBack = (pass : Plain) (text : List ℕ) → HasBytes pass →
     (IsWritableText IsV1Text pass text → IsReadBack SpellsV1 V1 (v1_bytes pass) pass text)
     × (IsWritableText IsV2Text pass text → IsReadBack SpellsV2 V2 (v2_bytes pass) pass text)
 
--- For a pass with a signature of 32 bytes, `IsWriting` allows exactly one result: the computed one.
+-- For a pass with a signature of 32 bytes, `writing_v1` and `writing_v2` return the only results
+-- that `IsWriting` allows.
 abbrev pub WritesExactly : Type 0
 WritesExactly = (pass : Plain) (answer : Result (List ℕ) FormFault) → length pass.signature ≡ 32 →
     ((writing_v1 pass ≡ answer) ↔ IsWriting IsV1Text pass answer) × ((writing_v2 pass ≡ answer) ↔ IsWriting IsV2Text pass answer)
 
--- ---- signatures
-
--- A pass that is signed under a root is still signed under it after a caveat is added.
+-- Adding a caveat to a pass that is signed under a root gives a pass that is signed under the same
+-- root.
 abbrev pub NarrowedStaysSigned : Type 0
 NarrowedStaysSigned = (root caveat : List ℕ) (pass : Plain) → IsSigned root pass → IsSigned root (with_caveat caveat pass)
 
--- `is_signed` returns true if and only if `IsSigned` holds.
+-- `is_signed` returns true if and only if the pass is signed under the root.
 abbrev pub DecidesSigned : Type 0
 DecidesSigned = (root : List ℕ) (pass : Plain) → IsSigned root pass ↔ (is_signed root pass ≡ true)

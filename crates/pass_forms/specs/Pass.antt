@@ -1,5 +1,5 @@
--- A pass is a macaroon (NDSS 2014) of first-party caveats. A wide pass may also have third-party
--- caveats, which the formats allow.
+-- Defines passes. A pass is a macaroon (NDSS 2014) with first-party caveats only. A wide pass may
+-- also have third-party caveats, because the formats allow them.
 use Rattle.std.specs.{List.list_any, Prelude.{◌≡◌, ℕ, Bool, ◌||◌, List, [], Option, None, map, is_some}}
 use Rattle.pass_mac.specs.Chain.{chain, derived_key}
 
@@ -20,7 +20,7 @@ pub record WidePass : Type 0 where
   pub caveats : List WideCaveat
   pub signature : List ℕ
 
--- A caveat with a verifier id or a location, even an empty one, is a third-party caveat.
+-- Returns true if the caveat has a verifier id or a location, even an empty one.
 abbrev pub is_third_party : WideCaveat → Bool
 is_third_party caveat = is_some caveat.verifier_id || is_some caveat.location
 
@@ -39,7 +39,7 @@ as_wide_pass pass = record {
   signature = pass.signature;
 }
 
--- Converts a caveat of a wide pass to a first-party caveat, which is only its identifier.
+-- Converts a caveat of a wide pass to a first-party caveat, which is the caveat's identifier.
 abbrev pub first_party_caveat : WideCaveat → List ℕ
 first_party_caveat caveat = caveat.identifier
 
@@ -51,11 +51,12 @@ first_party wide = record {
   signature = wide.signature;
 }
 
--- The signature is the chain of the identifier and the caveats under the root's derived key.
+-- The pass is signed under the root. Its signature is the last signature of the chain of its
+-- identifier and caveats, and the chain starts with the root's derived key.
 abbrev pub IsSigned : List ℕ → Plain → Type 0
 IsSigned root pass = pass.signature ≡ chain (derived_key root) pass.identifier pass.caveats
 
--- A new pass under a root, without caveats.
+-- Returns a new pass without caveats, signed under the root.
 abbrev pub minted_pass : List ℕ → List ℕ → List ℕ → Plain
 minted_pass root location identifier = record {
   location = location;

@@ -21,8 +21,9 @@ pub const MAX_TEXT: usize = 8192;
 /// The maximum number of bytes that base64 text of `MAX_TEXT` characters can encode.
 pub const MAX_BYTES: usize = 6144;
 
-/// The form of a pass's bytes, and where the bytes are. If `plain` is true, they are the whole
-/// text. Otherwise they are the first `len` bytes of the buffer. `len` is always their number.
+/// The form of a pass and the position of its bytes. If `plain` is true, the pass is the text
+/// itself. Otherwise the pass is the first `len` bytes of the buffer. In both cases `len` is the
+/// number of bytes.
 #[derive(Clone, Copy, Debug, PartialEq, Eq)]
 pub struct Unwrapped {
     pub form: Form,
@@ -31,8 +32,8 @@ pub struct Unwrapped {
 }
 
 impl Unwrapped {
-    /// Returns the bytes of the pass, given the text and the buffer of the call to `unwrap_text`.
-    /// If `len` is more than the buffer's length, returns the whole buffer.
+    /// Returns the bytes of the pass. The arguments must be the text and the buffer of the call to
+    /// `unwrap_text`. If `len` is more than the buffer's length, returns the whole buffer.
     pub fn bytes<'a>(&self, text: &'a [u8], buffer: &'a [u8; MAX_BYTES]) -> &'a [u8]
         ensures { result.now ≡ unwrapped_bytes self.now text.now buffer.now }
     {
@@ -45,19 +46,25 @@ impl Unwrapped {
 }
 
 /// Finds the form of a pass text and decodes its base64 into the start of the buffer. A text that
-/// starts with `{` is JSON and isn't copied. Any other text is base64 (RFC 4648), URL-safe or
-/// standard, with or without padding. The first decoded byte gives the form: 2 is V2, `{` is JSON,
-/// `0` to `9` or `a` to `f` is V1. The rest of the buffer is unspecified. After a fault, the whole
-/// buffer is unspecified. Allocates no memory.
+/// starts with `{` is JSON, and the call doesn't copy it. Any other text must be base64 (RFC 4648),
+/// either URL-safe or standard, with or without padding. The first decoded byte determines the
+/// form:
+///
+/// - 2 for V2,
+/// - `{` for JSON,
+/// - `0` to `9` or `a` to `f` for V1.
+///
+/// The rest of the buffer is unspecified. After a fault, the whole buffer is unspecified. The call
+/// allocates no memory.
 ///
 /// # Errors
 ///
-/// Fails with `TooLong` for a text of more than 8,192 bytes, and otherwise with `Malformed` if the
-/// text doesn't wrap a pass in any form. There are no other faults.
+/// Fails with `TooLong` if the text has more than 8,192 bytes. Otherwise fails with `Malformed` if
+/// the text doesn't wrap a pass in any form. No other fault can occur.
 #[tactic(auto, unfolding(crate::specs::computed::Envelope::unwrapping))]
 pub fn unwrap_text(text: &[u8], buffer: &mut [u8; MAX_BYTES]) -> Result<Unwrapped, FormFault>
     ensures reading { IsUnwrapped text.now (unwrapped_result result text.now buffer.new) }
-    // The result also equals the one computed from the text.
+    // The contract also states that the result equals the computed result.
     ensures value { unwrapped_result result text.now buffer.new ≡ unwrapping text.now }
     ensures plain { IfOk result (λ unwrapping. unwrapping.plain ≡ starts_with_brace text.now) }
     ensures len { IfOk result (λ unwrapping.
@@ -88,7 +95,7 @@ pub fn unwrap_text(text: &[u8], buffer: &mut [u8; MAX_BYTES]) -> Result<Unwrappe
     })
 }
 
-// Returns the form of the bytes, which their first byte decides.
+// Returns the form of a pass from its first byte.
 fn form_of(bytes: &[u8]) -> Option<Form>
     ensures { result ≡ form_of bytes.now }
 {
@@ -100,8 +107,8 @@ fn form_of(bytes: &[u8]) -> Option<Form>
     }
 }
 
-/// Decodes base64 (RFC 4648), or returns `None` if the text isn't base64. The alphabet may be
-/// URL-safe or standard, with or without padding. Trailing bits must be zero.
+/// Decodes a base64 text (RFC 4648). Returns `None` if the text isn't base64. The alphabet may be
+/// URL-safe or standard, and the padding may be missing. Trailing bits must be zero.
 ///
 /// # Errors
 ///
@@ -109,7 +116,7 @@ fn form_of(bytes: &[u8]) -> Option<Form>
 pub fn decode_base64(alloc: Global, text: &[u8]) -> Result<Option<Vec<u8>>, AllocError>
     ensures spelling { IfOk result (λ found. (bytes : List ℕ)
         → (option_map (λ b. b.items) found ≡ Some bytes) ↔ IsBase64 text.now bytes) }
-    // The result also equals the one computed from the text.
+    // The contract also states that the result equals the computed bytes.
     ensures computed { IfOk result
         (λ found. option_map (λ bytes. bytes.items) found ≡ from_base64 text.now) }
 {
@@ -121,8 +128,8 @@ pub fn decode_base64(alloc: Global, text: &[u8]) -> Result<Option<Vec<u8>>, Allo
     Ok(Some(buffer))
 }
 
-// Decodes a text into the start of the buffer, which must be long enough. Uses the first of four
-// engines that accepts the text, and returns the number of bytes.
+// Decodes a text into the start of the buffer, which must be long enough. Tries four base64 engines
+// in order and returns the number of decoded bytes.
 fn decode(text: &[u8], buffer: &mut [u8]) -> Option<usize>
     requires { decoded_estimate (length text.now) ≤ length buffer.old }
     ensures bytes { option_map (λ len. take len buffer.new) result ≡ from_base64 text.now }
@@ -134,7 +141,7 @@ fn decode(text: &[u8], buffer: &mut [u8]) -> Option<usize>
     decode_under(&STANDARD_NO_PAD, &STANDARD, text, buffer)
 }
 
-// Decodes a text with the first of two engines that accepts it.
+// Tries two base64 engines in order and returns the number of decoded bytes.
 fn decode_under(
     first: &GeneralPurpose,
     second: &GeneralPurpose,
@@ -152,7 +159,7 @@ fn decode_under(
     decode_by(second, text, buffer)
 }
 
-// Decodes a text with one engine.
+// Decodes a text with one base64 engine and returns the number of decoded bytes.
 fn decode_by(engine: &GeneralPurpose, text: &[u8], buffer: &mut [u8]) -> Option<usize>
     requires { decoded_estimate (length text.now) ≤ length buffer.old }
     ensures bytes { option_map (λ len. take len buffer.new) result

@@ -1,4 +1,4 @@
-//! The reasons why a pass can't be read or written.
+//! The faults of reading and writing passes.
 
 ghost use Rattle.std.specs.Prelude.{◌≡◌};
 ghost use Rattle.pass_forms.specs.declared.fault.FormFault.TheVariants.{Memory};
@@ -7,16 +7,16 @@ use std::alloc::{AllocError, AllocFailed};
 use std::error::Error;
 use std::fmt;
 
-/// The reason why a text isn't a pass, or why a pass has no text.
+/// The reason why a call couldn't read or write a pass.
 #[derive(Clone, Copy, Debug, PartialEq, Eq)]
 pub enum FormFault {
-    /// The text has more than 8,192 bytes.
+    /// The pass text has more than 8,192 bytes.
     TooLong,
     /// The text doesn't encode a pass.
     Malformed,
-    /// A caveat is a third-party caveat.
+    /// The pass has a third-party caveat.
     ThirdParty,
-    /// There are more than 64 caveats.
+    /// The pass has more than 64 caveats.
     TooMany,
     /// An allocation failed.
     Memory,

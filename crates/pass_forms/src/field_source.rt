@@ -1,20 +1,20 @@
-//! The fields of a pass, read one after another.
+//! Reads the fields of a pass one after another.
 
 /// One field of a pass. Its bytes are a slice of the input.
 #[derive(Clone, Copy, Debug, Drop, PartialEq, Eq)]
 pub enum Field<'a> {
-    /// A hint about where the pass is valid. It may be empty.
+    /// A hint about where the pass is valid. The location may be empty.
     Location(&'a [u8]),
-    /// The identifier of the pass. It names the root that the pass was signed under.
+    /// The identifier of the pass. The identifier names the root that signed the pass.
     Identifier(&'a [u8]),
     /// A first-party caveat.
     Caveat(&'a [u8]),
-    /// The last signature of the chain.
+    /// The signature of the pass, which is the last signature of its chain.
     Signature([u8; 32]),
 }
 
-/// An iterator over the fields of a pass: the location, the identifier, the caveats in order, and
-/// the signature. It allocates no memory.
+/// An iterator over the fields of a pass. The iterator returns the location, the identifier, each
+/// caveat in order, and then the signature. No call allocates memory.
 pub trait FieldSource<'a> {
     ghost use Rattle.std.specs.Prelude.{◌≡◌, List, [], ◌∷◌, IfNone, IfSome};
     ghost use Rattle.pass_forms.specs.FieldSource.{PassField, as_field};
@@ -27,7 +27,8 @@ pub trait FieldSource<'a> {
         ensures some { IfSome result (λ field. left self.old ≡ as_field field ∷ left self.new) }
         ensures none { IfNone result ((left self.old ≡ []) × (left self.new ≡ [])) };
 
-    /// Returns another source of the remaining fields, for a second scan. Allocates no memory.
+    /// Returns a second source of the remaining fields, so that a caller can scan them twice.
+    /// Allocates no memory.
     fn again(&self) -> Self
         ensures { left result ≡ left self.now };
 }

@@ -1,11 +1,11 @@
-//! The forms of a pass text.
+//! Defines the forms of a pass text.
 
-/// The forms that a pass text can have.
+/// The form of a pass text.
 #[derive(Clone, Copy, Debug, PartialEq, Eq)]
 pub enum Form {
-    /// Packets, in base64.
+    /// libmacaroons' packets, encoded in base64.
     V1,
-    /// Binary, in base64.
+    /// libmacaroons' binary format, encoded in base64.
     V2,
     /// A JSON object.
     Json,

@@ -1,4 +1,5 @@
-//! Laws of the definitions. Each law is the contract of a function with an empty body.
+//! Laws about the definitions in `specs/`. Each law is the contract of a function with an empty
+//! body.
 
 ghost use Rattle.pass_forms.specs.Laws.{FromBase64IsBase64, UnwrappedIsTheAnswer, WrapsBytes};
 ghost use Rattle.pass_forms.specs.Laws.{WrapsOne, DecidesSigned, AnswersExactly, ComputesSpelled};
@@ -8,90 +9,95 @@ ghost use Rattle.pass_forms.specs.{V1.SpellsV1, V2.SpellsV2};
 ghost use Rattle.pass_forms.specs.computed.V1Reading as v1;
 ghost use Rattle.pass_forms.specs.computed.V2Reading as v2;
 
-/// A text wraps at most one list of bytes in one form, whatever its alphabet and padding.
+/// A pass text wraps at most one list of bytes, and these bytes have only one form.
 pub fn wraps_one()
     ensures { WrapsOne }
 {}
 
-/// If a text is a list of bytes, the contents that it wraps are a list of bytes too.
+/// If every element of a pass text is a byte, every element of the list that the text wraps is a
+/// byte too.
 pub fn wraps_bytes()
     ensures { WrapsBytes }
 {}
 
-/// The function `from_base64` returns bytes if and only if `IsBase64` holds for them.
+/// `from_base64` returns a list of bytes if and only if the text is a base64 encoding of these
+/// bytes.
 pub fn from_base64_is_base64()
     ensures { FromBase64IsBase64 }
 {}
 
-/// The function `unwrapping` returns the only result that `IsUnwrapped` allows.
+/// For each text, `unwrapping` returns the only result that `IsUnwrapped` allows.
 #[tactic(auto, using(crate::proofs::EnvelopeLaws::unwrapped_is))]
 pub fn unwrapped_is_the_answer()
     ensures { UnwrappedIsTheAnswer }
 {}
 
-/// Bytes encode at most one pass in V1.
+/// In V1, a list of bytes encodes at most one wide pass.
 pub fn one_pass_for_each_v1()
     ensures { OnePassEach SpellsV1 }
 {}
 
-/// The pass computed from bytes in V1 is the pass that the bytes encode.
+/// In V1, a list of bytes encodes a wide pass if and only if `wide_at` returns this wide pass.
 pub fn computes_v1()
     ensures { ComputesSpelled SpellsV1 v1.wide_at }
 {}
 
-/// `IsReadAs` allows exactly one result for bytes in V1: the computed one.
+/// In V1, `reading_v1` returns the only result that `IsReadAs` allows for a list of bytes.
 #[tactic(auto, using(crate::proofs::WholeV1::reads_v1))]
 pub fn reads_v1_exactly()
     ensures { ReadsExactly SpellsV1 v1.reading_v1 }
 {}
 
-/// Bytes encode at most one pass in V2.
+/// In V2, a list of bytes encodes at most one wide pass.
 pub fn one_pass_for_each_v2()
     ensures { OnePassEach SpellsV2 }
 {}
 
-/// The pass computed from bytes in V2 is the pass that the bytes encode.
+/// In V2, a list of bytes encodes a wide pass if and only if `wide_at` returns this wide pass.
 pub fn computes_v2()
     ensures { ComputesSpelled SpellsV2 v2.wide_at }
 {}
 
-/// `IsReadAs` allows exactly one result for bytes in V2: the computed one.
+/// In V2, `reading_v2` returns the only result that `IsReadAs` allows for a list of bytes.
 #[tactic(auto, using(crate::proofs::WholeV2::reads_v2))]
 pub fn reads_v2_exactly()
     ensures { ReadsExactly SpellsV2 v2.reading_v2 }
 {}
 
-/// In any form whose pass is computed from the bytes, `IsReadAs` allows exactly one result.
+/// In any form with a function that computes the encoded wide pass, `reading_of` returns the only
+/// result that `IsReadAs` allows.
 #[tactic(auto, using(crate::proofs::Checking::exactly))]
 pub fn answers_exactly()
     ensures { AnswersExactly }
 {}
 
-/// `IsTextReading` allows exactly one result for a text: the computed one. The encoding of each
-/// form is a parameter.
+/// For each text, `text_reading` returns the only result that `IsTextReading` allows. A parameter
+/// defines the encoding of each form.
 #[tactic(auto, using(crate::proofs::TextExact::text_reading_exact))]
 pub fn reads_texts_exactly()
     ensures { ReadsTextsExactly }
 {}
 
-/// `IsWriting` allows exactly one result for a pass in V1 or V2: the computed text or fault.
+/// For a pass with a signature of 32 bytes, `writing_v1` and `writing_v2` return the only results
+/// that `IsWriting` allows.
 #[tactic(auto, using(crate::proofs::WrittenV1::exact_v1, crate::proofs::WrittenV2::exact_v2))]
 pub fn writes_exactly()
     ensures { WritesExactly }
 {}
 
-/// A text written in V1 or V2 is read back as the same form and the same pass.
+/// Reading a text that `write_v1` or `write_v2` wrote gives the same form and the same pass.
 #[tactic(auto, using(crate::proofs::WrittenV1::law_v1, crate::proofs::WrittenV2::law_v2))]
 pub fn texts_read_back()
     ensures { TextsReadBack }
 {}
 
-/// A pass that is signed under a root is still signed under it after a caveat is added.
+/// Adding a caveat to a pass that is signed under a root gives a pass that is signed under the same
+/// root.
 pub fn narrowed_stays_signed()
     ensures { NarrowedStaysSigned }
 {}
 
-/// The function `is_signed` returns whether a pass is signed under a root.
+/// `is_signed` returns true if and only if the pass is signed under the root.
 #[tactic(auto, unfolding(crate::specs::computed::Pass::is_signed))]
 pub fn decides_signed()
     ensures { DecidesSigned }

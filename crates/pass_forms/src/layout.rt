@@ -1,5 +1,6 @@
-//! The common part of the V1 and V2 readers. A first scan of all bytes finds every fault, and the
-//! fields are read afterwards. Only copying a pass allocates memory.
+//! Common code of the V1 and V2 readers. A reader first scans all bytes and reports any fault.
+//! After a scan without a fault, a caller can read the fields. Memory is allocated only to copy a
+//! pass.
 
 ghost use Rattle.std.specs.Prelude.{◌≡◌, [], ◌∷◌, IfNone, IfSome, length, option_map};
 ghost use Rattle.pass_forms.specs.{FieldSource.opening_of, Reading.{IsReadAs, OrOutOfMemory}};
@@ -10,7 +11,7 @@ use crate::{Field, FieldSource, FormFault, MAX_CAVEATS, MAX_TEXT, Pass};
 use std::alloc::{AllocError, Global};
 use std::marker::{Model, PhantomData};
 
-/// The header at the front of some bytes, and the bytes after the header.
+/// A parsed header, and the bytes after the header.
 #[derive(Drop)]
 pub struct Header<'a> {
     pub location: &'a [u8],
@@ -18,7 +19,7 @@ pub struct Header<'a> {
     pub rest: &'a [u8],
 }
 
-/// The caveat at the front of some bytes, and the bytes after the caveat.
+/// A parsed caveat, and the bytes after the caveat.
 #[derive(Drop)]
 pub struct Caveat<'a> {
     pub identifier: &'a [u8],
@@ -26,16 +27,15 @@ pub struct Caveat<'a> {
     pub rest: &'a [u8],
 }
 
-/// The caveats at the front of some bytes: their number, whether any is a third-party caveat, and
-/// the bytes after them.
+/// The number of caveats that remain, and the bytes that contain these caveats.
 #[derive(Clone, Copy)]
 pub struct Caveats<'a> {
     count: usize,
     bytes: &'a [u8],
 }
 
-/// The fields of a pass in this layout that haven't been returned yet. A field that was already
-/// returned is `None`. Contracts see them as a list.
+/// An iterator over the fields of a pass in this layout. A field is `None` after the iterator has
+/// returned it. Contracts see the remaining fields as a list.
 #[derive(Drop)]
 pub struct Fields<'a, L: Layout> {
     location: Option<&'a [u8]>,
@@ -57,7 +57,7 @@ impl<'a, L: Layout> Model for Fields<'a, L> {
         fields.signature };
 }
 
-// The result of scanning all bytes.
+// The result of scanning all bytes of a pass.
 #[derive(Drop)]
 struct ScanResult<'a, L: Layout> {
     fields: Fields<'a, L>,
@@ -65,52 +65,53 @@ struct ScanResult<'a, L: Layout> {
     third_party: bool,
 }
 
-/// A layout of a pass as bytes: a header, the caveats, and a footer with the signature.
+/// A byte layout of a pass. A pass has a header, caveats, and a footer with the signature.
 pub trait Layout: Copy {
     ghost use Rattle.std.specs.Prelude.{◌≡◌, ℕ, List, Option, Result, length, option_map};
     ghost use Rattle.pass_forms.specs.{Laws.ReadsExactly, Pass.{Plain, WideCaveat, WidePass}};
     ghost use Rattle.pass_forms.specs.computed.{Caveats.{summary, whole_at}, Reading.reading_of};
     ghost use Rattle.pass_forms.specs.declared.fault.FormFault.{FormFault as FaultOfForm};
 
-    // The relation between bytes and the wide passes that they encode.
+    // Relates a list of bytes to the wide pass that the bytes encode.
     ghost Spells: { List ℕ → WidePass → Type 0 };
 
-    // The computed result of reading bytes.
+    // Computes the result of reading a list of bytes.
     ghost reading: { List ℕ → Result Plain FaultOfForm };
 
-    // The location, the identifier, and the bytes after both.
+    // Parses a header. Returns the location, the identifier, and the bytes after the header.
     ghost header_at: { List ℕ → Option (List ℕ × List ℕ × List ℕ) };
 
-    // The caveat at the front of bytes, and the bytes after the caveat.
+    // Parses the first caveat. Returns the caveat and the bytes after the caveat.
     ghost caveat_at: { List ℕ → Option (WideCaveat × List ℕ) };
 
-    // The signature, if the bytes are a complete footer.
+    // Parses a footer, which must be all of the bytes. Returns the signature.
     ghost footer_at: { List ℕ → Option (List ℕ) };
 
-    /// Returns the header at the front, if there is one.
+    /// Parses the header at the start of the bytes, or returns `None` if there is no header.
     fn first_header(bytes: &[u8]) -> Option<Header<'_>>
         ensures { option_map (λ header.
             (header.location.now, header.identifier.now, header.rest.now)) result
             ≡ header_at bytes.now };
 
-    /// Returns the caveat at the front, if there is one.
+    /// Parses the caveat at the start of the bytes, or returns `None` if there is no caveat.
     fn first_caveat(bytes: &[u8]) -> Option<Caveat<'_>>
         ensures { option_map (λ found.
             (found.identifier.now, found.third_party, found.rest.now)) result
             ≡ option_map summary (caveat_at bytes.now) };
 
-    /// Returns the signature, if the bytes are a complete footer.
+    /// Parses a footer, which must be all of the bytes, and returns the signature.
     fn footer(bytes: &[u8]) -> Option<[u8; 32]>
         ensures { result ≡ footer_at bytes.now };
 
-    /// A law: `IsReadAs` allows exactly one result for bytes, the one computed from these parts.
+    /// States a law: `reading` returns the only result that `IsReadAs` allows for a list of bytes.
     fn reads_exactly()
         ensures spelling { ReadsExactly Spells reading }
         ensures computed { (bytes : List ℕ) → reading bytes
             ≡ reading_of (length bytes) (whole_at header_at caveat_at footer_at bytes) };
 }
 
-// The number of caveats, whether any is a third-party caveat, and the bytes after them.
+// The result of skipping caveats: their number, whether any caveat is a third-party caveat, and the
+// bytes after the last caveat.
 #[derive(Drop)]
 struct Skipped<'a> {
     count: usize,
@@ -118,7 +119,7 @@ struct Skipped<'a> {
     rest: &'a [u8],
 }
 
-// Scans the caveats at the front.
+// Skips the caveats at the start of the bytes.
 #[tactic(auto, using(crate::proofs::CaveatRuns::none_follow))]
 fn skip_caveats<L: Layout>(bytes: &[u8]) -> Skipped<'_>
     ensures { Counts result.count result.third_party result.rest.now
@@ -140,7 +141,7 @@ fn skip_caveats<L: Layout>(bytes: &[u8]) -> Skipped<'_>
     skipped
 }
 
-// Scans a whole pass.
+// Scans all bytes of a pass. Returns `None` if the bytes don't encode a wide pass.
 #[tactic(auto, using(crate::proofs::CaveatRuns::as_many), unfolding(crate::specs::computed::Caveats::whole_at))]
 fn scan_pass<L: Layout>(bytes: &[u8]) -> Option<ScanResult<'_, L>>
     ensures { option_map (λ pass. (pass.fields, pass.caveat_count, pass.third_party)) result
@@ -165,7 +166,7 @@ fn scan_pass<L: Layout>(bytes: &[u8]) -> Option<ScanResult<'_, L>>
     })
 }
 
-// Returns the fields of the pass, or else the first fault that applies.
+// Returns the fields of the pass, or the first fault that applies.
 fn checked_fields<L: Layout>(bytes: &[u8]) -> Result<Fields<'_, L>, FormFault>
     ensures { result ≡ opening_of (reading_of (length bytes.now)
         (whole_at L.header_at L.caveat_at L.footer_at bytes.now)) }
@@ -236,18 +237,21 @@ impl<'a, L: Layout> Fields<'a, L> {
     ghost use Rattle.pass_forms.specs.FieldSource.{IsOpening, no_fields, opening_of, with_fields};
     ghost use Rattle.pass_forms.specs.Reading.{IsReadAs};
 
-    /// Checks all of the bytes before it returns a source of their fields. The bytes aren't base64.
-    /// Allocates no memory: each field is a slice of the bytes.
+    /// Checks all of the bytes, and then returns a source of their fields. The bytes are not
+    /// base64. Allocates no memory, because each field is a slice of the bytes.
     ///
     /// # Errors
     ///
-    /// Fails with the first fault that applies: `TooLong` above 8,192 bytes, `Malformed` if the
-    /// bytes aren't a pass, `ThirdParty` for a third-party caveat, `TooMany` for more than 64
-    /// caveats.
+    /// Fails with the first fault that applies:
+    ///
+    /// - `TooLong` for more than 8,192 bytes,
+    /// - `Malformed` if the bytes aren't a pass,
+    /// - `ThirdParty` for a third-party caveat,
+    /// - `TooMany` for more than 64 caveats.
     pub fn open(bytes: &'a [u8]) -> Result<Fields<'a, L>, FormFault>
-        // The fields are those of the pass that the bytes encode.
+        // The fields belong to the pass that the bytes encode.
         ensures spelling { IsOpening (IsReadAs (length bytes.now) (L.Spells bytes.now)) result }
-        // The result also equals the one computed from the bytes.
+        // The contract also states that the result equals the computed result.
         ensures computed { result ≡ opening_of (L.reading bytes.now) }
     {
         L::reads_exactly();
@@ -266,8 +270,8 @@ impl<'a, L: Layout> Fields<'a, L> {
     }
 }
 
-/// Reads the pass that the bytes encode in this layout. Memory can run out only for a pass that
-/// passed all checks.
+/// Reads the pass that the bytes encode in the layout `L`. Memory can run out only after all checks
+/// of the pass succeed.
 pub fn read<L: Layout>(alloc: Global, bytes: &[u8]) -> Result<Pass, FormFault>
     ensures spelling { OrOutOfMemory (IsReadAs (length bytes.now) (L.Spells bytes.now)) result }
     ensures computed { OrOutOfMemory (λ answer. L.reading bytes.now ≡ answer) result }

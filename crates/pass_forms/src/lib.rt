@@ -1,6 +1,7 @@
-//! Passes, which are macaroons of first-party caveats. The crate reads, writes and narrows them. It
-//! reads libmacaroons' packets (V1) and its binary form (V2), field by field or all at once. The
-//! envelope carries each form as a text.
+//! Reads, writes and narrows passes, which are macaroons with first-party caveats. The crate
+//! supports libmacaroons' packets (V1) and libmacaroons' binary format (V2). A caller can read all
+//! fields of a pass at once or one field at a time. An envelope turns the bytes of each form into a
+//! text.
 #![tactic(auto)]
 
 mod envelope;

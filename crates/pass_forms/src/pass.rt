@@ -1,4 +1,4 @@
-//! Passes in memory. They can be minted, narrowed, and checked against a root.
+//! Defines passes in memory. A caller can mint a pass, narrow it, and check it against a root.
 
 ghost use Rattle.std.specs.Prelude.{◌≡◌, ◌↔◌, ◌≤◌, ℕ, List, Err, IfErr, OnErr, OnOk, length, map};
 ghost use Rattle.pass_mac.specs.Chain.{chain, derived_key};
@@ -14,7 +14,7 @@ use std::marker::Model;
 /// The maximum number of caveats in a pass.
 pub const MAX_CAVEATS: usize = 64;
 
-/// A macaroon of first-party caveats. Contracts see it as the record `Plain` of its four values.
+/// A macaroon with first-party caveats. Contracts see a `Pass` as the record `Plain`.
 #[derive(Drop)]
 pub struct Pass {
     location: Vec<u8>,
@@ -23,7 +23,7 @@ pub struct Pass {
     signature: [u8; 32],
 }
 
-/// The values of a pass, as `Pass::into_parts` returns them.
+/// The parts of a pass, as returned by `Pass::into_parts`.
 #[derive(Drop)]
 pub struct PassParts {
     /// A hint about where the pass is valid.
@@ -32,7 +32,7 @@ pub struct PassParts {
     pub identifier: Vec<u8>,
     /// The caveats, in the order in which they were added.
     pub caveats: Vec<Vec<u8>>,
-    /// The chain's signature after the last caveat.
+    /// The signature of the pass, which is the chain's signature after the last caveat.
     pub signature: [u8; 32],
 }
 
@@ -57,7 +57,7 @@ impl Pass {
     ghost use Rattle.pass_forms.specs.FieldSource.{as_field, no_fields, pass_fields, with_field};
     ghost use Rattle.pass_forms.specs.{Pass.{IsSigned, minted_pass}, computed.Pass.is_signed};
 
-    /// Makes a pass of these parts, without checking the signature.
+    /// Makes a pass from its parts, without checking the signature.
     pub fn new(
         location: Vec<u8>,
         identifier: Vec<u8>,
@@ -79,11 +79,11 @@ impl Pass {
         }
     }
 
-    /// Makes a pass with these two fields and no caveats, and signs it under a root of any length.
+    /// Makes a pass without caveats and signs it under a root. The root may have any length.
     ///
     /// # Errors
     ///
-    /// Fails if copying a field fails to allocate memory.
+    /// Fails if there is no memory to copy a field.
     pub fn mint(
         alloc: Global,
         root: &[u8],
@@ -99,7 +99,7 @@ impl Pass {
         Ok(Pass::new(location, identifier, Vec::new(alloc), signature))
     }
 
-    // Returns an empty pass, with capacity for `caveat_count` caveats.
+    // Returns an empty pass with capacity for `caveat_count` caveats.
     pub(crate) fn with_capacity_for(alloc: Global, caveat_count: usize) -> Result<Pass, AllocError>
         ensures { IfOk result (λ pass. pass ≡ no_fields) }
     {
@@ -111,7 +111,7 @@ impl Pass {
         })
     }
 
-    // Sets the field's value in the pass to a copy. A caveat is appended to the list.
+    // Copies a field into the pass. A caveat is appended to the list of caveats.
     pub(crate) fn set(&mut self, alloc: Global, field: Field) -> Result<(), AllocError>
         ensures { OnOk result (self.new ≡ with_field self.old (as_field field.entry)) }
     {
@@ -124,7 +124,7 @@ impl Pass {
         Ok(())
     }
 
-    /// Returns the values of the pass without copying them. Allocates no memory.
+    /// Returns the parts of the pass without copying them. Allocates no memory.
     pub fn into_parts(self) -> PassParts
         ensures location { result.location.items ≡ self.location }
         ensures identifier { result.identifier.items ≡ self.identifier }
@@ -145,14 +145,14 @@ impl Pass {
         }
     }
 
-    /// Returns a hint about where the pass is valid. The signature doesn't cover it.
+    /// Returns a hint about where the pass is valid. The signature doesn't cover the hint.
     pub fn location(&self) -> &[u8]
         ensures { result.now ≡ self.now.location }
     {
         self.location.as_slice()
     }
 
-    /// Returns the identifier. It tells the desk which root the pass was signed under.
+    /// Returns the identifier, which names the root that signed the pass.
     pub fn identifier(&self) -> &[u8]
         ensures { result.now ≡ self.now.identifier }
     {
@@ -166,7 +166,7 @@ impl Pass {
         self.caveats.as_slice()
     }
 
-    /// Returns the chain's signature after the last caveat.
+    /// Returns the signature of the pass, which is the chain's signature after the last caveat.
     pub fn signature(&self) -> &[u8; 32]
         ensures value { result.now ≡ self.now.signature }
         ensures len { length self.now.signature ≡ 32 }
@@ -174,7 +174,8 @@ impl Pass {
         &self.signature
     }
 
-    /// Returns all fields of the pass. Allocates no memory: each field is a slice of the pass.
+    /// Returns an iterator over the fields of the pass. Allocates no memory, because each field is
+    /// a slice of the pass.
     pub fn fields(&self) -> PassFields<'_>
         ensures { result ≡ pass_fields self.now }
     {
@@ -186,8 +187,8 @@ impl Pass {
         }
     }
 
-    /// Returns whether the signature is the one of the identifier and the caveats under this root.
-    /// The root may have any length. Allocates no memory.
+    /// Returns whether the pass is signed under this root. The root may have any length. Allocates
+    /// no memory.
     #[tactic(auto, unfolding(crate::specs::computed::Pass::is_signed))]
     pub fn is_signed(&self, root: &[u8]) -> bool
         ensures signed { IsTrue result ↔ IsSigned root.now self.now }
@@ -200,13 +201,13 @@ impl Pass {
     }
 }
 
-/// Adds a caveat to a pass and signs it without the root. The new signature is the caveat's HMAC,
-/// with the old signature as the key.
+/// Adds a caveat to a pass and signs the pass without the root. The new signature is the HMAC of
+/// the caveat, with the old signature as the key.
 ///
 /// # Errors
 ///
-/// Fails with `TooMany` for a pass of 64 caveats or more, and with `Memory` only if an allocation
-/// fails. In both cases the pass is unchanged.
+/// Fails with `TooMany` if the pass already has 64 caveats or more. Fails with `Memory` if an
+/// allocation fails. In both cases the pass stays unchanged.
 pub fn narrow(alloc: Global, pass: &mut Pass, caveat: &[u8]) -> Result<(), FormFault>
     ensures ok { OnOk result (pass.new ≡ with_caveat caveat.now pass.old) }
     ensures signed { OnOk result

@@ -1,4 +1,4 @@
-//! Reads V1, libmacaroons' packets.
+//! Reads V1, the packet format of libmacaroons.
 
 ghost use Rattle.std.specs.Prelude.{◌≡◌, length, option_map, is_some};
 ghost use Rattle.pass_forms.specs.{Reading.{IsReadAs, OrOutOfMemory}, V1.SpellsV1};
@@ -22,7 +22,7 @@ const CAVEAT_LOCATION: &[u8] = b"cl ";
 
 pub const SIGNATURE: &[u8] = b"signature ";
 
-// The number of digits in a packet's length, which is at the packet's front.
+// A packet starts with its length in four hexadecimal digits.
 const LEN_DIGITS: usize = 4;
 
 fn digit_value(byte: u8) -> Option<u8>
@@ -35,7 +35,7 @@ fn digit_value(byte: u8) -> Option<u8>
     }
 }
 
-// Returns the length that the first four digits encode.
+// Returns the length that the first four hexadecimal digits encode.
 fn packet_len(bytes: &[u8]) -> Option<usize>
     ensures { result ≡ reading.len_at bytes.now }
 {
@@ -49,8 +49,8 @@ fn packet_len(bytes: &[u8]) -> Option<usize>
     Some(a * 4096 + b * 256 + c * 16 + d)
 }
 
-// Returns the data of the packet with this key at the front, and the bytes after it. Inlined, so
-// that the comparison uses the caller's constant key.
+// Parses a packet with the given key. Returns the packet's data and the bytes after the packet. The
+// function is inlined, so that the compiler can use the caller's constant key in the comparison.
 #[inline(always)]
 #[tactic(auto, unfolding(crate::specs::computed::V1Reading::packet_at))]
 fn first_packet<'a>(key: &[u8], bytes: &'a [u8]) -> Option<(&'a [u8], &'a [u8])>
@@ -61,7 +61,7 @@ fn first_packet<'a>(key: &[u8], bytes: &'a [u8]) -> Option<(&'a [u8], &'a [u8])>
         return None;
     }
     let (_, rest) = bytes.split_at(LEN_DIGITS);
-    // Most packets have another key, so this test comes before the length is parsed.
+    // Most packets have another key, so the code compares the key before it parses the length.
     let body = after_prefix(key, rest)?;
     let len = packet_len(bytes)?;
     let body_len = len.checked_sub(LEN_DIGITS)?.checked_sub(key.len())?;
@@ -74,8 +74,7 @@ fn first_packet<'a>(key: &[u8], bytes: &'a [u8]) -> Option<(&'a [u8], &'a [u8])>
     Some((text, rest))
 }
 
-// Returns the data of an optional packet, and the bytes after it. If the packet is missing, returns
-// `None` and all of the bytes.
+// Parses an optional packet. If the packet is missing, returns `None` and all of the bytes.
 #[inline(always)]
 fn optional_packet<'a>(key: &[u8], bytes: &'a [u8]) -> (bool, &'a [u8])
     ensures { (is_some (reading.optional_at key.now bytes.now).0 ≡ result.0)
@@ -87,7 +86,7 @@ fn optional_packet<'a>(key: &[u8], bytes: &'a [u8]) -> (bool, &'a [u8])
     }
 }
 
-// The layout of V1: a sequence of packets.
+// The V1 layout, which is a sequence of packets.
 #[derive(Clone, Copy)]
 pub struct Packets;
 
@@ -140,20 +139,24 @@ impl Layout for Packets {
     }
 }
 
-/// The fields of a pass in V1, read one after another.
+/// An iterator over the fields of a pass in V1.
 pub type V1Fields<'a> = Fields<'a, Packets>;
 
-/// Reads a pass from V1. The bytes are libmacaroons' packets, without base64.
+/// Reads a pass from V1 bytes. The bytes are libmacaroons' packets, without base64.
 ///
 /// # Errors
 ///
-/// Fails with the first fault that applies: `TooLong` above 8,192 bytes, `Malformed` if the bytes
-/// aren't a pass, `ThirdParty` for a third-party caveat, `TooMany` for more than 64 caveats. Fails
-/// with `Memory` only for a pass that passed all checks.
+/// Fails with the first fault that applies:
+///
+/// - `TooLong` for more than 8,192 bytes,
+/// - `Malformed` if the bytes aren't a pass,
+/// - `ThirdParty` for a third-party caveat,
+/// - `TooMany` for more than 64 caveats,
+/// - `Memory` if an allocation fails, which can happen only after all checks succeed.
 pub fn read_v1(alloc: Global, bytes: &[u8]) -> Result<Pass, FormFault>
-    // The result is the pass that the bytes encode, or the first fault.
+    // The result is the pass that the bytes encode, or the first fault that applies.
     ensures spelling { OrOutOfMemory (IsReadAs (length bytes.now) (SpellsV1 bytes.now)) result }
-    // The result also equals the one computed from the bytes.
+    // The contract also states that the result equals the computed result.
     ensures computed { OrOutOfMemory (λ answer. reading.reading_v1 bytes.now ≡ answer) result }
 {
     layout::read::<Packets>(alloc, bytes)

@@ -1,4 +1,4 @@
-//! Reads V2, libmacaroons' binary form.
+//! Reads V2, the binary format of libmacaroons.
 
 ghost use Rattle.std.specs.Prelude.{◌≡◌, ◌≤◌, IfSome, length, option_map, is_some};
 ghost use Rattle.pass_forms.specs.{Reading.{IsReadAs, OrOutOfMemory}, V2.SpellsV2};
@@ -22,8 +22,8 @@ pub const SIGNATURE: u8 = 6;
 
 pub const END_OF_SECTION: &[u8] = &[0];
 
-// Returns the varint at the front, if it is at most `most`. Each byte has seven bits, and the
-// lowest bits come first.
+// Parses a varint whose value is at most `most`. Each byte contains seven bits of the value, and
+// the lowest bits come first.
 #[tactic(auto, using(crate::proofs::Varints::no_bytes), unfolding(crate::specs::computed::V2Reading::varint_up_to))]
 fn varint_up_to(most: usize, bytes: &[u8]) -> Option<(usize, &[u8])>
     ensures value { option_map (λ found. (found.0, found.1.now)) result
@@ -49,7 +49,7 @@ fn varint_up_to(most: usize, bytes: &[u8]) -> Option<(usize, &[u8])>
     Some((number + (low - 128), rest))
 }
 
-// Returns the data of the field with this type at the front, and the bytes after the field.
+// Parses a field of the given type. Returns the field's data and the bytes after the field.
 #[tactic(auto, unfolding(crate::specs::computed::V2Reading::field_at))]
 fn first_field<'a>(kind: u8, bytes: &'a [u8]) -> Option<(&'a [u8], &'a [u8])>
     ensures { option_map (λ found. (found.0.now, found.1.now)) result
@@ -64,8 +64,7 @@ fn first_field<'a>(kind: u8, bytes: &'a [u8]) -> Option<(&'a [u8], &'a [u8])>
     Some((field, rest))
 }
 
-// Returns the data of an optional field, and the bytes after it. If the field is missing, returns
-// `None` and all of the bytes.
+// Parses an optional field. If the field is missing, returns `None` and all of the bytes.
 fn optional_field<'a>(kind: u8, bytes: &'a [u8]) -> (Option<&'a [u8]>, &'a [u8])
     ensures { (option_map (λ field. field.now) result.0, result.1.now)
         ≡ reading.optional_at kind bytes.now }
@@ -76,7 +75,7 @@ fn optional_field<'a>(kind: u8, bytes: &'a [u8]) -> (Option<&'a [u8]>, &'a [u8])
     }
 }
 
-// The layout of V2: sections of fields.
+// The V2 layout, which is a sequence of sections. Each section contains fields.
 #[derive(Clone, Copy)]
 pub struct Sections;
 
@@ -133,22 +132,26 @@ impl Layout for Sections {
     }
 }
 
-/// The fields of a pass in V2, read one after another. Each number must have its shortest form
-/// (ours).
+/// An iterator over the fields of a pass in V2. This project accepts only the shortest encoding of
+/// each number.
 pub type V2Fields<'a> = Fields<'a, Sections>;
 
-/// Reads a pass from V2. The bytes are libmacaroons' binary form, without base64. Each number must
-/// have its shortest form (ours).
+/// Reads a pass from V2 bytes. The bytes are libmacaroons' binary format, without base64. This
+/// project accepts only the shortest encoding of each number.
 ///
 /// # Errors
 ///
-/// Fails with the first fault that applies: `TooLong` above 8,192 bytes, `Malformed` if the bytes
-/// aren't a pass, `ThirdParty` for a third-party caveat, `TooMany` for more than 64 caveats. Fails
-/// with `Memory` only for a pass that passed all checks.
+/// Fails with the first fault that applies:
+///
+/// - `TooLong` for more than 8,192 bytes,
+/// - `Malformed` if the bytes aren't a pass,
+/// - `ThirdParty` for a third-party caveat,
+/// - `TooMany` for more than 64 caveats,
+/// - `Memory` if an allocation fails, which can happen only after all checks succeed.
 pub fn read_v2(alloc: Global, bytes: &[u8]) -> Result<Pass, FormFault>
-    // The result is the pass that the bytes encode, or the first fault.
+    // The result is the pass that the bytes encode, or the first fault that applies.
     ensures spelling { OrOutOfMemory (IsReadAs (length bytes.now) (SpellsV2 bytes.now)) result }
-    // The result also equals the one computed from the bytes.
+    // The contract also states that the result equals the computed result.
     ensures computed { OrOutOfMemory (λ answer. reading.reading_v2 bytes.now ≡ answer) result }
 {
     layout::read::<Sections>(alloc, bytes)

@@ -1,4 +1,4 @@
-//! Verifies a pass from its fields.
+//! Checks the signature of a pass while reading the pass's fields.
 
 ghost use Rattle.std.specs.{Prelude.{◌≡◌, ◌↔◌, ◌++◌, ◌∷◌, ℕ, IsTrue, List, [], map}, Str.bytes_eq};
 ghost use Rattle.pass_mac.specs.Chain.{extended_signature};
@@ -7,10 +7,10 @@ ghost use Rattle.pass_forms.specs.FieldSource.{AreSignedBy, caveat_field, signat
 use crate::{Field, FieldSource};
 use pass_mac::{Chain, same};
 
-/// Extends a chain by the source's remaining caveats and returns whether the next signature equals
-/// it. Start with the chain of the identifier, after the source returned location and identifier.
-/// The result then tells whether the pass is signed. If either of these fields remains, the result
-/// is false.
+/// Returns whether a pass is signed. The argument `chain` must be the chain of the pass's
+/// identifier. The source must have returned the location and the identifier already. The function
+/// adds the remaining caveats to the chain and compares the chain's signature with the pass's
+/// signature. The function returns false if the source returns another location or identifier.
 #[tactic(auto, using(crate::proofs::Verifying::signed_behind))]
 pub fn is_signed_by<'a, F: FieldSource<'a>>(mut chain: Chain, source: &mut F) -> bool
     ensures signed { IsTrue result ↔ AreSignedBy chain (F.left source.old) }

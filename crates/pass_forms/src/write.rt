@@ -1,4 +1,4 @@
-//! Writes passes as texts. A pass has exactly one text in V1 and one in V2.
+//! Writes passes as texts. Each pass has only one text in V1 and only one text in V2.
 
 ghost use Rattle.std.specs.Prelude.{◌≡◌, length, IfErr, IfOk, IsOk, MatchResult, Ok};
 ghost use Rattle.std.specs.String.{string_bytes};
@@ -20,7 +20,7 @@ mod buffer;
 mod packets;
 mod sections;
 
-/// Writes the bytes of a pass in one layout.
+/// A byte layout in which a writer can write a pass.
 trait PutLayout {
     ghost use Rattle.std.specs.Prelude.{◌≡◌, ℕ, List, OnOk, length};
     ghost use Rattle.pass_forms.specs.{Pass.Plain, Putting.Puts};
@@ -34,45 +34,47 @@ trait PutLayout {
         ensures signature { OnOk result (length pass.now.signature ≡ 32) };
 }
 
-/// Returns the text of a pass in V1: libmacaroons' packets in URL-safe base64 without padding. The
-/// location is written even if it is empty.
+/// Returns the text of a pass in V1. The text is libmacaroons' packets, encoded in URL-safe base64
+/// without padding. An empty location is written too.
 ///
 /// # Errors
 ///
-/// Fails with `TooMany` for more than 64 caveats, and otherwise with `TooLong` if the pass has no
-/// such text of at most 8,192 bytes. Fails with `Memory` only if the allocation of the text fails.
+/// Fails with `TooMany` if the pass has more than 64 caveats. Otherwise fails with `TooLong` if the
+/// text would have more than 8,192 bytes. Fails with `Memory` only if the allocation of the text
+/// fails.
 pub fn write_v1(alloc: Global, pass: &Pass) -> Result<String, FormFault>
     ensures ok { IfOk result (λ text. IsWritableText IsV1Text pass.now (string_bytes text)) }
     ensures err { IfErr result (IsWriteFault IsV1Text pass.now) }
     ensures read_back { IfOk result
         (λ text. IsReadBack SpellsV1 V1 (v1_bytes pass.now) pass.now (string_bytes text)) }
-    // The result also equals the one computed from the pass.
+    // The contract also states that the result equals the computed result.
     ensures computed { MatchResult result (λ text. writing_v1 pass.now ≡ Ok (string_bytes text))
         (FailsAs (writing_v1 pass.now)) }
 {
     write_in::<Packets>(alloc, pass)
 }
 
-/// Returns the text of a pass in V2: libmacaroons' binary form in URL-safe base64 without padding.
-/// An empty location is left out.
+/// Returns the text of a pass in V2. The text is libmacaroons' binary format, encoded in URL-safe
+/// base64 without padding. An empty location is left out.
 ///
 /// # Errors
 ///
-/// Fails with `TooMany` for more than 64 caveats, and otherwise with `TooLong` if the pass has no
-/// such text of at most 8,192 bytes. Fails with `Memory` only if the allocation of the text fails.
+/// Fails with `TooMany` if the pass has more than 64 caveats. Otherwise fails with `TooLong` if the
+/// text would have more than 8,192 bytes. Fails with `Memory` only if the allocation of the text
+/// fails.
 pub fn write_v2(alloc: Global, pass: &Pass) -> Result<String, FormFault>
     ensures ok { IfOk result (λ text. IsWritableText IsV2Text pass.now (string_bytes text)) }
     ensures err { IfErr result (IsWriteFault IsV2Text pass.now) }
     ensures read_back { IfOk result
         (λ text. IsReadBack SpellsV2 V2 (v2_bytes pass.now) pass.now (string_bytes text)) }
-    // The result also equals the one computed from the pass.
+    // The contract also states that the result equals the computed result.
     ensures computed { MatchResult result (λ text. writing_v2 pass.now ≡ Ok (string_bytes text))
         (FailsAs (writing_v2 pass.now)) }
 {
     write_in::<Sections>(alloc, pass)
 }
 
-// Returns the text of a pass in this layout, or else the first fault that applies.
+// Returns the text of a pass in this layout, or the first fault that applies.
 #[tactic(auto, using(crate::proofs::WrittenTexts::too_long))]
 fn write_in<L: PutLayout>(alloc: Global, pass: &Pass) -> Result<String, FormFault>
     ensures written { MatchResult result
@@ -89,7 +91,7 @@ fn write_in<L: PutLayout>(alloc: Global, pass: &Pass) -> Result<String, FormFaul
     Ok(text_of(alloc, buffer.as_slice())?)
 }
 
-// Encodes the bytes in base64.
+// Encodes bytes in URL-safe base64 without padding.
 fn text_of(alloc: Global, bytes: &[u8]) -> Result<String, AllocError>
     ensures text { IfOk result (λ text. string_bytes text ≡ in_base64 bytes.now) }
     ensures bytes { IsBytes bytes.now }

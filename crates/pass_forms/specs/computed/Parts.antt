@@ -1,4 +1,4 @@
--- Parsers that read a part from the front of bytes, and return it with the bytes after it.
+-- Defines parsers that split a part off a list of bytes.
 use Rattle.std.specs.{Cmp.Lexicographic.pointwise, Prelude.{ℕ, ◌-◌, ◌==◌, ◌&&◌, nat_eq, if◌then◌else◌, List, length, take, drop, Option, Some, None}}
 
 infixl 10 ◌>>=◌
@@ -14,11 +14,12 @@ abbrev pub before_suffix : List ℕ → List ℕ → Option (List ℕ)
 before_suffix suffix bytes =
     if pointwise nat_eq (drop (length bytes - length suffix) bytes) suffix then Some (take (length bytes - length suffix) bytes) else None
 
--- An optional part, or `None` with all of the bytes if the part wasn't found.
+-- Returns an optional part and the bytes after it. If the part is missing, returns `None` and all
+-- of the bytes.
 abbrev pub found_or_none : List ℕ → Option (List ℕ × List ℕ) → Option (List ℕ) × List ℕ
 found_or_none bytes None = (None, bytes)
 found_or_none bytes (Some found) = (Some found.0, found.1)
 
--- The signature, if it has 32 bytes and nothing follows it.
+-- Returns the signature if it has 32 bytes and is at the end of the input.
 abbrev pub last_signature : List ℕ × List ℕ → Option (List ℕ)
 last_signature part = if length part.0 == 32 && length part.1 == 0 then Some part.0 else None

@@ -1,4 +1,4 @@
--- Computes whether a pass is signed under a root.
+-- Defines a function that checks whether a pass is signed under a root.
 use Rattle.std.specs.{Prelude.{ℕ, Bool, List}, Str.bytes_eq}
 use Rattle.pass_mac.specs.Chain.{chain, derived_key}
 use Rattle.pass_forms.specs.Pass.{Plain}

@@ -1,9 +1,9 @@
--- The result of a writer, computed from the bytes of the pass.
+-- Computes the result of writing a pass in V1 or V2.
 use Rattle.std.specs.Prelude.{ℕ, nat_lt, if◌then◌else◌, List, length, Result, Ok, Err}
 use Rattle.pass_forms.specs.{Pass.Plain, Reading.{max_caveats, max_text_len}, Writing.{in_base64, v1_bytes, v2_bytes}, declared.fault.FormFault.FormFault}
 use Rattle.pass_forms.specs.declared.fault.FormFault.TheVariants.{TooLong, TooMany}
 
--- The base64 text of these bytes of the pass, or else the first fault that applies.
+-- Returns the base64 text of the pass's bytes, or the first fault that applies.
 abbrev pub writing_of : List ℕ → Plain → Result (List ℕ) FormFault
 writing_of bytes pass =
     if nat_lt max_caveats (length pass.caveats) then Err TooMany

@@ -1,9 +1,11 @@
-//! The buffer that a writer fills. It is on the stack, so a writer allocates only the text.
+//! A buffer for the bytes of a pass. The buffer is on the stack, so a writer allocates memory only
+//! for the text.
 
 use crate::{FormFault, MAX_BYTES};
 use std::marker::Model;
 
-/// A buffer with the bytes written so far. Contracts see it as a list of at most 6,144 bytes.
+/// A buffer and the number of bytes that a writer has appended. Contracts see a `Buffer` as a list
+/// of at most 6,144 bytes.
 #[derive(Drop)]
 pub struct Buffer {
     bytes: [u8; MAX_BYTES],
@@ -35,7 +37,7 @@ impl Buffer {
         }
     }
 
-    /// Appends bytes, or returns `TooLong` if they don't fit.
+    /// Appends bytes to the buffer. Returns `TooLong` if the buffer has no room for them.
     pub fn put(&mut self, bytes: &[u8]) -> Result<(), FormFault>
         ensures { Puts bytes.now self.old self.new result }
     {
@@ -48,7 +50,7 @@ impl Buffer {
         Ok(())
     }
 
-    /// Returns all bytes that were written.
+    /// Returns all bytes in the buffer.
     pub fn as_slice(&self) -> &[u8]
         ensures bytes { result.now ≡ self.now }
         ensures fits { length self.now ≤ buffer_len }

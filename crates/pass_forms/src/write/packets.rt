@@ -32,7 +32,7 @@ fn four_hex_digits(len: usize) -> [u8; 4]
     ]
 }
 
-// Appends a packet with this key, which includes its space, and these bytes as its data.
+// Appends a packet. The argument `key` ends with a space, and `bytes` is the packet's data.
 fn put_packet(buffer: &mut Buffer, key: &[u8], bytes: &[u8]) -> Result<(), FormFault>
     requires { length key.now ≤ 16 }
     ensures { Puts (spec.packet key.now bytes.now) buffer.old buffer.new result }

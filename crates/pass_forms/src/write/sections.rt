@@ -9,7 +9,7 @@ use crate::write::PutLayout;
 use crate::write::buffer::Buffer;
 use crate::{FormFault, MAX_BYTES, Pass};
 
-// Appends a varint. Two bytes are enough for each length that fits in the buffer.
+// Appends a length as a varint. Each length that fits in the buffer needs at most two bytes.
 #[tactic(auto, using(crate::proofs::Fields::varint_small, crate::proofs::Fields::varint_of_two))]
 fn put_varint(buffer: &mut Buffer, n: usize) -> Result<(), FormFault>
     requires { n < 2 ^ 14 }
@@ -33,7 +33,7 @@ fn put_field(buffer: &mut Buffer, kind: u8, bytes: &[u8]) -> Result<(), FormFaul
     buffer.put(bytes)
 }
 
-// Appends a location, unless it is empty.
+// Appends a location, unless the location is empty.
 fn put_location(buffer: &mut Buffer, location: &[u8]) -> Result<(), FormFault>
     ensures { Puts (spec.optional_field 1
         (nonempty_location location.now)) buffer.old buffer.new result }

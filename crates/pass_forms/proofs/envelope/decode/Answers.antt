@@ -1,4 +1,5 @@
--- `decoded_of` is unfolded, because its own proof that the constants are engines differs from the one in the code.
+-- This proof unfolds `decoded_of`. The definition contains its own proof that the constants are
+-- valid engines, and this proof differs from the one in the code.
 use Rattle.pass_forms.proofs.{Base64Decoding.from_base64_is, Common.{refl, ◌∙◌, arith, decoded_of, by_decoders}}
 use Rattle.pass_forms.proofs.envelope.decode.Goals as goal
 

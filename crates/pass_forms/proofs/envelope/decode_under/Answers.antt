@@ -1,5 +1,4 @@
 use Rattle.pass_forms.proofs.envelope.decode_under.Goals as goal
 
--- The first engine left the buffer's length unchanged.
 pub returns-clause-len : goal.returns-clause-len
 returns-clause-len c = rw (← c.decode_by.auto.buffer) c.decode_by-2.ensures.len

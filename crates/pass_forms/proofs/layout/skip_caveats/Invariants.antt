@@ -1,4 +1,4 @@
--- The caveats skipped so far and the remaining ones are all caveats.
+-- The loop keeps the invariant `Keeps` between the scanned caveats and the remaining caveats.
 use Rattle.pass_forms.proofs.{CaveatRuns.Keeps, Common.{length, ◌≤◌, ◌-◌, caveats_at}}
 use Rattle.pass_forms.proofs.layout.skip_caveats.Given as goal
 

@@ -1,4 +1,4 @@
--- The result for the remaining fields equals the result for all fields.
+-- The loop preserves the result of `signed_in` for the remaining fields.
 use Rattle.pass_forms.proofs.{Common.{◌≡◌, length}, Verifying.signed_in}
 use Rattle.pass_forms.proofs.verify.is_signed_by.Given as goal
 

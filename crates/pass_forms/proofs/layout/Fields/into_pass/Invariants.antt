@@ -1,4 +1,4 @@
--- The fields read so far and the remaining ones are all fields of the pass.
+-- The loop preserves the pass that results after all remaining fields are set.
 use Rattle.pass_forms.proofs.Common.{◌≡◌, length, with_fields}
 use Rattle.pass_forms.proofs.layout.Fields.into_pass.Given as goal
 

@@ -1,7 +1,6 @@
 use Rattle.pass_forms.proofs.Common.{◌≡◌, ◌++◌, ℕ, List, Result, Ok, Err, arith, common_steps, FormFault, Puts, v1_bytes}
 use Rattle.pass_forms.proofs.write.packets.PacketsPutLayout.put_pass.Goals as goal
 
--- Four parts are appended one after another, and the first failure is the result.
 puts_four : (a b c d old x y z new : List ℕ) (result : Result (Unit {0}) FormFault) → x ≡ old ++ a → y ≡ x ++ b → z ≡ y ++ c → Puts d z new result →
     Puts (a ++ (b ++ (c ++ d))) old new result
 puts_four a b c d old x y z new (Ok _) p q r s = grind (arith, common_steps)
