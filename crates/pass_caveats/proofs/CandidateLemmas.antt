@@ -1,4 +1,4 @@
--- Each text has one candidate: the only caveat that the text can be.
+-- Lemmas for the proof that a text is understood as at most one caveat.
 use Rattle.pass_caveats.proofs.{ChoiceLemmas.{AreWords, choice_again}, Common.{◌≡◌, ◌≢◌, ℕ, List, [], ◌++◌, drop, refl, sym, ap, ◌∙◌, arith, codes, Caveat}}
 use Rattle.pass_caveats.proofs.Common.{Facility, Kind, Hours, Days, Weekdays, Until, Guests, Spend, Actions, comma_list, IsCaveat, caveat_text, Understood}
 use Rattle.pass_caveats.proofs.{Common.{candidate, actions_from, actions_of, weekdays_from, weekdays_of}, PartLemmas.names_again}
@@ -25,7 +25,6 @@ second_day : (a b : ℕ) → IsDay b → day_of (drop 12 (day_text a ++ (codes "
 unfolding day_text
 second_day a b h = day_of-day_text b [] h
 
--- The candidate of a caveat's text is this caveat.
 pub candidate-caveat_text : (caveat : Caveat) → IsCaveat caveat → candidate (caveat_text caveat) ≡ caveat
 unfolding candidate
 candidate-caveat_text (Facility names) h = ap Facility (names_again names h)
@@ -40,7 +39,6 @@ candidate-caveat_text (Guests n) h = ap Guests (decimal_is_IsNumeral n (omega ar
 candidate-caveat_text (Spend n) h = ap Spend (decimal_is_IsNumeral n (omega arith)).1
 candidate-caveat_text (Actions actions) h = ap Actions (actions_again actions h)
 
--- A text is understood as at most one caveat.
 pub one_caveat : (text : List ℕ) (a b : Caveat) → Understood text a → Understood text b → a ≡ b
 one_caveat text a b h k =
     sym (candidate-caveat_text a h.line.real)

@@ -1,4 +1,5 @@
--- The functions in `CaveatOf` compute what the definitions state.
+-- Lemmas for the proof that the functions in `specs/computed/CaveatOf.antt` agree with the
+-- definitions in `specs/`.
 use Rattle.pass_caveats.proofs.{CandidateLemmas.candidate-caveat_text, Common.{◌≡◌, ◌↔◌, ℕ, ◌+◌, Bool, true, false, List, [], ◌∷◌, ◌++◌, length, map, ◌⊎◌}}
 use Rattle.pass_caveats.proofs.Common.{Option, Some, None, inl, inr, refl, sym, subst, ◌∙◌, arith, add-zero, option_or, All-head, All-tail, All-push, All-nil}
 use Rattle.pass_caveats.proofs.Common.{All-cons, append-nil, Caveat, Ask, CaveatFault, Understood, permits, candidate, spells, caveat_of, first_fault_from}
@@ -22,12 +23,10 @@ pub caveat_of-unknown : (text : List ℕ) → IsUnknown text → caveat_of text 
 unfolding caveat_of
 caveat_of-unknown text h = grind (arith, Decides-spells, h (candidate text))
 
--- If a parser's result is correct, it equals the result of `caveat_of`.
 pub reads_caveat_of : (text : List ℕ) (r : Option Caveat) → Reads (Understood text) r → r ≡ caveat_of text
 reads_caveat_of text (Some caveat) h = sym (caveat_of-understood text caveat h)
 reads_caveat_of text None h = sym (caveat_of-unknown text h)
 
--- At the front of a list, caveats that allow the request don't change the first fault.
 passed : (n : ℕ) (front rest : List (List ℕ)) (ask : Ask) → Allowed front ask →
     first_fault_from n (map caveat_of (front ++ rest)) ask ≡ first_fault_from (n + length front) (map caveat_of rest) ask
 passed n [] rest ask h = rw add-zero refl
@@ -44,7 +43,6 @@ all_passed n (text ∷ texts) ask h =
     rw (caveat_of-understood text first.0 first.1, (Decides-permits first.0 ask).1 first.2)
     (all_passed (n + 1) texts ask (All-tail (λ t. Allows t ask) text texts h))
 
--- The first fault of a list, as defined, is the one that `first_fault_of` returns.
 pub is_first_fault : (texts : List (List ℕ)) (ask : Ask) (r : Option CaveatFault) → IsFirstFault texts ask r → r ≡ first_fault_of (map caveat_of texts) ask
 is_first_fault texts ask None h = sym (all_passed 1 texts ask h)
 is_first_fault texts ask (Some (NotUnderstood n)) h =
@@ -55,7 +53,6 @@ is_first_fault texts ask (Some (Denied n)) h =
     let denied = false_from_ne_true (permits h.fault.0 ask) (λ e. h.fault.2 ((Decides-permits h.fault.0 ask).0 e)) in
     sym (rw h.place (passed 1 h.front (h.text ∷ h.rest) ask h.before ∙ rw (caveat_of-understood h.text h.fault.0 h.fault.1, denied, number) refl))
 
--- `caveat_of` returns the caveat that each text is understood as.
 pub all_caveats_of : (texts : List (List ℕ)) (caveats : List (Option Caveat)) → AreUnderstoodAs texts caveats → caveats ≡ map caveat_of texts
 all_caveats_of [] [] h = refl
 all_caveats_of (text ∷ texts) (caveat ∷ caveats) h = grind (arith, reads_caveat_of, all_caveats_of texts caveats h.1)
@@ -70,11 +67,9 @@ verdict_by : (text : List ℕ) (ask : Ask) (found : Option Caveat) → caveat_of
 verdict_by text ask None e = inr (inl (λ caveat h. let t = caveat_of-understood text caveat h in cc))
 verdict_by text ask (Some caveat) e = verdict_on text ask caveat _ (understood-caveat_of text caveat e) refl
 
--- A text allows the request, isn't understood, or denies the request.
 verdict : (text : List ℕ) (ask : Ask) → Allows text ask ⊎ (IsUnknown text ⊎ Denies text ask)
 verdict text ask = verdict_by text ask (caveat_of text) refl
 
--- A list of texts has a first fault, or it allows the request.
 some_fault : (front texts : List (List ℕ)) (ask : Ask) → Allowed front ask → (r : Option CaveatFault) × IsFirstFault (front ++ texts) ask r
 some_fault front [] ask h = let P : List (List ℕ) → Type 0 = λ texts. Allowed texts ask in (None, subst P (sym (append-nil front)) h)
 some_fault front (text ∷ texts) ask h =
@@ -91,20 +86,17 @@ some_fault front (text ∷ texts) ask h =
           (Some (Denied (length front + 1)), record { front = front; text = text; rest = texts; place = refl; number = refl; before = h; fault = denies })
     ]
 
--- The result of `first_fault_of` is the first fault of the list, as defined.
 pub first_fault_of-is_first : (texts : List (List ℕ)) (ask : Ask) → IsFirstFault texts ask (first_fault_of (map caveat_of texts) ask)
 first_fault_of-is_first texts ask =
     let found = some_fault [] texts ask (All-nil (λ t. Allows t ask)) in
     let P : Option CaveatFault → Type 0 = λ r. IsFirstFault texts ask r in
     subst P (is_first_fault texts ask found.0 found.1) found.1
 
--- With one more caveat, the first fault is the one of the earlier caveats, or else the one of the last caveat.
 pub fault_of_one_more : (n : ℕ) (caveats : List (Option Caveat)) (caveat : Option Caveat) (ask : Ask) →
     first_fault_from n (caveats ++ caveat ∷ []) ask ≡ option_or (first_fault_from n caveats ask) (first_fault_from (n + length caveats) (caveat ∷ []) ask)
 fault_of_one_more n [] caveat ask = grind arith
 fault_of_one_more n (first ∷ caveats) caveat ask = grind (arith, fault_of_one_more (n + 1) caveats caveat ask)
 
--- The fault of one text, as defined, is the one that `first_fault_from` returns.
 pub is_fault_at : (text : List ℕ) (n : ℕ) (ask : Ask) (r : Option CaveatFault) → IsFaultAt text n ask r → r ≡ first_fault_from n (caveat_of text ∷ []) ask
 is_fault_at text n ask None h = rw (caveat_of-understood text h.0 h.1, (Decides-permits h.0 ask).1 h.2) refl
 is_fault_at text n ask (Some (NotUnderstood m)) h = rw (caveat_of-unknown text h.1, h.0) refl
@@ -120,7 +112,6 @@ fault_there text n ask =
       | inr (inr denies) ↦ (Some (Denied n), (refl, denies))
     ]
 
--- The definition and `first_fault_from` agree on the fault of one text.
 pub finds_fault_at : (text : List ℕ) (n : ℕ) (ask : Ask) (fault : Option CaveatFault)
     → IsFaultAt text n ask fault ↔ (fault ≡ first_fault_from n (caveat_of text ∷ []) ask)
 finds_fault_at text n ask fault =

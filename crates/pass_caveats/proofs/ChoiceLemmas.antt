@@ -1,4 +1,4 @@
--- A caveat can list some words of a fixed list, in the fixed order. The parser looks for one word after another.
+-- Lemmas about parsing a comma-separated list of words, such as the weekdays of a caveat.
 use Rattle.pass_caveats.proofs.Common.{◌≡◌, ◌≢◌, ℕ, ◌<◌, Bool, true, false, cond, List, [], ◌∷◌, ◌++◌, length, map, Option, Some, None, refl, sym, ap, ◌∙◌}
 use Rattle.pass_caveats.proofs.Common.{arith, Bor, ◌==◌, ◌&&◌, ◌||◌, not, filter, is_some, All, option_copied, list_all, length-map, append-nil, All-head}
 use Rattle.pass_caveats.proofs.Common.{All-tail, All-nil, All-cons, bytes_eq-Decides, comma_parts, comma_list, parts_left, Skips, is_next, after_next}
@@ -7,7 +7,7 @@ use Rattle.pass_caveats.proofs.PartLemmas.{HasNoComma, all_left, parts_of-joined
 use Rattle.std.proofs.lemmas.Bool.{cond_both}
 use Rattle.std.specs.Str.{bytes_eq}
 
--- The words that have the flag true.
+-- Returns the words whose flag is true.
 abbrev chosen : List Bool → List (List ℕ) → List (List ℕ)
 chosen [] words = []
 chosen (flag ∷ flags) [] = []
@@ -17,7 +17,7 @@ chosen_is : {A : Type 0} (test : A → Bool) (text : A → List ℕ) (xs : List 
 chosen_is test text [] = refl
 chosen_is test text (x ∷ xs) = grind (arith, chosen_is test text xs)
 
--- The words are distinct, and none of them has a comma.
+-- Returns true if the list contains the word.
 abbrev is_among : List ℕ → List (List ℕ) → Bool
 is_among word [] = false
 is_among word (other ∷ others) = bytes_eq other word || is_among word others
@@ -38,12 +38,11 @@ not_next word [] words none = refl
 not_next word (flag ∷ flags) [] none = refl
 not_next word (flag ∷ flags) (other ∷ others) none = grind (arith, not_next word flags others)
 
--- The parts that remain after the parser looked for all words.
+-- Returns the parts that remain after the parser has looked for all words.
 abbrev left_after : List (List ℕ) → List (List ℕ) → List (List ℕ)
 left_after [] parts = parts
 left_after (word ∷ words) parts = left_after words (after_next word parts)
 
--- The parser finds exactly the chosen words, and no part remains.
 found_again : (flags : List Bool) (words : List (List ℕ)) → length flags ≡ length words → are_distinct words ≡ true →
     (words_found words (chosen flags words) ≡ flags) × (left_after words (chosen flags words) ≡ [])
 found_again [] [] same distinct = (refl, refl)
@@ -51,7 +50,8 @@ found_again (flag ∷ flags) (word ∷ words) same distinct =
     grind (arith, found_again flags words, not_next word flags words, bytes_eq-Decides word word, all_left word (chosen flags words))
 found_again flags words same distinct = absurd (omega arith)
 
--- The steps of a parser: each word's flag tells whether it was found, and `last` are the parts that remain.
+-- The steps of a parser that looks for one word after another. Each word's flag is true if the
+-- parser found the word. The list `last` contains the parts that remain after the last step.
 abbrev pub Steps : List Bool → List (List ℕ) → List (List ℕ) → List (List ℕ) → Type 0
 Steps [] [] parts last = parts ≡ last
 Steps [] (word ∷ words) parts last = ⊥
@@ -84,7 +84,6 @@ pub some_of : {A : Type 0} (xs : List A) → xs ≢ [] → 0 < length xs
 some_of [] h = absurd (h refl)
 some_of (x ∷ xs) h = omega arith
 
--- Splitting the text of the chosen words at its commas gives these words.
 parts_again : (flags : List Bool) (words : List (List ℕ)) → are_plain words ≡ true → chosen flags words ≢ [] →
     comma_parts (comma_list (chosen flags words)) ≡ chosen flags words
 parts_again flags words plain some = grind (arith, parts_of-joined, some_of, chosen_plain, plain_words)
@@ -92,7 +91,6 @@ parts_again flags words plain some = grind (arith, parts_of-joined, some_of, cho
 same_length : {A : Type 0} (test : A → Bool) (text : A → List ℕ) (xs : List A) → length (map test xs) ≡ length (map text xs)
 same_length test text xs = length-map xs test ∙ sym (length-map xs text)
 
--- If no part of a text remains, the text lists exactly the items that were found.
 pub reads_choice : {A : Type 0} (test : A → Bool) (text : A → List ℕ) (xs : List A) (t : List ℕ) → Steps (map test xs) (map text xs) (comma_parts t) [] →
     (map text (filter test xs) ≢ []) × (t ≡ comma_list (map text (filter test xs)))
 reads_choice test text xs t steps =
@@ -100,7 +98,6 @@ reads_choice test text xs t steps =
     steps_take (map test xs) (map text xs) (comma_parts t) [] steps ∙ (append-nil (chosen (map test xs) (map text xs)) ∙ sym (chosen_is test text xs)) in
     ((λ none. absurd (omega (arith, some_part t, ap (length {A = List ℕ}) (parts ∙ none)))), sym (joined-parts_of t) ∙ ap comma_list parts)
 
--- If a part of a text remains, the text doesn't list any choice of the items.
 pub no_choice : {A : Type 0} (text : A → List ℕ) (xs : List A) → AreWords text xs → (found : List Bool) (t : List ℕ) (last : List (List ℕ)) → last ≢ [] →
     Steps found (map text xs) (comma_parts t) last → (test : A → Bool) → map text (filter test xs) ≢ [] → t ≡ comma_list (map text (filter test xs)) → ⊥
 no_choice text xs are found t last some steps test chooses e =
@@ -111,12 +108,10 @@ no_choice text xs are found t last some steps test chooses e =
     some (steps_leave found (map text xs) (comma_parts t) last steps
     ∙ (ap (left_after (map text xs)) parts ∙ (found_again (map test xs) (map text xs) (same_length test text xs) are.distinct).1))
 
--- In the text of some items, the parser finds exactly the words of these items.
 pub choice_again : {A : Type 0} (test : A → Bool) (text : A → List ℕ) (xs : List A) → AreWords text xs → map text (filter test xs) ≢ [] →
     words_found (map text xs) (comma_parts (comma_list (map text (filter test xs)))) ≡ map test xs
 choice_again test text xs are chooses = grind (arith, chosen_is, parts_again, found_again, same_length)
 
--- A text that remains has at least one part.
 pub something_left : (rest : Option (Bor (List ℕ))) → is_some rest ≡ true → parts_left (option_copied rest) ≢ []
 something_left (Some text) e none = absurd (omega (arith, some_part text.now, ap (length {A = List ℕ}) none))
 something_left None e none = cc

@@ -1,4 +1,4 @@
--- Re-exports the names that most proofs here cite. Declares nothing.
+-- Re-exports the names that the proofs of this crate use most.
 pub use Rattle.std.proofs.Common.{arith, ◌≡◌, ℕ, List, [], sym, refl, ◌∷◌, Option, ◌∙◌, false, ◌≢◌, ◌++◌, ap, true, length, Some, subst, ◌==◌, ◌↔◌, ◌+◌, map}
 pub use Rattle.std.proofs.Common.{drop, Bool, None, ◌<◌, take, rules, tests, cond, All, ◌≤◌, codes, ◌&&◌, ◌||◌, is_some, IsTrue, Contains, get_or, ◌-◌, ◌⊎◌}
 pub use Rattle.std.proofs.Common.{inl, inr, add-zero, append_assoc, Bor, not, filter, nat_lt, Decides, IsSomeAnd, add-one, Vec, nat_le, IfSome}

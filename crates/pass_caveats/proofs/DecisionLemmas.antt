@@ -1,4 +1,4 @@
--- Each test returns true if and only if the property that it tests holds.
+-- Lemmas for the proof that `permits` returns true if and only if the caveat allows the request.
 use Rattle.pass_caveats.proofs.{ChoiceLemmas.some_of, Common.{IsTrue, ◌↔◌, ◌≡◌, ◌≢◌, ℕ, ◌+◌, Bool, false, nat_lt, List, [], length, Option, Some, refl, arith}}
 use Rattle.pass_caveats.proofs.Common.{Decides, ap, ◌&&◌, Contains, IsSomeAnd, is_some, list_all, list_any, option_map_or, same_from_decides, Decides-like}
 use Rattle.pass_caveats.proofs.Common.{Decides-and, Decides-or, Decides-ltb, Decides-eqb, Decides-by_and, Decides-by_or, at_from_Contains, bytes_eq-Decides}
@@ -37,7 +37,6 @@ Decides-has names name =
     Decides-like _ (λ h. (h.0, h.1, h.2 name)) (at_from_Contains names name)
     (Decides-by_or (λ n. bytes_eq n name) (λ n. n ≡ name) (list_any (λ n. bytes_eq n name)) (λ n. bytes_eq-Decides n name) refl (λ _ _. refl) names)
 
--- `permits` returns true if and only if the caveat allows the request.
 pub Decides-permits : (caveat : Caveat) (ask : Ask) → Decides (permits caveat ask) (Permits caveat ask)
 unfolding permits
 Decides-permits (Facility names) ask = Decides-slot ask.slot _ _ (λ slot. Decides-has names slot.facility)

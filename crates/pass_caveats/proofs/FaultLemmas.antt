@@ -1,4 +1,4 @@
--- Lists of caveats.
+-- Lemmas for the proof of `first_fault`.
 use Rattle.pass_caveats.proofs.Common.{◌≡◌, ℕ, ◌+◌, ◌<◌, List, [], ◌∷◌, ◌++◌, length, get_or, take, drop, map, add-one, Vec, Some, sym, ap, arith, vec_items}
 use Rattle.pass_caveats.proofs.Common.{take-append-drop, length-take-le, All-push, Ask, CaveatFault, Allows, Allowed, IsFaultAt, IsFirstAt, IsFirstFault}
 use Rattle.pass_caveats.proofs.Common.{common_steps}
@@ -24,7 +24,6 @@ first_at texts ask i text Fault h at before fault =
       fault = fault;
     }
 
--- If all texts before index `i` allow the request, a fault of the text at `i` is the first fault.
 pub first_fault_at : (texts : List (List ℕ)) (ask : Ask) (i : ℕ) (text : List ℕ) (fault : CaveatFault) → i < length texts → get_or texts i [] ≡ text →
     Allowed (take i texts) ask → IsFaultAt text (i + 1) ask (Some fault) → IsFirstFault texts ask (Some fault)
 first_fault_at texts ask i text fault h at before is = grind (arith, first_at)

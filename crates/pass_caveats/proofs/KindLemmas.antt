@@ -1,4 +1,4 @@
--- A text has the same fault for each kind of facility if and only if it isn't a caveat on the kind.
+-- Lemmas for the proof about caveats that depend on the kind of a slot's facility.
 use Rattle.pass_caveats.proofs.{CaveatOfLemmas.finds_fault_at, Common.{◌≡◌, ℕ, false, List, [], ◌∷◌, Option, Some, None, Ask, Caveat, caveat_of, permits}}
 use Rattle.pass_caveats.proofs.Common.{first_fault_from, arith, refl, sym, ap, ◌∙◌, Facility, Kind, Hours, Days, Weekdays, Until, Guests, Spend, Actions}
 use Rattle.club_values.specs.declared.{action.Action.TheVariants.View, kind.Kind.{Kind as AKind, TheVariants.{Court, Boat, Room}}}
@@ -16,7 +16,7 @@ fault_alike number caveat ask kind h = grind (arith, permits_alike)
 pub blind_to_kind : (text : List ℕ) → is_on_kind (caveat_of text) ≡ false → IsBlindToKind text
 blind_to_kind text h number ask kind fault = grind (arith, finds_fault_at, fault_alike)
 
--- A request for a slot at an unknown facility.
+-- A request for a slot at a facility of unknown kind.
 abbrev no_facility : Ask
 no_facility = record {
   action = View;
@@ -58,6 +58,5 @@ blind_of text (Some (Guests n)) is blind = refl
 blind_of text (Some (Spend n)) is blind = refl
 blind_of text (Some (Actions actions)) is blind = refl
 
--- If a text has the same fault for each kind, it isn't a caveat on the kind.
 pub off_kind_if_blind : (text : List ℕ) → IsBlindToKind text → is_on_kind (caveat_of text) ≡ false
 off_kind_if_blind text blind = blind_of text (caveat_of text) refl blind

@@ -1,4 +1,4 @@
--- Lines with dates, and numbers above their limits.
+-- Lemmas for the proof that the parser rejects caveat lines with invalid dates or numbers.
 use Rattle.pass_caveats.proofs.Common.{◌≡◌, ℕ, ◌<◌, ◌≤◌, List, [], ◌++◌, length, take, drop, Option, refl, sym, ap, subst, ◌∙◌, arith, codes, take-append-drop}
 use Rattle.pass_caveats.proofs.Common.{Facility, Kind, Hours, Days, Weekdays, Until, Guests, Spend, Actions, Caveat, SpellsCaveat, common_steps}
 use Rattle.std.proofs.lemmas.Fmt.{decimal_injective}
@@ -6,7 +6,6 @@ use Rattle.club_values.specs.{Day.{SpellsDay, day_text}, Moment.SpellsMoment, Nu
 use Rattle.pass_caveats.specs.declared.{actions.Actions.Actions as SomeActions, weekdays.Weekdays.Weekdays as SomeWeekdays}
 use Rattle.club_values.proofs.{DayLemmas.{day_text-spells, spells-day_text, day_text_injective}, MomentLemmas.{moment_text-spells, spells-moment_text}}
 
--- If two relations allow the same values, a result that is correct for one is correct for the other.
 reads_as : {A : Type 0} (P Q : A → Type 0) (r : Option A) → Reads P r → ((x : A) → P x → Q x) → ((x : A) → Q x → P x) → Reads Q r
 reads_as P Q r h to from = grind arith
 
@@ -18,12 +17,12 @@ reads_until text rest r e h =
     (λ n s. let P : List ℕ → Type 0 = λ t. SpellsMoment t n in
     subst P (sym (ap (drop 8) (sym e ∙ s.spelling))) (moment_text-spells n s.real))
 
--- A line with more than 49 guests isn't a caveat.
 pub too_many_guests : (text rest : List ℕ) (n : ℕ) → text ≡ codes "guests <= " ++ rest → SpellsNumber rest n → 49 < n → (x : ℕ) → SpellsCaveat text (Guests x)
     → ⊥
 too_many_guests text rest n e s large x h = grind (arith, common_steps, decimal_injective)
 
--- The dates in a line: ten bytes for the first date, two dots, and the second date.
+-- `AreDates rest a b` means that `rest` consists of the date of day `a`, two dots, and the date of
+-- day `b`. The first date has ten bytes.
 pub record AreDates (rest : List ℕ) (a b : ℕ) : Type 0 where
   pub first : take 10 rest ≡ day_text a
   pub second : drop 10 rest ≡ codes ".." ++ day_text b
@@ -44,7 +43,6 @@ pub no_dots : (text rest back : List ℕ) → text ≡ codes "days = " ++ rest �
 no_dots text rest back e back_is never x h =
     never (day_text x.1) (back_is ∙ (dates_of text rest x.0 x.1 e h).second)
 
--- The text after the two dots is the second date.
 second_is : (text rest back last : List ℕ) (a b : ℕ) → text ≡ codes "days = " ++ rest → back ≡ drop 10 rest → back ≡ codes ".." ++ last →
     SpellsCaveat text (Days a b) → last ≡ day_text b
 second_is text rest back last a b e back_is dots h =
@@ -67,7 +65,6 @@ spells_days text rest front back last a b e front_is back_is dots s t le =
       spelling = rw (e, ← both, dots, first, second) refl;
     }
 
--- A line whose second day is before its first day isn't a caveat.
 pub days_fall : (text rest front back last : List ℕ) (a b : ℕ) → text ≡ codes "days = " ++ rest → front ≡ take 10 rest → back ≡ drop 10 rest →
     back ≡ codes ".." ++ last → SpellsDay front a → SpellsDay last b → b < a → (x : ℕ × ℕ) → SpellsCaveat text (Days x.0 x.1) → ⊥
 days_fall text rest front back last a b e front_is back_is dots s t lt x h =
@@ -77,7 +74,6 @@ days_fall text rest front back last a b e front_is back_is dots s t lt x h =
     let same_second = day_text_injective b x.1 [] [] t.within h.real.1 (ap (λ (d : List ℕ). d ++ []) second) in
     absurd (omega (arith, h.real.2))
 
--- A text that matches no kind of line isn't the line of any caveat.
 pub no_line : (text : List ℕ) → ((x : List (List ℕ)) → SpellsCaveat text (Facility x) → ⊥) → ((x : AKind) → SpellsCaveat text (Kind x) → ⊥) →
     ((x : ℕ × ℕ) → SpellsCaveat text (Hours x.0 x.1) → ⊥) → ((x : ℕ × ℕ) → SpellsCaveat text (Days x.0 x.1) → ⊥)
     → ((x : SomeWeekdays) → SpellsCaveat text (Weekdays x) → ⊥) →

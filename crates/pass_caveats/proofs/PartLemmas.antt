@@ -1,17 +1,15 @@
--- The parts of a comma-separated list.
+-- Lemmas about the parts of a comma-separated list.
 use Rattle.pass_caveats.proofs.Common.{◌≡◌, ◌≢◌, ℕ, ◌+◌, ◌<◌, ◌≤◌, ◌↔◌, ◌-◌, Bool, true, false, cond, List, [], ◌∷◌, ◌++◌, length, get_or, take, drop, refl, ap}
 use Rattle.pass_caveats.proofs.Common.{◌∙◌, arith, IsTrue, take-append-drop, All, Contains, ◌==◌, HoldsAt, AllWithin, nat_tests, All-head, All-tail}
 use Rattle.pass_caveats.proofs.Common.{is_name_byte, IsName, AreNames, comma_parts, comma_list, Skips, is_next, after_next, bytes_eq-Decides, common_steps}
 use Rattle.std.specs.Bool.{MatchBool}
 use Rattle.std.proofs.lemmas.List.Splits.{slice_split_none, slice_split_at, length-slice_split, join_with_byte-slice_split}
 
--- If `any` looks for items that equal `x`, it returns true if and only if the list contains `x`.
 pub contains_from_any : (r : Bool) (xs : List (List ℕ)) (x : List ℕ) →
     MatchBool r ((k : ℕ) × (k < length xs) × HoldsAt (λ y. y ≡ x) xs k) (AllWithin (λ y. y ≢ x) xs 0 (length xs)) → IsTrue r ↔ Contains xs x
 contains_from_any true xs x h = ((λ e. (h.0, h.1, h.2 x)), (λ c. refl))
 contains_from_any false xs x h = ((λ e. cc), (λ c. absurd (h c.0 x (omega arith) c.1 c.2)))
 
--- If `all` tests the property `P`, it returns true if and only if each item has `P`.
 pub all_from_all : (r : Bool) (xs : List (List ℕ)) (P : List ℕ → Type 0) →
     MatchBool r (AllWithin P xs 0 (length xs)) ((k : ℕ) × (k < length xs) × HoldsAt (λ y. P y → ⊥) xs k) → IsTrue r ↔ All P xs
 all_from_all true xs P h = ((λ e k d within. h k d (omega arith) within), (λ c. refl))
@@ -29,7 +27,6 @@ no_comma name h = λ k d within. no_comma_byte _ (h.letters k d within)
 no_commas : (names : List (List ℕ)) → All IsName names → All HasNoComma names
 no_commas names h = λ k d within. no_comma _ (h k d within)
 
--- If texts without commas are joined with commas, splitting the result gives the texts again.
 pub parts_of-joined : (parts : List (List ℕ)) → 0 < length parts → All HasNoComma parts → comma_parts (comma_list parts) ≡ parts
 parts_of-joined [] some h = absurd (omega arith)
 parts_of-joined (x ∷ []) some h = slice_split_none (λ byte. byte == 44) x (All-head HasNoComma x [] h)
@@ -42,15 +39,12 @@ names_again names h = parts_of-joined names h.some (no_commas names h.each_is_na
 pub joined-parts_of : (text : List ℕ) → comma_list (comma_parts text) ≡ text
 joined-parts_of text = join_with_byte-slice_split 44 text
 
--- Splitting a text always gives at least one part.
 pub some_part : (text : List ℕ) → 0 < length (comma_parts text)
 some_part text = omega (arith, length-slice_split (λ byte. byte == 44) text)
 
--- If a text is a list of names, its parts are names too.
 pub names_are_parts : (text : List ℕ) (names : List (List ℕ)) → AreNames names × (text ≡ comma_list names) → AreNames (comma_parts text)
 names_are_parts text names h = grind (arith, names_again)
 
--- A text is the part before a comma, the comma, and the text after it.
 at_comma : (text : List ℕ) (i : ℕ) → i < length text → get_or text i 0 ≡ 44 → text ≡ take i text ++ 44 ∷ drop (i + 1) text
 at_comma text i h e = grind (arith, common_steps, take-append-drop)
 
@@ -69,11 +63,8 @@ parts_of-no_comma text none = grind (arith, nat_tests, common_steps, slice_split
 pub tail_is : (text : List ℕ) (i : ℕ) → take (length text - (i + 1)) (drop (i + 1) text) ≡ drop (i + 1) text
 tail_is text i = grind (arith, common_steps)
 
--- A step removes the word from the front of the parts, or removes nothing.
 pub skip_takes : (word : List ℕ) (parts left : List (List ℕ)) (b : Bool) → Skips word parts b left → parts ≡ cond b (word ∷ left) left
 skip_takes word parts left b s = grind arith
-
--- ---- the computed result of a step
 
 not_first : (word : List ℕ) (parts : List (List ℕ)) → ((others : List (List ℕ)) → parts ≢ word ∷ others) → is_next word parts ≡ false
 not_first word parts none = grind (arith, bytes_eq-Decides)

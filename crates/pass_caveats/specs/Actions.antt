@@ -1,9 +1,9 @@
--- Sets of actions in a caveat.
+-- Defines sets of actions in a caveat.
 use Rattle.std.specs.Prelude.{◌≡◌, ◌≢◌, ℕ, Bool, List, [], ◌∷◌, filter, map}
 use Rattle.club_values.specs.{Action.action_text, declared.action.Action.{Action, TheVariants.{View, Book, Cancel, Account}}}
 use Rattle.pass_caveats.specs.{Parts.comma_list, declared.actions.Actions.Actions}
 
--- All actions, in the order in which a caveat must list them (ours).
+-- All actions, in the order in which a caveat must list them.
 abbrev pub all_actions : List Action
 all_actions = View ∷ Book ∷ Cancel ∷ Account ∷ []
 
@@ -13,10 +13,10 @@ has_action actions Book = actions.book
 has_action actions Cancel = actions.cancel
 has_action actions Account = actions.account
 
--- The texts of the actions in the set, in order.
+-- Returns the texts of the actions in the set, in the order of `all_actions`.
 abbrev pub action_texts : Actions → List (List ℕ)
 action_texts actions = map action_text (filter (has_action actions) all_actions)
 
--- The text is the comma-separated list of the actions in the set, which isn't empty.
+-- The set isn't empty, and the text is the comma-separated list of its actions.
 abbrev pub SpellsActions : List ℕ → Actions → Type 0
 SpellsActions text actions = (action_texts actions ≢ []) × (text ≡ comma_list (action_texts actions))

@@ -1,11 +1,12 @@
--- The possible lines of a caveat, and the requests that each line allows (ours).
+-- Defines the lines of the caveat language, and the requests that each line allows.
 use Rattle.std.specs.{Fmt.decimal, Prelude.{◌≡◌, ◌≢◌, ◌⊎◌, ℕ, ◌+◌, ◌<◌, ◌≤◌, IsTrue, List, [], ◌∷◌, ◌++◌, length, Contains, Some, IsSomeAnd, codes, ⊤}}
 use Rattle.pass_caveats.specs.{Actions.{has_action, action_texts}, Names.AreNames, Parts.comma_list, Weekdays.{has_weekday, weekday_texts}}
 use Rattle.pass_caveats.specs.declared.{ask.Ask.Ask, caveat.Caveat.{Caveat, TheVariants.{Facility, Kind, Hours, Days, Weekdays, Until, Guests, Spend, Actions}}}
 use Rattle.club_values.specs.{Day.{IsDay, day_text}, Digits.two_digits, Hour.hours_a_day, Kind.kind_text, Moment.{IsMoment, moment_text}, Number.number_limit}
 use Rattle.club_values.specs.{Slot.guests_limit, Weekday.weekday_of}
 
--- One row of the language: a caveat's line, the conditions on its values, and the requests that it allows.
+-- A row of the table that defines the caveat language. A row contains a caveat's line, the
+-- conditions on the caveat's values, and the requests that the caveat allows.
 pub record CaveatRow : Type 1 where
   pub text : List ℕ
   pub IsReal : Type 0
@@ -14,7 +15,7 @@ pub record CaveatRow : Type 1 where
 abbrev pub row : List ℕ → Type 0 → (Ask → Type 0) → CaveatRow
 row text IsReal IsAllowed = record { text = text; IsReal = IsReal; IsAllowed = IsAllowed }
 
--- The row of each kind of caveat.
+-- Returns the row of a caveat. There is one case for each kind of caveat.
 abbrev pub caveat_row : Caveat → CaveatRow
 caveat_row (Facility names) =
     row (codes "facility = " ++ comma_list names) (AreNames names) (λ ask. IsSomeAnd ask.slot (λ slot. Contains names slot.facility))
@@ -36,11 +37,11 @@ caveat_row (Actions actions) =
     row (codes "actions = " ++ comma_list (action_texts actions)) (action_texts actions ≢ [])
     (λ ask. IsTrue (has_action actions ask.action))
 
--- The values of the caveat meet the conditions of its line.
+-- The values of the caveat meet the conditions of the caveat's row.
 abbrev pub IsCaveat : Caveat → Type 0
 IsCaveat caveat = (caveat_row caveat).IsReal
 
--- The caveat's line, with its values.
+-- Returns the line of a caveat, including the caveat's values.
 abbrev pub caveat_text : Caveat → List ℕ
 caveat_text caveat = (caveat_row caveat).text
 
@@ -48,16 +49,17 @@ caveat_text caveat = (caveat_row caveat).text
 abbrev pub Permits : Caveat → Ask → Type 0
 Permits caveat ask = (caveat_row caveat).IsAllowed ask
 
--- The text is the caveat's line, and its values are valid.
+-- The text is the line of the caveat, and the caveat's values are valid.
 pub record SpellsCaveat (text : List ℕ) (caveat : Caveat) : Type 0 where
   pub real : IsCaveat caveat
   pub spelling : text ≡ caveat_text caveat
 
--- The maximum length of a caveat, in bytes (ours).
+-- The maximum length of an understood caveat, in bytes. This project chose the limit.
 abbrev pub max_caveat_len : ℕ
 max_caveat_len = 256
 
--- The text is the caveat's line, and isn't longer than the limit.
+-- The text is understood as this caveat. It is the caveat's line, and its length is within the
+-- limit.
 pub record Understood (text : List ℕ) (caveat : Caveat) : Type 0 where
   pub line : SpellsCaveat text caveat
   pub short : length text ≤ max_caveat_len

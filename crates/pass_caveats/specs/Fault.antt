@@ -1,14 +1,16 @@
--- Lists of caveats, as the texts in a pass.
+-- Defines the faults of a list of caveats. The caveats of a pass are texts.
 use Rattle.std.specs.{Fmt.decimal, List.AllZip, Prelude.{◌≡◌, ℕ, ◌+◌, List, [], ◌∷◌, ◌++◌, length, All, Option, Some, None, if◌then◌else◌, codes}}
 use Rattle.pass_caveats.specs.{Caveat.{Understood, Permits}, Tests.permits, declared.{ask.Ask.Ask, caveat.Caveat.Caveat, fault.CaveatFault.CaveatFault}}
 use Rattle.pass_caveats.specs.declared.fault.CaveatFault.TheVariants.{NotUnderstood, Denied}
 use Rattle.club_values.specs.Reading.{Reads}
 
--- The text is a caveat that allows the request. A text that isn't understood allows no request (ours).
+-- The text is understood as a caveat that allows the request. A text that isn't understood allows
+-- no request.
 abbrev pub Allows : List ℕ → Ask → Type 0
 Allows text ask = (caveat : Caveat) × Understood text caveat × Permits caveat ask
 
--- Each text allows the request (Macaroons, NDSS 2014: a caveat is a predicate, and all must hold).
+-- Every text in the list allows the request. In the macaroons paper (NDSS 2014), a caveat is a
+-- predicate, and all predicates must be true.
 abbrev pub Allowed : List (List ℕ) → Ask → Type 0
 Allowed texts ask = All (λ text. Allows text ask) texts
 
@@ -20,7 +22,8 @@ IsUnknown text = (caveat : Caveat) → ¬ (Understood text caveat)
 abbrev pub Denies : List ℕ → Ask → Type 0
 Denies text ask = (caveat : Caveat) × Understood text caveat × (¬ (Permits caveat ask))
 
--- Text number `n`, counted from 1, is the first one that doesn't allow the request. `Fault` holds for this text.
+-- The text with the number `n` has the given fault, and every text before this text allows the
+-- request. The first text has the number 1.
 pub record IsFirstAt (texts : List (List ℕ)) (ask : Ask) (n : ℕ) (Fault : List ℕ → Type 0) : Type 0 where
   pub front : List (List ℕ)
   pub text : List ℕ
@@ -30,24 +33,26 @@ pub record IsFirstAt (texts : List (List ℕ)) (ask : Ask) (n : ℕ) (Fault : Li
   pub before : Allowed front ask
   pub fault : Fault text
 
--- The fault of one text with number `n`, or `None` if the text allows the request.
+-- The fault of a text with the number `n`. The fault is `None` if the text allows the request.
 abbrev pub IsFaultAt : List ℕ → ℕ → Ask → Option CaveatFault → Type 0
 IsFaultAt text n ask None = Allows text ask
 IsFaultAt text n ask (Some (NotUnderstood m)) = (m ≡ n) × IsUnknown text
 IsFaultAt text n ask (Some (Denied m)) = (m ≡ n) × Denies text ask
 
--- The first fault of a list of texts, or `None` if the request is allowed.
+-- The first fault of a list of texts. The fault is `None` if every text allows the request.
 abbrev pub IsFirstFault : List (List ℕ) → Ask → Option CaveatFault → Type 0
 IsFirstFault texts ask None = Allowed texts ask
 IsFirstFault texts ask (Some (NotUnderstood n)) = IsFirstAt texts ask n IsUnknown
 IsFirstFault texts ask (Some (Denied n)) = IsFirstAt texts ask n (λ text. Denies text ask)
 
--- The caveats that the texts are understood as, or `None` for each text that isn't understood.
+-- Each text in the first list is understood as the caveat at the same position in the second list.
+-- A text that isn't understood has `None` at its position.
 abbrev pub AreUnderstoodAs : List (List ℕ) → List (Option Caveat) → Type 0
 AreUnderstoodAs texts caveats = AllZip (λ (text : List ℕ) (caveat : Option Caveat). Reads (Understood text) caveat) texts caveats
 
--- The first fault of a list of caveats, or `None` if each one permits the request. The first caveat
--- has the number `n`. `None` in the list is a text that isn't understood, which is a fault.
+-- Returns the first fault of a list of caveats, or `None` if every caveat permits the request. The
+-- argument `n` is the number of the first caveat. An element `None` represents a text that isn't
+-- understood, which is a fault.
 abbrev pub first_fault_from : ℕ → List (Option Caveat) → Ask → Option CaveatFault
 first_fault_from n [] ask = None
 first_fault_from n (None ∷ caveats) ask = Some (NotUnderstood n)
@@ -56,7 +61,7 @@ first_fault_from n (Some caveat ∷ caveats) ask = if permits caveat ask then fi
 abbrev pub first_fault_of : List (Option Caveat) → Ask → Option CaveatFault
 first_fault_of caveats ask = first_fault_from 1 caveats ask
 
--- The text that describes a fault.
+-- Returns the text that describes a fault.
 abbrev pub caveat_fault_text : CaveatFault → List ℕ
 caveat_fault_text (NotUnderstood n) = codes "caveat " ++ (decimal n ++ codes " not understood")
 caveat_fault_text (Denied n) = codes "caveat " ++ (decimal n ++ codes " denies")

@@ -1,18 +1,18 @@
--- Caveats that depend on the kind of a slot's facility (ours).
+-- Defines the caveats that depend on the kind of a slot's facility.
 use Rattle.std.specs.Prelude.{◌↔◌, ℕ, Bool, true, false, List, Option, Some}
 use Rattle.club_values.specs.declared.kind.Kind.{Kind as AKind}
 use Rattle.pass_caveats.specs.{Fault.IsFaultAt, declared.{ask.Ask.Ask, caveat.Caveat.{Caveat, TheVariants.Kind}, fault.CaveatFault.CaveatFault}}
 
--- The caveat is one on the kind of a facility, such as `kind = court`.
+-- Returns true if the caveat restricts the kind of a facility, as in `kind = court`.
 abbrev pub is_on_kind : Option Caveat → Bool
 is_on_kind (Some (Kind kind)) = true
 is_on_kind caveat = false
 
--- The same request, but at a facility of this kind.
+-- Returns a copy of the request with a different kind of facility.
 abbrev pub at_kind : Option AKind → Ask → Ask
 at_kind kind ask = record ask { kind = kind }
 
--- The text has the same fault for each kind of facility.
+-- The fault of the text doesn't depend on the kind of the facility.
 abbrev pub IsBlindToKind : List ℕ → Type 0
 IsBlindToKind text =
     (number : ℕ) (ask : Ask) (kind : Option AKind) (fault : Option CaveatFault)

@@ -1,10 +1,10 @@
--- Laws of the definitions.
+-- Defines the laws of this crate. Each law relates definitions in `specs/` to each other.
 use Rattle.std.specs.{Option.option_or, Prelude.{◌≡◌, ◌↔◌, ℕ, ◌+◌, List, [], ◌∷◌, ◌++◌, length, IsTrue, Option, Some, None}}
 use Rattle.pass_caveats.specs.{Caveat.{Understood, Permits}, Fault.{Allowed, AreUnderstoodAs, IsFaultAt, IsFirstFault, first_fault_from, first_fault_of}}
 use Rattle.pass_caveats.specs.{Tests.permits, computed.CaveatOf.caveat_of, declared.{ask.Ask.Ask, caveat.Caveat.Caveat, fault.CaveatFault.CaveatFault}}
 use Rattle.club_values.specs.Reading.{Reads}
 
--- more caveats never allow more
+-- If a list of caveats allows a request, the list without its last caveats allows the request too.
 abbrev pub Narrows : Type 0
 Narrows = (texts more : List (List ℕ)) (ask : Ask) → Allowed (texts ++ more) ask → Allowed texts ask
 
@@ -13,25 +13,28 @@ abbrev pub FaultsOnlyWhereNotAllowed : Type 0
 FaultsOnlyWhereNotAllowed =
     (texts : List (List ℕ)) (ask : Ask) (fault : Option CaveatFault) → IsFirstFault texts ask fault → (fault ≡ None) ↔ Allowed texts ask
 
--- Given the caveats that texts are understood as, `first_fault_of` returns the first fault of the texts.
+-- If a list of texts is understood as a list of caveats, `first_fault_of` returns the first fault
+-- of the texts.
 abbrev pub FindsTheFirstFault : Type 0
 FindsTheFirstFault =
     (texts : List (List ℕ)) (caveats : List (Option Caveat)) (ask : Ask) (fault : Option CaveatFault) → AreUnderstoodAs texts caveats →
     IsFirstFault texts ask fault ↔ (fault ≡ first_fault_of caveats ask)
 
--- Given the caveat that a text is understood as, `first_fault_from` returns the fault of this text.
+-- Given the caveat of a text, `first_fault_from` returns the fault of the text. The caveat is
+-- `None` if the text isn't understood.
 abbrev pub FindsTheFaultAt : Type 0
 FindsTheFaultAt =
     (text : List ℕ) (caveat : Option Caveat) (n : ℕ) (ask : Ask) (fault : Option CaveatFault) → Reads (Understood text) caveat →
     IsFaultAt text n ask fault ↔ (fault ≡ first_fault_from n (caveat ∷ []) ask)
 
--- After one caveat is appended, the first fault is the one of the earlier caveats, or else the one of the last caveat.
+-- Suppose that a caveat is appended to a list. If the list already has a first fault, the fault
+-- stays the same. Otherwise the first fault is the fault of the new caveat.
 abbrev pub FindsTheFaultOfOneMore : Type 0
 FindsTheFaultOfOneMore =
     (caveats : List (Option Caveat)) (caveat : Option Caveat) (ask : Ask) →
     first_fault_of (caveats ++ caveat ∷ []) ask ≡ option_or (first_fault_of caveats ask) (first_fault_from (length caveats + 1) (caveat ∷ []) ask)
 
--- `caveat_of` returns a caveat if and only if the text is understood as that caveat.
+-- `caveat_of` returns a caveat if and only if the text is understood as this caveat.
 abbrev pub ReadsWhatIsUnderstood : Type 0
 ReadsWhatIsUnderstood = (text : List ℕ) (caveat : Caveat) → Understood text caveat ↔ (caveat_of text ≡ Some caveat)
 

@@ -1,15 +1,16 @@
--- Tests whether a caveat permits a request (ours). `Permits` defines the permitted requests, and the law `tests_the_set` states that both agree.
+-- Defines functions that test whether a caveat permits a request. The law `tests_the_set` states
+-- that `permits` agrees with the definition `Permits`.
 use Rattle.std.specs.{List.list_any, Option.option_map_or, Prelude.{◌+◌, ◌==◌, ◌&&◌, ◌||◌, Bool, true, false, nat_lt, nat_le, Option, Some, is_some}}
 use Rattle.std.specs.Str.{bytes_eq}
 use Rattle.pass_caveats.specs.{Actions.has_action, Weekdays.has_weekday, declared.{ask.Ask.Ask, caveat.Caveat.Caveat}}
 use Rattle.pass_caveats.specs.declared.caveat.Caveat.TheVariants.{Facility, Kind, Hours, Days, Weekdays, Until, Guests, Spend, Actions}
 use Rattle.club_values.specs.{Weekday.weekday_of, declared.{kind.Kind.{Kind as AKind, TheVariants.{Court, Boat, Room}}, slot.Slot.Slot}}
 
--- The request is for a slot, and the test is true of this slot.
+-- Returns true if the request is for a slot and `test` returns true for this slot.
 abbrev pub in_slot : (Slot → Bool) → Ask → Bool
 in_slot test ask = option_map_or test ask.slot false
 
--- The facility's kind is known, and it is this kind.
+-- Returns true if the facility's kind is known and equals the given kind.
 abbrev pub is_kind : Option AKind → AKind → Bool
 is_kind (Some Court) Court = true
 is_kind (Some Boat) Boat = true

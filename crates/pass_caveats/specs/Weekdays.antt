@@ -1,10 +1,10 @@
--- Sets of weekdays in a caveat.
+-- Defines sets of weekdays in a caveat.
 use Rattle.std.specs.Prelude.{◌≡◌, ◌≢◌, ℕ, Bool, List, [], filter, map, codes}
 use Rattle.jiff_core.specs.declared.civil.weekday.Weekday.{Weekday, TheVariants.{Monday, Tuesday, Wednesday, Thursday, Friday, Saturday, Sunday}}
 use Rattle.club_values.specs.Weekday.{weekdays}
 use Rattle.pass_caveats.specs.{Parts.comma_list, declared.weekdays.Weekdays.Weekdays}
 
--- The text of each weekday (ours).
+-- Returns the text of a weekday in a caveat.
 abbrev pub weekday_text : Weekday → List ℕ
 weekday_text Monday = codes "mon"
 weekday_text Tuesday = codes "tue"
@@ -23,10 +23,10 @@ has_weekday set Friday = set.friday
 has_weekday set Saturday = set.saturday
 has_weekday set Sunday = set.sunday
 
--- The texts of the weekdays in the set, in the order of the week.
+-- Returns the texts of the weekdays in the set, in the order of the week.
 abbrev pub weekday_texts : Weekdays → List (List ℕ)
 weekday_texts set = map weekday_text (filter (has_weekday set) weekdays)
 
--- The text is the comma-separated list of the weekdays in the set, which isn't empty.
+-- The set isn't empty, and the text is the comma-separated list of its weekdays.
 abbrev pub SpellsWeekdays : List ℕ → Weekdays → Type 0
 SpellsWeekdays text set = (weekday_texts set ≢ []) × (text ≡ comma_list (weekday_texts set))

@@ -1,4 +1,4 @@
-//! Sets of actions in a caveat.
+//! Defines sets of actions in a caveat.
 
 ghost use Rattle.std.specs.Prelude.{◌≡◌};
 ghost use Rattle.club_values.specs.Reading.{Reads};
@@ -18,8 +18,9 @@ pub struct Actions {
 impl Actions {
     ghost use Rattle.pass_caveats.specs.Actions.{has_action, SpellsActions};
 
-    /// Returns the set of actions in a comma-separated list: some of `view,book,cancel,account`, in
-    /// this order. Returns `None` for any other text.
+    /// Parses a comma-separated list of actions. The actions are `view`, `book`, `cancel` and
+    /// `account`, and they must be in this order. Returns `None` for any other text, including an
+    /// empty list.
     pub fn read(text: &[u8]) -> Option<Actions>
         ensures { Reads (SpellsActions text.now) result }
     {

@@ -1,4 +1,4 @@
-//! Caveats that are understood, and the requests that each one allows.
+//! Defines the caveats of the language, and the requests that each caveat allows.
 
 ghost use Rattle.std.specs.Prelude.{◌≡◌, ◌⊎◌, ◌+◌, ◌≤◌, ◌↔◌, IsTrue, Some, false};
 ghost use Rattle.club_values.specs.Reading.{Reads};
@@ -19,32 +19,33 @@ use club_values::{Day, Kind, Moment};
 /// The maximum length of an understood caveat, in bytes.
 pub const MAX_CAVEAT_LEN: usize = 256;
 
-/// A caveat that is understood. It allows a set of requests.
+/// A caveat that was understood. Each caveat allows a set of requests.
 #[derive(Debug, Drop)]
 pub enum Caveat<'a> {
-    /// The slot's facility is one of the names.
+    /// The name of the slot's facility is in the list.
     Facility(Names<'a>),
-    /// The slot's facility is of this kind.
+    /// The slot's facility has this kind.
     Kind(Kind),
-    /// The slot's hour is at least `from` and less than `until`. `until` is 1 to 24.
+    /// The slot's hour is at least `from` and less than `until`. The value of `until` is between 1
+    /// and 24.
     Hours { from: u8, until: u8 },
-    /// The slot's day is from `first` to `last`, both included.
+    /// The slot's day is between `first` and `last`, both included.
     Days { first: Day, last: Day },
     /// The weekday of the slot's day is in the set.
     Weekdays(Weekdays),
-    /// The moment of the request is before this one.
+    /// The request comes before this moment.
     Until(Moment),
-    /// The booking has at most this number of guests, 0 to 49.
+    /// The booking has at most this number of guests. The number is between 0 and 49.
     Guests(u8),
-    /// The request charges nothing, or the points spent and owed are together at most this number,
-    /// 0 to 999,999,999.
+    /// The request charges nothing, or the key has spent at most this number of points after the
+    /// charge. The number is between 0 and 999,999,999.
     Spend(u32),
-    /// The action is in the set.
+    /// The requested action is in the set.
     Actions(Actions),
 }
 
 impl Caveat<'_> {
-    /// Returns whether this is a caveat on the kind of a facility.
+    /// Returns whether the caveat restricts the kind of a facility.
     fn is_on_kind(&self) -> bool
         ensures { result ≡ is_on_kind (Some self.now) }
     {
@@ -92,8 +93,8 @@ fn short_line_of(text: &[u8]) -> Option<Caveat<'_>>
     line_of(text)
 }
 
-/// Returns the caveat of a text. Returns `None` if the text isn't a line of the language, or has
-/// more than 256 bytes.
+/// Parses the line of a caveat. Returns `None` if the text isn't a line of the caveat language or
+/// has more than 256 bytes.
 #[tactic(auto, using(crate::proofs::CaveatOfLemmas::reads_caveat_of))]
 pub fn read(bytes: &[u8]) -> Option<Caveat<'_>>
     ensures understood { Reads (Understood bytes.now) result }
@@ -132,7 +133,7 @@ fn is_within(ask: &Ask, points: u64) -> bool
     ask.owed == 0 || (ask.spent <= points && ask.owed <= points - ask.spent)
 }
 
-/// Returns whether a caveat allows a request.
+/// Returns whether the caveat allows the request.
 pub fn allows(caveat: &Caveat, ask: &Ask) -> bool
     ensures set { IsTrue result ↔ Permits caveat.now ask.now }
     ensures function { result ≡ permits caveat.now ask.now }
@@ -140,8 +141,9 @@ pub fn allows(caveat: &Caveat, ask: &Ask) -> bool
     is_in_set(caveat, ask)
 }
 
-/// Returns whether a text is a caveat on the kind of the slot's facility. The result is false if
-/// and only if the text has the same fault for each kind.
+/// Returns whether the text is a caveat on the kind of the slot's facility. If the result is false,
+/// the text's fault doesn't depend on the kind. If the result is true, the text's fault depends on
+/// the kind.
 #[tactic(auto, using(crate::proofs::KindLemmas::blind_to_kind))]
 pub fn looks_at_kind(text: &[u8]) -> bool
     ensures function { result ≡ is_on_kind (caveat_of text.now) }

@@ -9,12 +9,13 @@ use crate::caveat::{allows, read};
 use std::error::Error;
 use std::fmt;
 
-/// The reason why a list of caveats refuses a request. Caveats are numbered from 1.
+/// The reason why a list of caveats refuses a request. The number is the caveat's position in the
+/// list, starting from 1.
 #[derive(Clone, Copy, Debug, PartialEq, Eq)]
 pub enum CaveatFault {
-    /// The caveat isn't understood.
+    /// The caveat with this number isn't understood.
     NotUnderstood(usize),
-    /// The caveat is understood, but doesn't allow the request.
+    /// The caveat with this number is understood, but doesn't allow the request.
     Denied(usize),
 }
 
@@ -47,9 +48,9 @@ fn fault_of_text(text: &[u8], number: usize, ask: &Ask) -> Option<CaveatFault>
     }
 }
 
-/// Returns the fault of one caveat, or `None` if it allows the request. `number` is the caveat's
-/// number in its list, counted from 1. If a caller tests one caveat after another, the first fault
-/// that it gets is the fault of the list.
+/// Returns the fault of one caveat, or `None` if the caveat allows the request. The argument
+/// `number` is the caveat's position in its list, starting from 1. A caller that tests the caveats
+/// of a list in order can stop at the first fault, which is the fault of the list.
 #[tactic(auto, using(crate::proofs::CaveatOfLemmas::is_fault_at))]
 pub fn fault_at(text: &[u8], number: usize, ask: &Ask) -> Option<CaveatFault>
     ensures cases { IsFaultAt text.now number ask.now result }
@@ -69,7 +70,8 @@ fn fault_of(caveats: &[Vec<u8>], ask: &Ask) -> Option<CaveatFault>
     None
 }
 
-/// Returns the first caveat that isn't understood or denies the request; `None` if all allow it.
+/// Returns the fault of the first caveat that isn't understood or that denies the request. Returns
+/// `None` if every caveat allows the request.
 #[tactic(auto, using(crate::proofs::CaveatOfLemmas::is_first_fault))]
 pub fn first_fault(caveats: &[Vec<u8>], ask: &Ask) -> Option<CaveatFault>
     ensures first { IsFirstFault (map vec_items caveats.now) ask.now result }

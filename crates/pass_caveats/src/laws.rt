@@ -1,11 +1,12 @@
-//! Laws of the definitions. Each law is the contract of a function with an empty body.
+//! Laws about the definitions in `specs/`. Each law is the contract of a function with an empty
+//! body.
 
 ghost use Rattle.pass_caveats.specs.Laws.{Narrows, FaultsOnlyWhereNotAllowed, FindsTheFirstFault};
 ghost use Rattle.pass_caveats.specs.Laws.{FindsTheFaultAt, FindsTheFaultOfOneMore};
 ghost use Rattle.pass_caveats.specs.Laws.{ReadsWhatIsUnderstood, TestsTheSet, IsUnderstoodOnce};
 ghost use Rattle.pass_caveats.specs.Spending.{LimitsNoMore, OwesNothing};
 
-/// A request that a list allows after more caveats were added is also allowed without them.
+/// If a list of caveats allows a request, the list without its last caveats allows the request too.
 pub fn narrows()
     ensures { Narrows }
 {}
@@ -16,26 +17,26 @@ pub fn faults_only_where_not_allowed()
     ensures { FaultsOnlyWhereNotAllowed }
 {}
 
-/// Given the caveats that texts are understood as, `first_fault_of` returns the first fault of the
-/// texts.
+/// If a list of texts is understood as a list of caveats, `first_fault_of` returns the first fault
+/// of the texts.
 pub fn finds_the_first_fault()
     ensures { FindsTheFirstFault }
 {}
 
-/// Given the caveat that a text is understood as, `first_fault_from` returns the fault of this
-/// text.
+/// Given the caveat of a text, `first_fault_from` returns the fault of the text. The caveat is
+/// `None` if the text isn't understood.
 pub fn finds_the_fault_at()
     ensures { FindsTheFaultAt }
 {}
 
-/// After one caveat is appended, the first fault is the one of the earlier caveats, or else the one
-/// of the last caveat. The last caveat's number is one more than the count of earlier caveats.
+/// Suppose that a caveat is appended to a list. If the list already has a first fault, the fault
+/// stays the same. Otherwise the first fault is the fault of the new caveat.
 #[tactic(auto, using(crate::proofs::CaveatOfLemmas::fault_of_one_more))]
 pub fn finds_the_fault_of_one_more()
     ensures { FindsTheFaultOfOneMore }
 {}
 
-/// `caveat_of` returns a caveat if and only if the text is understood as that caveat.
+/// `caveat_of` returns a caveat if and only if the text is understood as this caveat.
 pub fn reads_what_is_understood()
     ensures { ReadsWhatIsUnderstood }
 {}
@@ -56,9 +57,10 @@ pub fn owes_nothing()
     ensures { OwesNothing }
 {}
 
-/// Suppose that the first fault is the same after spending nothing and after spending some amount.
-/// Then it is the same after spending less. No spend limit is above 999,999,999 points. So if the
-/// amount is at least that, it is the same after spending any amount.
+/// Suppose that the first fault is the same whether a key has spent nothing or `most` points. Then
+/// the first fault is also the same for any amount up to `most`. Every spend limit is at most
+/// 999,999,999 points. Therefore, if `most` is at least 999,999,999, the first fault is the same
+/// for every amount.
 #[tactic(auto, using(crate::proofs::SpendingLemmas::limits_no_more))]
 pub fn limits_no_more()
     ensures { LimitsNoMore }

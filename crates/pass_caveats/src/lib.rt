@@ -1,5 +1,5 @@
-//! The caveat language of the club's passes: the possible lines, and the requests that each line
-//! allows. No function allocates memory.
+//! The caveat language of the club's passes. The crate parses caveat lines and determines the
+//! requests that each line allows. No function allocates memory.
 #![tactic(auto)]
 
 mod actions;

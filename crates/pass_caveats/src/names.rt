@@ -1,4 +1,4 @@
-//! Lists of names in a caveat.
+//! Defines lists of names in a caveat.
 
 ghost use Rattle.std.specs.Prelude.{◌≡◌, ◌↔◌, IsTrue, Contains};
 ghost use Rattle.club_values.specs.Reading.{Reads};
@@ -8,11 +8,11 @@ use crate::parts::{are_all_names, count_of_parts, has_part};
 use club_values::Name;
 use std::marker::Model;
 
-/// The maximum number of names in a list.
+/// The maximum number of names in a caveat.
 pub const MAX_NAMES: usize = 8;
 
-/// One to eight comma-separated names, borrowed from a text. Contracts see a `Names` as the list of
-/// its names.
+/// A comma-separated list of one to eight names, borrowed from a text. Contracts see a `Names` as a
+/// list of names.
 #[derive(Debug, Drop)]
 pub struct Names<'a> {
     text: &'a [u8],
@@ -31,8 +31,7 @@ impl<'a> Model for Names<'a> {
 }
 
 impl<'a> Names<'a> {
-    /// Returns the names of a comma-separated list. Returns `None` if the text isn't a list of one
-    /// to eight names.
+    /// Parses a comma-separated list of one to eight names. Returns `None` for any other text.
     pub fn read(text: &'a [u8]) -> Option<Names<'a>>
         ensures { Reads (λ names. AreNames names × (text.now ≡ comma_list names)) result }
     {

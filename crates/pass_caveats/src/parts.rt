@@ -1,4 +1,4 @@
-//! Splits a text into the parts between its commas.
+//! Splits a text at its commas.
 
 ghost use Rattle.std.specs.Option.{option_copied};
 ghost use Rattle.std.specs.Prelude.{◌≡◌, ◌↔◌, ◌∷◌, IsTrue, All, Contains, length};
@@ -14,21 +14,22 @@ pub(crate) fn count_of_parts(text: &[u8]) -> usize
     text.split(|byte| *byte == b',').count()
 }
 
-/// Returns whether each part is a name.
+/// Returns whether each part between the commas of a text is a name.
 pub(crate) fn are_all_names(text: &[u8]) -> bool
     ensures { IsTrue result ↔ All IsName (comma_parts text.now) }
 {
     text.split(|byte| *byte == b',').all(Name::is_name)
 }
 
-/// Returns whether one of the parts is this name.
+/// Returns whether one of the parts between the commas of a text equals the name.
 pub(crate) fn has_part(text: &[u8], name: &[u8]) -> bool
     ensures { IsTrue result ↔ Contains (comma_parts text.now) name.now }
 {
     text.split(|byte| *byte == b',').any(|part| part == name)
 }
 
-/// Returns the part before the first comma, and the text after the comma if there is one.
+/// Returns the part before the first comma and the text after this comma. A text without a comma is
+/// a single part.
 fn first_part(text: &[u8]) -> (&[u8], Option<&[u8]>)
     ensures { comma_parts text.now ≡ result.0.now ∷ parts_left (option_copied result.1) }
 {
@@ -38,8 +39,8 @@ fn first_part(text: &[u8]) -> (&[u8], Option<&[u8]>)
     }
 }
 
-/// Returns whether the next part is the word. Also returns the text after the word, or the whole
-/// rest if the next part is another one.
+/// Skips the next part of a comma-separated list if it equals the word. Returns whether the part
+/// was skipped, and the remaining text.
 pub(crate) fn skip<'a>(rest: Option<&'a [u8]>, word: &[u8]) -> (bool, Option<&'a [u8]>)
     ensures { Skips word.now (parts_left (option_copied rest.entry)) result.0
         (parts_left (option_copied result.1)) }

@@ -1,4 +1,4 @@
-//! The fault of a caveat for a key that has spent nothing.
+//! Computes the fault of a caveat for a key that has spent nothing.
 
 ghost use Rattle.std.specs.Prelude.{◌≡◌};
 ghost use Rattle.pass_caveats.specs.Spending.{HoldsWithin, slack_under};
@@ -7,19 +7,20 @@ use crate::ask::Ask;
 use crate::caveat::{Caveat, allows, read};
 use crate::fault::CaveatFault;
 
-/// The fault of a caveat for a key that has spent nothing. For a key that has spent more, the fault
-/// stays the same up to the slack.
+/// The fault of a caveat for a key that has spent nothing. The fault stays the same while the key
+/// has spent at most `slack` points.
 #[derive(Clone, Copy, Debug, PartialEq, Eq)]
 pub struct Unspent {
-    /// The fault, or `None` if the request is allowed.
+    /// The fault of the caveat, or `None` if the caveat allows the request.
     pub fault: Option<CaveatFault>,
-    /// The most points that the key can have spent with the same fault. `None` if the fault is the
-    /// same for every amount.
+    /// The most points that the key can spend before the fault changes. `None` means that the fault
+    /// is the same for every amount.
     pub slack: Option<u64>,
 }
 
-/// Returns the fault of one caveat with this number in its list, for a key that has spent nothing.
-/// The fault is the same for amounts spent up to the slack, and for no others.
+/// Returns the fault of one caveat for a key that has spent nothing. Also returns the slack, which
+/// is the most points that the key can spend before the fault changes. The argument `number` is the
+/// caveat's position in its list, starting from 1.
 pub fn unspent_at(text: &[u8], number: usize, ask: &Ask) -> Unspent
     ensures { HoldsWithin text.now number ask.now result.fault result.slack }
 {
@@ -41,8 +42,9 @@ pub fn unspent_at(text: &[u8], number: usize, ask: &Ask) -> Unspent
     }
 }
 
-/// Returns the rest of a spend limit after the charge, which must be within the limit. Returns
-/// `None` if there is no spend limit or no charge.
+/// Returns the points that remain of a spend limit after the request's charge. The charge must be
+/// within the limit. Returns `None` if the caveat isn't a spend limit or the request charges
+/// nothing.
 fn slack_of(caveat: &Caveat, ask: &Ask) -> Option<u64>
     ensures { result ≡ slack_under caveat.now ask.now }
 {

@@ -1,4 +1,4 @@
-//! Sets of weekdays in a caveat.
+//! Defines sets of weekdays in a caveat.
 
 ghost use Rattle.std.specs.Prelude.{◌≡◌};
 ghost use Rattle.club_values.specs.Reading.{Reads};
@@ -21,8 +21,9 @@ pub struct Weekdays {
 impl Weekdays {
     ghost use Rattle.pass_caveats.specs.Weekdays.{has_weekday, SpellsWeekdays};
 
-    /// Returns the set of weekdays in a comma-separated list: some of
-    /// `mon,tue,wed,thu,fri,sat,sun`, in this order. Returns `None` for any other text.
+    /// Parses a comma-separated list of weekdays, such as `mon,wed`. The weekdays must be in the
+    /// order of the week, starting with `mon`. Returns `None` for any other text, including an
+    /// empty list.
     pub fn read(text: &[u8]) -> Option<Weekdays>
         ensures { Reads (SpellsWeekdays text.now) result }
     {

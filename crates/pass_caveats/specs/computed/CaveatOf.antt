@@ -1,4 +1,5 @@
--- A function that parses a caveat. `Understood` defines its meaning, and a law states that both agree.
+-- Defines a parser of caveats. A law states that the parser agrees with the definition
+-- `Understood`.
 use Rattle.std.specs.{Int.is_in_range, List.list_all, Prelude.{ℕ, ◌==◌, ◌&&◌, Bool, true, false, List, [], ◌∷◌, length, drop, slice_index, slice_index_or, map}}
 use Rattle.std.specs.{Prelude.{nat_lt, nat_le, if◌then◌else◌, Option, Some, None}, Str.{bytes_eq, Parse.digits_value}}
 use Rattle.pass_caveats.specs.{Actions.{all_actions, action_texts}, Caveat.{caveat_text, max_caveat_len}, Names.max_names, Parts.comma_parts}
@@ -8,22 +9,23 @@ use Rattle.pass_caveats.specs.declared.weekdays.Weekdays.{Weekdays as SomeWeekda
 use Rattle.club_values.specs.{Action.action_text, Day.{first_day, last_day}, Hour.hours_a_day, Moment.{first_moment, last_moment}, Number.number_limit}
 use Rattle.club_values.specs.{Slot.guests_limit, Weekday.weekdays, computed.TextOf.{two_at, day_of, moment_of, candidate_kind, is_name}}
 
--- The first part is this word.
+-- Returns true if the first part equals the word.
 abbrev pub is_next : List ℕ → List (List ℕ) → Bool
 is_next word [] = false
 is_next word (part ∷ parts) = bytes_eq part word
 
--- The parts after the word, if the first part is this word; else all parts.
+-- Removes the first part if it equals the word, and returns the remaining parts.
 abbrev pub after_next : List ℕ → List (List ℕ) → List (List ℕ)
 after_next word [] = []
 after_next word (part ∷ parts) = if bytes_eq part word then parts else part ∷ parts
 
--- For each word, whether it is among the parts. The parts must be in the order of the words.
+-- Returns a flag for each word. The flag is true if the parts contain the word. The parts must be
+-- in the order of the words.
 abbrev pub words_found : List (List ℕ) → List (List ℕ) → List Bool
 words_found [] parts = []
 words_found (word ∷ words) parts = is_next word parts ∷ words_found words (after_next word parts)
 
--- The set of the actions that were found. Each action has a flag.
+-- Returns the set of the actions whose flags are true.
 abbrev pub actions_from : List Bool → SomeActions
 actions_from found =
     let at : ℕ → Bool = λ i. slice_index_or found i false in
@@ -40,7 +42,8 @@ actions_of text = actions_from (words_found (map action_text all_actions) (comma
 abbrev pub weekdays_of : List ℕ → SomeWeekdays
 weekdays_of text = weekdays_from (words_found (map weekday_text weekdays) (comma_parts text))
 
--- The only caveat that the text can be. The first letter of the text gives the kind of line.
+-- Returns the only caveat as which the text can be understood. The first letter of the text
+-- determines the kind of caveat.
 unfoldable pub candidate : List ℕ → Caveat
 candidate text =
     let first = slice_index text 0 in
@@ -54,7 +57,7 @@ candidate text =
     else (if first == 115 then Spend (digits_value 10 (drop 9 text))
     else Actions (actions_of (drop 10 text)))))))))
 
--- The values of the caveat are within their limits.
+-- Returns true if the values of the caveat are within their limits.
 abbrev pub is_caveat : Caveat → Bool
 is_caveat (Facility names) = nat_lt 0 (length names) && nat_le (length names) max_names && list_all is_name names
 is_caveat (Kind kind) = true
@@ -69,6 +72,6 @@ is_caveat (Actions actions) = nat_lt 0 (length (action_texts actions))
 abbrev pub spells : List ℕ → Caveat → Bool
 spells text caveat = is_caveat caveat && bytes_eq text (caveat_text caveat) && nat_le (length text) max_caveat_len
 
--- The caveat that the text is understood as, or `None`.
+-- Returns the caveat as which the text is understood, or `None` if the text isn't understood.
 unfoldable pub caveat_of : List ℕ → Option Caveat
 caveat_of text = if spells text (candidate text) then Some (candidate text) else None
