@@ -1,4 +1,4 @@
--- A text in any form has exactly one reading: the computed one.
+-- Lemmas for the proof that a text has exactly one reading, in any of the three forms.
 use Rattle.pass_json.proofs.Common.{◌≡◌, ◌↔◌, ℕ, List, length, Some, Result, Ok, Err, FormFault, Form, Plain, WidePass, ReadsTextsExactly, ComputesSpelled}
 use Rattle.pass_json.proofs.{Common.{SpellsForm, IsAnyReading, OneReadingEachText, reading, wide_in, SpellsJson, wide_json, arith}, SameReading.same_answer}
 use Rattle.pass_forms.specs.{Text.{SpellsText, IsTextReading}, V1.SpellsV1, V2.SpellsV2}
@@ -8,7 +8,6 @@ use Rattle.pass_forms.specs.computed.V2Reading as v2
 abbrev Relation : Type 1
 Relation = Form → List ℕ → WidePass → Type 0
 
--- If an encoding of bytes implies another one, the same implication holds for texts with these bytes.
 same_in : (One Other : Relation) → ((form : Form) (bytes : List ℕ) (wide : WidePass) → One form bytes wide → Other form bytes wide)
     → (text : List ℕ) (form : Form) (wide : WidePass) → SpellsText One text form wide → SpellsText Other text form wide
 same_in One Other to text form wide h = (h.0, h.1, to form h.0 wide h.2)
@@ -27,7 +26,6 @@ same_reading One Other to from text (Err fault) h =
 abbrev Computed : Relation
 Computed form bytes wide = wide_in form bytes ≡ Some wide
 
--- The result follows from the laws of each form and from the law of texts.
 module _ (packets : ComputesSpelled SpellsV1 v1.wide_at) (sections : ComputesSpelled SpellsV2 v2.wide_at)
     (json : ComputesSpelled SpellsJson wide_json) (texts : ReadsTextsExactly) where
   in_each : (form : Form) (bytes : List ℕ) (wide : WidePass) → SpellsForm form bytes wide ↔ Computed form bytes wide

@@ -1,15 +1,16 @@
--- The reader parses the caveats of a list one after another.
+-- Lemmas for the proof of `all_caveats`, which parses a pass's caveats one after another.
 use Rattle.pass_json.proofs.Common.{◌≡◌, ℕ, ◌+◌, ◌<◌, ◌≤◌, Bool, ◌||◌, List, [], ◌∷◌, ◌++◌, length, drop, get_or, Option, Some, None, option_map, FormFault}
 use Rattle.pass_json.proofs.Common.{WideCaveat, Items, item, items_view, view, caveat_from, caveats_of, kept_caveat, kept_caveats, RefusesPart, arith}
 use Rattle.pass_json.proofs.Common.{common_steps}
 use Rattle.pass_forms.specs.computed.Parts.{◌>>=◌}
 use Rattle.serde_json.specs.declared.value.Value.{Value}
 
--- The parts of all caveats that the reader needs: their identifiers, and whether any is a third-party caveat.
+-- Returns the identifiers of all caveats in a list, and whether any caveat is a third-party caveat.
+-- The result is `None` if a caveat is malformed.
 abbrev pub kept_of : Items → Option (List (List ℕ) × Bool)
 kept_of items = option_map kept_caveats (caveats_of items)
 
--- The result for a whole list: the parts of the first caveats, followed by the result for the remaining ones.
+-- Combines the caveats that the loop has parsed with the result for the remaining caveats.
 abbrev pub with_kept : List (List ℕ) → Bool → Option (List (List ℕ) × Bool) → Option (List (List ℕ) × Bool)
 with_kept identifiers third_party rest = option_map (λ p. (identifiers ++ p.0, third_party || p.1)) rest
 
@@ -38,7 +39,6 @@ module _ (identifiers : List (List ℕ)) (third_party : Bool) where
   nothing_kept : (found : Option (List WideCaveat)) → option_map kept_caveats found ≡ with_kept identifiers third_party None → found ≡ None
   nothing_kept found e = grind arith
 
-  -- If one caveat of a list is refused, the list is refused.
   pub one_refused : (list : List Value) (i : ℕ) (value : Value) (fault : FormFault) → i < length list → value ≡ get_or list i value
       → kept_of (items_view list) ≡ with_kept identifiers third_party (kept_of (items_view (drop i list)))
       → RefusesPart (caveat_from (view value)) fault → RefusesPart (caveats_of (items_view list)) fault

@@ -1,4 +1,4 @@
--- Re-exports the names that most proofs here cite. Declares nothing.
+-- Re-exports the names that the proofs of this crate use most.
 pub use Rattle.std.proofs.Common.{arith, ◌≡◌, ℕ, List, length, Option, refl, Bool, ap, Some, [], true, ◌∙◌, map, false, Result, ◌≤◌, ◌∷◌, None, sym, ◌↔◌, Ok}
 pub use Rattle.std.proofs.Common.{Err, subst, ◌⊎◌, inl, inr, cond, codes, append_assoc, ◌<◌, ◌++◌, drop, eqb, rules, ◌+◌, ◌||◌, get_or, ◌&&◌, Bor, Contains}
 pub use Rattle.std.proofs.{Common.{decimal, option_and_then, append-nil, ltb, Vec, Global, take}, lemmas.Bool.{eq-eqb, and_parts, eqb-true, or_from}}

@@ -1,4 +1,4 @@
--- An object has a field if and only if the computed field equals this field.
+-- Lemmas for the proof that `field_from` agrees with the definition `IsField`.
 use Rattle.pass_json.proofs.Common.{◌≡◌, ℕ, List, Option, Some, None, refl, sym, ap, subst, ◌⊎◌, inl, inr, option_map, Data, string, object, Members, get}
 use Rattle.pass_json.proofs.Common.{as_str, FromBase64IsBase64, IsBase64, IsField, decoded_text, field_bytes, field_from, must_have, arith}
 use Rattle.pass_forms.specs.computed.{Envelope.from_base64, Parts.{◌>>=◌}}
@@ -7,15 +7,13 @@ pub bound : {A B : Type 0} (o : Option A) (f : A → Option B) (b : B) → (o >>
 bound None f b e = absurd cc
 bound (Some a) f b e = (a, refl, e)
 
--- ---- values
-
 str_of : (value : Data) (text : List ℕ) → as_str value ≡ Some text → value ≡ string text
 str_of value text e = grind arith
 
 mapped : (o : Option (List ℕ)) (t : Option (List ℕ)) → option_map (λ bytes. Some bytes) o ≡ Some t → (bytes : List ℕ) × (o ≡ Some bytes) × (t ≡ Some bytes)
 mapped o t e = grind arith
 
--- `IsField`, given the values under the plain name and the `64` name.
+-- The same condition as `IsField`, for the values under the plain name and the `64` name.
 abbrev IsFieldBytes : Option Data → Option Data → Option (List ℕ) → Type 0
 IsFieldBytes plain base64 None = (plain ≡ None) × (base64 ≡ None)
 IsFieldBytes plain base64 (Some bytes) =
@@ -25,12 +23,9 @@ IsFieldBytes plain base64 (Some bytes) =
 required_by : (o : Option (Option (List ℕ))) (bytes : List ℕ) → must_have o ≡ Some bytes → o ≡ Some (Some bytes)
 required_by o bytes e = grind arith
 
--- A value with a field is an object.
 pub is_object : (plain base64 : List ℕ) (value : Data) (bytes : List ℕ) → IsField plain base64 value (Some bytes) →
     (members : Members) × (value ≡ object members)
 is_object plain base64 value bytes h = grind arith
-
--- ---- fields, by the law that `from_base64` computes `IsBase64`
 
 module _ (law : FromBase64IsBase64) where
   field_bytes_takes : (plain base64 : Option Data) (t : Option (List ℕ)) → field_bytes plain base64 ≡ Some t → IsFieldBytes plain base64 t

@@ -1,18 +1,14 @@
--- The laws of V1, V2 and JSON, stated for a form that is a parameter.
+-- Lemmas that combine the laws of V1, V2 and JSON into laws about any form.
 use Rattle.pass_json.proofs.Common.{◌≡◌, ◌↔◌, ℕ, List, length, Result, Ok, FormFault, Form, V1, V2, Json, Plain, FailsAs, HasBytes, IsReadBack, IsWritableText}
 use Rattle.pass_json.proofs.Common.{IsWriting, v1_bytes, v2_bytes, TextsReadBack, WritesExactly, IsAnyReading, IsTextIn, SpellsForm, writing, JsonReadsBack}
 use Rattle.pass_json.proofs.{Common.{WritesJsonExactly, MayFailAs, arith}, Wrapped.reads_back}
 
--- If a text is read back as a pass in a form, this form and pass are the text's reading.
 pub back_from : (form : Form) (bytes : List ℕ) (pass : Plain) (text : List ℕ) → IsReadBack (SpellsForm form) form bytes pass text →
     IsAnyReading text (Ok (form, pass))
 back_from form bytes pass text back = reads_back text form bytes pass back.content back.read
 
--- A fault that the V1 and V2 writers may return is also allowed for a writer of any form.
 pub may_fail : (writing : Result (List ℕ) FormFault) (fault : FormFault) → FailsAs writing fault → MayFailAs writing fault
 may_fail writing fault h = grind arith
-
--- ---- the laws of the three forms, for any form
 
 pub one_text : (form : Form) (pass : Plain) (one other : List ℕ) → IsTextIn form pass one → IsTextIn form pass other → one ≡ other
 one_text form pass one other h k = grind arith

@@ -1,4 +1,4 @@
--- The pass computed from JSON is the pass that the JSON encodes.
+-- Lemmas for the proof that `wide_json` returns exactly the pass that the JSON encodes.
 use Rattle.pass_json.proofs.Common.{◌≡◌, ◌↔◌, ℕ, Bool, true, cond, eqb, ◌&&◌, List, [], ◌∷◌, codes, length, Option, Some, None, Result, refl, sym, ap, subst}
 use Rattle.pass_json.proofs.Common.{◌∙◌, unwrap_or, IsUtf8, is_utf8, and_parts, eq-eqb, eqb-true, IsUtf8-from_is_utf8, is_utf8-from_IsUtf8, Data, array, object}
 use Rattle.pass_json.proofs.Common.{Items, no_items, item, Members, get, as_array, read, FormFault, FromBase64IsBase64, AnswersExactly, Plain, WideCaveat}
@@ -16,21 +16,15 @@ has_only_of names value found h = grind (arith, has_only_again)
 array_of : (value : Data) (items : Items) → as_array value ≡ Some items → value ≡ array items
 array_of value items e = grind arith
 
--- ---- the version
-
 version_takes : (found : Option Data) → is_version found ≡ true → IsVersion found
 version_takes found e = grind (arith, nat_tests)
 
 version_again : (found : Option Data) → IsVersion found → is_version found ≡ true
 version_again found h = grind arith
 
--- ---- parts of a pass
-
 value_takes : (bytes : List ℕ) (test : Bool) (value : Data) → is_utf8 bytes ≡ test → cond test (read bytes) None ≡ Some value →
     IsUtf8 bytes × (read bytes ≡ Some value)
 value_takes bytes test value utf8 e = grind (arith, IsUtf8-from_is_utf8)
-
--- ---- the pass, by the law that `from_base64` computes `IsBase64`
 
 module _ (law : FromBase64IsBase64) where
   caveat_takes : (value : Data) (caveat : WideCaveat) → caveat_from value ≡ Some caveat → IsCaveatObject value caveat

@@ -1,4 +1,4 @@
--- The reader finds the same parts in an object that it would find in the object's pass.
+-- Lemmas for the proof of `pass_from`.
 use Rattle.pass_json.proofs.Common.{◌≡◌, ℕ, Bool, true, List, [], codes, length, map, Option, Some, list_any, option_map, unwrap_or, Data, get, WideCaveat}
 use Rattle.pass_json.proofs.Common.{is_third_party, first_party_caveat, pass_names, field_from, has_only_names, is_version, kept_caveats, caveat_list}
 use Rattle.pass_json.proofs.Common.{pass_from, must_have, signature_from, arith, common_steps}
@@ -21,7 +21,6 @@ unfolding pass_from
 kept_pass value location identifier identifiers third_party signature only version is_location is_identifier are_caveats is_signature =
     grind (arith, common_steps, were_kept)
 
--- A missing location is the empty location.
 pub location_or_none : {V : Type 0} (items : V → List ℕ) (found : Option V) (none : V) → items none ≡ [] →
     unwrap_or (option_map items found) [] ≡ items (unwrap_or found none)
 location_or_none items found none e = grind arith

@@ -1,4 +1,4 @@
--- The keys of a map are the names of the object's members.
+-- Lemmas for the proof of `has_only_names`.
 use Rattle.pass_json.proofs.Common.{◌≡◌, ℕ, List, [], ◌∷◌, map, Bor, refl, list_all, list_any, bytes_eq, members_view, only_among, arith}
 use Rattle.std.specs.{Map.keys_of, String.string_bytes, declared.{alloc.Global.Global, string.String.String}}
 use Rattle.serde_json.specs.declared.value.Value.{Value}

@@ -1,10 +1,10 @@
--- The computed test of an object's names is true if and only if all of them are allowed.
+-- Lemmas for the proof that `has_only_names` returns true if and only if every name of the object
+-- is allowed.
 use Rattle.pass_json.proofs.Common.{◌≡◌, ℕ, true, List, Option, Some, refl, sym, ◌∙◌, ◌⊎◌, inl, inr, Contains, IsSome, Data, object, Members, no_members}
 use Rattle.pass_json.proofs.Common.{member, get_member, HasOnly, only_among, has_only_names, arith}
 use Rattle.std.proofs.lemmas.{Cmp.nat_list_eq_equiv, Map.{Text.is_eq-slice_cmp, Views.{Contains-from_any, list_any-from_Contains}}, Slice.Eq.bytes_eq-Decides}
 use Rattle.std.specs.{Cmp.Lexicographic.slice_cmp, Ordering.{nat_cmp, match_ordering, is_eq}, declared.cmp.Ordering.Ordering}
 
--- A member with the sought name is the first member or one of the later ones.
 found_at : (order : Ordering) (later : Option Data) (value : Data) → IsSome (match_ordering order later (Some value) later) →
     (is_eq order ≡ true) ⊎ IsSome later
 found_at order later value h = grind arith

@@ -1,4 +1,4 @@
--- Builds the JSON object of a pass, one member after another.
+-- Lemmas about the JSON object of a pass and about reading the object's text back.
 use Rattle.pass_json.proofs.Common.{◌≡◌, ℕ, ◌≤◌, Bool, true, false, List, [], ◌∷◌, codes, Option, Some, None, decimal, refl, sym, ap, subst, ◌∙◌, arith, IsUtf8}
 use Rattle.pass_json.proofs.Common.{is_utf8, or_from, IsUtf8-from_ascii, IsUtf8-from_is_utf8, encode_of, Data, number, string, array, object, unsigned, Items}
 use Rattle.pass_json.proofs.Common.{item, Members, no_members, member, put, number_of, of_items, of_json, has_float, items_have_float, members_have_float}
@@ -12,7 +12,8 @@ use Rattle.json.specs.Tree as tree
 use Rattle.json.proofs.Printed.Utf8.{IsUtf8-are_ascii}
 use Rattle.serde_json.proofs.OnLiterals.{serde_json_on_literals}
 
--- A text, and whether it is under the plain name or (if false) under the `64` name.
+-- The text of a field. The flag is true if the text belongs under the plain name, and false if it
+-- belongs under the `64` name.
 abbrev pub FieldText : Type 0
 FieldText = Bool × List ℕ
 
@@ -44,9 +45,7 @@ whole caveats identifier location signature =
     (identified identifier (located location
     (member (codes "s64") (string signature) (member (codes "v") (number (unsigned 2)) no_members)))))
 
--- ---- the members make up the object of the pass
-
--- Inserts the member into the other members.
+-- Inserts a field's text into the members of an object.
 abbrev put_text : List ℕ → List ℕ → FieldText → Members → Members
 put_text plain base64 (true, text) rest = put plain (string text) rest
 put_text plain base64 (false, text) rest = put base64 (string text) rest
@@ -59,7 +58,6 @@ put_by test plain base64 bytes rest e = grind arith
 put_is : (plain base64 bytes : List ℕ) (rest : Members) → put_member plain base64 bytes rest ≡ put_text plain base64 (field_text bytes) rest
 put_is plain base64 bytes rest = put_by (is_utf8 bytes) plain base64 bytes rest refl
 
--- If the member is the only one, it is the first.
 put_first : (plain base64 : List ℕ) (one : FieldText) → put_text plain base64 one no_members ≡ named plain base64 one no_members
 put_first plain base64 one = grind arith
 
@@ -69,7 +67,8 @@ caveat_is bytes = ap object (put_is (codes "i") (codes "i64") bytes no_members �
 location_is : (location : List ℕ) → with_location location no_members ≡ located (location_text location) no_members
 location_is location = grind (arith, put_is, put_first)
 
--- The object of a pass: its version, signature and caveats are added to the other members.
+-- Returns the object of a pass. The version, the signature and the caveats are added to the given
+-- members.
 with_others : Items → List ℕ → Members → Data
 with_others caveats signature members =
     object (put (codes "v") (number (unsigned 2)) (put (codes "s64") (string signature) (put (codes "c") (array caveats) members)))
@@ -83,8 +82,6 @@ pub object_is : (pass : Plain) →
     object_of pass ≡ whole (caveat_objects pass.caveats) (field_text pass.identifier) (location_text pass.location) (encode_of url_safe_no_pad pass.signature)
 unfolding object_of with_others
 object_is pass = grind (arith, location_is, put_is, others_are)
-
--- ---- the object is read back as the pass
 
 two_is_two : number_of (decimal 2) ≡ Some (unsigned 2)
 unfolding serde_json_on_literals digits
@@ -113,9 +110,8 @@ object_reads pass =
     rw (object_is pass) (whole_reads (caveat_objects pass.caveats) (field_text pass.identifier) (location_text pass.location)
     (encode_of url_safe_no_pad pass.signature) (caveats_read pass.caveats))
 
--- ---- the numbers, depth, floats and texts of the object
-
--- The conditions under which a written value is read back: valid JSON numbers, a limited depth, no floats, and texts in UTF-8.
+-- The conditions under which the text of a JSON value is read back as the same value. The numbers
+-- are valid, the nesting depth is limited, no number is a float, and all strings are UTF-8.
 pub record IsFine (Numbers : Type 0) (depth most : ℕ) (float : Bool) (Texts : Type 0) : Type 0 where
   pub numbers : Numbers
   pub shallow : depth ≤ most

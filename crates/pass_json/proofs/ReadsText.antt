@@ -1,4 +1,4 @@
--- The text of a value is read back as the value. It is UTF-8 if all strings in the value are.
+-- Lemmas for the proof that the text of a JSON value is read back as the same value.
 use Rattle.pass_json.proofs.Common.{◌≡◌, ℕ, ◌≤◌, ◌++◌, Bool, true, false, List, [], ◌∷◌, Option, option_and_then, refl, sym, ap, subst, ◌∙◌, append-nil}
 use Rattle.pass_json.proofs.Common.{append_assoc, IsUtf8, IsUtf8-append, Data, null, boolean, number, string, array, object, Items, no_items, item, Members}
 use Rattle.pass_json.proofs.Common.{no_members, member, max_depth, of_json, read, comma_if, compact_text, items_text, members_text, number_text, outline}
@@ -8,7 +8,7 @@ use Rattle.json.proofs.Printed.{Tokens.tokens-print, Trees.{ArePrintable-json_to
 use Rattle.json.proofs.Printed.Utf8.{IsUtf8-are_ascii, IsUtf8-boolean, IsUtf8-key, IsUtf8-quoted}
 use Rattle.serde_json.proofs.Texts.{print-outline}
 
--- The value that the grammar's parser found, if it parsed all tokens.
+-- Returns the parsed value if the parser consumed all tokens.
 abbrev of_parsed : Option (Json × List Token) → Option Data
 of_parsed parsed = option_and_then of_json (option_and_then (λ p. if_last p.0 p.1) parsed)
 
@@ -17,8 +17,6 @@ reads_text d numbers shallow =
     let ts = json_tokens (outline d) in
     let same : tokens (compact_text d) ≡ ts = ap tokens (sym (print-outline d)) ∙ tokens-print ts (ArePrintable-json_tokens (outline d) numbers) in
     ap of_parsed (ap (value max_depth) (same ∙ sym (append-nil ts)) ∙ value-json_tokens (outline d) max_depth [] shallow)
-
--- ---- UTF-8
 
 abbrev mutual
   pub HasTexts : Data → Type 0

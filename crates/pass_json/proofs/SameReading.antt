@@ -1,4 +1,4 @@
--- Two texts that encode the same pass have the same reading, if both are within the limit or both are above it.
+-- Lemmas for the proof that two texts that encode the same pass have the same reading.
 use Rattle.pass_json.proofs.Common.{ℕ, ◌<◌, ◌≤◌, Result, FormFault, Plain, WidePass, IsReadAs, UnlessMemory, max_text_len, arith}
 
 abbrev pub Spelling : Type 1
@@ -9,7 +9,6 @@ pub same_answer : (One Other : Spelling) → ((wide : WidePass) → One wide →
     → (answer : Result Plain FormFault) → IsReadAs len One answer → IsReadAs other Other answer
 same_answer One Other to from len other short long answer h = grind (arith, to, from)
 
--- If one property of results implies another, then `UnlessMemory` of the first implies `UnlessMemory` of the second.
 pub unless_memory : {A : Type 0} (Holds Other : Result A FormFault → Type 0) (answer : Result A FormFault)
     → ((a : Result A FormFault) → Holds a → Other a) → UnlessMemory Holds answer → UnlessMemory Other answer
 unless_memory Holds Other answer to h = grind (arith, to)

@@ -1,22 +1,19 @@
--- The reading of a text follows from the contents that the text wraps.
+-- Lemmas for the proof that reading a text gives the same result as reading the bytes that the text
+-- wraps.
 use Rattle.pass_json.proofs.Common.{◌≡◌, ◌↔◌, ℕ, ◌≤◌, List, length, Result, Ok, Err, ◌⊎◌, inl, inr, arith, FormFault, TooLong, Malformed, Form, Json}
 use Rattle.pass_json.proofs.Common.{IsUnwrapped, Wraps, WrapsOne, Plain, WidePass, as_wide_pass, IsReadAs, max_text_len, IsAnyReading, IsReadingInForm}
 use Rattle.pass_json.proofs.{Common.{MayRunOut, SpellsForm}, SameReading.{Spelling, same_answer}}
 use Rattle.pass_forms.specs.Text.{SpellsText}
 
--- If unwrapping a text fails, reading the text fails with the same fault.
 pub refused_wrapping : (text : List ℕ) (fault : FormFault) → IsUnwrapped text (Err fault) → IsAnyReading text (Err fault)
 refused_wrapping text TooLong h = h
 refused_wrapping text Malformed h = (h.0, λ wide k. h.1 k.0 k.1.0 k.1.1)
 refused_wrapping text fault h = absurd h
 
--- ---- the contents of a text
-
 pub reads_back : (text : List ℕ) (form : Form) (bytes : List ℕ) (pass : Plain) → IsUnwrapped text (Ok (form, bytes)) →
     IsReadAs (length bytes) (SpellsForm form bytes) (Ok pass) → IsAnyReading text (Ok (form, pass))
 reads_back text form bytes pass content read = (content.0, (bytes, content.1, read.1), read.2)
 
--- A text encodes the pass that its wrapped bytes encode, in their form and no other.
 spelled : WrapsOne → (text bytes : List ℕ) (form other : Form) (wide : WidePass) → Wraps text form bytes → SpellsText SpellsForm text other wide →
     (other ≡ form) × SpellsForm form bytes wide
 spelled one text bytes form other wide wraps h = grind (arith, one text other form h.0 bytes h.1 wraps)
@@ -39,8 +36,6 @@ reads_wrapped one text bytes form (Err fault) content short =
       λ h. same_answer (SpellsAny text) Here to from (length text) (length bytes) (λ _. short) (λ long. absurd (omega arith)) (Err fault) h,
       λ h. same_answer Here (SpellsAny text) from to (length bytes) (length text) (λ _. content.0) (λ long. absurd (omega arith)) (Err fault) h,
     )
-
--- ---- memory
 
 pub may_run_out : (text : List ℕ) (form : Form) (bytes : List ℕ) → IsUnwrapped text (Ok (form, bytes))
     → ((pass : Plain) × IsReadAs (length bytes) (SpellsForm form bytes) (Ok pass)) ⊎ (form ≡ Json) → MayRunOut text

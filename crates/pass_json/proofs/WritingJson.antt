@@ -1,4 +1,4 @@
--- The result of the JSON writer, and the proof that its text is read back.
+-- Lemmas for the proof of `write_json`.
 use Rattle.pass_json.proofs.Common.{◌≡◌, ◌↔◌, ℕ, Bool, cond, ltb, List, length, Result, Ok, Err, refl, FormFault, TooLong, TooMany, Json, FromBase64IsBase64}
 use Rattle.pass_json.proofs.Common.{Plain, max_caveats, max_text_len, HasBytes, IsReadBack, IsWritableText, IsWriting, SpellsJson, IsJsonText, IsRefusedJson}
 use Rattle.pass_json.proofs.{Common.{MayFailAs, json_text, WritesJsonExactly, arith}, WritingOnce.one_writing_for_each_form}
@@ -10,9 +10,6 @@ use Rattle.std.proofs.lemmas.Bool.Decides.{nat_tests}
 abbrev answer_by : Bool → Bool → List ℕ → Result (List ℕ) FormFault
 answer_by many long text = cond many (Err TooMany) (cond long (Err TooLong) (Ok text))
 
--- ---- the result, a text or a fault
-
--- `IsWriting` allows the computed result, which depends on two tests.
 allowed_by : FromBase64IsBase64 → (pass : Plain) (many long : Bool) → HasBytes pass → length pass.signature ≡ 32
     → ltb max_caveats (length pass.caveats) ≡ many → ltb max_text_len (length (json_text pass)) ≡ long
     → IsWriting IsJsonText pass (answer_by many long (json_text pass))
@@ -27,12 +24,8 @@ pub exact_json : FromBase64IsBase64 → (pass : Plain) (answer : Result (List �
     (writing_json pass ≡ answer) ↔ IsWriting IsJsonText pass answer
 exact_json law pass answer are len = grind (arith, computed_is_allowed, one_writing_for_each_form)
 
--- ---- reading back
-
 pub reads_back_json : (pass : Plain) (text : List ℕ) → IsWritableText IsJsonText pass text → IsReadBack SpellsJson Json text pass text
 reads_back_json pass text written = grind (arith, starts_json)
-
--- ---- a fault
 
 refused_by : (pass : Plain) (many long : Bool) → ltb max_caveats (length pass.caveats) ≡ many → ltb max_text_len (length (json_text pass)) ≡ long
     → (fault : FormFault) → MayFailAs (answer_by many long (json_text pass)) fault → IsRefusedJson pass fault
@@ -41,8 +34,6 @@ refused_by pass many long m l fault e = grind (arith, nat_tests)
 pub is_refused_json : (pass : Plain) (fault : FormFault) → MayFailAs (writing_json pass) fault → IsRefusedJson pass fault
 unfolding writing_json
 is_refused_json pass fault e = refused_by pass (ltb max_caveats (length pass.caveats)) (ltb max_text_len (length (json_text pass))) refl refl fault e
-
--- ---- the clauses of the writer, from the computed result
 
 pub written_if : {T : Type 0} (law : WritesJsonExactly) (pass : Plain) (bytes_of : T → List ℕ) (result : Result T FormFault) → OnOk result (HasBytes pass) →
     OnOk result (length pass.signature ≡ 32)

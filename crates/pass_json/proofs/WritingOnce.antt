@@ -1,4 +1,4 @@
--- Writing a pass has exactly one result, because a pass has at most one text in each form.
+-- A proof that writing a pass has at most one result in each form.
 use Rattle.pass_json.proofs.Common.{arith, OneTextEachForm, OneWritingEachForm}
 
 pub one_writing_for_each_form : OneTextEachForm → OneWritingEachForm

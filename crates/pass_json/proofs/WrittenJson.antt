@@ -1,4 +1,4 @@
--- The JSON text of a pass encodes the pass, and a reader returns this pass.
+-- Lemmas for the proof that the JSON text of a pass encodes the pass.
 use Rattle.pass_json.proofs.Common.{◌≡◌, ℕ, Bool, true, false, eqb, List, [], ◌∷◌, length, map, Option, Some, None, refl, ap, ◌∙◌, arith, AllByRecursion}
 use Rattle.pass_json.proofs.Common.{IsUtf8, is_utf8, eq-eqb, IsBytes, encode_of, object, Items, no_members, read, FromBase64IsBase64, starts_with_brace, Plain}
 use Rattle.pass_json.proofs.Common.{WideCaveat, as_wide_pass, widened_caveat, HasBytes, SpellsJson, caveat_from, caveats_of, field_from, has_only_names}
@@ -8,9 +8,8 @@ use Rattle.pass_json.proofs.ReadsText.{reads_text, utf8_text}
 use Rattle.base64.specs.Engines.{url_safe_no_pad}
 use Rattle.pass_forms.specs.computed.Envelope.{from_base64}
 
--- ---- the members contain the parts of the pass
-
--- The text under a name encodes these bytes: in UTF-8 under the plain name, else in base64.
+-- The text of a field encodes these bytes. The text equals the bytes under the plain name, and is
+-- base64 of the bytes under the `64` name.
 abbrev YieldsBytes : FieldText → List ℕ → Type 0
 YieldsBytes (true, text) bytes = text ≡ bytes
 YieldsBytes (false, text) bytes = from_base64 text ≡ Some bytes
@@ -32,8 +31,6 @@ pass_from_texts : (items : Items) (caveats : List WideCaveat) (i : FieldText) (i
 unfolding pass_from field_from has_only_names
 pass_from_texts items caveats i identifier l location text signature c ti tl s len = grind arith
 
--- ---- the text
-
 pub utf8_json : (pass : Plain) → IsUtf8 (json_text pass)
 unfolding json_text
 utf8_json pass = utf8_text (object_of pass) (object_is_fine pass).texts
@@ -47,8 +44,6 @@ read_json_text pass =
 pub starts_json : (pass : Plain) → starts_with_brace (json_text pass) ≡ true
 unfolding json_text object_of
 starts_json pass = refl
-
--- ---- lemmas that use the law of base64
 
 module _ (law : FromBase64IsBase64) where
   base64_yields : (bytes : List ℕ) → IsBytes bytes → from_base64 (encode_of url_safe_no_pad bytes) ≡ Some bytes

@@ -1,4 +1,4 @@
--- The JSON text of a pass, and the writer's faults.
+-- Defines the JSON text of a pass, and the faults of the JSON writer.
 use Rattle.std.specs.{Prelude.{◌≡◌, ℕ, ◌≤◌, if◌then◌else◌, List, [], ◌∷◌, codes, length, map, Result, Err}, Str.is_utf8}
 use Rattle.base64.specs.{Engines.url_safe_no_pad, GeneralPurpose.encode_of}
 use Rattle.serde_json.specs.{Data.{Data, number, string, array, object, unsigned, Items, Members, no_members, put}, View.items_of, Written.compact_text}
@@ -6,16 +6,17 @@ use Rattle.pass_forms.specs.{Pass.{Plain, as_wide_pass}, Reading.max_caveats, Wr
 use Rattle.pass_forms.specs.declared.fault.FormFault.TheVariants.{TooLong, Malformed, ThirdParty, TooMany, Memory}
 use Rattle.pass_json.specs.Json.{SpellsJson}
 
--- A string in URL-safe base64 (RFC 4648, section 5), without padding.
+-- Returns a JSON string with the bytes in URL-safe base64 (RFC 4648, section 5), without padding.
 abbrev pub base64_text : List ℕ → Data
 base64_text bytes = string (encode_of url_safe_no_pad bytes)
 
--- Adds bytes under the plain name if they are UTF-8, else in base64 under the `64` name (ours).
+-- Adds bytes to the members of an object. Bytes that are UTF-8 go under the plain name. Other bytes
+-- go under the `64` name, in base64. This project chose the rule.
 unfoldable pub put_member : List ℕ → List ℕ → List ℕ → Members → Members
 put_member plain base64 bytes members =
     if is_utf8 bytes then put plain (string bytes) members else put base64 (base64_text bytes) members
 
--- Adds a location, unless it is empty.
+-- Adds a location to the members of an object. An empty location isn't added.
 abbrev pub with_location : List ℕ → Members → Members
 with_location [] members = members
 with_location (byte ∷ bytes) members = put_member (codes "l") (codes "l64") (byte ∷ bytes) members
@@ -26,7 +27,8 @@ caveat_object identifier = object (put_member (codes "i") (codes "i64") identifi
 abbrev pub caveat_objects : List (List ℕ) → Items
 caveat_objects identifiers = items_of (map caveat_object identifiers)
 
--- The object of a pass. The signature is always in base64. The version and the list of caveats are always present.
+-- Returns the JSON object of a pass. The signature is always in base64. The version and the list of
+-- caveats are always present.
 unfoldable pub object_of : Plain → Data
 object_of pass =
     object (put (codes "v") (number (unsigned 2))
@@ -34,16 +36,19 @@ object_of pass =
     (put (codes "c") (array (caveat_objects pass.caveats))
     (put_member (codes "i") (codes "i64") pass.identifier (with_location pass.location no_members)))))
 
--- The object's text as `serde_json` writes it: without white space, and with the names ordered by their bytes.
+-- Returns the JSON text of a pass, as `serde_json` writes it. The text has no white space. The
+-- names of each object are ordered by their bytes.
 unfoldable pub json_text : Plain → List ℕ
 json_text pass = compact_text (object_of pass)
 
--- The text is that of the pass's object, and it encodes the pass.
+-- The text is the JSON text of the pass, and the text encodes the pass.
 pub record IsJsonText (pass : Plain) (text : List ℕ) : Type 0 where
   pub compact : text ≡ json_text pass
   pub spelling : SpellsJson text (as_wide_pass pass)
 
--- The faults are those of the other forms. `Memory` is possible even for a text that is too long, because its length is checked after it is written.
+-- The JSON writer may return this fault for the pass. The conditions for `TooMany` and `TooLong`
+-- are the same as for the other writers. `Memory` is possible even for a text that is too long,
+-- because the writer checks the length only after it has written the text.
 abbrev pub IsRefusedJson : Plain → FormFault → Type 0
 IsRefusedJson pass Memory = length pass.caveats ≤ max_caveats
 IsRefusedJson pass TooLong = IsWriteFault IsJsonText pass TooLong
@@ -51,7 +56,9 @@ IsRefusedJson pass Malformed = IsWriteFault IsJsonText pass Malformed
 IsRefusedJson pass ThirdParty = IsWriteFault IsJsonText pass ThirdParty
 IsRefusedJson pass TooMany = IsWriteFault IsJsonText pass TooMany
 
--- The fault that a writer may return for this computed result: the same fault, or `Memory` in place of a text or of the fault `TooLong`.
+-- `MayFailAs writing fault` means that a writer may return `fault` if the computed result is
+-- `writing`. A writer returns the computed fault. If the computed result is a text or `TooLong`, a
+-- writer may also return `Memory`.
 abbrev pub MayFailAs : Result (List ℕ) FormFault → FormFault → Type 0
 MayFailAs writing Memory = ¬ (writing ≡ Err TooMany)
 MayFailAs writing TooLong = writing ≡ Err TooLong

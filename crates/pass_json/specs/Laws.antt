@@ -1,4 +1,4 @@
--- Laws of the definitions.
+-- Defines the laws of this crate. Each law relates definitions in `specs/` to each other.
 use Rattle.std.specs.Prelude.{◌≡◌, ◌↔◌, ℕ, List, length, Ok, ◌≤◌, Result, Err}
 use Rattle.pass_forms.specs.{Envelope.IsUnwrapped, Pass.Plain, Reading.max_text_len, Writing.{HasBytes, IsReadBack, IsWritableText, IsWriting}}
 use Rattle.pass_forms.specs.declared.{fault.FormFault.FormFault, form.Form.{Form, TheVariants.Json}}
@@ -6,16 +6,18 @@ use Rattle.pass_json.specs.{AnyForm.{IsAnyReading, IsReadingInForm, IsTextIn}, J
 use Rattle.pass_json.specs.computed.JsonWriting.{writing_json}
 use Rattle.base64.specs.GeneralPurpose.{IsBytes}
 
--- A text that was written in JSON is read back as the same pass.
+-- Reading a text that `write_json` wrote gives the same pass again.
 abbrev pub JsonReadsBack : Type 0
 JsonReadsBack = (pass : Plain) (text : List ℕ) → IsWritableText IsJsonText pass text → IsReadBack SpellsJson Json text pass text
 
--- For a pass of bytes with a signature of 32 bytes, `IsWriting` allows exactly one result: the computed one.
+-- If the parts of a pass are bytes and its signature has 32 bytes, `writing_json` returns the only
+-- result that `IsWriting` allows.
 abbrev pub WritesJsonExactly : Type 0
 WritesJsonExactly = (pass : Plain) (answer : Result (List ℕ) FormFault) → HasBytes pass → length pass.signature ≡ 32 →
     (writing_json pass ≡ answer) ↔ IsWriting IsJsonText pass answer
 
--- If a text wraps bytes within the limit of texts, reading the text gives the same result as reading these bytes in their form.
+-- Suppose that a text wraps bytes, and the length of these bytes is within the limit. Then reading
+-- the text gives the same result as reading the bytes in their form.
 abbrev pub ReadsWhatIsWrapped : Type 0
 ReadsWhatIsWrapped = (text bytes : List ℕ) (form : Form) (answer : Result (Form × Plain) FormFault)
     → IsUnwrapped text (Ok (form, bytes)) → length bytes ≤ max_text_len
@@ -25,7 +27,7 @@ ReadsWhatIsWrapped = (text bytes : List ℕ) (form : Form) (answer : Result (For
 abbrev pub RefusesWhatWrapsNothing : Type 0
 RefusesWhatWrapsNothing = (text : List ℕ) (fault : FormFault) → IsUnwrapped text (Err fault) → IsAnyReading text (Err fault)
 
--- `IsAnyReading` allows exactly one result for a text: the computed one.
+-- For each text, `reading` returns the only result that `IsAnyReading` allows.
 abbrev pub ReadsAnyFormExactly : Type 0
 ReadsAnyFormExactly = (text : List ℕ) (answer : Result (Form × Plain) FormFault) →
     IsBytes text → IsAnyReading text answer ↔ (reading text ≡ answer)
@@ -34,23 +36,23 @@ ReadsAnyFormExactly = (text : List ℕ) (answer : Result (Form × Plain) FormFau
 abbrev pub OneTextEachForm : Type 0
 OneTextEachForm = (form : Form) (pass : Plain) (one other : List ℕ) → IsTextIn form pass one → IsTextIn form pass other → one ≡ other
 
--- A written text is read back as the same form and the same pass.
+-- Reading a written text gives the same form and the same pass again.
 abbrev pub AnyFormReadsBack : Type 0
 AnyFormReadsBack = (form : Form) (pass : Plain) (text : List ℕ) → HasBytes pass →
     IsWritableText (IsTextIn form) pass text → IsAnyReading text (Ok (form, pass))
 
--- For a pass of bytes with a signature of 32 bytes, `IsWriting` allows exactly one result in any
--- form: the computed one.
+-- If the parts of a pass are bytes and its signature has 32 bytes, `writing` returns the only
+-- result that `IsWriting` allows, in each form.
 abbrev pub WritesAnyFormExactly : Type 0
 WritesAnyFormExactly = (form : Form) (pass : Plain) (answer : Result (List ℕ) FormFault) → HasBytes pass → length pass.signature ≡ 32 →
     (writing form pass ≡ answer) ↔ IsWriting (IsTextIn form) pass answer
 
--- A text has exactly one reading: its form and its pass, or its fault.
+-- Reading a text has at most one result. The result is the form and the pass, or a fault.
 abbrev pub OneReadingEachText : Type 0
 OneReadingEachText = (text : List ℕ) (one other : Result (Form × Plain) FormFault) → IsAnyReading text one → IsAnyReading text other →
     one ≡ other
 
--- Writing a pass in a form has exactly one result: its text or its fault.
+-- Writing a pass in a form has at most one result. The result is the text or a fault.
 abbrev pub OneWritingEachForm : Type 0
 OneWritingEachForm = (form : Form) (pass : Plain) (one other : Result (List ℕ) FormFault) →
     IsWriting (IsTextIn form) pass one → IsWriting (IsTextIn form) pass other → one ≡ other

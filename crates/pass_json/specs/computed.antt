@@ -1,4 +1,5 @@
--- Functions that compute what the other definitions of `specs/` state. Laws state that both agree.
+-- Functions that compute the results that `specs/` defines. Laws prove that each function agrees
+-- with its definition.
 
 pub mod AnyForm
 pub mod JsonReading

@@ -1,4 +1,4 @@
-//! Reads and writes texts in any of the three forms.
+//! Reads and writes pass texts in any of the three forms.
 
 ghost use Rattle.std.specs.Prelude.{◌≡◌, ◌⊎◌, Err, IfErr, IfOk, MatchResult, Ok, length};
 ghost use Rattle.std.specs.String.{string_bytes};
@@ -17,19 +17,24 @@ use pass_forms::{
 };
 use std::alloc::Global;
 
-/// Reads a pass text in any form: plain JSON, or base64 of JSON, V1 or V2. `unwrap_text` finds the
-/// form.
+/// Reads a pass text in any form. The text is plain JSON, or base64 of a pass in JSON, V1 or V2.
+/// The call `unwrap_text` determines the form.
 ///
 /// # Errors
 ///
-/// Fails with the first fault that applies: `TooLong` above 8,192 bytes, `Malformed` if the text
-/// isn't a pass, `ThirdParty` for a third-party caveat, `TooMany` for more than 64 caveats. Fails
-/// with `Memory` only if an allocation fails. In V1 and V2 this can only happen for a pass that
-/// passed all checks.
+/// Fails with the first fault that applies:
+///
+/// - `TooLong` for more than 8,192 bytes,
+/// - `Malformed` if the text isn't a pass,
+/// - `ThirdParty` for a third-party caveat,
+/// - `TooMany` for more than 64 caveats.
+///
+/// Fails with `Memory` only if an allocation fails. In V1 and V2, this can happen only after all
+/// checks succeed.
 pub fn read_any(alloc: Global, text: &[u8]) -> Result<(Form, Pass), FormFault>
-    // The result is the pass that the text encodes, or the first fault.
+    // The result is the pass that the text encodes, or the first fault that applies.
     ensures spelling { UnlessMemory (IsAnyReading text.now) result }
-    // The result also equals the one computed from the text.
+    // The contract also states that the result equals the computed result.
     ensures computed { UnlessMemory (λ answer. reading text.now ≡ answer) result }
     ensures memory { result ≡ Err Memory → MayRunOut text.now }
 {
@@ -37,7 +42,7 @@ pub fn read_any(alloc: Global, text: &[u8]) -> Result<(Form, Pass), FormFault>
     unwrapping(alloc, text)
 }
 
-// Reads the contents that a text wraps, and returns their form and their pass.
+// Unwraps a text and reads the bytes. Returns the form and the pass.
 fn unwrapping(alloc: Global, text: &[u8]) -> Result<(Form, Pass), FormFault>
     ensures spelling { UnlessMemory (IsAnyReading text.now) result }
     ensures memory { result ≡ Err Memory → MayRunOut text.now }
@@ -50,7 +55,7 @@ fn unwrapping(alloc: Global, text: &[u8]) -> Result<(Form, Pass), FormFault>
     Ok((unwrapping.form, pass))
 }
 
-// Returns the pass that the bytes encode in this form.
+// Returns the pass that the bytes encode in the given form.
 fn in_form(alloc: Global, form: Form, bytes: &[u8]) -> Result<Pass, FormFault>
     ensures spelling { UnlessMemory (IsReadAs (length bytes.now) (SpellsForm form bytes.now))
         result }
@@ -65,20 +70,20 @@ fn in_form(alloc: Global, form: Form, bytes: &[u8]) -> Result<Pass, FormFault>
     }
 }
 
-/// Returns the text of a pass in this form: base64 for V1 and V2, plain JSON.
+/// Returns the text of a pass in the given form. The text is plain JSON, or the base64 of V1 or V2.
 ///
 /// # Errors
 ///
-/// Fails with `TooMany` for more than 64 caveats, and otherwise with `TooLong` if the pass has no
-/// such text of at most 8,192 bytes. Fails with `Memory` only if an allocation fails. In JSON this
-/// can happen even for a text that is too long.
+/// Fails with `TooMany` if the pass has more than 64 caveats. Otherwise fails with `TooLong` if the
+/// text would have more than 8,192 bytes. Fails with `Memory` only if an allocation fails. In JSON,
+/// an allocation can fail even for a text that is too long.
 #[tactic(auto, using(crate::proofs::InEachForm::may_fail), unfolding(crate::specs::computed::AnyForm::writing))]
 pub fn write_any(alloc: Global, form: Form, pass: &Pass) -> Result<String, FormFault>
     ensures ok { IfOk result (λ text. IsWritableText (IsTextIn form) pass.now (string_bytes text)) }
     ensures err { IfErr result (IsRefusedIn form pass.now) }
     ensures read_back { IfOk result
         (λ text. IsAnyReading (string_bytes text) (Ok (form, pass.now))) }
-    // The result also equals the one computed from the pass.
+    // The contract also states that the result equals the computed result.
     ensures computed { MatchResult result (λ text. writing form pass.now ≡ Ok (string_bytes text))
         (MayFailAs (writing form pass.now)) }
 {

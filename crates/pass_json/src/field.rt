@@ -1,4 +1,5 @@
-//! Reads one field of an object: bytes under a plain name, or in base64 under a `64` name.
+//! Reads one field of a JSON object. A field is a string under a plain name, or base64 under a `64`
+//! name.
 
 ghost use Rattle.std.specs.Prelude.{◌≡◌, Some, option_map, IfErr, IfOk};
 ghost use Rattle.serde_json.specs.{Find.as_str, View.view};
@@ -8,7 +9,8 @@ use pass_forms::{FormFault, decode_base64};
 use serde_json::Value;
 use std::alloc::Global;
 
-/// Returns the bytes under the plain name or the `64` name, or `None` if both are missing.
+/// Returns the bytes of a field, or `None` if the object has neither the plain name nor the `64`
+/// name.
 #[tactic(auto, unfolding(crate::specs::computed::JsonReading::field_from))]
 pub fn field(
     alloc: Global,
@@ -28,7 +30,7 @@ pub fn field(
     }
 }
 
-// Returns the bytes of a string.
+// Returns the bytes of a JSON string.
 fn plain_bytes(alloc: Global, value: &Value) -> Result<Vec<u8>, FormFault>
     ensures ok { IfOk result (λ bytes. as_str (view value.now) ≡ Some bytes.items) }
     ensures err { IfErr result (RefusesPart (as_str (view value.now))) }
@@ -39,7 +41,7 @@ fn plain_bytes(alloc: Global, value: &Value) -> Result<Vec<u8>, FormFault>
     Ok(Vec::from_slice(alloc, text.as_bytes())?)
 }
 
-// Returns the bytes that a string encodes in base64.
+// Decodes the base64 in a JSON string.
 fn decode_text(alloc: Global, value: &Value) -> Result<Vec<u8>, FormFault>
     ensures ok { IfOk result (λ bytes. decoded_text (view value.now) ≡ Some bytes.items) }
     ensures err { IfErr result (RefusesPart (decoded_text (view value.now))) }

@@ -3,8 +3,9 @@
 use pass_forms::{Field, FieldSource, Pass, PassFields};
 use std::marker::Model;
 
-/// The fields of a pass that `read_json` or `read_any` returned. Each field is a slice of the pass.
-/// Contracts see a `JsonFields` as the list of the fields that it hasn't returned yet.
+/// An iterator over the fields of a pass that `read_json` or `read_any` returned. Each field is a
+/// slice of the pass. Contracts see a `JsonFields` as the list of fields that the iterator hasn't
+/// returned yet.
 #[derive(Drop)]
 pub struct JsonFields<'a> {
     fields: PassFields<'a>,
@@ -23,7 +24,7 @@ impl<'a> JsonFields<'a> {
     ghost use Rattle.std.specs.Prelude.{◌≡◌};
     ghost use Rattle.pass_forms.specs.FieldSource.{pass_fields};
 
-    /// Returns all fields of the pass. Allocates no memory.
+    /// Returns an iterator over all fields of the pass. Allocates no memory.
     pub fn over(pass: &'a Pass) -> JsonFields<'a>
         ensures { result ≡ pass_fields pass.now }
     {

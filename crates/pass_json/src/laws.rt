@@ -1,5 +1,5 @@
-//! Laws of the definitions. Each law is the contract of a function that only cites the laws that it
-//! uses.
+//! Laws about the definitions in `specs/`. Each law is the contract of a function. The function's
+//! body only calls other laws that the proof needs.
 
 ghost use Rattle.pass_json.specs.{Json.SpellsJson, Laws.{AnyFormReadsBack, OneReadingEachText}};
 ghost use Rattle.pass_json.specs.Laws.{OneTextEachForm, OneWritingEachForm, ReadsAnyFormExactly};
@@ -13,21 +13,21 @@ use pass_forms::laws::{
     texts_read_back, wraps_one, writes_exactly,
 };
 
-/// Bytes encode at most one pass in JSON.
+/// In JSON, a list of bytes encodes at most one wide pass.
 pub fn one_pass_for_each_json()
     ensures { OnePassEach SpellsJson }
 {
     from_base64_is_base64();
 }
 
-/// The pass computed from JSON is the pass that the JSON encodes.
+/// In JSON, a list of bytes encodes a wide pass if and only if `wide_json` returns this wide pass.
 pub fn computes_json()
     ensures { ComputesSpelled SpellsJson wide_json }
 {
     from_base64_is_base64();
 }
 
-/// `IsReadAs` allows exactly one result for bytes in JSON: the computed one.
+/// In JSON, `reading_json` returns the only result that `IsReadAs` allows for a list of bytes.
 #[tactic(auto, using(crate::proofs::JsonExact::reading_json_exact))]
 pub fn reads_json_exactly()
     ensures { ReadsExactly SpellsJson reading_json }
@@ -36,7 +36,7 @@ pub fn reads_json_exactly()
     answers_exactly();
 }
 
-/// `IsAnyReading` allows exactly one result for a text in any form: the computed one.
+/// For each text, `reading` returns the only result that `IsAnyReading` allows.
 #[tactic(auto, using(crate::proofs::AnyExact::reading_exact))]
 pub fn reads_any_form_exactly()
     ensures { ReadsAnyFormExactly }
@@ -47,7 +47,8 @@ pub fn reads_any_form_exactly()
     reads_texts_exactly();
 }
 
-/// Reading a text gives the same result as reading the bytes that it wraps, in their form.
+/// Suppose that a text wraps bytes, and the length of these bytes is within the limit. Then reading
+/// the text gives the same result as reading the bytes in their form.
 #[tactic(auto, using(crate::proofs::Wrapped::reads_wrapped))]
 pub fn reads_what_is_wrapped()
     ensures { ReadsWhatIsWrapped }
@@ -61,12 +62,13 @@ pub fn refuses_what_wraps_nothing()
     ensures { RefusesWhatWrapsNothing }
 {}
 
-/// A text written in JSON is read back as the same pass.
+/// Reading a text that `write_json` wrote gives the same pass again.
 pub fn json_reads_back()
     ensures { JsonReadsBack }
 {}
 
-/// `IsWriting` allows exactly one result for a pass in JSON: the computed text or fault.
+/// If the parts of a pass are bytes and its signature has 32 bytes, `writing_json` returns the only
+/// result that `IsWriting` allows.
 #[tactic(auto, using(crate::proofs::WritingJson::exact_json))]
 pub fn writes_json_exactly()
     ensures { WritesJsonExactly }
@@ -80,7 +82,7 @@ pub fn one_text_for_each_form()
     ensures { OneTextEachForm }
 {}
 
-/// A text written in any form is read back as the same form and the same pass.
+/// Reading a written text gives the same form and the same pass again.
 #[tactic(auto, using(crate::proofs::InEachForm::in_any_form))]
 pub fn any_form_reads_back()
     ensures { AnyFormReadsBack }
@@ -89,7 +91,8 @@ pub fn any_form_reads_back()
     json_reads_back();
 }
 
-/// `IsWriting` allows exactly one result for a pass in any form: the computed text or fault.
+/// If the parts of a pass are bytes and its signature has 32 bytes, `writing` returns the only
+/// result that `IsWriting` allows, in each form.
 #[tactic(auto, using(crate::proofs::InEachForm::exact_in_any_form))]
 pub fn writes_any_form_exactly()
     ensures { WritesAnyFormExactly }
@@ -98,7 +101,7 @@ pub fn writes_any_form_exactly()
     writes_json_exactly();
 }
 
-/// A text has exactly one reading: its form and its pass, or its fault.
+/// Reading a text has at most one result. The result is the form and the pass, or a fault.
 #[tactic(auto, using(crate::proofs::AnyExact::one_reading))]
 pub fn one_reading_for_each_text()
     ensures { OneReadingEachText }
@@ -109,7 +112,7 @@ pub fn one_reading_for_each_text()
     reads_texts_exactly();
 }
 
-/// Writing a pass in a form has exactly one result: its text or its fault.
+/// Writing a pass in a form has at most one result. The result is the text or a fault.
 pub fn one_writing_for_each_form()
     ensures { OneWritingEachForm }
 {

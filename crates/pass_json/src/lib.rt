@@ -1,4 +1,4 @@
-//! Passes in JSON, and pass texts in any of the three forms.
+//! Reads and writes passes in JSON, and pass texts in any of the three forms.
 #![tactic(auto)]
 
 mod any;

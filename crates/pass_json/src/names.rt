@@ -1,4 +1,4 @@
-//! Checks the names of an object's members.
+//! Checks the names in a JSON object.
 
 ghost use Rattle.std.specs.{BTreeMap.keys, List.{list_all, list_any}, Prelude.{◌≡◌, map}};
 ghost use Rattle.std.specs.{Str.bytes_eq, String.string_bytes};
@@ -7,7 +7,7 @@ ghost use Rattle.pass_json.specs.computed.JsonReading as reading;
 
 use serde_json::{Map, Value};
 
-/// Returns whether the value has only names that are in this list.
+/// Returns whether the JSON value is an object and all of its names are in the list.
 pub fn has_only_names(value: &Value, names: &[&str]) -> bool
     ensures { result ≡ reading.has_only_names (map (λ name. name.now) names.now) (view value.now) }
 {

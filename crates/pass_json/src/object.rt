@@ -1,4 +1,4 @@
-//! Reads the JSON object of a pass, and the objects of its caveats.
+//! Reads the JSON object of a pass, and the JSON objects of its caveats.
 
 ghost use Rattle.std.specs.Prelude.{◌≡◌, Some, codes, option_map, map, IfErr, IfOk};
 ghost use Rattle.pass_forms.specs.computed.Reading.{pass_summary};
@@ -16,7 +16,8 @@ const PASS_NAMES: [&str; 8] = ["v", "l", "l64", "i", "i64", "c", "s", "s64"];
 
 const CAVEAT_NAMES: [&str; 6] = ["i", "i64", "l", "l64", "v", "v64"];
 
-/// The pass of an object. Only `third_party` tells whether there was a third-party caveat.
+/// The result of parsing a pass's object. The pass doesn't include the verifier ids and locations
+/// of caveats. The flag `third_party` is true if any caveat is a third-party caveat.
 #[derive(Drop)]
 pub struct Read {
     pub pass: Pass,
@@ -24,21 +25,21 @@ pub struct Read {
     pub third_party: bool,
 }
 
-// A caveat, and whether it is a third-party caveat.
+// The identifier of a caveat, and whether the caveat is a third-party caveat.
 #[derive(Drop)]
 struct Caveat {
     identifier: Vec<u8>,
     third_party: bool,
 }
 
-// The identifiers of caveats, and whether any is a third-party caveat.
+// The identifiers of all caveats, and whether any caveat is a third-party caveat.
 #[derive(Drop)]
 struct Caveats {
     identifiers: Vec<Vec<u8>>,
     third_party: bool,
 }
 
-/// Returns the pass that an object represents.
+/// Parses the JSON object of a pass.
 #[tactic(auto, unfolding(crate::specs::computed::JsonReading::pass_from))]
 pub fn pass_from(alloc: Global, value: &Value) -> Result<Read, FormFault>
     ensures ok { IfOk result (λ read. option_map pass_summary (reading.pass_from (view value.now))
@@ -64,7 +65,7 @@ pub fn pass_from(alloc: Global, value: &Value) -> Result<Read, FormFault>
     })
 }
 
-// Returns whether the version is the whole number 2 or missing.
+// Returns whether the version is the whole number 2 or is missing.
 fn is_version(value: &Value) -> bool
     ensures { result ≡ reading.is_version (get (codes "v") (view value.now)) }
 {
@@ -74,7 +75,7 @@ fn is_version(value: &Value) -> bool
     }
 }
 
-// Returns the bytes of a required field.
+// Returns the bytes of a required field. Fails with `Malformed` if the field is missing.
 fn must_have(alloc: Global, value: &Value, plain: &str, base64: &str) -> Result<Vec<u8>, FormFault>
     ensures ok { IfOk result
         (λ bytes. reading.must_have (reading.field_from plain.now base64.now (view value.now))
@@ -97,7 +98,7 @@ fn signature(alloc: Global, value: &Value) -> Result<[u8; 32], FormFault>
     Ok(signature)
 }
 
-// Returns the caveats of a pass's object.
+// Parses the list of caveats in a pass's object. A missing list means no caveats.
 fn read_caveats(alloc: Global, value: &Value) -> Result<Caveats, FormFault>
     ensures ok { IfOk result
         (λ caveats. option_map kept_caveats (reading.caveat_list (get (codes "c") (view value.now)))

@@ -13,18 +13,23 @@ use pass_forms::{FormFault, MAX_CAVEATS, MAX_TEXT, Pass};
 use serde_json::Value;
 use std::alloc::Global;
 
-/// Reads a pass from JSON: one object in the style of libmacaroons' V2 JSON. `serde_json` parses
-/// it. The names may come in any order, and white space is allowed.
+/// Reads a pass from JSON. The JSON is one object in the style of libmacaroons' V2 JSON, and
+/// `serde_json` parses it. The names may be in any order, and white space is allowed.
 ///
 /// # Errors
 ///
-/// Fails with the first fault that applies: `TooLong` above 8,192 bytes, `Malformed` if the bytes
-/// aren't a pass, `ThirdParty` for a third-party caveat, `TooMany` for more than 64 caveats. Fails
-/// with `Memory` only if an allocation fails, and only for bytes within the limit.
+/// Fails with the first fault that applies:
+///
+/// - `TooLong` for more than 8,192 bytes,
+/// - `Malformed` if the bytes aren't a pass,
+/// - `ThirdParty` for a third-party caveat,
+/// - `TooMany` for more than 64 caveats.
+///
+/// Fails with `Memory` only if an allocation fails. This can happen only for at most 8,192 bytes.
 pub fn read_json(alloc: Global, bytes: &[u8]) -> Result<Pass, FormFault>
-    // The result is the pass that the bytes encode, or the first fault.
+    // The result is the pass that the bytes encode, or the first fault that applies.
     ensures spelling { UnlessMemory (IsReadAs (length bytes.now) (SpellsJson bytes.now)) result }
-    // The result also equals the one computed from the bytes.
+    // The contract also states that the result equals the computed result.
     ensures computed { UnlessMemory (λ answer. reading.reading_json bytes.now ≡ answer) result }
     ensures memory { result ≡ Err Memory → length bytes.now ≤ max_text_len }
 {
@@ -32,7 +37,7 @@ pub fn read_json(alloc: Global, bytes: &[u8]) -> Result<Pass, FormFault>
     read_object(alloc, bytes)
 }
 
-// Returns the pass of an object, or else the first fault that applies.
+// Returns the pass that the bytes encode, or the first fault that applies.
 #[tactic(auto, unfolding(crate::specs::computed::JsonReading::reading_json, crate::specs::computed::JsonReading::wide_json))]
 fn read_object(alloc: Global, bytes: &[u8]) -> Result<Pass, FormFault>
     ensures answer { UnlessMemory (λ answer. reading.reading_json bytes.now ≡ answer) result }
@@ -51,7 +56,7 @@ fn read_object(alloc: Global, bytes: &[u8]) -> Result<Pass, FormFault>
     Ok(read.pass)
 }
 
-// Returns the JSON value of the bytes, as `serde_json` parses it.
+// Parses bytes as a JSON value with `serde_json`.
 fn value_of(alloc: Global, bytes: &[u8]) -> Result<Value, FormFault>
     ensures ok { IfOk result (λ value. reading.value_of bytes.now ≡ Some (view value)) }
     ensures err { IfErr result (RefusesPart (reading.value_of bytes.now)) }

@@ -18,19 +18,20 @@ use pass_forms::{FormFault, MAX_CAVEATS, MAX_TEXT, Pass};
 use serde_json::{Map, Value, put};
 use std::alloc::{AllocError, Global};
 
-/// Returns the text of a pass in JSON, without white space and with the names ordered by their
-/// bytes. A `64` name is written only for the signature, and for bytes that aren't UTF-8.
+/// Returns the text of a pass in JSON. The text has no white space, and the names of each object
+/// are ordered by their bytes. The writer uses a `64` name only for the signature and for bytes
+/// that aren't UTF-8.
 ///
 /// # Errors
 ///
-/// Fails with `TooMany` for more than 64 caveats, and otherwise with `TooLong` for a text of more
-/// than 8,192 bytes. Fails with `Memory` only if an allocation fails.
+/// Fails with `TooMany` if the pass has more than 64 caveats. Otherwise fails with `TooLong` if the
+/// text would have more than 8,192 bytes. Fails with `Memory` only if an allocation fails.
 pub fn write_json(alloc: Global, pass: &Pass) -> Result<String, FormFault>
     ensures ok { IfOk result (λ text. IsWritableText IsJsonText pass.now (string_bytes text)) }
     ensures err { IfErr result (IsRefusedJson pass.now) }
     ensures read_back { IfOk result
         (λ text. IsReadBack SpellsJson Json (string_bytes text) pass.now (string_bytes text)) }
-    // The result also equals the one computed from the pass.
+    // The contract also states that the result equals the computed result.
     ensures computed { MatchResult result (λ text. writing_json pass.now ≡ Ok (string_bytes text))
         (MayFailAs (writing_json pass.now)) }
 {
@@ -39,7 +40,7 @@ pub fn write_json(alloc: Global, pass: &Pass) -> Result<String, FormFault>
     short_text(alloc, pass)
 }
 
-// Returns the text if it is within the limits, or else the first fault that applies.
+// Returns the JSON text of a pass, or the first fault that applies.
 #[tactic(auto, unfolding(crate::specs::computed::JsonWriting::writing_json, crate::specs::JsonWriting::json_text))]
 fn short_text(alloc: Global, pass: &Pass) -> Result<String, FormFault>
     ensures bytes { OnOk result (HasBytes pass.now) }
@@ -57,7 +58,7 @@ fn short_text(alloc: Global, pass: &Pass) -> Result<String, FormFault>
     Ok(text)
 }
 
-// Returns the text, which may have any length.
+// Returns the JSON text of a pass. The text may have any length.
 #[tactic(auto, unfolding(crate::specs::JsonWriting::json_text))]
 fn text_of(alloc: Global, pass: &Pass) -> Result<String, AllocError>
     ensures bytes { OnOk result (HasBytes pass.now) }
@@ -92,7 +93,7 @@ fn object_of(alloc: Global, pass: &Pass) -> Result<Value, AllocError>
     Ok(Value::Object(members))
 }
 
-// Adds a location, unless it is empty.
+// Adds a location to the members of an object, unless the location is empty.
 fn put_location(
     alloc: Global,
     members: &mut Map<String, Value>,
@@ -131,7 +132,8 @@ fn caveat_object(alloc: Global, caveat: &[u8]) -> Result<Value, AllocError>
     Ok(Value::Object(members))
 }
 
-// Adds bytes under the plain name if they are UTF-8, else in base64 under the `64` name.
+// Adds bytes to the members of an object. Bytes that are UTF-8 go under the plain name. Other bytes
+// go under the `64` name, in base64.
 #[tactic(auto, unfolding(crate::specs::JsonWriting::put_member))]
 fn put_field(
     alloc: Global,
@@ -150,7 +152,7 @@ fn put_field(
     }
 }
 
-// Encodes bytes in URL-safe base64 without padding.
+// Returns a JSON string with the bytes in URL-safe base64, without padding.
 fn base64_of(alloc: Global, bytes: &[u8]) -> Result<Value, AllocError>
     ensures bytes { IsBytes bytes.now }
     ensures value { IfOk result (λ value. view value ≡ base64_text bytes.now) }

@@ -1,4 +1,4 @@
--- Parses the JSON form: each function returns the value of one part of the object.
+-- Defines a parser of the JSON form. Most functions parse one part of an object.
 use Rattle.std.specs.{List.list_any, Prelude.{◌≡◌, ℕ, ◌==◌, ◌&&◌, if◌then◌else◌, Bool, true, false, List, [], ◌∷◌, codes, length, map, Option, None, Some}}
 use Rattle.std.specs.{Prelude.{option_map, unwrap_or, Result}, Str.{bytes_eq, is_utf8}}
 use Rattle.serde_json.specs.{Data.{Data, Items, no_items, item, Members, no_members, member}, Find.{get, as_array, as_number, as_object, as_str, as_u64}}
@@ -7,11 +7,13 @@ use Rattle.pass_forms.specs.{Pass.{Plain, WideCaveat, WidePass, is_third_party, 
 use Rattle.pass_forms.specs.{computed.Reading.reading_of, declared.fault.FormFault.{FormFault, TheVariants.{Malformed, Memory}}}
 use Rattle.pass_json.specs.Json.{caveat_names, pass_names}
 
--- The bytes that a value encodes in base64, if the value is a string.
+-- Decodes a base64 string. Returns `None` if the JSON value isn't a string or the string isn't
+-- base64.
 abbrev pub decoded_text : Data → Option (List ℕ)
 decoded_text value = as_str value >>= from_base64
 
--- The bytes under a plain name or its `64` name. `Some None` means that both are missing; `None` means that the field is malformed.
+-- Returns the bytes of a field from the values under its plain name and its `64` name. `Some None`
+-- means that the object has neither name. `None` means that the field is malformed.
 abbrev pub field_bytes : Option Data → Option Data → Option (Option (List ℕ))
 field_bytes None None = Some None
 field_bytes (Some value) None = option_map (λ bytes. Some bytes) (as_str value)
@@ -21,7 +23,7 @@ field_bytes (Some value) (Some other) = None
 unfoldable pub field_from : List ℕ → List ℕ → Data → Option (Option (List ℕ))
 field_from plain base64 value = field_bytes (get plain value) (get base64 value)
 
--- The bytes of a required field, if it is present.
+-- Returns the bytes of a required field, or `None` if the field is missing or malformed.
 abbrev pub must_have : Option (Option (List ℕ)) → Option (List ℕ)
 must_have None = None
 must_have (Some bytes) = bytes
@@ -56,7 +58,7 @@ abbrev pub is_version : Option Data → Bool
 is_version None = true
 is_version (Some value) = unwrap_or (option_map (λ n. n == 2) (as_number value >>= as_u64)) false
 
--- The bytes, if this is their length.
+-- Returns the bytes if their number is `len`, or `None` otherwise.
 abbrev pub of_length : ℕ → List ℕ → Option (List ℕ)
 of_length len bytes = if length bytes == len then Some bytes else None
 
@@ -77,26 +79,28 @@ pass_from value = do
     signature = signature;
   })
 
--- The JSON value of the bytes, if they are UTF-8.
+-- Parses bytes as a JSON value. Returns `None` if the bytes aren't UTF-8 or aren't JSON.
 unfoldable pub value_of : List ℕ → Option Data
 value_of bytes = if is_utf8 bytes then read bytes else None
 
--- the whole pass
+-- Parses bytes as the JSON object of a wide pass.
 unfoldable pub wide_json : List ℕ → Option WidePass
 wide_json bytes = value_of bytes >>= pass_from
 
--- The result of reading bytes in JSON.
+-- Reads bytes in JSON. Returns the pass, or the first fault that applies.
 unfoldable pub reading_json : List ℕ → Result Plain FormFault
 reading_json bytes = reading_of (length bytes) (wide_json bytes)
 
--- The parts of a caveat, or of all caveats, that the reader needs: the identifiers, and whether any caveat is a third-party caveat.
+-- Returns the parts of a caveat that a reader needs: the identifier, and whether the caveat is a
+-- third-party caveat.
 abbrev pub kept_caveat : WideCaveat → List ℕ × Bool
 kept_caveat caveat = (first_party_caveat caveat, is_third_party caveat)
 
 abbrev pub kept_caveats : List WideCaveat → List (List ℕ) × Bool
 kept_caveats caveats = (map first_party_caveat caveats, list_any is_third_party caveats)
 
--- The faults of a parser of one part: `Malformed` if the value isn't well formed, and `Memory` at any time.
+-- The faults that the parser of one part may return. `Malformed` is possible only if the part is
+-- malformed. `Memory` is always possible.
 abbrev pub RefusesPart : {A : Type 0} → Option A → FormFault → Type 0
 RefusesPart found Malformed = found ≡ None
 RefusesPart found Memory = Unit {0}

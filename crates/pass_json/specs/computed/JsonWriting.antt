@@ -1,4 +1,4 @@
--- Computes the result of the JSON writer: the text, or else the first fault that applies.
+-- Computes the result of the JSON writer: the text, or the first fault that applies.
 use Rattle.std.specs.Prelude.{ℕ, nat_lt, if◌then◌else◌, List, length, Result, Ok, Err}
 use Rattle.pass_forms.specs.{Pass.Plain, Reading.{max_caveats, max_text_len}, declared.fault.FormFault.{FormFault, TheVariants.{TooLong, TooMany}}}
 use Rattle.pass_json.specs.JsonWriting.{json_text}
