@@ -17,6 +17,6 @@ has_action actions Account = actions.account
 abbrev pub action_texts : Actions → List (List ℕ)
 action_texts actions = map action_text (filter (has_action actions) all_actions)
 
--- The set isn't empty, and the text is the comma-separated list of its actions.
+-- The text is a comma-separated list of the actions in the set. The set isn't empty.
 abbrev pub SpellsActions : List ℕ → Actions → Type 0
 SpellsActions text actions = (action_texts actions ≢ []) × (text ≡ comma_list (action_texts actions))

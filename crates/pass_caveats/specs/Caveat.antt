@@ -54,12 +54,12 @@ pub record SpellsCaveat (text : List ℕ) (caveat : Caveat) : Type 0 where
   pub real : IsCaveat caveat
   pub spelling : text ≡ caveat_text caveat
 
--- The maximum length of an understood caveat, in bytes. This project chose the limit.
+-- The maximum length of an understood caveat, in bytes.
 abbrev pub max_caveat_len : ℕ
 max_caveat_len = 256
 
--- The text is understood as this caveat. It is the caveat's line, and its length is within the
--- limit.
+-- The text is understood as this caveat. The text is the caveat's line, and the length of the text
+-- is within the limit.
 pub record Understood (text : List ℕ) (caveat : Caveat) : Type 0 where
   pub line : SpellsCaveat text caveat
   pub short : length text ≤ max_caveat_len

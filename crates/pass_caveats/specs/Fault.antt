@@ -46,7 +46,7 @@ IsFirstFault texts ask (Some (NotUnderstood n)) = IsFirstAt texts ask n IsUnknow
 IsFirstFault texts ask (Some (Denied n)) = IsFirstAt texts ask n (λ text. Denies text ask)
 
 -- Each text in the first list is understood as the caveat at the same position in the second list.
--- A text that isn't understood has `None` at its position.
+-- If a text isn't understood, the second list has `None` at the position of this text.
 abbrev pub AreUnderstoodAs : List (List ℕ) → List (Option Caveat) → Type 0
 AreUnderstoodAs texts caveats = AllZip (λ (text : List ℕ) (caveat : Option Caveat). Reads (Understood text) caveat) texts caveats
 

@@ -4,7 +4,7 @@ use Rattle.pass_caveats.specs.{Caveat.{Understood, Permits}, Fault.{Allowed, Are
 use Rattle.pass_caveats.specs.{Tests.permits, computed.CaveatOf.caveat_of, declared.{ask.Ask.Ask, caveat.Caveat.Caveat, fault.CaveatFault.CaveatFault}}
 use Rattle.club_values.specs.Reading.{Reads}
 
--- If a list of caveats allows a request, the list without its last caveats allows the request too.
+-- If a list of caveats allows a request, every prefix of the list allows the request too.
 abbrev pub Narrows : Type 0
 Narrows = (texts more : List (List ℕ)) (ask : Ask) → Allowed (texts ++ more) ask → Allowed texts ask
 
@@ -13,15 +13,15 @@ abbrev pub FaultsOnlyWhereNotAllowed : Type 0
 FaultsOnlyWhereNotAllowed =
     (texts : List (List ℕ)) (ask : Ask) (fault : Option CaveatFault) → IsFirstFault texts ask fault → (fault ≡ None) ↔ Allowed texts ask
 
--- If a list of texts is understood as a list of caveats, `first_fault_of` returns the first fault
--- of the texts.
+-- Given the caveat of each text in a list, `first_fault_of` returns the first fault of the texts. A
+-- text that isn't understood has the caveat `None`.
 abbrev pub FindsTheFirstFault : Type 0
 FindsTheFirstFault =
     (texts : List (List ℕ)) (caveats : List (Option Caveat)) (ask : Ask) (fault : Option CaveatFault) → AreUnderstoodAs texts caveats →
     IsFirstFault texts ask fault ↔ (fault ≡ first_fault_of caveats ask)
 
--- Given the caveat of a text, `first_fault_from` returns the fault of the text. The caveat is
--- `None` if the text isn't understood.
+-- Given the caveat of a text, `first_fault_from` returns the fault of the text. A text that isn't
+-- understood has the caveat `None`.
 abbrev pub FindsTheFaultAt : Type 0
 FindsTheFaultAt =
     (text : List ℕ) (caveat : Option Caveat) (n : ℕ) (ask : Ask) (fault : Option CaveatFault) → Reads (Understood text) caveat →

@@ -2,7 +2,7 @@
 use Rattle.std.specs.Prelude.{ℕ, ◌<◌, ◌≤◌, List, length, All}
 use Rattle.club_values.specs.Name.{IsName}
 
--- The maximum number of names in a caveat. This project chose the limit.
+-- The maximum number of names in a caveat.
 abbrev pub max_names : ℕ
 max_names = 8
 

@@ -15,10 +15,10 @@ OwesNothing =
     (caveats : List (Option Caveat)) (ask : Ask) (spent : ℕ) → ask.owed ≡ 0
     → first_fault_of caveats (after_spending spent ask) ≡ first_fault_of caveats (after_spending 0 ask)
 
--- Suppose that the first fault is the same whether a key has spent nothing or `most` points. Then
--- the first fault is also the same for any amount up to `most`. Every spend limit is at most
--- 999,999,999 points. Therefore, if `most` is at least 999,999,999, the first fault is the same for
--- every amount.
+-- Suppose that a key has the same first fault after spending nothing and after spending `most`
+-- points. Then the key has the same first fault after spending any amount up to `most`. Every spend
+-- limit is at most 999,999,999 points. Therefore, if `most` is at least 999,999,999, the first
+-- fault doesn't depend on the amount spent.
 abbrev pub LimitsNoMore : Type 0
 LimitsNoMore =
     (caveats : List (Option Caveat)) (ask : Ask) (spent most : ℕ) → All (λ (caveat : Option Caveat). IfSome caveat IsCaveat) caveats
@@ -39,7 +39,7 @@ IsWithin None spent = Unit {0}
 IsWithin (Some most) spent = spent ≤ most
 
 -- The text has this fault if and only if the amount that the key has spent is within the bound
--- `slack`.
+-- `slack`. If `slack` is `None`, there is no bound.
 pub record HoldsWithin (text : List ℕ) (number : ℕ) (ask : Ask) (fault : Option CaveatFault) (slack : Option ℕ) : Type 0 where
   pub within : (spent : ℕ) → IsWithin slack spent → IsFaultAt text number (after_spending spent ask) fault
   pub beyond : (spent : ℕ) → ¬ IsWithin slack spent → ¬ IsFaultAt text number (after_spending spent ask) fault

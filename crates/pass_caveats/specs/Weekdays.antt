@@ -27,6 +27,6 @@ has_weekday set Sunday = set.sunday
 abbrev pub weekday_texts : Weekdays → List (List ℕ)
 weekday_texts set = map weekday_text (filter (has_weekday set) weekdays)
 
--- The set isn't empty, and the text is the comma-separated list of its weekdays.
+-- The text is a comma-separated list of the weekdays in the set. The set isn't empty.
 abbrev pub SpellsWeekdays : List ℕ → Weekdays → Type 0
 SpellsWeekdays text set = (weekday_texts set ≢ []) × (text ≡ comma_list (weekday_texts set))

@@ -141,9 +141,8 @@ pub fn allows(caveat: &Caveat, ask: &Ask) -> bool
     is_in_set(caveat, ask)
 }
 
-/// Returns whether the text is a caveat on the kind of the slot's facility. If the result is false,
-/// the text's fault doesn't depend on the kind. If the result is true, the text's fault depends on
-/// the kind.
+/// Returns whether the text is a caveat on the kind of the slot's facility. The fault of a text
+/// depends on the kind if and only if the result is true.
 #[tactic(auto, using(crate::proofs::KindLemmas::blind_to_kind))]
 pub fn looks_at_kind(text: &[u8]) -> bool
     ensures function { result ≡ is_on_kind (caveat_of text.now) }

@@ -9,8 +9,8 @@ use crate::caveat::{allows, read};
 use std::error::Error;
 use std::fmt;
 
-/// The reason why a list of caveats refuses a request. The number is the caveat's position in the
-/// list, starting from 1.
+/// The reason why a list of caveats refuses a request. The number of a caveat is its position in
+/// the list, starting from 1.
 #[derive(Clone, Copy, Debug, PartialEq, Eq)]
 pub enum CaveatFault {
     /// The caveat with this number isn't understood.
@@ -49,8 +49,9 @@ fn fault_of_text(text: &[u8], number: usize, ask: &Ask) -> Option<CaveatFault>
 }
 
 /// Returns the fault of one caveat, or `None` if the caveat allows the request. The argument
-/// `number` is the caveat's position in its list, starting from 1. A caller that tests the caveats
-/// of a list in order can stop at the first fault, which is the fault of the list.
+/// `number` is the caveat's position in a list, starting from 1. A caller that tests a list of
+/// caveats in order may stop at the first fault. The fault at which the caller stops is the first
+/// fault of the list.
 #[tactic(auto, using(crate::proofs::CaveatOfLemmas::is_fault_at))]
 pub fn fault_at(text: &[u8], number: usize, ask: &Ask) -> Option<CaveatFault>
     ensures cases { IsFaultAt text.now number ask.now result }

@@ -6,7 +6,7 @@ ghost use Rattle.pass_caveats.specs.Laws.{FindsTheFaultAt, FindsTheFaultOfOneMor
 ghost use Rattle.pass_caveats.specs.Laws.{ReadsWhatIsUnderstood, TestsTheSet, IsUnderstoodOnce};
 ghost use Rattle.pass_caveats.specs.Spending.{LimitsNoMore, OwesNothing};
 
-/// If a list of caveats allows a request, the list without its last caveats allows the request too.
+/// If a list of caveats allows a request, every prefix of the list allows the request too.
 pub fn narrows()
     ensures { Narrows }
 {}
@@ -17,14 +17,14 @@ pub fn faults_only_where_not_allowed()
     ensures { FaultsOnlyWhereNotAllowed }
 {}
 
-/// If a list of texts is understood as a list of caveats, `first_fault_of` returns the first fault
-/// of the texts.
+/// Given the caveat of each text in a list, `first_fault_of` returns the first fault of the texts.
+/// A text that isn't understood has the caveat `None`.
 pub fn finds_the_first_fault()
     ensures { FindsTheFirstFault }
 {}
 
-/// Given the caveat of a text, `first_fault_from` returns the fault of the text. The caveat is
-/// `None` if the text isn't understood.
+/// Given the caveat of a text, `first_fault_from` returns the fault of the text. A text that isn't
+/// understood has the caveat `None`.
 pub fn finds_the_fault_at()
     ensures { FindsTheFaultAt }
 {}
@@ -57,10 +57,10 @@ pub fn owes_nothing()
     ensures { OwesNothing }
 {}
 
-/// Suppose that the first fault is the same whether a key has spent nothing or `most` points. Then
-/// the first fault is also the same for any amount up to `most`. Every spend limit is at most
-/// 999,999,999 points. Therefore, if `most` is at least 999,999,999, the first fault is the same
-/// for every amount.
+/// Suppose that a key has the same first fault after spending nothing and after spending `most`
+/// points. Then the key has the same first fault after spending any amount up to `most`. Every
+/// spend limit is at most 999,999,999 points. Therefore, if `most` is at least 999,999,999, the
+/// first fault doesn't depend on the amount spent.
 #[tactic(auto, using(crate::proofs::SpendingLemmas::limits_no_more))]
 pub fn limits_no_more()
     ensures { LimitsNoMore }

@@ -39,8 +39,8 @@ fn first_part(text: &[u8]) -> (&[u8], Option<&[u8]>)
     }
 }
 
-/// Skips the next part of a comma-separated list if it equals the word. Returns whether the part
-/// was skipped, and the remaining text.
+/// Compares the next part of a comma-separated list with a word. If the part equals the word,
+/// returns true and the text after the part. Otherwise returns false and the unchanged text.
 pub(crate) fn skip<'a>(rest: Option<&'a [u8]>, word: &[u8]) -> (bool, Option<&'a [u8]>)
     ensures { Skips word.now (parts_left (option_copied rest.entry)) result.0
         (parts_left (option_copied result.1)) }

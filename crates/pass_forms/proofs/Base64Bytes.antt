@@ -1,4 +1,4 @@
--- Lemmas for the proof that base64 decoding returns bytes, which are numbers below 256.
+-- Lemmas for the proof that base64 decoding returns a list of bytes. A byte is a number below 256.
 use Rattle.pass_forms.proofs.Common.{◌≡◌, ℕ, zero, suc, ◌+◌, ◌*◌, ◌/◌, ◌<◌, Bool, true, ltb, List, [], ◌∷◌, ◌++◌, length, take, drop, slice_index, refl, arith}
 use Rattle.pass_forms.proofs.Common.{list_all, lt-ltb, get_or-drop, take-append-drop, DecodeError, GeneralPurpose, IsBytes, decode_of, elements, nat_tests}
 use Rattle.pass_forms.proofs.Common.{IfOk}

@@ -1,4 +1,4 @@
--- Lemmas for the proof that the V1 reader recovers a packet's length from its four hexadecimal
+-- Lemmas for the proof that the V1 reader recovers the length of a packet from four hexadecimal
 -- digits.
 use Rattle.pass_forms.proofs.Common.{◌≡◌, ℕ, ◌+◌, ◌*◌, ◌^◌, ◌<◌, List, [], ◌∷◌, ◌++◌, Option, Some, None, refl, arith, nat_tests, same_Some, hex_digit}
 use Rattle.pass_forms.proofs.Common.{four_hex_digits, ◌>>=◌, digit_value, len_at}

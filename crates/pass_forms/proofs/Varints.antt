@@ -1,4 +1,4 @@
--- Lemmas about reading varints, which are numbers in groups of seven bits.
+-- Lemmas about reading varints. A varint is a number in groups of seven bits.
 use Rattle.pass_forms.proofs.Common.{◌≡◌, ℕ, ◌+◌, ◌-◌, ◌*◌, ◌/◌, ◌<◌, ◌≤◌, List, ◌∷◌, length, Option, Some, None, refl, arith, lt-ltb, le-ltb, nat_tests, above}
 use Rattle.pass_forms.proofs.Common.{varint_up_to, common_steps}
 

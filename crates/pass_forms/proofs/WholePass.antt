@@ -6,8 +6,7 @@ use Rattle.pass_forms.proofs.Common.{WidePass, arith, common_steps, nat_tests}
 abbrev pub made : List ℕ × List ℕ × List ℕ → List WideCaveat → List ℕ → WidePass
 made header caveats signature = record { location = header.0; identifier = header.1; caveats = caveats; signature = signature }
 
--- `Parts` contains the header and the signature that the parsers found, and the proof that the wide
--- pass consists of the parsed parts.
+-- `Parts` records that the parsed header, caveats and signature form the wide pass `wide`.
 pub record Parts (header_at : List ℕ → Option (List ℕ × List ℕ × List ℕ)) (caveat_at : Reader) (footer_at : List ℕ → Option (List ℕ)) (bytes : List ℕ)
     (wide : WidePass) : Type 0 where
   pub header : List ℕ × List ℕ × List ℕ

@@ -1,4 +1,4 @@
--- Lemmas for the proof that a writer produces bytes, which are numbers below 256.
+-- Lemmas for the proof that a writer produces a list of bytes. A byte is a number below 256.
 use Rattle.pass_forms.proofs.{Base64Bytes.{append_is_bytes, bytes_from_passes, nil_is_bytes, one_more}, Common.{◌≡◌, ℕ, zero, suc, ◌+◌, ◌/◌, ◌%◌, ◌^◌, ◌<◌}}
 use Rattle.pass_forms.proofs.Common.{◌≤◌, true, ltb, List, [], ◌∷◌, ◌++◌, map, refl, arith, inl, inr, AllByRecursion, flat_map, list_all, cases_lt, lt-ltb}
 use Rattle.pass_forms.proofs.Common.{le-ltb, nat_tests, IsBytes, Plain, as_wide_pass, widened_caveat, FitsPackets, FitsCaveat, FitsPacket, caveat_packets}

@@ -21,8 +21,8 @@ module _ (f : BytesForm) (pass : Plain) where
   pub reads_back : (text : List ℕ) → IsBytes (f.bytes_of pass) → IsWritableText (IsTextIn f) pass text → IsReadBack f.Spells f.form (f.bytes_of pass) pass text
   reads_back text are written = grind (arith, bytes_fit, unwraps)
 
-  -- The result of a writer. The flag `many` is true for too many caveats, and `long` is true for
-  -- too long a text.
+  -- Returns the result of a writer. If `many` is true, the pass has too many caveats. If `long` is
+  -- true, the text is too long.
   abbrev result_by : Bool → Bool → Result (List ℕ) FormFault
   result_by many long = cond many (Err TooMany) (cond long (Err TooLong) (Ok (in_base64 (f.bytes_of pass))))
 

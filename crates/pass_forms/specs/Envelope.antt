@@ -23,7 +23,7 @@ is_lower_hex_digit byte = (nat_le 48 byte && nat_le byte 57) || (nat_le 97 byte 
 
 -- Returns the form of a pass whose first byte is `first`. A V2 pass begins with the byte 2. A JSON
 -- pass begins with `{`, which is the byte 123. A V1 pass begins with a packet's length in
--- lower-case hexadecimal digits. The V1 and V2 bytes come from libmacaroons' formats.
+-- lower-case hexadecimal digits. V1 and V2 are formats of libmacaroons.
 abbrev pub form_of_byte : ℕ → Option Form
 form_of_byte first =
     if first == 2 then Some V2
@@ -44,8 +44,8 @@ Wraps text form bytes =
     ⊎ (IsBase64 text bytes × (form_of bytes ≡ Some form))
 
 -- The result of `unwrap_text` is `TooLong` if the text is longer than the limit. A text within the
--- limit gives `Malformed` if it wraps no bytes of a pass. For every other text, the result is the
--- form and the bytes. No other fault can occur.
+-- limit gives `Malformed` if the text wraps no bytes of a pass. For every other text, the result is
+-- the form and the bytes. No other fault can occur.
 abbrev pub IsUnwrapped : List ℕ → Result (Form × List ℕ) FormFault → Type 0
 IsUnwrapped text (Ok content) = (length text ≤ max_text_len) × Wraps text content.0 content.1
 IsUnwrapped text (Err TooLong) = max_text_len < length text
@@ -53,13 +53,13 @@ IsUnwrapped text (Err Malformed) =
     (length text ≤ max_text_len) × ((form : Form) (bytes : List ℕ) → ¬ Wraps text form bytes)
 IsUnwrapped text (Err other) = ⊥
 
--- Returns the bytes of the pass. They are the text itself if `plain` is true, and otherwise the
--- first `len` bytes of the buffer.
+-- Returns the bytes of the pass. If `plain` is true, the bytes of the pass are the text itself.
+-- Otherwise the bytes of the pass are the first `len` bytes of the buffer.
 abbrev pub unwrapped_bytes : Unwrapped → List ℕ → List ℕ → List ℕ
 unwrapped_bytes unwrapping text buffer = if unwrapping.plain then text else take unwrapping.len buffer
 
 -- Converts a result of `unwrap_text` to the form and the bytes of the pass, or to the fault. The
--- buffer is the one that the call filled.
+-- argument `buffer` is the buffer that the call filled.
 abbrev pub unwrapped_result : Result Unwrapped FormFault → List ℕ → List ℕ → Result (Form × List ℕ) FormFault
 unwrapped_result (Ok unwrapping) text buffer = Ok (unwrapping.form, unwrapped_bytes unwrapping text buffer)
 unwrapped_result (Err fault) text buffer = Err fault

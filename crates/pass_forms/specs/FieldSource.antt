@@ -1,4 +1,5 @@
--- Defines the fields of a pass. Their order is location, identifier, caveats, signature.
+-- Defines the fields of a pass and their order. A pass has a location, an identifier, caveats and a
+-- signature.
 use Rattle.std.specs.Prelude.{◌≡◌, ℕ, List, [], ◌∷◌, ◌++◌, map, fold, replicate, Option, None, Some, Result, Ok, Err}
 use Rattle.pass_mac.specs.Chain.{extended_signature}
 use Rattle.pass_forms.specs.{Pass.Plain, declared.{fault.FormFault.FormFault, field_source.Field.Field}}
@@ -22,8 +23,8 @@ if_left field None = []
 if_left field (Some bytes) = field bytes ∷ []
 
 -- Returns the fields that a source hasn't returned yet. The value of a field that the source has
--- already returned is `None`. The function `bytes` converts a location or an identifier to its
--- bytes.
+-- already returned is `None`. The function `bytes` returns the bytes of a location or an
+-- identifier.
 abbrev pub those_left : {A : Type 0} → (A → List ℕ) → Option A → Option A → List (List ℕ) → Option (List ℕ) → List PassField
 those_left bytes location identifier caveats signature =
     if_left (λ l. location_field (bytes l)) location ++ (if_left (λ i. identifier_field (bytes i)) identifier
@@ -52,13 +53,13 @@ as_field (Caveat bytes) = caveat_field bytes.now
 as_field (Signature bytes) = signature_field bytes
 
 -- The list of fields begins with caveats and a signature. The signature is the last signature of
--- the chain after these caveats are added to it (Macaroons, NDSS 2014).
+-- the chain, after these caveats are added to the chain (Macaroons, NDSS 2014).
 pub record AreSignedBy (chain : List ℕ) (fields : List PassField) : Type 0 where
   pub caveats : List (List ℕ)
   pub rest : List PassField
   pub place : fields ≡ map caveat_field caveats ++ signature_field (extended_signature chain caveats) ∷ rest
 
--- Sets one field of a pass. If the field is a caveat, it is appended to the pass's caveats.
+-- Sets one field of a pass. If the field is a caveat, the caveat is appended to the pass's caveats.
 abbrev pub with_field : Plain → PassField → Plain
 with_field pass (location_field bytes) = record pass { location = bytes }
 with_field pass (identifier_field bytes) = record pass { identifier = bytes }

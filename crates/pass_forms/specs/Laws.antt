@@ -31,8 +31,7 @@ WrapsOne = (text : List ℕ) (form other_form : Form) (bytes other_bytes : List 
     → Wraps text form bytes → Wraps text other_form other_bytes
     → (form ≡ other_form) × (bytes ≡ other_bytes)
 
--- If every element of a pass text is a byte, every element of the list that the text wraps is a
--- byte too.
+-- If a pass text is a list of bytes, the list that the text wraps is also a list of bytes.
 abbrev pub WrapsBytes : Type 0
 WrapsBytes = (text : List ℕ) (form : Form) (bytes : List ℕ)
     → IsBytes text → Wraps text form bytes → IsBytes bytes

@@ -39,7 +39,8 @@ as_wide_pass pass = record {
   signature = pass.signature;
 }
 
--- Converts a caveat of a wide pass to a first-party caveat, which is the caveat's identifier.
+-- Converts a caveat of a wide pass to a first-party caveat. A first-party caveat is only an
+-- identifier.
 abbrev pub first_party_caveat : WideCaveat → List ℕ
 first_party_caveat caveat = caveat.identifier
 
@@ -51,8 +52,8 @@ first_party wide = record {
   signature = wide.signature;
 }
 
--- The pass is signed under the root. Its signature is the last signature of the chain of its
--- identifier and caveats, and the chain starts with the root's derived key.
+-- The pass is signed under the root. The chain of the pass's identifier and caveats starts with the
+-- root's derived key. The signature of the pass is the last signature of this chain.
 abbrev pub IsSigned : List ℕ → Plain → Type 0
 IsSigned root pass = pass.signature ≡ chain (derived_key root) pass.identifier pass.caveats
 

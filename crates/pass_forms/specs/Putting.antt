@@ -6,7 +6,7 @@ use Rattle.pass_forms.specs.declared.fault.FormFault.{FormFault, TheVariants.Too
 abbrev pub buffer_len : ℕ
 buffer_len = 6144
 
--- The result of appending `bytes` to a buffer. The call either appends all of them, or fails with
+-- The result of appending `bytes` to a buffer. The call either appends all bytes, or fails with
 -- `TooLong` because the buffer has no room.
 abbrev pub Puts : List ℕ → List ℕ → List ℕ → Result (Unit {0}) FormFault → Type 0
 Puts bytes old new (Ok _) = new ≡ old ++ bytes

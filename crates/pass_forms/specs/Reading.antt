@@ -3,18 +3,22 @@ use Rattle.std.specs.Prelude.{◌≡◌, ℕ, ◌<◌, ◌≤◌, true, false, l
 use Rattle.pass_forms.specs.{Pass.{Plain, WidePass, has_third_party, as_wide_pass}, declared.fault.FormFault.FormFault}
 use Rattle.pass_forms.specs.declared.fault.FormFault.TheVariants.{TooLong, Malformed, ThirdParty, TooMany, Memory}
 
--- The maximum length of a pass text, in bytes. This project chose the limit.
+-- The maximum length of a pass text, in bytes.
 abbrev pub max_text_len : ℕ
 max_text_len = 8192
 
--- The maximum number of caveats in a pass. This project chose the limit.
+-- The maximum number of caveats in a pass.
 abbrev pub max_caveats : ℕ
 max_caveats = 64
 
 -- The result of reading a text of length `len`. The predicate `Spelled` is true for the wide passes
 -- that the text encodes. If no fault applies, the result is the pass. Otherwise the result is the
--- first fault that applies, in the order `TooLong`, `Malformed`, `ThirdParty`, `TooMany`. This
--- project chose the order.
+-- first fault that applies, in this order:
+--
+-- - `TooLong`
+-- - `Malformed`
+-- - `ThirdParty`
+-- - `TooMany`
 abbrev pub IsReadAs : ℕ → (WidePass → Type 0) → Result Plain FormFault → Type 0
 IsReadAs len Spelled (Err TooLong) = max_text_len < len
 IsReadAs len Spelled (Err Malformed) = (len ≤ max_text_len) × ((wide : WidePass) → ¬ Spelled wide)
@@ -24,10 +28,10 @@ IsReadAs len Spelled (Err TooMany) =
     (len ≤ max_text_len) × (wide : WidePass) × Spelled wide × (has_third_party wide ≡ false) × (max_caveats < length wide.caveats)
 IsReadAs len Spelled (Ok pass) =
     (len ≤ max_text_len) × Spelled (as_wide_pass pass) × (length pass.caveats ≤ max_caveats)
--- This definition never allows `Memory`, because the fault doesn't depend on the text.
+-- This definition never allows the fault `Memory`, because no text requires running out of memory.
 IsReadAs len Spelled (Err Memory) = ⊥
 
--- The result satisfies `Holds`, or it is the fault `Memory`.
+-- The result satisfies the predicate `Holds`, or the result is the fault `Memory`.
 abbrev pub UnlessMemory : {A : Type 0} → (Result A FormFault → Type 0) → Result A FormFault → Type 0
 UnlessMemory Holds (Err Memory) = Unit {0}
 UnlessMemory Holds (Err TooLong) = Holds (Err TooLong)
@@ -36,8 +40,8 @@ UnlessMemory Holds (Err ThirdParty) = Holds (Err ThirdParty)
 UnlessMemory Holds (Err TooMany) = Holds (Err TooMany)
 UnlessMemory Holds (Ok read) = Holds (Ok read)
 
--- The result satisfies `Holds`, or it is the fault `Memory`. The fault `Memory` is possible only if
--- `Holds` allows a success.
+-- The result satisfies the predicate `Holds`, or the result is the fault `Memory`. The fault
+-- `Memory` is possible only if `Holds` allows a success.
 abbrev pub OrOutOfMemory : {A : Type 0} → (Result A FormFault → Type 0) → Result A FormFault → Type 0
 OrOutOfMemory {A} Holds (Err Memory) = (read : A) × Holds (Ok read)
 OrOutOfMemory Holds (Err TooLong) = Holds (Err TooLong)

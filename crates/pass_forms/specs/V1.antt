@@ -1,6 +1,13 @@
--- Defines V1, the packet format of libmacaroons. A packet consists of its length in four lower-case
--- hexadecimal digits, a key, a space, data and a line feed. The length counts all bytes of the
--- packet. The data may contain any bytes, because the length determines the end of the packet.
+-- Defines V1, the packet format of libmacaroons. A packet consists of these parts:
+--
+-- - the length of the packet, in four lower-case hexadecimal digits
+-- - a key
+-- - a space
+-- - the data
+-- - a line feed
+--
+-- The length counts all bytes of the packet. The data may contain any bytes, because the length
+-- determines the end of the packet.
 use Rattle.std.specs.List.{flat_map, AllByRecursion}
 use Rattle.std.specs.Prelude.{◌≡◌, ℕ, ◌+◌, ◌/◌, ◌%◌, ◌^◌, ◌<◌, nat_lt, if◌then◌else◌, List, [], ◌∷◌, ◌++◌, length, Option, Some, None, IfSome, codes}
 use Rattle.pass_forms.specs.Pass.{WideCaveat, WidePass}
@@ -14,7 +21,8 @@ hex_digit n = if nat_lt n 10 then 48 + n else 87 + n
 abbrev pub four_hex_digits : ℕ → List ℕ
 four_hex_digits n = hex_digit (n / 4096) ∷ hex_digit (n / 256 % 16) ∷ hex_digit (n / 16 % 16) ∷ hex_digit (n % 16) ∷ []
 
--- Returns the length of a packet: four digits, the key with its space, the data, and a line feed.
+-- Returns the length of a packet, which includes the four digits of the length and the final line
+-- feed.
 abbrev pub packet_len : List ℕ → List ℕ → ℕ
 packet_len key bytes = 4 + length key + length bytes + 1
 
@@ -40,7 +48,7 @@ packets_of wide =
     packet (codes "location ") wide.location ++ (packet (codes "identifier ") wide.identifier
     ++ (flat_map caveat_packets wide.caveats ++ packet (codes "signature ") wide.signature))
 
--- The length of the packet fits in four hexadecimal digits, so it is below 2 ^ 16.
+-- The length of the packet is below 2 ^ 16, so the length fits in four hexadecimal digits.
 abbrev pub FitsPacket : List ℕ → List ℕ → Type 0
 FitsPacket key bytes = packet_len key bytes < 2 ^ 16
 

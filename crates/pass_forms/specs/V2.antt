@@ -15,7 +15,7 @@ groups (suc more) n = if nat_lt n 128 then n ∷ [] else (128 + n % 128) ∷ gro
 unfoldable pub varint : ℕ → List ℕ
 varint n = groups n n
 
--- The type of each field. Each type is below 128, so its varint has one byte.
+-- The type of each field. Each type is below 128, so the varint of a type has one byte.
 abbrev pub types : record { location : ℕ; identifier : ℕ; verifier_id : ℕ; signature : ℕ }
 types = record { location = 1; identifier = 2; verifier_id = 4; signature = 6 }
 
@@ -39,8 +39,8 @@ caveat_section caveat =
     optional_field types.location caveat.location ++ (field types.identifier caveat.identifier
     ++ (optional_field types.verifier_id caveat.verifier_id ++ end_of_section))
 
--- Returns the bytes of a pass in V2. They consist of the version byte 2, the header, the caveats
--- and the signature. The header may have no location.
+-- Returns the bytes of a pass in V2. The first byte is the version 2. The other bytes are the
+-- header, the caveats and the signature, in this order. The header may have no location.
 abbrev pub sections : Option (List ℕ) → WidePass → List ℕ
 sections location wide =
     2 ∷ optional_field types.location location ++ (field types.identifier wide.identifier ++ (end_of_section

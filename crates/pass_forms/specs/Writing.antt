@@ -1,4 +1,5 @@
--- Defines the results of writing a pass. A pass has only one text in each form.
+-- Defines the results of writing a pass. In each form, a pass has only one text that a writer may
+-- return.
 use Rattle.std.specs.{List.AllByRecursion, Prelude.{◌≡◌, ℕ, ◌<◌, ◌≤◌, List, [], ◌∷◌, ◌++◌, length, Option, None, Some, Result, Ok, Err, IsOk}}
 use Rattle.base64.specs.{Engines.url_safe_no_pad, GeneralPurpose.{IsBytes, encode_of}}
 use Rattle.pass_mac.specs.Hmac.{hmac}
@@ -42,7 +43,7 @@ pub record IsWritableText (IsText : Plain → List ℕ → Type 0) (pass : Plain
   pub short : length text ≤ max_text_len
   pub few : length pass.caveats ≤ max_caveats
 
--- The conditions for each fault of a writer. `TooMany` requires more caveats than the limit.
+-- Defines the condition for each fault of a writer. `TooMany` requires more caveats than the limit.
 -- `TooLong` requires that no text of the pass is within the limit. `TooMany` comes before
 -- `TooLong`. `Memory` is possible only for a pass that has a text within the limits. No other fault
 -- can occur.
@@ -54,7 +55,7 @@ IsWriteFault IsText pass Memory = (text : List ℕ) × IsWritableText IsText pas
 IsWriteFault IsText pass other = ⊥
 
 -- The result of writing a pass is a text that a writer may return, or the first fault that applies.
--- This definition never allows `Memory`, because the fault doesn't depend on the pass.
+-- This definition never allows the fault `Memory`, because no pass requires running out of memory.
 abbrev pub IsWriting : (Plain → List ℕ → Type 0) → Plain → Result (List ℕ) FormFault → Type 0
 IsWriting IsText pass (Ok text) = IsWritableText IsText pass text
 IsWriting IsText pass (Err TooLong) = IsWriteFault IsText pass TooLong
@@ -62,8 +63,8 @@ IsWriting IsText pass (Err TooMany) = IsWriteFault IsText pass TooMany
 IsWriting IsText pass (Err other) = ⊥
 
 -- `FailsAs writing fault` means that a writer may return `fault` if the computed result is
--- `writing`. A writer returns the computed fault. If the computed result is a text, a writer may
--- return `Memory`.
+-- `writing`. If the computed result is a fault, a writer returns the same fault. A writer may
+-- return `Memory` instead of a text.
 abbrev pub FailsAs : Result (List ℕ) FormFault → FormFault → Type 0
 FailsAs writing Memory = IsOk writing
 FailsAs writing TooLong = writing ≡ Err TooLong
@@ -76,7 +77,7 @@ pub record IsReadBack (Spells : List ℕ → WidePass → Type 0) (form : Form) 
   pub content : IsUnwrapped text (Ok (form, bytes))
   pub read : IsReadAs (length bytes) (Spells bytes) (Ok pass)
 
--- Each part of the pass is a list of bytes, which are numbers below 256.
+-- Each part of the pass is a list of bytes. A byte is a number below 256.
 pub record HasBytes (pass : Plain) : Type 0 where
   pub location : IsBytes pass.location
   pub identifier : IsBytes pass.identifier
@@ -84,7 +85,8 @@ pub record HasBytes (pass : Plain) : Type 0 where
   pub signature : IsBytes pass.signature
 
 -- Returns the pass with one more caveat. The new signature is the HMAC of the caveat, with the old
--- signature as the key (Macaroons, NDSS 2014; libmacaroons does the same).
+-- signature as the key. Both the macaroons paper (NDSS 2014) and libmacaroons define narrowing in
+-- this way.
 abbrev pub with_caveat : List ℕ → Plain → Plain
 with_caveat caveat pass = record {
   location = pass.location;

@@ -21,9 +21,9 @@ pub const MAX_TEXT: usize = 8192;
 /// The maximum number of bytes that base64 text of `MAX_TEXT` characters can encode.
 pub const MAX_BYTES: usize = 6144;
 
-/// The form of a pass and the position of its bytes. If `plain` is true, the pass is the text
-/// itself. Otherwise the pass is the first `len` bytes of the buffer. In both cases `len` is the
-/// number of bytes.
+/// The form of a pass, and the position of the pass's bytes. If `plain` is true, the pass is the
+/// text itself. Otherwise the pass is the first `len` bytes of the buffer. In both cases, `len` is
+/// the number of bytes of the pass.
 #[derive(Clone, Copy, Debug, PartialEq, Eq)]
 pub struct Unwrapped {
     pub form: Form,
@@ -45,14 +45,14 @@ impl Unwrapped {
     }
 }
 
-/// Finds the form of a pass text and decodes its base64 into the start of the buffer. A text that
+/// Finds the form of a pass text and decodes base64 into the start of the buffer. A text that
 /// starts with `{` is JSON, and the call doesn't copy it. Any other text must be base64 (RFC 4648),
 /// either URL-safe or standard, with or without padding. The first decoded byte determines the
 /// form:
 ///
-/// - 2 for V2,
-/// - `{` for JSON,
-/// - `0` to `9` or `a` to `f` for V1.
+/// - 2 for V2
+/// - `{` for JSON
+/// - `0` to `9` or `a` to `f` for V1
 ///
 /// The rest of the buffer is unspecified. After a fault, the whole buffer is unspecified. The call
 /// allocates no memory.
@@ -64,7 +64,7 @@ impl Unwrapped {
 #[tactic(auto, unfolding(crate::specs::computed::Envelope::unwrapping))]
 pub fn unwrap_text(text: &[u8], buffer: &mut [u8; MAX_BYTES]) -> Result<Unwrapped, FormFault>
     ensures reading { IsUnwrapped text.now (unwrapped_result result text.now buffer.new) }
-    // The contract also states that the result equals the computed result.
+    // The result equals the result of `unwrapping` for the text.
     ensures value { unwrapped_result result text.now buffer.new ≡ unwrapping text.now }
     ensures plain { IfOk result (λ unwrapping. unwrapping.plain ≡ starts_with_brace text.now) }
     ensures len { IfOk result (λ unwrapping.
@@ -116,7 +116,7 @@ fn form_of(bytes: &[u8]) -> Option<Form>
 pub fn decode_base64(alloc: Global, text: &[u8]) -> Result<Option<Vec<u8>>, AllocError>
     ensures spelling { IfOk result (λ found. (bytes : List ℕ)
         → (option_map (λ b. b.items) found ≡ Some bytes) ↔ IsBase64 text.now bytes) }
-    // The contract also states that the result equals the computed bytes.
+    // The result equals the result of `from_base64` for the text.
     ensures computed { IfOk result
         (λ found. option_map (λ bytes. bytes.items) found ≡ from_base64 text.now) }
 {

@@ -14,8 +14,7 @@ pub fn wraps_one()
     ensures { WrapsOne }
 {}
 
-/// If every element of a pass text is a byte, every element of the list that the text wraps is a
-/// byte too.
+/// If a pass text is a list of bytes, the list that the text wraps is also a list of bytes.
 pub fn wraps_bytes()
     ensures { WrapsBytes }
 {}
@@ -64,8 +63,8 @@ pub fn reads_v2_exactly()
     ensures { ReadsExactly SpellsV2 v2.reading_v2 }
 {}
 
-/// In any form with a function that computes the encoded wide pass, `reading_of` returns the only
-/// result that `IsReadAs` allows.
+/// Suppose that a function computes the wide pass that bytes encode in some form. Then `reading_of`
+/// returns the only result that `IsReadAs` allows.
 #[tactic(auto, using(crate::proofs::Checking::exactly))]
 pub fn answers_exactly()
     ensures { AnswersExactly }

@@ -1,6 +1,6 @@
 //! Common code of the V1 and V2 readers. A reader first scans all bytes and reports any fault.
-//! After a scan without a fault, a caller can read the fields. Memory is allocated only to copy a
-//! pass.
+//! After a scan without a fault, a caller can read the fields. The readers allocate memory only to
+//! copy a pass.
 
 ghost use Rattle.std.specs.Prelude.{◌≡◌, [], ◌∷◌, IfNone, IfSome, length, option_map};
 ghost use Rattle.pass_forms.specs.{FieldSource.opening_of, Reading.{IsReadAs, OrOutOfMemory}};
@@ -35,7 +35,7 @@ pub struct Caveats<'a> {
 }
 
 /// An iterator over the fields of a pass in this layout. A field is `None` after the iterator has
-/// returned it. Contracts see the remaining fields as a list.
+/// returned the field. Contracts see the remaining fields as a list.
 #[derive(Drop)]
 pub struct Fields<'a, L: Layout> {
     location: Option<&'a [u8]>,
@@ -110,8 +110,8 @@ pub trait Layout: Copy {
             ≡ reading_of (length bytes) (whole_at header_at caveat_at footer_at bytes) };
 }
 
-// The result of skipping caveats: their number, whether any caveat is a third-party caveat, and the
-// bytes after the last caveat.
+// The result of skipping caveats: the number of caveats, whether any caveat is a third-party
+// caveat, and the bytes after the last caveat.
 #[derive(Drop)]
 struct Skipped<'a> {
     count: usize,
@@ -237,7 +237,7 @@ impl<'a, L: Layout> Fields<'a, L> {
     ghost use Rattle.pass_forms.specs.FieldSource.{IsOpening, no_fields, opening_of, with_fields};
     ghost use Rattle.pass_forms.specs.Reading.{IsReadAs};
 
-    /// Checks all of the bytes, and then returns a source of their fields. The bytes are not
+    /// Checks all of the bytes, and then returns a source of the pass's fields. The bytes are not
     /// base64. Allocates no memory, because each field is a slice of the bytes.
     ///
     /// # Errors
@@ -251,7 +251,7 @@ impl<'a, L: Layout> Fields<'a, L> {
     pub fn open(bytes: &'a [u8]) -> Result<Fields<'a, L>, FormFault>
         // The fields belong to the pass that the bytes encode.
         ensures spelling { IsOpening (IsReadAs (length bytes.now) (L.Spells bytes.now)) result }
-        // The contract also states that the result equals the computed result.
+        // The result equals the result that `L.reading` computes from the bytes.
         ensures computed { result ≡ opening_of (L.reading bytes.now) }
     {
         L::reads_exactly();

@@ -17,7 +17,7 @@ pub fn before_suffix<'a>(suffix: &[u8], bytes: &'a [u8]) -> Option<&'a [u8]>
     bytes.strip_suffix(suffix)
 }
 
-/// Returns the signature if it has 32 bytes and `rest` is empty.
+/// Returns the signature if it has 32 bytes and no bytes remain in `rest`.
 pub fn last_signature(signature: &[u8], rest: &[u8]) -> Option<[u8; 32]>
     ensures { result ≡ spec.last_signature (signature.now, rest.now) }
 {

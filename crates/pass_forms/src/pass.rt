@@ -1,4 +1,5 @@
-//! Defines passes in memory. A caller can mint a pass, narrow it, and check it against a root.
+//! Defines passes in memory. A caller can mint a pass, narrow the pass, and check the pass against
+//! a root.
 
 ghost use Rattle.std.specs.Prelude.{◌≡◌, ◌↔◌, ◌≤◌, ℕ, List, Err, IfErr, OnErr, OnOk, length, map};
 ghost use Rattle.pass_mac.specs.Chain.{chain, derived_key};

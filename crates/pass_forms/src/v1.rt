@@ -22,7 +22,7 @@ const CAVEAT_LOCATION: &[u8] = b"cl ";
 
 pub const SIGNATURE: &[u8] = b"signature ";
 
-// A packet starts with its length in four hexadecimal digits.
+// The number of hexadecimal digits in the length at the start of a packet.
 const LEN_DIGITS: usize = 4;
 
 fn digit_value(byte: u8) -> Option<u8>
@@ -61,7 +61,7 @@ fn first_packet<'a>(key: &[u8], bytes: &'a [u8]) -> Option<(&'a [u8], &'a [u8])>
         return None;
     }
     let (_, rest) = bytes.split_at(LEN_DIGITS);
-    // Most packets have another key, so the code compares the key before it parses the length.
+    // Most packets have a different key, so the code compares the key before it parses the length.
     let body = after_prefix(key, rest)?;
     let len = packet_len(bytes)?;
     let body_len = len.checked_sub(LEN_DIGITS)?.checked_sub(key.len())?;
@@ -156,7 +156,7 @@ pub type V1Fields<'a> = Fields<'a, Packets>;
 pub fn read_v1(alloc: Global, bytes: &[u8]) -> Result<Pass, FormFault>
     // The result is the pass that the bytes encode, or the first fault that applies.
     ensures spelling { OrOutOfMemory (IsReadAs (length bytes.now) (SpellsV1 bytes.now)) result }
-    // The contract also states that the result equals the computed result.
+    // If memory doesn't run out, the result equals the result of `reading_v1` for the bytes.
     ensures computed { OrOutOfMemory (λ answer. reading.reading_v1 bytes.now ≡ answer) result }
 {
     layout::read::<Packets>(alloc, bytes)

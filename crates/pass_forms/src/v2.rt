@@ -151,7 +151,7 @@ pub type V2Fields<'a> = Fields<'a, Sections>;
 pub fn read_v2(alloc: Global, bytes: &[u8]) -> Result<Pass, FormFault>
     // The result is the pass that the bytes encode, or the first fault that applies.
     ensures spelling { OrOutOfMemory (IsReadAs (length bytes.now) (SpellsV2 bytes.now)) result }
-    // The contract also states that the result equals the computed result.
+    // If memory doesn't run out, the result equals the result of `reading_v2` for the bytes.
     ensures computed { OrOutOfMemory (λ answer. reading.reading_v2 bytes.now ≡ answer) result }
 {
     layout::read::<Sections>(alloc, bytes)

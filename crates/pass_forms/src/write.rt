@@ -1,4 +1,4 @@
-//! Writes passes as texts. Each pass has only one text in V1 and only one text in V2.
+//! Writes passes as texts. In each form, a pass has only one text that a writer may return.
 
 ghost use Rattle.std.specs.Prelude.{◌≡◌, length, IfErr, IfOk, IsOk, MatchResult, Ok};
 ghost use Rattle.std.specs.String.{string_bytes};
@@ -47,7 +47,7 @@ pub fn write_v1(alloc: Global, pass: &Pass) -> Result<String, FormFault>
     ensures err { IfErr result (IsWriteFault IsV1Text pass.now) }
     ensures read_back { IfOk result
         (λ text. IsReadBack SpellsV1 V1 (v1_bytes pass.now) pass.now (string_bytes text)) }
-    // The contract also states that the result equals the computed result.
+    // If memory doesn't run out, the result equals the result of `writing_v1` for the pass.
     ensures computed { MatchResult result (λ text. writing_v1 pass.now ≡ Ok (string_bytes text))
         (FailsAs (writing_v1 pass.now)) }
 {
@@ -67,7 +67,7 @@ pub fn write_v2(alloc: Global, pass: &Pass) -> Result<String, FormFault>
     ensures err { IfErr result (IsWriteFault IsV2Text pass.now) }
     ensures read_back { IfOk result
         (λ text. IsReadBack SpellsV2 V2 (v2_bytes pass.now) pass.now (string_bytes text)) }
-    // The contract also states that the result equals the computed result.
+    // If memory doesn't run out, the result equals the result of `writing_v2` for the pass.
     ensures computed { MatchResult result (λ text. writing_v2 pass.now ≡ Ok (string_bytes text))
         (FailsAs (writing_v2 pass.now)) }
 {

@@ -110,8 +110,12 @@ object_reads pass =
     rw (object_is pass) (whole_reads (caveat_objects pass.caveats) (field_text pass.identifier) (location_text pass.location)
     (encode_of url_safe_no_pad pass.signature) (caveats_read pass.caveats))
 
--- The conditions under which the text of a JSON value is read back as the same value. The numbers
--- are valid, the nesting depth is limited, no number is a float, and all strings are UTF-8.
+-- The conditions under which the text of a JSON value is read back as the same value:
+--
+-- - The numbers are valid.
+-- - The nesting depth is limited.
+-- - No number is a float.
+-- - All strings are UTF-8.
 pub record IsFine (Numbers : Type 0) (depth most : ℕ) (float : Bool) (Texts : Type 0) : Type 0 where
   pub numbers : Numbers
   pub shallow : depth ≤ most

@@ -20,8 +20,8 @@ abbrev pub IsReadingInForm : Form → List ℕ → Result (Form × Plain) FormFa
 IsReadingInForm form bytes (Ok read) = (read.0 ≡ form) × IsReadAs (length bytes) (SpellsForm form bytes) (Ok read.1)
 IsReadingInForm form bytes (Err fault) = IsReadAs (length bytes) (SpellsForm form bytes) (Err fault)
 
--- Reading the text may run out of memory. A V1 or V2 text must first pass all checks. A JSON text
--- must only be within the limit.
+-- Reading may run out of memory for a JSON text within the limit, and for a V1 or V2 text that
+-- passes all checks.
 abbrev pub MayRunOut : List ℕ → Type 0
 MayRunOut text =
     ((read : Form × Plain) × IsAnyReading text (Ok read)) ⊎ ((bytes : List ℕ) × IsUnwrapped text (Ok (Json, bytes)))

@@ -1,14 +1,14 @@
 -- Defines the JSON form of a pass. A pass is one object, in the style of libmacaroons' V2 JSON.
--- This project chose which members may be left out, and allows both base64 alphabets under a `64`
--- name.
+-- This project chose which members are optional. A `64` name accepts both base64 alphabets, which
+-- is also a choice of this project.
 use Rattle.std.specs.Prelude.{◌≡◌, ◌⊎◌, ℕ, List, [], ◌∷◌, codes, length, Option, None, Some, unwrap_or, IsSome, IsUtf8, Contains}
 use Rattle.serde_json.specs.{Data.{Data, number, string, array, unsigned, Items, no_items, item}, Find.get, Read.read}
 use Rattle.pass_forms.specs.{Envelope.IsBase64, Pass.{WideCaveat, WidePass}}
 
 -- `IsField plain base64 value (Some bytes)` means that the object `value` has a field with the
--- given bytes. The name `plain` has the bytes as a UTF-8 string, or the name `base64` has the bytes
--- in base64. An object must not have both names. If the object has neither name, the last argument
--- is `None`.
+-- bytes `bytes`. The field is either a UTF-8 string under the name `plain`, or base64 under the
+-- name `base64`. The object must not have both names. `IsField plain base64 value None` means that
+-- the object has neither name.
 abbrev pub IsField : List ℕ → List ℕ → Data → Option (List ℕ) → Type 0
 IsField plain base64 value None = (get plain value ≡ None) × (get base64 value ≡ None)
 IsField plain base64 value (Some bytes) =
@@ -19,14 +19,22 @@ IsField plain base64 value (Some bytes) =
 abbrev pub HasOnly : List (List ℕ) → Data → Type 0
 HasOnly names value = (name : List ℕ) → IsSome (get name value) → Contains names name
 
--- The allowed names in the object of a pass. The letters mean version, location, identifier,
--- caveats and signature.
+-- The allowed names in the object of a pass:
+--
+-- - `v` for the version,
+-- - `l` and `l64` for the location,
+-- - `i` and `i64` for the identifier,
+-- - `c` for the caveats,
+-- - `s` and `s64` for the signature.
 abbrev pub pass_names : List (List ℕ)
 pass_names =
     codes "v" ∷ codes "l" ∷ codes "l64" ∷ codes "i" ∷ codes "i64" ∷ codes "c" ∷ codes "s" ∷ codes "s64" ∷ []
 
--- The allowed names in the object of a caveat. The letters mean identifier, location and verifier
--- id.
+-- The allowed names in the object of a caveat:
+--
+-- - `i` and `i64` for the identifier,
+-- - `l` and `l64` for the location,
+-- - `v` and `v64` for the verifier id.
 abbrev pub caveat_names : List (List ℕ)
 caveat_names = codes "i" ∷ codes "i64" ∷ codes "l" ∷ codes "l64" ∷ codes "v" ∷ codes "v64" ∷ []
 

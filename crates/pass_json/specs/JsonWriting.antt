@@ -10,8 +10,8 @@ use Rattle.pass_json.specs.Json.{SpellsJson}
 abbrev pub base64_text : List ℕ → Data
 base64_text bytes = string (encode_of url_safe_no_pad bytes)
 
--- Adds bytes to the members of an object. Bytes that are UTF-8 go under the plain name. Other bytes
--- go under the `64` name, in base64. This project chose the rule.
+-- Adds bytes to the members of an object. If the bytes are UTF-8, the member has the plain name.
+-- Otherwise the member has the `64` name, and its value is base64.
 unfoldable pub put_member : List ℕ → List ℕ → List ℕ → Members → Members
 put_member plain base64 bytes members =
     if is_utf8 bytes then put plain (string bytes) members else put base64 (base64_text bytes) members
@@ -37,7 +37,7 @@ object_of pass =
     (put_member (codes "i") (codes "i64") pass.identifier (with_location pass.location no_members)))))
 
 -- Returns the JSON text of a pass, as `serde_json` writes it. The text has no white space. The
--- names of each object are ordered by their bytes.
+-- names of each object are in the order of the names' bytes.
 unfoldable pub json_text : Plain → List ℕ
 json_text pass = compact_text (object_of pass)
 
@@ -47,8 +47,8 @@ pub record IsJsonText (pass : Plain) (text : List ℕ) : Type 0 where
   pub spelling : SpellsJson text (as_wide_pass pass)
 
 -- The JSON writer may return this fault for the pass. The conditions for `TooMany` and `TooLong`
--- are the same as for the other writers. `Memory` is possible even for a text that is too long,
--- because the writer checks the length only after it has written the text.
+-- are the same as for the V1 and V2 writers. `Memory` is possible even for a text that is too long,
+-- because the writer checks the length of the text last.
 abbrev pub IsRefusedJson : Plain → FormFault → Type 0
 IsRefusedJson pass Memory = length pass.caveats ≤ max_caveats
 IsRefusedJson pass TooLong = IsWriteFault IsJsonText pass TooLong
@@ -57,8 +57,8 @@ IsRefusedJson pass ThirdParty = IsWriteFault IsJsonText pass ThirdParty
 IsRefusedJson pass TooMany = IsWriteFault IsJsonText pass TooMany
 
 -- `MayFailAs writing fault` means that a writer may return `fault` if the computed result is
--- `writing`. A writer returns the computed fault. If the computed result is a text or `TooLong`, a
--- writer may also return `Memory`.
+-- `writing`. If the computed result is a fault, a writer may return the same fault. A writer may
+-- return `Memory` instead of a text, or instead of `TooLong`.
 abbrev pub MayFailAs : Result (List ℕ) FormFault → FormFault → Type 0
 MayFailAs writing Memory = ¬ (writing ≡ Err TooMany)
 MayFailAs writing TooLong = writing ≡ Err TooLong

@@ -29,12 +29,12 @@ use std::alloc::Global;
 /// - `ThirdParty` for a third-party caveat,
 /// - `TooMany` for more than 64 caveats.
 ///
-/// Fails with `Memory` only if an allocation fails. In V1 and V2, this can happen only after all
-/// checks succeed.
+/// Fails with `Memory` only if an allocation fails. In V1 and V2, an allocation can fail only after
+/// all checks succeed.
 pub fn read_any(alloc: Global, text: &[u8]) -> Result<(Form, Pass), FormFault>
     // The result is the pass that the text encodes, or the first fault that applies.
     ensures spelling { UnlessMemory (IsAnyReading text.now) result }
-    // The contract also states that the result equals the computed result.
+    // If memory doesn't run out, the result equals the result of `reading` for the text.
     ensures computed { UnlessMemory (λ answer. reading text.now ≡ answer) result }
     ensures memory { result ≡ Err Memory → MayRunOut text.now }
 {
@@ -70,7 +70,8 @@ fn in_form(alloc: Global, form: Form, bytes: &[u8]) -> Result<Pass, FormFault>
     }
 }
 
-/// Returns the text of a pass in the given form. The text is plain JSON, or the base64 of V1 or V2.
+/// Returns the text of a pass in the given form. A JSON text is plain JSON. A V1 or V2 text is
+/// base64.
 ///
 /// # Errors
 ///
@@ -83,7 +84,7 @@ pub fn write_any(alloc: Global, form: Form, pass: &Pass) -> Result<String, FormF
     ensures err { IfErr result (IsRefusedIn form pass.now) }
     ensures read_back { IfOk result
         (λ text. IsAnyReading (string_bytes text) (Ok (form, pass.now))) }
-    // The contract also states that the result equals the computed result.
+    // If memory doesn't run out, the result equals the result of `writing` for the pass.
     ensures computed { MatchResult result (λ text. writing form pass.now ≡ Ok (string_bytes text))
         (MayFailAs (writing form pass.now)) }
 {

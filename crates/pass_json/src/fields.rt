@@ -1,4 +1,4 @@
-//! Iterates over the fields of a pass that was read from JSON or from any form.
+//! Iterates over the fields of a pass that `read_json` or `read_any` returned.
 
 use pass_forms::{Field, FieldSource, Pass, PassFields};
 use std::marker::Model;

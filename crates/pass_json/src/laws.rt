@@ -1,5 +1,5 @@
-//! Laws about the definitions in `specs/`. Each law is the contract of a function. The function's
-//! body only calls other laws that the proof needs.
+//! Laws about the definitions in `specs/`. Each law is the contract of a function. The body of the
+//! function only calls the laws that its proof needs.
 
 ghost use Rattle.pass_json.specs.{Json.SpellsJson, Laws.{AnyFormReadsBack, OneReadingEachText}};
 ghost use Rattle.pass_json.specs.Laws.{OneTextEachForm, OneWritingEachForm, ReadsAnyFormExactly};
@@ -36,7 +36,8 @@ pub fn reads_json_exactly()
     answers_exactly();
 }
 
-/// For each text, `reading` returns the only result that `IsAnyReading` allows.
+/// For each text that is a list of bytes, `reading` returns the only result that `IsAnyReading`
+/// allows.
 #[tactic(auto, using(crate::proofs::AnyExact::reading_exact))]
 pub fn reads_any_form_exactly()
     ensures { ReadsAnyFormExactly }
@@ -67,8 +68,8 @@ pub fn json_reads_back()
     ensures { JsonReadsBack }
 {}
 
-/// If the parts of a pass are bytes and its signature has 32 bytes, `writing_json` returns the only
-/// result that `IsWriting` allows.
+/// Suppose that the parts of a pass are bytes and the signature has 32 bytes. Then `writing_json`
+/// returns the only result that `IsWriting` allows for the pass.
 #[tactic(auto, using(crate::proofs::WritingJson::exact_json))]
 pub fn writes_json_exactly()
     ensures { WritesJsonExactly }
@@ -91,8 +92,8 @@ pub fn any_form_reads_back()
     json_reads_back();
 }
 
-/// If the parts of a pass are bytes and its signature has 32 bytes, `writing` returns the only
-/// result that `IsWriting` allows, in each form.
+/// Suppose that the parts of a pass are bytes and the signature has 32 bytes. Then `writing`
+/// returns the only result that `IsWriting` allows for the pass.
 #[tactic(auto, using(crate::proofs::InEachForm::exact_in_any_form))]
 pub fn writes_any_form_exactly()
     ensures { WritesAnyFormExactly }

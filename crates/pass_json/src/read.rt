@@ -13,8 +13,8 @@ use pass_forms::{FormFault, MAX_CAVEATS, MAX_TEXT, Pass};
 use serde_json::Value;
 use std::alloc::Global;
 
-/// Reads a pass from JSON. The JSON is one object in the style of libmacaroons' V2 JSON, and
-/// `serde_json` parses it. The names may be in any order, and white space is allowed.
+/// Reads a pass from JSON. The JSON is one object in the style of libmacaroons' V2 JSON. The crate
+/// `serde_json` parses the JSON. The names may be in any order, and white space is allowed.
 ///
 /// # Errors
 ///
@@ -25,11 +25,12 @@ use std::alloc::Global;
 /// - `ThirdParty` for a third-party caveat,
 /// - `TooMany` for more than 64 caveats.
 ///
-/// Fails with `Memory` only if an allocation fails. This can happen only for at most 8,192 bytes.
+/// Fails with `Memory` only if an allocation fails. `Memory` is possible only for at most 8,192
+/// bytes.
 pub fn read_json(alloc: Global, bytes: &[u8]) -> Result<Pass, FormFault>
     // The result is the pass that the bytes encode, or the first fault that applies.
     ensures spelling { UnlessMemory (IsReadAs (length bytes.now) (SpellsJson bytes.now)) result }
-    // The contract also states that the result equals the computed result.
+    // If memory doesn't run out, the result equals the result of `reading_json` for the bytes.
     ensures computed { UnlessMemory (λ answer. reading.reading_json bytes.now ≡ answer) result }
     ensures memory { result ≡ Err Memory → length bytes.now ≤ max_text_len }
 {

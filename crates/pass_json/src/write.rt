@@ -18,8 +18,8 @@ use pass_forms::{FormFault, MAX_CAVEATS, MAX_TEXT, Pass};
 use serde_json::{Map, Value, put};
 use std::alloc::{AllocError, Global};
 
-/// Returns the text of a pass in JSON. The text has no white space, and the names of each object
-/// are ordered by their bytes. The writer uses a `64` name only for the signature and for bytes
+/// Returns the text of a pass in JSON. The text has no white space. The names of each object are in
+/// the order of the names' bytes. The writer uses a `64` name only for the signature and for bytes
 /// that aren't UTF-8.
 ///
 /// # Errors
@@ -31,7 +31,7 @@ pub fn write_json(alloc: Global, pass: &Pass) -> Result<String, FormFault>
     ensures err { IfErr result (IsRefusedJson pass.now) }
     ensures read_back { IfOk result
         (λ text. IsReadBack SpellsJson Json (string_bytes text) pass.now (string_bytes text)) }
-    // The contract also states that the result equals the computed result.
+    // If memory doesn't run out, the result equals the result of `writing_json` for the pass.
     ensures computed { MatchResult result (λ text. writing_json pass.now ≡ Ok (string_bytes text))
         (MayFailAs (writing_json pass.now)) }
 {
@@ -132,8 +132,8 @@ fn caveat_object(alloc: Global, caveat: &[u8]) -> Result<Value, AllocError>
     Ok(Value::Object(members))
 }
 
-// Adds bytes to the members of an object. Bytes that are UTF-8 go under the plain name. Other bytes
-// go under the `64` name, in base64.
+// Adds bytes to the members of an object. If the bytes are UTF-8, the member has the plain name.
+// Otherwise the member has the `64` name, and its value is base64.
 #[tactic(auto, unfolding(crate::specs::JsonWriting::put_member))]
 fn put_field(
     alloc: Global,

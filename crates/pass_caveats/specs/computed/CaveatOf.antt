@@ -14,7 +14,7 @@ abbrev pub is_next : List ℕ → List (List ℕ) → Bool
 is_next word [] = false
 is_next word (part ∷ parts) = bytes_eq part word
 
--- Removes the first part if it equals the word, and returns the remaining parts.
+-- Removes the first part if the first part equals the word. Returns the remaining parts.
 abbrev pub after_next : List ℕ → List (List ℕ) → List (List ℕ)
 after_next word [] = []
 after_next word (part ∷ parts) = if bytes_eq part word then parts else part ∷ parts
@@ -42,8 +42,8 @@ actions_of text = actions_from (words_found (map action_text all_actions) (comma
 abbrev pub weekdays_of : List ℕ → SomeWeekdays
 weekdays_of text = weekdays_from (words_found (map weekday_text weekdays) (comma_parts text))
 
--- Returns the only caveat as which the text can be understood. The first letter of the text
--- determines the kind of caveat.
+-- Returns the only caveat that the text can represent. The first letter of the text determines the
+-- kind of caveat.
 unfoldable pub candidate : List ℕ → Caveat
 candidate text =
     let first = slice_index text 0 in
@@ -72,6 +72,6 @@ is_caveat (Actions actions) = nat_lt 0 (length (action_texts actions))
 abbrev pub spells : List ℕ → Caveat → Bool
 spells text caveat = is_caveat caveat && bytes_eq text (caveat_text caveat) && nat_le (length text) max_caveat_len
 
--- Returns the caveat as which the text is understood, or `None` if the text isn't understood.
+-- Returns the caveat that the text represents, or `None` if the text isn't understood.
 unfoldable pub caveat_of : List ℕ → Option Caveat
 caveat_of text = if spells text (candidate text) then Some (candidate text) else None

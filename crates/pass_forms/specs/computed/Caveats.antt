@@ -1,5 +1,5 @@
--- Defines the parser of a list of caveats, in V1 or V2. The parameter `caveat_at` parses the first
--- caveat of the given bytes. It returns the caveat and the bytes after the caveat, or `None`.
+-- Defines the parser of a list of caveats, in V1 or V2. The parameter `caveat_at` is a parser of
+-- one caveat. This parser returns the caveat and the bytes after the caveat, or `None`.
 use Rattle.std.specs.{List.list_any, Prelude.{◌≡◌, ℕ, Bool, zero, suc, List, [], ◌∷◌, length, map, Option, Some, None}}
 use Rattle.pass_forms.specs.FieldSource.{PassField, pass_fields}
 use Rattle.pass_forms.specs.{Pass.{WideCaveat, WidePass, has_third_party, is_third_party, first_party, first_party_caveat}, computed.Parts.{◌>>=◌}}

@@ -14,8 +14,8 @@ abbrev pub before_suffix : List ℕ → List ℕ → Option (List ℕ)
 before_suffix suffix bytes =
     if pointwise nat_eq (drop (length bytes - length suffix) bytes) suffix then Some (take (length bytes - length suffix) bytes) else None
 
--- Returns an optional part and the bytes after it. If the part is missing, returns `None` and all
--- of the bytes.
+-- Returns an optional part and the bytes after the part. If the part is missing, returns `None` and
+-- all of the bytes.
 abbrev pub found_or_none : List ℕ → Option (List ℕ × List ℕ) → Option (List ℕ) × List ℕ
 found_or_none bytes None = (None, bytes)
 found_or_none bytes (Some found) = (Some found.0, found.1)

@@ -37,7 +37,7 @@ impl Buffer {
         }
     }
 
-    /// Appends bytes to the buffer. Returns `TooLong` if the buffer has no room for them.
+    /// Appends bytes to the buffer. Fails with `TooLong` if the buffer has no room for the bytes.
     pub fn put(&mut self, bytes: &[u8]) -> Result<(), FormFault>
         ensures { Puts bytes.now self.old self.new result }
     {

@@ -12,8 +12,9 @@ use Rattle.pass_json.specs.Json.{caveat_names, pass_names}
 abbrev pub decoded_text : Data → Option (List ℕ)
 decoded_text value = as_str value >>= from_base64
 
--- Returns the bytes of a field from the values under its plain name and its `64` name. `Some None`
--- means that the object has neither name. `None` means that the field is malformed.
+-- Returns the bytes of a field. The first argument is the value under the plain name. The second
+-- argument is the value under the `64` name. `Some None` means that the object has neither name.
+-- `None` means that the field is malformed.
 abbrev pub field_bytes : Option Data → Option Data → Option (Option (List ℕ))
 field_bytes None None = Some None
 field_bytes (Some value) None = option_map (λ bytes. Some bytes) (as_str value)
@@ -58,7 +59,7 @@ abbrev pub is_version : Option Data → Bool
 is_version None = true
 is_version (Some value) = unwrap_or (option_map (λ n. n == 2) (as_number value >>= as_u64)) false
 
--- Returns the bytes if their number is `len`, or `None` otherwise.
+-- Returns the bytes if there are `len` bytes, or `None` otherwise.
 abbrev pub of_length : ℕ → List ℕ → Option (List ℕ)
 of_length len bytes = if length bytes == len then Some bytes else None
 

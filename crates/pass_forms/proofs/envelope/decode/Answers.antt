@@ -1,5 +1,5 @@
--- This proof unfolds `decoded_of`. The definition contains its own proof that the constants are
--- valid engines, and this proof differs from the one in the code.
+-- Unfolds `decoded_of`, because `decoded_of` and the code prove in different ways that the
+-- constants are valid engines.
 use Rattle.pass_forms.proofs.{Base64Decoding.from_base64_is, Common.{refl, ◌∙◌, arith, decoded_of, by_decoders}}
 use Rattle.pass_forms.proofs.envelope.decode.Goals as goal
 

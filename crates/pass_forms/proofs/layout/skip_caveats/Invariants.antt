@@ -1,4 +1,5 @@
--- The loop keeps the invariant `Keeps` between the scanned caveats and the remaining caveats.
+-- Each iteration preserves the relation `Keeps` between the scanned caveats and the remaining
+-- caveats.
 use Rattle.pass_forms.proofs.{CaveatRuns.Keeps, Common.{length, ◌≤◌, ◌-◌, caveats_at}}
 use Rattle.pass_forms.proofs.layout.skip_caveats.Given as goal
 

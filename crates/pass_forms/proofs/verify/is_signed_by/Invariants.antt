@@ -1,4 +1,4 @@
--- The loop preserves the result of `signed_in` for the remaining fields.
+-- The result of `signed_in` for the remaining fields is the same before and after each iteration.
 use Rattle.pass_forms.proofs.{Common.{◌≡◌, length}, Verifying.signed_in}
 use Rattle.pass_forms.proofs.verify.is_signed_by.Given as goal
 

@@ -1,4 +1,4 @@
--- The loop preserves the combination of the parsed caveats and the remaining caveats.
+-- Each iteration preserves the combined result of the parsed caveats and the remaining caveats.
 use Rattle.pass_json.proofs.{CaveatList.{kept_of, with_kept}, Common.{◌≡◌, map, drop, items_view}}
 use Rattle.pass_json.proofs.object.all_caveats.Given as goal
 

@@ -1,4 +1,4 @@
--- The loop preserves the pass that results after all remaining fields are set.
+-- Setting the remaining fields gives the same pass before and after each iteration.
 use Rattle.pass_forms.proofs.Common.{◌≡◌, length, with_fields}
 use Rattle.pass_forms.proofs.layout.Fields.into_pass.Given as goal
 

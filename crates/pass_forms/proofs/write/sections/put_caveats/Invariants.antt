@@ -1,4 +1,5 @@
--- The loop preserves the bytes in the buffer followed by the sections of the remaining caveats.
+-- Each iteration preserves the concatenation of the buffer and the sections of the remaining
+-- caveats.
 use Rattle.pass_forms.proofs.{Common.{◌≡◌, ◌++◌, caveat_section}, PutCaveats.left_from}
 use Rattle.pass_forms.proofs.write.sections.put_caveats.Given as goal
 
