@@ -44,8 +44,8 @@ Wraps text form bytes =
     ⊎ (IsBase64 text bytes × (form_of bytes ≡ Some form))
 
 -- The result of `unwrap_text` is `TooLong` if the text is longer than the limit. A text within the
--- limit gives `Malformed` if the text wraps no bytes of a pass. For every other text, the result is
--- the form and the bytes. No other fault can occur.
+-- limit gives `Malformed` if the text wraps no bytes in any form. For every other text, the result
+-- is the form and the bytes. No other fault can occur.
 abbrev pub IsUnwrapped : List ℕ → Result (Form × List ℕ) FormFault → Type 0
 IsUnwrapped text (Ok content) = (length text ≤ max_text_len) × Wraps text content.0 content.1
 IsUnwrapped text (Err TooLong) = max_text_len < length text

@@ -25,8 +25,8 @@ use std::alloc::Global;
 /// - `ThirdParty` for a third-party caveat,
 /// - `TooMany` for more than 64 caveats.
 ///
-/// Fails with `Memory` only if an allocation fails. `Memory` is possible only for at most 8,192
-/// bytes.
+/// Fails with `Memory` only if an allocation fails. The fault `Memory` is possible only if `bytes`
+/// has at most 8,192 bytes.
 pub fn read_json(alloc: Global, bytes: &[u8]) -> Result<Pass, FormFault>
     // The result is the pass that the bytes encode, or the first fault that applies.
     ensures spelling { UnlessMemory (IsReadAs (length bytes.now) (SpellsJson bytes.now)) result }
