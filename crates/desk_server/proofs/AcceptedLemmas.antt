@@ -1,4 +1,4 @@
--- Lemmas on properties that each call of an accepted connection preserves.
+-- Lemmas about the calls of an accepted connection.
 use Rattle.std.proofs.{Common.{◌∙◌, ℕ, List, Option, ap, refl}, KnownBytes.{Keeps-refl, Keeps-trans}}
 use Rattle.desk_server.specs.{Accepted.{HasMoved, HasWaited}, declared.timed.Accepted.Accepted}
 

@@ -1,4 +1,4 @@
--- Lemmas on the bytes of an answer that the office took.
+-- Lemmas for the proof of `put_answer`, which writes an answer to the office.
 use Rattle.std.proofs.{Common.{◌<◌, ◌+◌, ℕ, suc, arith, List, [], ◌∷◌, ◌++◌, length, take}, KnownBytes.Appends-trans, Math.Seq.take-append-add}
 use Rattle.std.proofs.lemmas.List.{take_all, take-append-le}
 use Rattle.std.specs.{Io.KnownBytes.Appends, Prelude.{Option, Result, Ok, Err}}
@@ -6,18 +6,16 @@ use Rattle.club_http.specs.Ends.{TakesAll}
 use Rattle.desk_server.specs.Served.{answer_bytes}
 
 module _ (status : ℕ) (text : List ℕ) where
-  -- the office took a prefix of the answer
+  -- The office took a prefix of the answer.
   abbrev Begins : Option (List ℕ) → Option (List ℕ) → Type 0
   Begins taken taken' = (n : ℕ) × Appends taken taken' (take n (answer_bytes status text))
 
-  -- if the office took the status and then a prefix of the text, it took a prefix of the answer
   pub sent_status : (t t1 t2 : Option (List ℕ)) (n : ℕ) → n < length text → Appends t t1 (status ∷ []) → Appends t1 t2 (take n text) → Begins t t2
   sent_status t t1 t2 n few first second = (
     suc n,
     rw (take-append-le n text (0 ∷ []) (omega (arith, few))) (Appends-trans t t1 t2 (status ∷ []) (take n text) first second),
   )
 
-  -- if the office took the status, the text, and then the end byte or nothing, it took a prefix of the answer
   pub sent_text : {A : Type 0} (t t1 t2 t3 : Option (List ℕ)) (f2 f3 : ℕ) (result : Result A ℕ) → Appends t t1 (status ∷ []) → Appends t1 t2 text
       → TakesAll t2 t3 f2 f3 (0 ∷ []) result → Begins t t3
   sent_text t t1 t2 t3 f2 f3 (Ok done) first second third =

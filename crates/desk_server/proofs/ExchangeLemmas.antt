@@ -1,4 +1,4 @@
--- Lemmas that put the steps of an exchange together.
+-- Lemmas for the proof of `AcceptedConnection::exchange`.
 use Rattle.std.proofs.Common.{◌≡◌, ◌∙◌, ℕ, List, [], ◌++◌, take, Option, Some, None, IfSome, Result, Ok, Err, ap, refl}
 use Rattle.std.proofs.KnownBytes.{Appends-kept, Keeps-refl, Keeps-trans}
 use Rattle.std.specs.Io.KnownBytes.{Appends, Keeps}
@@ -12,7 +12,7 @@ use Rattle.desk_server.specs.declared.timed.Accepted.{Accepted}
 use Rattle.desk_server.specs.Between as between
 use Rattle.desk_server.proofs.MeanwhileLemmas.{reads_kept}
 
--- the effect of the second step of an exchange, with the bytes that this step wrote
+-- The effect of writing the reply, with the bytes written.
 pub record Written {Desk : Type 0} (Answers : AnswerRelation Desk) (bytes : List ℕ) (old new : Desk) (before after : Option (List ℕ))
     (outcome : Result Reply AnswerFault) : Type 0 where
   pub written : List ℕ
@@ -28,7 +28,6 @@ spoken Answers bytes old new before after (Err Read) never = absurd never
 spoken Answers bytes old new before after (Err (Write n)) (reply, replied, fewer, writes) =
     record { written = take n (reply_text reply); exchanged = (reply, replied, fewer, refl); writes = writes }
 
--- the effect of the request's bytes is also the effect of everything that the reader would return
 pub exchanged_to_all : {Desk : Type 0} (Answers : AnswerRelation Desk) (before : Option (List ℕ)) (bytes written : List ℕ) (old new : Desk)
     (outcome : Result Reply AnswerFault)
     → ((reply : Reply) → IsReplied Answers bytes old reply new → IfSome before (λ all. IsReplied Answers all old reply new))
@@ -38,7 +37,6 @@ exchanged_to_all Answers (Some all) bytes written old new (Ok reply) replies (re
 exchanged_to_all Answers (Some all) bytes written old new (Err Read) replies is = is
 exchanged_to_all Answers (Some all) bytes written old new (Err (Write n)) replies (reply, replied, fewer, is) = (reply, replies reply replied, fewer, is)
 
--- if the reader failed, the desk is unchanged and nothing was written
 pub unasked_to_all : {Desk : Type 0} (Answers : AnswerRelation Desk) (before : Option (List ℕ)) (desk : Desk)
     → IfSome before (λ all. IsExchanged Answers all desk [] (Err Read) desk)
 unasked_to_all Answers None desk = tt
@@ -51,7 +49,7 @@ kept_appends (Some xs) (Some ys) None bytes kept appends = absurd appends
 kept_appends (Some xs) (Some ys) (Some zs) bytes kept appends = appends ∙ ap (λ (list : List ℕ). list ++ bytes) kept
 
 module _ {S C : Type 0} (to_come taken : S → Option (List ℕ)) (Shows : C → Option ℕ → Type 0) (Reads Writes : Calls S) where
-  -- nothing was written while the request was read
+  -- No byte was written while the request was read.
   record IsSilent (old new : Accepted S C) : Type 0 where
     pub writes_nothing : Keeps (taken old.stream) (taken new.stream)
     pub failed_writes : new.write_failures ≡ old.write_failures
@@ -77,13 +75,12 @@ module _ {S C : Type 0} (to_come taken : S → Option (List ℕ)) (Shows : C →
       silent_more old call.awaited new (waits_silent old call.awaited call.waits)
       (record { writes_nothing = call.fills.writes_nothing; failed_writes = ap (λ (a : Accepted S C). a.write_failures) call.fills.same })
 
-  -- no read fails while the reply is written
   written_still : (old new : Accepted S C) → ArePut (IsWritten Shows Writes to_come) old new → new.read_failures ≡ old.read_failures
   written_still old _ calls.not_put = refl
   written_still old new (calls.put_again result bytes mid _ before call) =
       ap (λ (a : Accepted S C). a.read_failures) call.same ∙ written_still old mid before
 
-  -- the bytes that came fit the outcome of the exchange, and so does the count of failed reads
+  -- The bytes read and the count of failed reads fit the outcome of the exchange.
   pub record Reached (old heard : Accepted S C) (bytes : List ℕ) (outcome : Result Reply AnswerFault) : Type 0 where
     pub came : Comes to_come taken outcome old bytes heard
     pub failed_reads : heard.read_failures ≡ reader_failures old.read_failures outcome

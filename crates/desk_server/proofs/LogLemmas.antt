@@ -1,4 +1,4 @@
--- Lemmas on the lines of a log for the events that it notes.
+-- Lemmas about the lines that a log writes.
 use Rattle.std.proofs.Common.{◌≡◌, ℕ, List, [], ◌∷◌, ◌++◌, append_assoc, append-nil, ap, sym, ◌∙◌}
 use Rattle.std.specs.Prelude.{Option}
 use Rattle.desk_server.specs.{Laws.WritesLines, Log.{AreWritten, IsTextWritten, line_text}, Served.{AreNotedMeanwhile, IsBegun, Notes, Turn, events_in}}
@@ -6,14 +6,12 @@ use Rattle.desk_server.specs.declared.log.LogEvent.{LogEvent, TheVariants.{Absen
 use Rattle.desk_server.specs.Log as log
 use Rattle.desk_server.specs.Served as served
 
--- one more turn adds the events of its commands, then its own event
 events_more : (turns : List Turn) (turn : Turn) → events_in (turns ++ turn ∷ []) ≡ events_in turns ++ (turn.meanwhile ++ turn.event ∷ [])
 events_more [] turn = append-nil (turn.meanwhile ++ turn.event ∷ [])
 events_more (first ∷ turns) turn =
     ap (λ (events : List LogEvent). (first.meanwhile ++ first.event ∷ []) ++ events) (events_more turns turn)
     ∙ sym (append_assoc (first.meanwhile ++ first.event ∷ []) (events_in turns) (turn.meanwhile ++ turn.event ∷ []))
 
--- lemmas on a log that writes a line for each note
 module _ {Log : Type 0} (Begins : Log → Log → Type 0) (Noted : Notes Log) (taken : Log → Option (List ℕ)) (failures : Log → ℕ)
     (keeps : (old new : Log) → Begins old new → (taken new ≡ taken old) × (failures new ≡ failures old))
     (writes : (old : Log) (event : LogEvent) (new : Log) → Noted old event new
@@ -21,14 +19,12 @@ module _ {Log : Type 0} (Begins : Log → Log → Type 0) (Noted : Notes Log) (t
   abbrev Written : Log → List LogEvent → Log → Type 0
   Written old events new = AreWritten (taken old) (failures old) events (taken new) (failures new)
 
-  -- one more note adds the line of its event
   line_behind : (old l : Log) (events : List LogEvent) (event : LogEvent) (new : Log) → Written old events l → Noted l event new
       → Written old (events ++ event ∷ []) new
   line_behind old l events event new before noted =
       let line = writes l event new noted in
       log.one_line events event line.0 (taken l) (failures l) (taken new) (failures new) before line.1
 
-  -- beginning an arrival leaves the lines of the log unchanged
   begun_keeps : (old l begun : Log) (events : List LogEvent) → Begins l begun → Written old events l → Written old events begun
   begun_keeps old l begun events begins before = let same = keeps l begun begins in rw (same.0, same.1) before
 
@@ -38,7 +34,6 @@ module _ {Log : Type 0} (Begins : Log → Log → Type 0) (Noted : Notes Log) (t
   if_begun old l begun events Overrun same before = rw same before
   if_begun old l begun events event begins before = begun_keeps old l begun events begins before
 
-  -- noting further commands adds the lines of their events
   lines_behind : (old l new : Log) (events more : List LogEvent) → Written old events l → AreNotedMeanwhile Begins Noted l more new
       → Written old (events ++ more) new
   lines_behind old l _ events _ before served.no_note = rw (append-nil events) before

@@ -1,4 +1,4 @@
--- Lemmas on commands that come between the pieces of a request.
+-- Lemmas about the commands that a server carries out while it waits for a client's request.
 use Rattle.std.proofs.Common.{◌∙◌, ℕ, inl, inr, List, [], ◌∷◌, ◌++◌, append_assoc, append-nil, refl}
 use Rattle.std.specs.Prelude.{Option, None, Some}
 use Rattle.club_clock.specs.Moments.{GivesMoment}
@@ -25,11 +25,9 @@ noted_append {first = first} before _ _ (spec.one_note second event l2 begun l' 
     (spec.one_note (first ++ second) event l2 begun l' (noted_append before second l2 so_far) begins noted)
 
 module _ {Clock Desk Log : Type 0} (Given : GivesMoment Clock) (Carries : CommandRelation Desk) (Begins : Log → Log → Type 0) (Noted : Notes Log) where
-  -- if no command came, nothing changed
   pub no_commands : (c : Clock) (d : Desk) (l : Log) → Meanwhile Given Carries Begins Noted c d l c d l
   no_commands c d l = record { events = []; commanded = spec.no_command; noted = spec.no_note }
 
-  -- the commands so far and one more command
   pub one_command_more : (c c1 c' : Clock) (d d1 d' : Desk) (l l1 l' : Log) → Meanwhile Given Carries Begins Noted c d l c1 d1 l1
       → IsCommanded Given Begins Noted Carries c1 d1 l1 c' d' l' → Meanwhile Given Carries Begins Noted c d l c' d' l'
   one_command_more c c1 c' d d1 d' l l1 l' first (moment, carried, begun, begins, noted, gives, is) = record {
@@ -67,7 +65,6 @@ module _ {Clock Desk Log : Type 0} (Given : GivesMoment Clock) (Carries : Comman
       };
     }
 
--- if each call of one reader is a call of another reader, so are consecutive calls
 module _ {A B : Type 0} (to : A → B) (From : Call A) (To : Call B)
     (one : (old : A) (given : Option ℕ) (room : List ℕ) (new : A) → From old given room new → To (to old) given room (to new)) where
   gives_as : (old : A) (bytes : List ℕ) (new : A) → Gives From old bytes new → Gives To (to old) bytes (to new)
@@ -94,7 +91,6 @@ module _ {A B : Type 0} (to : A → B) (From : Call A) (To : Call B)
     ];
   }
 
--- a property that each call preserves is preserved by consecutive calls
 module _ {A : Type 0} (Fills : Call A) (Kept : A → A → Type 0) (none : (old : A) → Kept old old)
     (both : (old mid new : A) → Kept old mid → Kept mid new → Kept old new)
     (one : (old : A) (given : Option ℕ) (room : List ℕ) (new : A) → Fills old given room new → Kept old new) where

@@ -1,4 +1,4 @@
--- Lemmas on consecutive turns.
+-- Lemmas for the proofs of `serve_on` and `serve_logged`.
 use Rattle.std.proofs.Common.{◌≡◌, ℕ, ◌+◌, List, [], ◌∷◌, ◌++◌, ◌≤◌, length, arith, length-append}
 use Rattle.club_clock.specs.Moments.{GivesMoment}
 use Rattle.club_http.specs.Replied.{AnswerRelation}
@@ -12,7 +12,8 @@ clients_more (first ∷ turns) turn = omega (arith, clients_more turns turn)
 
 module _ {Clock Desk Source Log : Type 0} (Gives : GivesMoment Clock) (Answers : ℕ → AnswerRelation Desk) (Carries : CommandRelation Desk)
     (Ended : Ends) (waited failures : Source → ℕ) (Begins : Log → Log → Type 0) (Noted : Notes Log) where
-  -- the turns so far, with the number of clients' turns, and a number of commands that is at most the number of turns
+  -- The effect of the turns so far. Exactly `clients` of these turns are clients' turns. There are
+  -- at least `commands` turns in total.
   pub record SoFar (clients commands : ℕ) (s s' : Source) (c : Clock) (d : Desk) (l : Log) (c' : Clock) (d' : Desk) (l' : Log) : Type 0 where
     pub turns : List Turn
     pub so_many : clients_in turns ≡ clients
@@ -25,7 +26,6 @@ module _ {Clock Desk Source Log : Type 0} {Gives : GivesMoment Clock} {Answers :
     {Ended : Ends} {waited failures : Source → ℕ} {Begins : Log → Log → Type 0} {Noted : Notes Log} {clients commands : ℕ} {s s1 : Source}
     {c c1 : Clock} {d d1 : Desk} {l l1 : Log}
     (first : SoFar Gives Answers Carries Ended waited failures Begins Noted clients commands s s1 c d l c1 d1 l1) where
-  -- the turns so far and one more turn
   pub one_more : (turn : Turn) (clients' commands' : ℕ) (s' : Source) (c' : Clock) (d' : Desk) (l' : Log) → clients' ≡ clients + client_in turn.event
       → commands' ≤ commands + 1 → IsDue first.turns turn.event
       → ServesOne Gives Answers Carries Ended c1 d1 (failures s1) turn.meanwhile turn.event c' d' (failures s') → IsNoted Begins Noted l1 turn l'
@@ -40,12 +40,10 @@ module _ {Clock Desk Source Log : Type 0} {Gives : GivesMoment Clock} {Answers :
     called = rw (length-append first.turns (turn ∷ [])) called;
   }
 
-  -- one more call increases the count of calls by one
   pub one_call : (s' : Source) → CountsOn (waited s1) 1 (waited s') → CountsOn (waited s) (length first.turns + 1) (waited s')
   one_call s' waits fits = let before = first.called (omega arith) in let last = waits (omega arith) in omega arith
 
 module _ {Log : Type 0} {Begins : Log → Log → Type 0} {Noted : Notes Log} where
-  -- for a turn during which no commands came, the log notes only the turn's own event
   pub noted_alone : {log log' : Log} (begun : Log) (event : LogEvent) → IsBegun Begins Noted log event begun → Noted begun event log'
       → IsNoted Begins Noted log (alone event) log'
   noted_alone begun event begins notes =

@@ -1,11 +1,10 @@
--- Lemmas on the bytes of several reads, and on calls under a limit.
+-- Lemmas for the proofs of `read_under`, `write_under` and `Accepted::take_rest`.
 use Rattle.std.proofs.{Common.{◌≡◌, ◌+◌, ◌≤◌, ◌∙◌, ℕ, List, ◌++◌, length, take, Option, sym, ap}, Math.Seq.take-append-add}
 use Rattle.std.proofs.lemmas.List.{take-append-le, length-take-le}
 use borrow.Rule.Slice.PartMut.{put_mid}
 use Rattle.std.specs.Io.KnownBytes.{Keeps}
 use Rattle.desk_server.specs.{Limits.{AreInterrupted, Calls}, declared.limit.Limit.Limit}
 
--- after n bytes are read into a buffer at position `len`, its first `len + n` bytes are the earlier bytes, then the new ones
 pub filled : (room part : List ℕ) (len n k : ℕ) → len ≤ length room → n ≤ length part → take (len + n) (put_mid len k room part) ≡ take len room ++ take n part
 filled room part len n k within few =
     let front = length-take-le len room within in
@@ -13,7 +12,7 @@ filled room part len n k within few =
     ∙ take-append-add (take len room) _ n
     ∙ ap (λ (l : List ℕ). take len room ++ l) (take-append-le n part _ few)
 
--- all calls so far were interrupted, and left the known bytes of both ends unchanged
+-- Signals interrupted all calls so far, and no call moved a byte.
 pub record Interrupted {C Stream : Type 0} (Shows : C → Option ℕ → Type 0) (Does : Calls Stream) (near far : Stream → Option (List ℕ)) (limit : Limit C)
     (first : Stream) (n : ℕ) (last : Stream) : Type 0 where
   pub repeated : AreInterrupted Shows Does limit first n last

@@ -1,4 +1,4 @@
--- An accepted connection with time limits (ours).
+-- This file defines the effects of calls on an accepted connection with time limits.
 use Rattle.std.specs.{Duration.as_nanos, Io.KnownBytes.{Appends, Keeps}, Prelude.{◌≡◌, ℕ, List, Option, IsSomeAnd, Result, Ok, Err}}
 use Rattle.club_core.specs.declared.reply.Reply.{Reply}
 use Rattle.club_http.specs.{Calls.{ArePut, ReadsNoFurther}, Exchange.{reader_failures, writer_failures}, Received.{IsCutOff, Receives}}
@@ -6,18 +6,20 @@ use Rattle.club_http.specs.declared.fault.AnswerFault.{AnswerFault, TheVariants.
 use Rattle.http_request.specs.Frame.{IsOneRequest}
 use Rattle.desk_server.specs.{Between.Awaits, Limits.{Calls, IsCalledUnder, StartsLimit, TakesAtMost}, declared.timed.Accepted.Accepted}
 
--- nothing but the stream of the connection changed
+-- The two values of the connection differ at most in their stream.
 abbrev pub HasMoved : {S C : Type 0} → Accepted S C → Accepted S C → Type 0
 HasMoved old new = new ≡ record old { stream = new.stream }
 
 module _ {S C : Type 0} (Shows : C → Option ℕ → Type 0) (Does : Calls S) (kept : S → Option (List ℕ)) where
-  -- A read under the time limit of the reads. Once that limit is over, the read doesn't wait. No bytes were written.
+  -- The effect of a read under the time limit for reads. After that limit the read doesn't wait.
+  -- The read writes no bytes.
   pub record IsRead (old : Accepted S C) (result : Option ℕ) (room : List ℕ) (new : Accepted S C) : Type 0 where
     pub same : new ≡ record old { stream = new.stream; read_failures = new.read_failures }
     pub limited : IsCalledUnder Shows Does old.reading old.stream result new.stream
     pub writes_nothing : Keeps (kept old.stream) (kept new.stream)
 
-  -- A write under the time limit of the writes, which starts with the first write. Once that limit is over, the write doesn't wait. No bytes were read.
+  -- The effect of a write under the time limit for writes. That limit starts with the connection's
+  -- first write. After the limit the write doesn't wait. The write reads no bytes.
   pub record IsWritten (old : Accepted S C) (result : Option ℕ) (bytes : List ℕ) (new : Accepted S C) : Type 0 where
     pub same : new ≡ record old { stream = new.stream; writing = new.writing; write_failures = new.write_failures }
     pub begins : StartsLimit Shows old.clock.now (as_nanos old.patience) old.writing new.writing
@@ -25,32 +27,36 @@ module _ {S C : Type 0} (Shows : C → Option ℕ → Type 0) (Does : Calls S) (
     pub reads_nothing : Keeps (kept old.stream) (kept new.stream)
 
 module _ {S C : Type 0} (to_come taken : S → Option (List ℕ)) where
-  -- A wait for a command or the client. No bytes were read from the stream or written to it.
+  -- The effect of a wait for a command or for the client. The wait reads no bytes from the stream
+  -- and writes none.
   pub record HasWaited (old new : Accepted S C) : Type 0 where
     pub same : new ≡ record old { stream = new.stream; command_first = new.command_first }
     pub reads_nothing : Keeps (to_come old.stream) (to_come new.stream)
     pub writes_nothing : Keeps (taken old.stream) (taken new.stream)
 
-  -- At most 65,536 of the bytes that the client still sends were read, and nothing was written.
+  -- The connection read at most 65,536 more bytes from the client and wrote none.
   pub record TakesRest (old new : Accepted S C) : Type 0 where
     pub same : HasMoved old new
     pub bytes : TakesAtMost 65_536 (to_come old.stream) (to_come new.stream)
     pub writes_nothing : Keeps (taken old.stream) (taken new.stream)
 
-  -- the bytes that came are those of a request, or those that came before the reader failed
+  -- If no read failed, `bytes` are the bytes of a request. Otherwise, `bytes` are the bytes that
+  -- came before the reader failed.
   abbrev pub Comes : Result Reply AnswerFault → Accepted S C → List ℕ → Accepted S C → Type 0
   Comes (Ok reply) old bytes new = Receives (to_come old.stream) (to_come new.stream) bytes
   Comes (Err (Write n)) old bytes new = Receives (to_come old.stream) (to_come new.stream) bytes
   Comes (Err Read) old bytes new = IsCutOff (to_come old.stream) (to_come new.stream) bytes
 
-  -- After a completely written reply, bytes that the client still sends are read, unless exactly one request came. After a fault nothing is read.
+  -- The end of a connection. After a completely written reply, the server reads bytes that the
+  -- client still sends, unless exactly one request came. After a fault the server reads nothing.
   abbrev pub IsEnded : Result Reply AnswerFault → List ℕ → Accepted S C → Accepted S C → Type 0
   IsEnded (Ok reply) bytes old new = (IsOneRequest bytes → new ≡ old) × TakesRest old new
   IsEnded (Err fault) bytes old new = new ≡ old
 
   module _ (Shows : C → Option ℕ → Type 0) (Reads Writes : Calls S) where
-    -- The course of an exchange. The request came by calls of the reader, and no call was made once it was complete. Then only the writer was called, to write
-    -- the reply. After that the connection was ended. Exactly the bytes `written` were written.
+    -- The course of an exchange. The server read the request, and made no call once the request was
+    -- complete. Then the server wrote the reply, and ended the connection. It wrote exactly the
+    -- bytes `written`.
     pub record Talks (old : Accepted S C) (bytes written : List ℕ) (outcome : Result Reply AnswerFault) (new : Accepted S C) : Type 0 where
       pub heard : Accepted S C
       pub sent : Accepted S C

@@ -1,26 +1,27 @@
--- A client's reader that carries out commands while it waits (ours).
+-- This file defines the calls of a client's reader that carries out commands while it waits.
 use Rattle.std.specs.Prelude.{◌≡◌, ℕ, List, Option}
 use Rattle.club_clock.specs.Moments.{GivesMoment}
 use Rattle.club_http.specs.Calls.{Call}
 use Rattle.desk_server.specs.{Served.{CommandRelation, Meanwhile, Notes}, declared.between.Between.Between}
 
--- a wait, with the reader before and after it
+-- The type of a relation between a reader before a wait and the reader after the wait.
 abbrev pub Wait : Type 0 → Type 1
 Wait Reader = Reader → Reader → Type 0
 
--- consecutive waits
+-- Any number of consecutive waits led from the reader `old` to the new reader.
 pub data AreWaits {Reader : Type 0} (Waits : Wait Reader) (old : Reader) : Reader → Type 0 where
   no_wait : AreWaits Waits old old
   wait_again : (mid new : Reader) → AreWaits Waits old mid → Waits mid new → AreWaits Waits old new
 
--- a call of the reader, after some waits
+-- The reader waited any number of times, and then filled a buffer.
 pub record Awaits {Reader : Type 0} (Waits : Wait Reader) (Fills : Call Reader) (old : Reader) (result : Option ℕ) (room : List ℕ) (new : Reader)
     : Type 0 where
   pub awaited : Reader
   pub waits : AreWaits Waits old awaited
   pub fills : Fills awaited result room new
 
--- The reader borrows the same values as before, and only commands changed these values.
+-- The reader borrows the same values as before, and only commands of the office changed these
+-- values.
 pub record CommandsAlone {R M D G : Type 0} (Gives : GivesMoment M) (Carries : CommandRelation D) (Begins : G → G → Type 0) (Noted : Notes G)
     (old new : Between R M D G) : Type 0 where
   pub same_reader : new.reader.ghost_name ≡ old.reader.ghost_name

@@ -1,8 +1,8 @@
--- Laws of the definitions (ours).
+-- This file defines a law about logs.
 use Rattle.std.specs.Prelude.{ℕ, List, Option}
 use Rattle.desk_server.specs.{Log.AreWritten, Served.{AreNoted, Notes, Turn, events_in}}
 
--- a log that has noted turns has written a line for each of their events
+-- Whenever a log notes turns, it writes a line for each event of these turns.
 abbrev pub WritesLines : {Log : Type 0} → (Log → Log → Type 0) → Notes Log → (Log → Option (List ℕ)) → (Log → ℕ) → Type 0
 WritesLines {Log} Begins Noted taken failures = (old new : Log) (turns : List Turn) → AreNoted Begins Noted old turns new
     → AreWritten (taken old) (failures old) (events_in turns) (taken new) (failures new)

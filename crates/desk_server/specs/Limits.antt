@@ -1,60 +1,69 @@
--- Time limits (ours).
+-- This file defines time limits, and calls of a stream under a time limit.
 use Rattle.std.specs.Io.KnownBytes.{Consumes}
 use Rattle.std.specs.Prelude.{◌≡◌, ◌⊎◌, ℕ, ◌+◌, ◌-◌, ◌*◌, ◌^◌, ◌<◌, ◌≤◌, nat_lt, if◌then◌else◌, List, length, Option, Some, None, IfSome, IsSomeAnd, option_map}
 use Rattle.std.specs.{Time.instant_nanos, declared.time.Instant.Instant}
 use Rattle.desk_server.specs.declared.{limit.Limit.Limit, timed.Waited.{Waited, TheVariants.{Moved, Interrupted, Failed}}}
 
--- the nanoseconds of an instant since the start of its clock
+-- The nanoseconds of an instant since the start of its clock.
 abbrev pub nanos_of : Option Instant → Option ℕ
 nanos_of instant = option_map instant_nanos instant
 
--- a time of the clock plus this many nanoseconds; none if the clock can't be read or can't show such a time
+-- The given time of a clock plus `patience`, in nanoseconds. The result is `None` if the clock
+-- can't be read or can't show the later time.
 abbrev pub due_after : ℕ → Option ℕ → Option ℕ
 due_after patience None = None
 due_after patience (Some now) = if nat_lt (now + patience) (2 ^ 63 * 1_000_000_000) then Some (now + patience) else None
 
--- the nanoseconds until a deadline; 0 if the deadline has passed, if there is no deadline, or if the clock can't be read
+-- The nanoseconds until a deadline. The result is 0 if the deadline has passed, if there is no
+-- deadline, or if the clock can't be read.
 abbrev pub left_until : Option ℕ → Option ℕ → ℕ
 left_until (Some due) (Some now) = due - now
 left_until due now = 0
 
--- the predicate holds at some time that the clock may show
+-- The predicate `P` is true for some time that the clock may show.
 abbrev pub AtShown : (Option ℕ → Type 0) → (Option ℕ → Type 0) → Type 0
 AtShown Shows P = (shown : Option ℕ) × Shows shown × P shown
 
--- A limit that starts with the first call. A limit that has started stays unchanged. Any other is due this much later than the call.
+-- The effect of a call on a limit that starts with the first call. If the limit has already
+-- started, the call leaves it unchanged. Otherwise, the limit's deadline is `patience` nanoseconds
+-- after the call.
 abbrev pub StartsLimit : {C : Type 0} → (C → Option ℕ → Type 0) → C → ℕ → Option (Limit C) → Option (Limit C) → Type 0
 StartsLimit Shows clock patience (Some limit) new = new ≡ Some limit
 StartsLimit Shows clock patience None new = IsSomeAnd new (λ limit. (limit.clock.now ≡ clock)
     × AtShown (Shows clock) (λ shown. nanos_of limit.due ≡ due_after patience shown))
 
--- a call of a stream that waits at most this many nanoseconds, and its result
+-- A relation of this type relates a stream before a call, the most nanoseconds that the call may
+-- wait, its result, and the stream after the call.
 abbrev pub Calls : Type 0 → Type 1
 Calls Stream = Stream → ℕ → Waited → Stream → Type 0
 
--- the number of bytes that a call moved; none if the call was interrupted or failed
+-- The number of bytes that a call read or wrote. The result is `None` if a signal interrupted the
+-- call or the call failed.
 abbrev pub moved : Waited → Option ℕ
 moved (Moved n) = Some n
 moved Interrupted = None
 moved Failed = None
 
--- the result of a call that no signal interrupted
+-- The result of a call that no signal interrupted.
 abbrev pub ended : Option ℕ → Waited
 ended (Some n) = Moved n
 ended None = Failed
 
--- a call with `left` nanoseconds left; with none left, the call is still made but may not wait
+-- A call is made with `left` nanoseconds left, and no signal interrupts it. If `left` is 0, the
+-- call is still made but may not wait.
 abbrev pub IsCalled : {Stream : Type 0} → Calls Stream → ℕ → Stream → Option ℕ → Stream → Type 0
 IsCalled Does left old result new = Does old left (ended result) new
 
--- signals interrupted this many calls, each made with the time left of a limit, at a time that the limit's clock may show
+-- Signals interrupted this many consecutive calls. Each call had the time left of the limit,
+-- measured at a time that the limit's clock may show.
 pub data AreInterrupted {C Stream : Type 0} (Shows : C → Option ℕ → Type 0) (Does : Calls Stream) (limit : Limit C) (first : Stream) : ℕ → Stream → Type 0 where
   not_called : AreInterrupted Shows Does limit first 0 first
   once_more : (n : ℕ) (old new : Stream) → AreInterrupted Shows Does limit first n old
       → AtShown (Shows limit.clock.now) (λ shown. Does old (left_until (nanos_of limit.due) shown) Interrupted new)
       → AreInterrupted Shows Does limit first (n + 1) new
 
--- A call with the time left of a limit. If a signal interrupts the call, it is repeated with the time then left, fewer than 2 ^ 64 times.
+-- A call that may wait for the time left of a limit. If a signal interrupts the call, the call is
+-- repeated with the time left then. It is repeated fewer than 2 ^ 64 times.
 pub record IsCalledUnder {C Stream : Type 0} (Shows : C → Option ℕ → Type 0) (Does : Calls Stream) (limit : Limit C) (old : Stream) (result : Option ℕ)
     (new : Stream) : Type 0 where
   pub interruptions : ℕ
@@ -63,7 +72,8 @@ pub record IsCalledUnder {C Stream : Type 0} (Shows : C → Option ℕ → Type 
   pub called : AtShown (Shows limit.clock.now) (λ shown. IsCalled Does (left_until (nanos_of limit.due) shown) last result new)
       ⊎ (interruptions ≡ 2 ^ 64 - 1) × (result ≡ None) × (new ≡ last)
 
--- a call under a limit moved at most this many bytes, as `Moved` says; at the stream's other end nothing moved, as `Still` says
+-- A call under a limit moved at most `most` bytes. `Moved` states the effect at the end of the
+-- stream that the call used. `Still` states that the call moved no bytes at the stream's other end.
 pub record EndsUnder {C Stream : Type 0} (Shows : C → Option ℕ → Type 0) (Does : Calls Stream) (limit : Limit C) (old : Stream) (result : Option ℕ)
     (new : Stream) (most : ℕ) (Moved Still : Type 0) : Type 0 where
   pub within : IfSome result (λ n. n ≤ most)
@@ -71,6 +81,6 @@ pub record EndsUnder {C Stream : Type 0} (Shows : C → Option ℕ → Type 0) (
   pub still : Still
   pub limited : IsCalledUnder Shows Does limit old result new
 
--- the call took at most this many bytes
+-- The call read at most `most` bytes.
 abbrev pub TakesAtMost : ℕ → Option (List ℕ) → Option (List ℕ) → Type 0
 TakesAtMost most old new = (bytes : List ℕ) × (length bytes ≤ most) × Consumes old new bytes

@@ -1,4 +1,4 @@
--- The lines of a log (ours).
+-- This file defines the lines of a log.
 use Rattle.std.specs.{Fmt.decimal, Io.KnownBytes.Appends}
 use Rattle.std.specs.Prelude.{◌≡◌, ℕ, ◌<◌, ◌⊎◌, List, [], ◌∷◌, ◌++◌, length, take, codes, Option, Some, None, option_map, unwrap_or, Result, Ok, Err}
 use Rattle.club_core.specs.declared.reply.Reply.{Reply}
@@ -8,23 +8,28 @@ use Rattle.http_response.specs.Status.{status_of}
 use Rattle.desk_server.specs.RequestLine.{method_of, path_of}
 use Rattle.desk_server.specs.declared.log.LogEvent.{LogEvent, TheVariants.{Absent, Overrun, Unanswered, Exchanged, Commanded}}
 
--- a word, or a dash if there is none
+-- The given word, or a dash if the word is missing.
 abbrev pub or_dash : Option (List ℕ) → List ℕ
 or_dash word = unwrap_or word (codes "-")
 
--- the status of a reply that was written completely
+-- The HTTP status of a completely written reply. The result is `None` if the exchange failed.
 abbrev pub written_status : Result Reply AnswerFault → Option ℕ
 written_status (Ok reply) = Some (status_of reply)
 written_status (Err fault) = None
 
--- a line of these words, with spaces between them
+-- A line of the given words, separated by spaces.
 unfoldable pub words_text : Option ℕ → Option (List ℕ) → Option (List ℕ) → Option ℕ → ℕ → List ℕ
 words_text moment method path status microseconds =
     or_dash (option_map moment_text moment) ++ codes " " ++ or_dash method ++ codes " " ++ or_dash path ++ codes " "
     ++ or_dash (option_map decimal status) ++ codes " " ++ decimal microseconds ++ codes "\n"
 
--- The line of a client has the moment, the method, the path, the status, and the time taken in microseconds. The line of a command has the moment, `office`,
--- its name, its exit status and the time taken in microseconds. Without a complete command, name and status are missing.
+-- The line of an event.
+--
+-- - The line of a client has the moment, the method, the path, the status, and the microseconds
+--   taken.
+-- - The line of a command has the moment, `office`, the command's name, its exit status, and the
+--   microseconds taken.
+-- - If no complete command came, a dash replaces the command's name and its exit status.
 unfoldable pub line_text : LogEvent → ℕ → List ℕ
 line_text Absent microseconds = words_text None None None None microseconds
 line_text Overrun microseconds = words_text None None None None microseconds
@@ -35,13 +40,14 @@ line_text (Commanded moment (Some carried)) microseconds =
 line_text (Exchanged moment line outcome) microseconds =
     words_text (Some moment) (method_of line) (path_of line) (written_status outcome) microseconds
 
--- the writer took all of the text, or failed after a prefix of it
+-- The writer took all of the text, or failed after a prefix of the text.
 abbrev pub IsTextWritten : Option (List ℕ) → Option (List ℕ) → ℕ → ℕ → List ℕ → Type 0
 IsTextWritten taken taken' failures failures' text =
     (Appends taken taken' text × (failures' ≡ failures))
     ⊎ ((n : ℕ) × (n < length text) × Appends taken taken' (take n text) × (failures' ≡ one_more failures))
 
--- the writer took a line for each arrival, in their order, each with some number of microseconds
+-- The writer took a line for each event, in the order of the events. Each line has some number of
+-- microseconds.
 pub data AreWritten (taken : Option (List ℕ)) (failures : ℕ) : List LogEvent → Option (List ℕ) → ℕ → Type 0 where
   no_line : AreWritten taken failures [] taken failures
   one_line : (events : List LogEvent) (event : LogEvent) (microseconds : ℕ) (t : Option (List ℕ)) (f : ℕ) (t' : Option (List ℕ)) (f' : ℕ)

@@ -1,21 +1,23 @@
--- The parts of a request line that a log shows (ours).
+-- This file defines the parts of a request line that a log shows.
 use Rattle.std.specs.{Borrow.Bor, Char.{is_ascii_digit, is_ascii_lowercase, is_ascii_uppercase}, List.list_all, Prelude.{ℕ, ◌+◌, Bool, ◌==◌, ◌||◌, ◌&&◌, List}}
 use Rattle.std.specs.Prelude.{length, take, drop, position, nat_lt, nat_le, Option, Some, None, option_map, option_and_then, if◌then◌else◌}
 
--- the bytes of a word, if there is one
+-- The bytes of the given word. The result is `None` if the word is missing.
 abbrev pub word_bytes : Option (Bor (List ℕ)) → Option (List ℕ)
 word_bytes word = option_map (λ (w : Bor (List ℕ)). w.now) word
 
 abbrev pub place_of_space : List ℕ → Option ℕ
 place_of_space bytes = position (λ byte. byte == 32) bytes
 
--- the first two words, if a space follows each
+-- The first two words of the given bytes. The result is `None` unless a space follows each of the
+-- two words.
 abbrev pub two_words : List ℕ → Option (List ℕ × List ℕ)
 two_words bytes = option_and_then
     (λ first. let rest = drop (first + 1) bytes in option_map (λ second. (take first bytes, take second rest)) (place_of_space rest))
     (place_of_space bytes)
 
--- a small letter, a digit, a dash or a slash; the desk's own paths have only these
+-- The byte is a small letter, a digit, a dash or a slash. The desk's own paths have only such
+-- bytes.
 abbrev pub is_path_byte : ℕ → Bool
 is_path_byte byte = is_ascii_lowercase byte || is_ascii_digit byte || byte == 45 || byte == 47
 
@@ -25,10 +27,12 @@ is_method word = nat_lt 0 (length word) && nat_le (length word) 7 && list_all is
 abbrev pub is_path : List ℕ → Bool
 is_path word = nat_lt 0 (length word) && list_all is_path_byte word
 
--- the method of a request with these first bytes: the first word, if it is 1 to 7 capital letters
+-- The method of a request that starts with these bytes. The method is the first word, if that word
+-- is 1 to 7 capital letters.
 unfoldable pub method_of : List ℕ → Option (List ℕ)
 method_of bytes = option_and_then (λ words. if is_method words.0 then Some words.0 else None) (two_words bytes)
 
--- the path of a request with these first bytes: the second word, if it consists of the bytes of a path
+-- The path of a request that starts with these bytes. The path is the second word, if that word
+-- consists of small letters, digits, dashes and slashes.
 unfoldable pub path_of : List ℕ → Option (List ℕ)
 path_of bytes = option_and_then (λ words. if is_path words.1 then Some words.1 else None) (two_words bytes)

@@ -1,4 +1,5 @@
--- A server (ours). It serves clients and commands of the office one after the other, and carries out commands also while it waits for a client's request.
+-- This file defines the effect of a server. The server serves clients and commands of the office
+-- one after the other. While the server waits for a client's request, it also carries out commands.
 use Rattle.std.specs.Io.KnownBytes.{Appends}
 use Rattle.std.specs.Prelude.{◌≡◌, ℕ, suc, ◌+◌, ◌^◌, ◌<◌, ◌≤◌, length, List, [], ◌∷◌, ◌++◌, take, Option, Some, None, IfSome, Result, MatchResult}
 use Rattle.std.specs.String.{string_bytes}
@@ -8,28 +9,35 @@ use Rattle.club_http.specs.{Ends.one_more, Exchange.Exchanges, Replied.{AnswerRe
 use Rattle.desk_server.specs.declared.{log.LogEvent.{LogEvent, TheVariants.{Absent, Overrun, Unanswered, Exchanged, Commanded}}, office.Answer.Answer}
 use Rattle.desk_server.specs.declared.{office.Carried.Carried, serve.ClockOutOfRange.ClockOutOfRange}
 
--- a u64 counter grows by this number, unless it overflows
+-- A counter that starts at `count` grows by `more`, unless the sum overflows a u64.
 abbrev pub CountsOn : ℕ → ℕ → ℕ → Type 0
 CountsOn count more count' = count + more < 2 ^ 64 → count' ≡ count + more
 
--- the effect of a command's bytes, with the desk before, the answer, and the desk after
+-- A relation of this type relates the bytes of a command, the desk before the command, the answer,
+-- and the desk after the command.
 abbrev pub CommandRelation : Type 0 → Type 1
 CommandRelation Desk = List ℕ → Desk → Answer → Desk → Type 0
 
--- an exchange with a connection: the connection before, the bytes that came, the bytes that were written, the outcome, and the connection after
+-- A relation of this type describes an exchange. It relates the connection before the exchange, the
+-- bytes read, the bytes written, the outcome, and the connection after the exchange.
 abbrev pub Talk : Type 0 → Type 1
 Talk Client = Client → List ℕ → List ℕ → Result Reply AnswerFault → Client → Type 0
 
--- the bytes that came, the bytes that were written, and the outcome of an exchange
+-- A relation of this type relates the bytes that an exchange read, the bytes that it wrote, and its
+-- outcome.
 abbrev pub Ends : Type 1
 Ends = List ℕ → List ℕ → Result Reply AnswerFault → Type 0
 
--- an exchange with some connection may have these bytes and this outcome
+-- An exchange with some connection may have these bytes and this outcome.
 abbrev pub HasTalked : {Client : Type 0} → Talk Client → Ends
 HasTalked {Client} Talks bytes written outcome = (old : Client) × (new : Client) × Talks old bytes written outcome new
 
--- The effect of an exchange with this outcome on the desk, and the bytes that the exchange wrote. The reply is the desk's reply to the bytes that came. Exactly
--- its text was written, or the first n bytes of it if the writer failed. If the reader failed, the desk is unchanged, and nothing was written.
+-- The effect of an exchange with this outcome on the desk.
+--
+-- - If the outcome is a reply, the reply is the desk's reply to the bytes read, and the exchange
+--   wrote exactly the reply's text.
+-- - If the writer failed, the exchange wrote only the first `n` bytes of the reply's text.
+-- - If the reader failed, the desk is unchanged, and the exchange wrote nothing.
 abbrev pub IsExchanged : {Desk : Type 0} → AnswerRelation Desk → List ℕ → Desk → List ℕ → Result Reply AnswerFault → Desk → Type 0
 IsExchanged Answers bytes old written outcome new = Exchanges
     (λ reply. IsReplied Answers bytes old reply new)
@@ -37,18 +45,21 @@ IsExchanged Answers bytes old written outcome new = Exchanges
     (λ text. written ≡ text)
     outcome
 
--- The effect of a connection of the office on the desk. One command was carried out, exactly once, even if its answer wasn't taken. If no complete command
--- came, the desk is unchanged.
+-- The effect of a connection of the office on the desk. The desk carried out one command exactly
+-- once, even if the office didn't take the answer. If no complete command came, the desk is
+-- unchanged.
 abbrev pub IsCarriedOut : {Desk : Type 0} → CommandRelation Desk → Desk → Option Carried → Desk → Type 0
 IsCarriedOut Carries old None new = new ≡ old
 IsCarriedOut Carries old (Some carried) new =
     (bytes : List ℕ) × (answer : Answer) × Carries bytes old answer new × (carried ≡ answer.carried)
 
--- the bytes of an answer: the status, the text, and a zero byte, which no text has
+-- The bytes of an answer: the status, the text, and a zero byte. No text of an answer has a zero
+-- byte.
 abbrev pub answer_bytes : ℕ → List ℕ → List ℕ
 answer_bytes status text = status ∷ text ++ 0 ∷ []
 
--- A command was carried out, and its answer or a prefix of it was written.
+-- The desk carried out a command, and the server wrote the command's answer or a prefix of the
+-- answer.
 pub record AnswersCommand {Desk : Type 0} (Carries : CommandRelation Desk) (bytes : List ℕ) (old : Desk) (taken : Option (List ℕ)) (carried : Carried)
     (new : Desk) (taken' : Option (List ℕ)) : Type 0 where
   pub answer : Answer
@@ -56,39 +67,39 @@ pub record AnswersCommand {Desk : Type 0} (Carries : CommandRelation Desk) (byte
   pub same : carried ≡ answer.carried
   pub writes : (n : ℕ) × Appends taken taken' (take n (answer_bytes answer.carried.status (string_bytes answer.text)))
 
--- A turn of the server: the event of an arrival, and the events of the commands that came while the arrival's request was awaited.
+-- A turn of the server: the event of an arrival, and the events of the commands that came while the
+-- server waited for the arrival's request.
 pub record Turn : Type 0 where
   pub meanwhile : List LogEvent
   pub event : LogEvent
 
--- a turn during which no commands came
+-- A turn with this event, during which no commands came.
 abbrev pub alone : LogEvent → Turn
 alone event = record { meanwhile = []; event = event }
 
--- the events in the order in which they ended; a client's event comes after the events of the commands during its turn
+-- The events of these turns, in the order in which the events ended. In each turn the client's
+-- event comes after the events of the commands.
 abbrev pub events_in : List Turn → List LogEvent
 events_in [] = []
 events_in (turn ∷ turns) = (turn.meanwhile ++ turn.event ∷ []) ++ events_in turns
 
--- the number of clients that a event counts as: 0 for a command, otherwise 1
+-- The number of clients that an event uses up: 0 for a command, otherwise 1.
 abbrev pub client_in : LogEvent → ℕ
 client_in (Commanded moment carried) = 0
 client_in event = 1
 
--- the number of these turns that were clients' turns
+-- The number of these turns that are clients' turns.
 abbrev pub clients_in : List Turn → ℕ
 clients_in [] = 0
 clients_in (turn ∷ turns) = client_in turn.event + clients_in turns
 
--- An overrun occurs only after 2 ^ 64 - 1 turns.
+-- An overrun can be the next event only after at least 2 ^ 64 - 1 turns.
 abbrev pub IsDue : List Turn → LogEvent → Type 0
 IsDue turns Overrun = 2 ^ 64 ≤ suc (length turns)
 IsDue turns event = Unit {0}
 
--- ---- the clock, the desk and what arrives
-
 module _ {Clock Desk : Type 0} (Gives : GivesMoment Clock) (Carries : CommandRelation Desk) where
-  -- consecutive commands, each carried out even if the clock gives no moment
+  -- The desk carried out consecutive commands, even if the clock gave no moment for a command.
   pub data AreCommanded (clock : Clock) (desk : Desk) : List LogEvent → Clock → Desk → Type 0 where
     no_command : AreCommanded clock desk [] clock desk
     one_command : (events : List LogEvent) (moment : Option ℕ) (carried : Option Carried) (c : Clock) (d : Desk) (c' : Clock) (d' : Desk)
@@ -96,8 +107,9 @@ module _ {Clock Desk : Type 0} (Gives : GivesMoment Clock) (Carries : CommandRel
         → AreCommanded clock desk (events ++ Commanded moment carried ∷ []) c' d'
 
 module _ {Clock Desk : Type 0} (Gives : GivesMoment Clock) (Answers : ℕ → AnswerRelation Desk) (Carries : CommandRelation Desk) (Ended : Ends) where
-  -- The effect of a client on the clock and the desk. The clock gave the client's moment. Then commands were carried out, each at its own moment. Last came the
-  -- exchange with the desk that the commands left; its outcome is one that such a connection may have.
+  -- The effect of a client on the clock and the desk. The clock gave the client's moment. Then the
+  -- desk carried out commands, each at its own moment. Last came the client's exchange, with the
+  -- desk as the commands left it. An exchange with a connection may have this outcome.
   pub record IsAttended (meanwhile : List LogEvent) (moment : ℕ) (line : List ℕ) (outcome : Result Reply AnswerFault) (clock : Clock) (desk : Desk)
       (clock' : Clock) (desk' : Desk) : Type 0 where
     pub given : Clock
@@ -110,8 +122,12 @@ module _ {Clock Desk : Type 0} (Gives : GivesMoment Clock) (Answers : ℕ → An
     pub exchanged : IsExchanged (Answers moment) bytes left written outcome desk'
     pub ended : Ended bytes written outcome
 
-  -- The effect of one arrival on the clock, the desk and the count of failed calls. If waiting failed, only the count grew. A command is carried out even if
-  -- the clock gives no moment. Other commands can come only during a client's turn. An overrun counts as one client that never came.
+  -- The effect of one arrival on the clock, the desk and the count of failed waits.
+  --
+  -- - If waiting failed, only the count grew.
+  -- - A command is carried out even if the clock gives no moment.
+  -- - Other commands can come only during a client's turn.
+  -- - An overrun changes nothing.
   abbrev pub ServesOne : Clock → Desk → ℕ → List LogEvent → LogEvent → Clock → Desk → ℕ → Type 0
   ServesOne clock desk failures meanwhile Absent clock' desk' failures' =
       (meanwhile ≡ []) × (failures' ≡ one_more failures) × (clock' ≡ clock) × (desk' ≡ desk)
@@ -123,15 +139,15 @@ module _ {Clock Desk : Type 0} (Gives : GivesMoment Clock) (Answers : ℕ → An
       (meanwhile ≡ []) × (failures' ≡ failures) × Gives clock moment clock' × IsCarriedOut Carries desk carried desk'
   ServesOne clock desk failures meanwhile Unanswered clock' desk' failures' = ⊥
 
-  -- consecutive turns
+  -- The server took these turns one after the other.
   pub data AreServed (clock : Clock) (desk : Desk) (failures : ℕ) : List Turn → Clock → Desk → ℕ → Type 0 where
     none : AreServed clock desk failures [] clock desk failures
     more : (turns : List Turn) (turn : Turn) (c : Clock) (d : Desk) (f : ℕ) (c' : Clock) (d' : Desk) (f' : ℕ)
         → AreServed clock desk failures turns c d f → IsDue turns turn.event → ServesOne c d f turn.meanwhile turn.event c' d' f'
         → AreServed clock desk failures (turns ++ turn ∷ []) c' d' f'
 
-  -- The end of a server for this many clients: it served them all, or it stopped because the clock failed. The turns are those of all arrivals that the server
-  -- waited for.
+  -- The effect of a server for `count` clients. The server served them all, or stopped because the
+  -- clock failed. The list `all` has the turns of all arrivals that the server waited for.
   pub record ServesTurns (all : List Turn) (count : ℕ) (clock : Clock) (desk : Desk) (failures : ℕ) (outcome : Result Unit ClockOutOfRange)
       (clock' : Clock) (desk' : Desk) (failures' : ℕ) : Type 0 where
     pub turns : List Turn
@@ -141,34 +157,36 @@ module _ {Clock Desk : Type 0} (Gives : GivesMoment Clock) (Answers : ℕ → An
         (λ done. (clients_in turns ≡ count) × (clock' ≡ last) × (all ≡ turns))
         (λ stopped. (clients_in turns < count) × Gives last None clock' × (all ≡ turns ++ alone Unanswered ∷ []))
 
-  -- such a server, whose turns have a further property
+  -- The effect of a server for `count` clients whose turns also have the property `Besides`.
   pub record Serves (count : ℕ) (clock : Clock) (desk : Desk) (failures : ℕ) (outcome : Result Unit ClockOutOfRange) (clock' : Clock) (desk' : Desk)
       (failures' : ℕ) (Besides : List Turn → Type 0) : Type 0 where
     pub all : List Turn
     pub serves : ServesTurns all count clock desk failures outcome clock' desk' failures'
     pub besides : Besides all
 
--- ---- the log
-
--- the effect on a log of noting the event of an arrival
+-- A relation of this type relates a log before it notes an event, the event, and the log after that
+-- note.
 abbrev pub Notes : Type 0 → Type 1
 Notes Log = Log → LogEvent → Log → Type 0
 
 module _ {Log : Type 0} (Begins : Log → Log → Type 0) (Noted : Notes Log) where
-  -- for each command during a turn, in order, the log notes that it begins, and then its event
+  -- For each command during a turn, the log notes the command's beginning, and then its event. The
+  -- log notes the commands in order.
   pub data AreNotedMeanwhile (log : Log) : List LogEvent → Log → Type 0 where
     no_note : AreNotedMeanwhile log [] log
     one_note : (events : List LogEvent) (event : LogEvent) (l begun l' : Log) → AreNotedMeanwhile log events l → Begins l begun → Noted begun event l'
         → AreNotedMeanwhile log (events ++ event ∷ []) l'
 
-  -- if the arrival was accepted, the log notes that it begins, else the log is unchanged
+  -- If the server accepted the arrival, the log notes that the arrival begins. Otherwise, the log
+  -- is unchanged.
   abbrev pub IsBegun : Log → LogEvent → Log → Type 0
   IsBegun log Absent begun = begun ≡ log
   IsBegun log Overrun begun = begun ≡ log
   IsBegun log event begun = Begins log begun
 
-  -- The log of a turn. If the arrival was accepted, the log notes that it begins. Then it notes the beginning and the event of each command during the
-  -- turn, and last the arrival's own event. For any other arrival the log notes only the event.
+  -- The effect of a turn on the log. If the server accepted the arrival, the log first notes that
+  -- the arrival begins. Then the log notes the beginning and the event of each command during the
+  -- turn. Last, the log notes the arrival's own event.
   pub record IsNoted (log : Log) (turn : Turn) (log' : Log) : Type 0 where
     pub begun : Log
     pub awaited : Log
@@ -176,21 +194,21 @@ module _ {Log : Type 0} (Begins : Log → Log → Type 0) (Noted : Notes Log) wh
     pub meanwhile : AreNotedMeanwhile begun turn.meanwhile awaited
     pub notes : Noted awaited turn.event log'
 
-  -- all turns are logged, in order
+  -- The log notes all of these turns, in order.
   pub data AreNoted (log : Log) : List Turn → Log → Type 0 where
     nothing : AreNoted log [] log
     one_noted : (turns : List Turn) (turn : Turn) (l l' : Log) → AreNoted log turns l → IsNoted l turn l' → AreNoted log (turns ++ turn ∷ []) l'
 
--- ---- the clock, the desk and the log
-
 module _ {Clock Desk Log : Type 0} (Gives : GivesMoment Clock) (Carries : CommandRelation Desk) (Begins : Log → Log → Type 0) (Noted : Notes Log) where
-  -- the commands that came during a turn were carried out and noted, in order
+  -- The desk carried out the commands that came during a turn, and the log noted them, in order.
   pub record Meanwhile (clock : Clock) (desk : Desk) (log : Log) (clock' : Clock) (desk' : Desk) (log' : Log) : Type 0 where
     pub events : List LogEvent
     pub commanded : AreCommanded Gives Carries clock desk events clock' desk'
     pub noted : AreNotedMeanwhile Begins Noted log events log'
 
-  -- An exchange. While the request was awaited, commands were carried out and noted. Then the exchange took place with the desk that these commands left.
+  -- The effect of an exchange. While the server waited for the request, the desk carried out
+  -- commands, and the log noted them. Then the exchange took place with the desk as these commands
+  -- left it.
   pub record ExchangesBetween {Client : Type 0} (Answers : AnswerRelation Desk) (ToCome : Client → Option (List ℕ)) (Talks : Talk Client)
       (bytes : List ℕ) (clock : Clock) (desk : Desk) (log : Log) (client : Client) (outcome : Result Reply AnswerFault) (clock' : Clock)
       (desk' : Desk) (log' : Log) (client' : Client) : Type 0 where
@@ -198,6 +216,7 @@ module _ {Clock Desk Log : Type 0} (Gives : GivesMoment Clock) (Carries : Comman
     pub written : List ℕ
     pub meanwhile : Meanwhile clock desk log clock' left log'
     pub exchanged : IsExchanged Answers bytes left written outcome desk'
-    -- the exchange has the same effect for everything that the client would send up to its end
+    -- The exchange has the same effect for all bytes that the client would send until it closes the
+    -- connection.
     pub to_all : IfSome (ToCome client) (λ all. IsExchanged Answers all left written outcome desk')
     pub talked : Talks client bytes written outcome client'

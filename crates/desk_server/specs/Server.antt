@@ -1,4 +1,4 @@
--- The effect of a server on its arrivals, its clock, its desk and its log (ours).
+-- This file defines the effect of a server on its arrivals, its clock, its desk and its log.
 use Rattle.std.specs.Prelude.{ℕ, length, Option, Result}
 use Rattle.club_clock.specs.Moments.{GivesMoment}
 use Rattle.club_http.specs.Replied.{AnswerRelation}
@@ -6,13 +6,15 @@ use Rattle.desk_server.specs.{Served.{AreNoted, CommandRelation, CountsOn, Ends,
 use Rattle.desk_server.specs.declared.{office.Carried.Carried, serve.ClockOutOfRange.ClockOutOfRange}
 
 module _ {Clock Desk Log : Type 0} (Gives : GivesMoment Clock) (Begins : Log → Log → Type 0) (Noted : Notes Log) where
-  -- A connection of the office: a complete command is carried out. The log notes the beginning and the event, at the clock's moment.
+  -- The effect of a connection of the office. The desk carries out the command if it is complete.
+  -- The log notes the beginning and the event of the command at the clock's moment.
   abbrev pub IsCommanded : CommandRelation Desk → Clock → Desk → Log → Clock → Desk → Log → Type 0
   IsCommanded Carries clock desk log clock' desk' log' =
       (moment : Option ℕ) × (carried : Option Carried) × (begun : Log) × Begins log begun × Noted begun (Commanded moment carried) log'
       × Gives clock moment clock' × IsCarriedOut Carries desk carried desk'
 
-  -- a server for this many clients of a source; the source counts each call, and the log notes each arrival
+  -- The effect of a server for `count` clients of a source. The source counts each call, and the
+  -- log notes each arrival.
   abbrev pub ServesLogged : {Source : Type 0} → (ℕ → AnswerRelation Desk) → CommandRelation Desk → Ends → (Source → ℕ) → (Source → ℕ) → ℕ
       → Source → Clock → Desk → Log → Result Unit ClockOutOfRange → Source → Clock → Desk → Log → Type 0
   ServesLogged Answers Carries Ended waited failures count source clock desk log result source' clock' desk' log' =
@@ -20,7 +22,7 @@ module _ {Clock Desk Log : Type 0} (Gives : GivesMoment Clock) (Begins : Log →
       (λ turns. CountsOn (waited source) (length turns) (waited source') × AreNoted Begins Noted log turns log')
 
 module _ {Clock Desk : Type 0} (Gives : GivesMoment Clock) where
-  -- a server for this many clients of a source, without a log
+  -- The effect of a server without a log for `count` clients of a source.
   abbrev pub ServesOn : {Source : Type 0} → (ℕ → AnswerRelation Desk) → CommandRelation Desk → Ends → (Source → ℕ) → (Source → ℕ) → ℕ
       → Source → Clock → Desk → Result Unit ClockOutOfRange → Source → Clock → Desk → Type 0
   ServesOn Answers Carries Ended waited failures count source clock desk result source' clock' desk' =

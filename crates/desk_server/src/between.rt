@@ -22,7 +22,7 @@ pub trait Handover {
         ensures { IsCarriedOut D.commands desk.old result desk.new };
 }
 
-/// Carries out a command, and logs it.
+/// Carries out a command and logs it.
 pub(crate) fn carry_out<O: Handover + Drop, M: Moments, D: Office, G: Log>(
     mut command: O,
     moments: &mut M,
@@ -45,11 +45,15 @@ pub trait Waits: Inlet {
 
     type Command: Handover + Drop;
 
-    // the known effects of one wait
+    // The known effects of one wait.
     ghost waits: { Self → Self → Type 0 };
 
-    /// Waits for a command, and returns it. Returns `None` once the client can be read: its bytes
-    /// or its end have arrived, its time is over, or waiting failed.
+    /// Waits for a command and returns it. Returns `None` in these cases:
+    ///
+    /// - The client's bytes have arrived.
+    /// - The client has closed its end.
+    /// - The client's time limit is over.
+    /// - Waiting failed.
     fn command_before(&mut self) -> Option<Self::Command>
         ensures reads_nothing { Keeps (Self.to_come self.old) (Self.to_come self.new) }
         ensures counted { Self.failures self.new ≡ Self.failures self.old }
@@ -88,9 +92,10 @@ impl<R: Waits, M: Moments, D: Office, G: Log> Inlet for Between<'_, '_, '_, '_, 
     }
 }
 
-/// Reads a request as `Face::receive` does, and carries out the commands that come while it waits.
-/// Each command has its own moment and is logged. This is the first step of an exchange;
-/// `Face::respond` is the second.
+/// Reads a request as `Face::receive` does. While it waits for the request, it carries out commands
+/// of the office. Each command has its own moment and is logged.
+///
+/// An exchange has two steps. This function is the first step, and `Face::respond` is the second.
 pub fn receive_between<R: Waits, M: Moments, D: Office, G: Log>(
     face: &mut Face,
     reader: &mut R,
@@ -117,7 +122,7 @@ pub fn receive_between<R: Waits, M: Moments, D: Office, G: Log>(
     receive_in(face, &mut between)
 }
 
-// Reads a request, and carries out the commands that come while it waits.
+// Reads a request, and carries out the commands that come while it waits for the request.
 fn receive_in<R: Waits, M: Moments, D: Office, G: Log>(
     face: &mut Face,
     between: &mut Between<'_, '_, '_, '_, R, M, D, G>,

@@ -1,4 +1,4 @@
-//! Connections of clients and of the office, and their source.
+//! Connections of clients and of the office, and the source of these connections.
 
 use crate::between::{Handover, Waits, receive_between};
 use crate::limit::MonotonicClock;
@@ -15,16 +15,16 @@ pub trait Connection {
     ghost use Rattle.std.specs.Prelude.{ℕ, List, Option};
     ghost use Rattle.desk_server.specs.Served.{ExchangesBetween, Talk};
 
-    // the bytes that are still to come from the client, if they are known
+    // The bytes that the client will still send, if they are known.
     ghost to_come: { Self → Option (List ℕ) };
 
-    // the outcomes that an exchange with the connection may have
+    // The outcomes that an exchange with the connection may have.
     ghost talks: { Talk Self };
 
     /// Carries out one exchange with the desk at a moment. While it waits for the request, it
-    /// carries out and logs commands, each at its own moment. The returned outcome says how the
-    /// desk changed and what was written. The bytes read for the request stay in the face. Bytes
-    /// after a complete request change nothing, whether they are read or not.
+    /// carries out commands and logs them, each at its own moment. Returns the reply, or the fault
+    /// that ended the exchange. The bytes read for the request stay in `face`. Bytes after a
+    /// complete request change nothing.
     ///
     /// # Errors
     ///
@@ -42,8 +42,9 @@ pub trait Connection {
             result moments.new desk.new log.new self.new };
 }
 
-/// If both the client's bytes and a command are ready, they take turns, even after a command that
-/// couldn't be accepted. Carrying out a command doesn't extend the client's patience.
+/// If both the client's bytes and a command are ready, the client and the office take turns. They
+/// take turns even if the server couldn't accept the office's connection. Carrying out a command
+/// doesn't extend the client's patience.
 impl<S: ClientStream, C: MonotonicClock> Waits for Accepted<'_, S, C> {
     ghost use Rattle.desk_server.specs.Accepted.{HasWaited};
 
@@ -115,10 +116,10 @@ impl<S: ClientStream, C: MonotonicClock> Accepted<'_, S, C> {
     ghost use Rattle.std.specs.Prelude.{◌≡◌, IsTrue};
     ghost use Rattle.desk_server.specs.Accepted.{TakesRest};
 
-    // Ends a connection whose reply was written. Closing a socket with unread bytes resets the
-    // connection, and a client that is still sending may then lose its reply. So unless `over`
-    // holds, this shuts down the writing side first, and then reads the bytes that the client still
-    // sends.
+    // Ends a connection after its reply was written. Closing a socket with unread bytes resets the
+    // connection. A client that is still sending may then lose its reply. So unless `over` is true,
+    // this function first shuts down the writing side. Then it reads the bytes that the client
+    // still sends.
     fn end(&mut self, over: bool)
         ensures over { IsTrue over → self.new ≡ self.old }
         ensures rest { TakesRest S.to_come S.taken self.old self.new }
@@ -147,10 +148,10 @@ pub trait Arrivals {
     ghost use Rattle.std.specs.Prelude.{◌≡◌, ℕ};
     ghost use Rattle.desk_server.specs.{Arrival.failures_after, Served.CountsOn};
 
-    // the number of calls of `next`
+    // The number of calls of `next`.
     ghost waited: { Self → ℕ };
 
-    // the number of these calls that failed
+    // The number of calls of `next` that failed.
     ghost failures: { Self → ℕ };
 
     /// Waits for the next arrival.

@@ -1,4 +1,4 @@
-//! The databases that a server and the office open, as a trait, and the door between server and
+//! The trait of databases that a server and the office open, and the door between server and
 //! office.
 
 use club_http::{ClubStore, StoreFault};
@@ -10,24 +10,25 @@ pub trait Door {
     fn listener(&self) -> Option<&UnixListener>;
 }
 
-/// A server that the office found by its door, and that has sent its greeting.
+/// A server that the office found by the server's door. The server has sent its greeting.
 pub trait Visit {
     ghost use Rattle.desk_server.specs.Databases.{Giving, in_bytes};
 
-    // the results of giving the bytes of a command to the server
+    // The possible results of sending the bytes of a command to the server.
     ghost gives: { Giving Self };
 
-    /// Hands over the bytes of a command, and returns the answer's status and text. `None` means
-    /// that there is no answer. The command may then have been carried out, or may not.
+    /// Sends the bytes of a command to the server, and returns the answer's status and text.
+    /// Returns `None` if no answer comes. In that case the server may or may not have carried out
+    /// the command.
     fn give(self, command: &[u8]) -> Option<(u8, String)>
         ensures { gives self command.now (in_bytes result) };
 }
 
-/// The way in which a database was reached.
+/// The result of reaching a database.
 pub enum Reached<S, V> {
-    /// The database was opened.
+    /// This program opened the database.
     Opened(S),
-    /// A server has the database open, and takes commands.
+    /// A server has the database open and takes commands.
     Served(V),
 }
 
@@ -41,30 +42,30 @@ pub trait Databases {
 
     ghost use Rattle.desk_server.specs.Databases.{Closing, Opening, Reaching};
 
-    // the results of opening a name, with the databases before and after
+    // The possible results of opening a name, with the databases before and after.
     ghost opens: { Opening Self Self.Store };
 
-    // the results of reaching a name, with the databases before and after
+    // The possible results of reaching a name, with the databases before and after.
     ghost reaches: { Reaching Self Self.Store Self.Visit };
 
-    // the databases before and after closing a store
+    // The databases before and after closing a store.
     ghost closes: { Closing Self Self.Store };
 
-    /// Opens the database of a name for a server, or creates an empty one if there is none. If
-    /// another program has the database open, this retries for a while.
+    /// Opens the database with this name for a server. Creates an empty database if none has this
+    /// name. If another program has the database open, this function retries for a while.
     fn open(&mut self, name: &str) -> Result<Self::Store, StoreFault>
         ensures { opens self.old name.now result self.new };
 
-    /// Reaches the database of a name for the office. If a server has the database open, this finds
-    /// that server, otherwise it opens the database as `open` does.
+    /// Reaches the database with this name for the office. If a server has the database open, this
+    /// function connects to that server. Otherwise it opens the database as `open` does.
     fn reach(&mut self, name: &str) -> Result<Reached<Self::Store, Self::Visit>, StoreFault>
         ensures { reaches self.old name.now result self.new };
 
-    /// Closes a database. Committed changes are kept, even if closing fails.
+    /// Closes a database. The database keeps all committed changes, even if closing fails.
     fn close(&mut self, store: Self::Store)
         ensures { closes self.old store self.new };
 
-    /// Makes a door for the server that has opened the database of this name. Replaces the door of
-    /// a server that was killed.
+    /// Makes a door for the server that has opened the database with this name. The new door
+    /// replaces the door of a server that was killed.
     fn make_door(&self, name: &str) -> Result<Self::Door, StoreFault>;
 }

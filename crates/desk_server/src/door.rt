@@ -1,4 +1,4 @@
-//! The server's side of the office's door.
+//! The server's side of the door, where commands of the office arrive.
 
 ghost use Rattle.std.specs.Io.KnownBytes.{Appends, Consumes, IsAtEnd};
 ghost use Rattle.std.specs.Prelude.{◌≡◌, ◌≤◌, ℕ, length, take, IfSome};
@@ -13,29 +13,30 @@ use std::io;
 use std::os::unix::net::{UnixListener, UnixStream};
 use std::time::Duration;
 
-/// The byte that the server sends once it has accepted a connection of the office. The sender sends
-/// its command only after this greeting. So a sender that left before it has sent no command.
+/// The byte that the server sends once it has accepted a connection of the office. The office sends
+/// its command only after this greeting. So an office that left before the greeting has sent no
+/// command.
 pub const GREETING: [u8; 1] = *b"!";
 
-/// The size of the buffer for a command, in bytes: one more than the longest command.
+/// The size of the buffer for a command, in bytes. The longest command has one byte less.
 pub const MAX_COMMAND_LEN: usize = 8_192;
 
 /// The last byte of an answer. No text of an answer has a zero byte, because arguments have none.
 /// So a truncated answer doesn't end with this byte.
 pub const ANSWER_END: [u8; 1] = [0];
 
-/// The status of the answer to bytes that aren't a complete command. It means that nothing was
-/// done, and nothing will be.
+/// The status of the answer to bytes that aren't a complete command. This status means that the
+/// server did nothing, and will do nothing.
 pub const NOTHING_DONE: u8 = 9;
 
 /// The text of the answer with status `NOTHING_DONE`.
 pub const NOTHING_DONE_TEXT: &str = "nothing was done";
 
-/// The timeout for the office to send its command, in milliseconds. The same timeout holds again
-/// for taking the answer. Clients wait meanwhile.
+/// The timeout for the office to send its command, in milliseconds. The office has the same time
+/// again to take the answer. Clients wait meanwhile.
 const OFFICE_MILLISECONDS: u64 = 200;
 
-/// A connection of the office that a door accepted.
+/// A connection of the office that the server accepted at its door.
 #[derive(Drop)]
 pub struct Handed<'c, C> {
     stream: UnixStream,
@@ -43,13 +44,13 @@ pub struct Handed<'c, C> {
 }
 
 impl<'c, C: MonotonicClock> Handed<'c, C> {
-    // Accepts the next connection of a door.
+    // Accepts the next connection at a door.
     pub(crate) fn accept(door: &UnixListener, clock: &'c C) -> io::Result<Handed<'c, C>> {
         let (stream, _) = door.accept()?;
         Ok(Handed { stream, clock })
     }
 
-    // Returns both ends of the connection. The office's time limit starts now.
+    // Returns both ends of the connection. The office's time limit starts with this call.
     fn ends(&self) -> Accepted<'c, &UnixStream, C> {
         let patience = Duration::from_millis(OFFICE_MILLISECONDS);
         Accepted::new(&self.stream, self.clock, patience)
@@ -57,7 +58,7 @@ impl<'c, C: MonotonicClock> Handed<'c, C> {
 }
 
 /// Reads the bytes of a command up to the end of the input, and returns their number. Returns
-/// `None` if the reader fails, or if the buffer is full before the end.
+/// `None` if the reader fails, or if the buffer is full before the end of the input.
 pub fn read_command<R: Inlet>(reader: &mut R, room: &mut [u8]) -> Option<usize>
     ensures { IfSome result (λ n. (n ≤ length room.new)
         × Consumes (R.to_come reader.old) (R.to_come reader.new) (take n room.new)
@@ -74,8 +75,8 @@ pub fn read_command<R: Inlet>(reader: &mut R, room: &mut [u8]) -> Option<usize>
     None
 }
 
-/// Has the desk carry out a command, and writes its answer. The command's effect stays even if the
-/// writer fails.
+/// Has the desk carry out a command, and writes the command's answer. The command's effect stays
+/// even if the writer fails.
 pub fn answer_command<D: Office, W: Outlet>(desk: &mut D, bytes: &[u8], writer: &mut W) -> Carried
     ensures { AnswersCommand D.commands bytes.now desk.old (W.taken writer.old)
         result desk.new (W.taken writer.new) }
@@ -85,8 +86,8 @@ pub fn answer_command<D: Office, W: Outlet>(desk: &mut D, bytes: &[u8], writer: 
     carried
 }
 
-/// Writes an answer: the status, the text and the end byte, or a prefix of them if the writer
-/// fails.
+/// Writes an answer: the status, the text and the end byte. If the writer fails, it has taken only
+/// a prefix of the answer.
 pub fn put_answer<W: Outlet>(writer: &mut W, status: u8, text: &str)
     ensures { (n : ℕ) × Appends (W.taken writer.old) (W.taken writer.new)
         (take n (answer_bytes status text.now)) }
@@ -102,8 +103,8 @@ pub fn put_answer<W: Outlet>(writer: &mut W, status: u8, text: &str)
     }
 }
 
-/// Greets the sender, reads its command, and answers it. If no complete command came, the answer
-/// says that nothing was done.
+/// Greets the office, reads its command, and answers the command. If no complete command came, the
+/// answer has the status `NOTHING_DONE`.
 impl<C: MonotonicClock> Handover for Handed<'_, C> {
     fn carry_out<D: Office>(&mut self, desk: &mut D) -> Option<Carried> {
         if put_all(&mut self.ends(), &GREETING).is_err() {

@@ -8,10 +8,11 @@ pub trait MonotonicClock {
     ghost use Rattle.std.specs.Prelude.{ℕ, Option};
     ghost use Rattle.desk_server.specs.Limits.{nanos_of};
 
-    // the times that the clock may show, in nanoseconds; none if the clock can't be read
+    // The times that the clock may show, in nanoseconds. The time is `None` if the clock can't be
+    // read.
     ghost shows: { Self → Option ℕ → Type 0 };
 
-    /// Returns the instant now; `None` if the clock can't be read.
+    /// Returns the current instant, or `None` if the clock can't be read.
     fn instant_now(&self) -> Option<Instant>
         ensures { shows self.now (nanos_of result) };
 
@@ -19,7 +20,7 @@ pub trait MonotonicClock {
     fn rest(&self, duration: Duration);
 }
 
-/// The machine's clock; the contract promises nothing about its instants.
+/// The machine's clock. The contract promises nothing about its instants.
 impl<C: Clock> MonotonicClock for C {
     ghost shows = { λ _ _. Unit {0} };
 
@@ -43,8 +44,8 @@ impl<'c, C: MonotonicClock> Limit<'c, C> {
     ghost use Rattle.std.specs.{Duration.as_nanos, Prelude.{◌≡◌}};
     ghost use Rattle.desk_server.specs.Limits.{AtShown, due_after, left_until, nanos_of};
 
-    /// Returns the deadline that is `patience` later than now. If the clock can't be read or has no
-    /// such time, the deadline has already passed.
+    /// Returns the deadline that is `patience` after the current time. If the clock can't be read
+    /// or can't show that time, the deadline has already passed.
     pub fn after(clock: &'c C, patience: Duration) -> Limit<'c, C>
         ensures clock { result.clock ≡ clock.entry }
         ensures due { AtShown (C.shows clock.entry.now)
@@ -57,7 +58,8 @@ impl<'c, C: MonotonicClock> Limit<'c, C> {
         Limit { clock, due }
     }
 
-    /// Returns the time until the deadline; zero if it has passed, or the clock can't be read.
+    /// Returns the time until the deadline. Returns zero if the deadline has passed, or if the
+    /// clock can't be read.
     pub fn left(&self) -> Duration
         ensures { AtShown (C.shows self.now.clock.now)
             (λ shown. as_nanos result ≡ left_until (nanos_of self.now.due) shown) }

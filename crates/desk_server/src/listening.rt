@@ -1,4 +1,5 @@
-//! The listeners of a server: clients come over TCP, and commands of the office through its door.
+//! The listeners of a server. Clients come over TCP, and commands of the office come through the
+//! server's door.
 
 use crate::connections::{Arrival, Arrivals};
 use crate::door::Handed;
@@ -15,27 +16,27 @@ use std::os::unix::net::UnixListener;
 use std::time::Duration;
 
 /// The server's sleep after waiting or accepting failed, in milliseconds. Without this sleep, a
-/// listener that keeps failing would use up the count of clients at once.
+/// listener that keeps failing would soon use up the number of clients to serve.
 const REST_MILLISECONDS: u64 = 10;
 
-/// Stands for a missing descriptor; `poll` ignores it.
+/// The number that replaces a missing descriptor. `poll` ignores this number.
 const NO_DESCRIPTOR: RawFd = -1;
 
-/// The timeout of `poll` for an endless wait.
+/// The timeout that makes `poll` wait without a limit.
 const NO_END: i32 = -1;
 
 /// A client of a listener, or a command that came through a door.
 type Arrived<'a, C> = Arrival<Accepted<'a, ClientSocket<'a, C>, C>, Handed<'a, C>>;
 
-/// The clients of a listener, each with the same patience, and the commands of the office if there
-/// is a door. If a client and a command are both waiting, they take turns.
+/// The clients of a listener, and the commands of the office if there is a door. All clients have
+/// the same patience. If a client and a command are both waiting, they take turns.
 #[derive(Drop)]
 pub struct Listening<'a, C> {
     clients: &'a TcpListener,
     door: Option<&'a UnixListener>,
     clock: &'a C,
     patience: Duration,
-    // whether a command goes before a client
+    // True if a command goes before a client when both are waiting.
     command_first: Cell<bool>,
     waited: u64,
     failures: u64,
@@ -44,7 +45,7 @@ pub struct Listening<'a, C> {
 impl<'a, C: MonotonicClock> Listening<'a, C> {
     ghost use Rattle.std.specs.Prelude.{◌≡◌};
 
-    /// Returns a new source, whose `next` hasn't been called. The given clock measures time limits.
+    /// Returns a new source, without any call of `next` so far. `clock` measures the time limits.
     pub fn new(
         clients: &'a TcpListener,
         door: Option<&'a UnixListener>,
@@ -65,9 +66,10 @@ impl<'a, C: MonotonicClock> Listening<'a, C> {
         }
     }
 
-    // Waits until a command or a client has arrived. Drops a connection that was gone before it was
-    // accepted. If a connection of the office can't be accepted, the server tries again after a
-    // pause, and waiting clients come first. Such a connection doesn't count as a client.
+    // Waits until a command or a client has arrived. If a connection is gone before the server
+    // accepts it, the server drops that connection. If the server can't accept a connection of the
+    // office, it tries again after a pause. In that case a waiting client goes first. A connection
+    // of the office that the server couldn't accept doesn't count as a client.
     fn wait(&self) -> Arrived<'a, C> {
         let door = match self.door {
             Some(door) => door.as_raw_fd(),
@@ -92,7 +94,7 @@ impl<'a, C: MonotonicClock> Listening<'a, C> {
         Arrival::Nobody
     }
 
-    // Accepts a command if `command` holds, else a client.
+    // Accepts a command if `command` is true, else a client.
     fn take(&self, command: bool) -> io::Result<Arrived<'a, C>> {
         match self.door {
             Some(door) if command => {

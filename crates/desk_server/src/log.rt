@@ -9,7 +9,7 @@ use crate::request_line::RequestLine;
 use club_http::{AnswerFault, Line, Moment, Outlet, Reply, put_all, status_of};
 use std::time::{Clock, Instant};
 
-/// The word in the line of a command that replaces a method.
+/// The word that replaces the method in the line of a command.
 const OFFICE: &[u8] = b"office";
 
 /// The outcome of an arrival.
@@ -19,17 +19,17 @@ pub enum LogEvent {
     Absent,
     /// The u64 counter of commands is full, so this turn counts as a client that never came.
     Overrun,
-    /// A client's connection was closed unanswered, since the clock showed no moment within the
-    /// club's years.
+    /// The server closed a client's connection without an answer, because the clock showed no
+    /// moment within the club's years.
     Unanswered,
-    /// The office connected at this moment. Its command was carried out, or no complete command
-    /// came.
+    /// The office connected at this moment. The desk carried out its command, or no complete
+    /// command came.
     Commanded {
         moment: Option<Moment>,
         carried: Option<Carried>,
     },
-    /// A client had an exchange at this moment. `line` has the start of its request, and `outcome`
-    /// is the result of `club_http::answer`: the reply or the fault.
+    /// A client had an exchange at this moment. `line` has the first bytes of the client's request.
+    /// `outcome` is the result of `club_http::answer`: the reply or the fault.
     Exchanged {
         moment: Moment,
         line: RequestLine,
@@ -37,28 +37,28 @@ pub enum LogEvent {
     },
 }
 
-/// A log of clients and commands. The server calls it when each begins and ends, and the log
-/// doesn't affect the outcome. Commands that come while the server waits for a client's request
-/// begin and end between that client's two calls.
+/// A log of clients and commands. The server calls the log when each client or command begins and
+/// ends. The log doesn't affect the outcome. Commands that come while the server waits for a
+/// client's request begin and end between that client's two calls.
 pub trait Log {
     ghost use Rattle.desk_server.specs.Served.{Notes};
 
-    // the log before and after a call of `begin`
+    // The log before and after a call of `begin`.
     ghost begins: { Self → Self → Type 0 };
 
-    // the log before and after a call of `note`
+    // The log before and after a call of `note`.
     ghost notes: { Notes Self };
 
-    /// Notes that a client or a command was accepted.
+    /// Notes that the server accepted a client or a command.
     fn begin(&mut self)
         ensures { begins self.old self.new };
 
-    /// Notes how the client or command ended.
+    /// Notes the outcome of a client or a command.
     fn note(&mut self, event: &LogEvent)
         ensures { notes self.old event.now self.new };
 }
 
-/// Keeps no log.
+/// A log that writes nothing.
 #[derive(Drop)]
 pub struct Unlogged;
 
@@ -72,24 +72,28 @@ impl Log for Unlogged {
     fn note(&mut self, _event: &LogEvent) {}
 }
 
-/// Writes a line for each client: the moment, the method, the path, the status of the reply and the
-/// time taken in microseconds, separated by spaces. A dash stands for a missing value, and for the
-/// status of a reply that wasn't completely written. The line of a command has the moment,
-/// `office`, its name, its exit status and the time taken in microseconds. If the writer fails, the
-/// server goes on.
+/// A log that writes a line for each client and each command. Spaces separate the words of a line.
+///
+/// - The line of a client has the moment, the method, the path, the status of the reply, and the
+///   microseconds taken.
+/// - The line of a command has the moment, `office`, the command's name, its exit status, and the
+///   microseconds taken.
+///
+/// A dash replaces a missing value. A dash also replaces the status of a reply that wasn't
+/// completely written. If the writer fails, the server goes on.
 #[derive(Drop)]
 pub struct LogLines<'a, W, C> {
-    /// The writer of the lines.
+    /// The writer that takes the lines.
     pub writer: W,
     clock: &'a C,
-    // `began` is the start of the client or command that began last and hasn't ended. If a command
-    // came during a client's turn, `around` is the start of the client.
+    // `began` is the start time of the client or command that began last and hasn't ended. If a
+    // command came during a client's turn, `around` is the start time of that client.
     began: Option<Instant>,
     around: Option<Instant>,
 }
 
 impl<'a, W: Outlet, C: Clock> LogLines<'a, W, C> {
-    /// Makes a log that writes lines to this writer and reads times from this clock.
+    /// Returns a log that writes lines to `writer` and reads times from `clock`.
     pub fn new(writer: W, clock: &'a C) -> LogLines<'a, W, C> {
         LogLines {
             writer,
@@ -99,7 +103,7 @@ impl<'a, W: Outlet, C: Clock> LogLines<'a, W, C> {
         }
     }
 
-    // Returns the microseconds since `begin` was called; 0 if the clock can't be read.
+    // Returns the microseconds since `begin` was called. Returns 0 if the clock can't be read.
     fn microseconds(&self) -> u64 {
         let Some(began) = self.began else {
             return 0;
@@ -134,7 +138,7 @@ impl<'a, W: Outlet, C: Clock> Log for LogLines<'a, W, C> {
     }
 }
 
-// Returns the line of an arrival.
+// Returns the line of an event.
 #[tactic(auto, unfolding(crate::specs::Log::line_text))]
 fn line_of(event: &LogEvent, microseconds: u64) -> Line
     ensures { result ≡ spec.line_text event.now microseconds }
@@ -173,7 +177,7 @@ fn line_of(event: &LogEvent, microseconds: u64) -> Line
     }
 }
 
-// Returns a line of these words, with a dash for each missing one.
+// Returns a line of these words, with a dash for each missing word.
 #[tactic(auto, unfolding(crate::specs::Log::words_text))]
 fn words(
     moment: &Option<Moment>,
@@ -207,7 +211,7 @@ fn words(
     line
 }
 
-// Returns the HTTP status of a reply that was written completely, else `None`.
+// Returns the HTTP status of a completely written reply, else `None`.
 fn written_status(outcome: &Result<Reply, AnswerFault>) -> Option<u16>
     ensures { result ≡ spec.written_status outcome.now }
 {

@@ -6,7 +6,7 @@ use club_http::Responder;
 /// The parts of a carried-out command that the log shows.
 #[derive(Drop)]
 pub struct Carried {
-    /// The first bytes of a line whose second word is the command's name.
+    /// The first bytes of a line. The second word of that line is the command's name.
     pub line: RequestLine,
     /// The exit status of the command.
     pub status: u8,
@@ -16,8 +16,8 @@ pub struct Carried {
 #[derive(Drop)]
 pub struct Answer {
     pub carried: Carried,
-    /// The text that the command prints, on standard output if the status is 0, else on standard
-    /// error.
+    /// The text that the command prints. The command prints it on standard output if the status is
+    /// 0, else on standard error.
     pub text: String,
 }
 
@@ -25,10 +25,11 @@ pub struct Answer {
 pub trait Office: Responder {
     ghost use Rattle.desk_server.specs.Served.{CommandRelation};
 
-    // the effects that the bytes of a command may have
+    // The effects that the bytes of a command may have.
     ghost commands: { CommandRelation Self };
 
-    /// Carries out the command that the bytes encode. If they encode no command, nothing changes.
+    /// Carries out the command that the bytes encode. If the bytes encode no command, nothing
+    /// changes.
     fn command(&mut self, bytes: &[u8]) -> Answer
         ensures { commands bytes.now self.old result self.new };
 }

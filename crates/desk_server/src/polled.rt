@@ -1,4 +1,4 @@
-//! Polling of descriptors.
+//! Calls of `poll`, which waits for events of descriptors.
 
 use libc::net as c;
 use libc::types::pollfd;
@@ -10,14 +10,14 @@ pub(crate) enum Next {
     Command,
     /// The client goes first.
     Client,
-    /// Neither came in time.
+    /// Neither a command nor a client came in time.
     Nothing,
     /// Waiting failed.
     Failed,
 }
 
-/// Waits for a command at a door or for a client, and returns which of them goes first. It waits at
-/// most `milliseconds`, or endlessly if that is -1.
+/// Waits for a command at a door or for a client, and returns which of the two goes first. The wait
+/// takes at most `milliseconds`. If `milliseconds` is -1, the wait has no limit.
 pub(crate) fn next_of(door: RawFd, client: RawFd, milliseconds: i32, command_first: bool) -> Next {
     let mut asked = [waits_for(door, c::POLLIN), waits_for(client, c::POLLIN)];
     let ready = c::poll(&mut asked, milliseconds);
@@ -35,13 +35,14 @@ pub(crate) fn next_of(door: RawFd, client: RawFd, milliseconds: i32, command_fir
     }
 }
 
-/// Returns whether a read of a descriptor wouldn't block, because bytes, the end of the input or a
-/// fault has arrived.
+/// Returns true if a read of a descriptor wouldn't block. A read doesn't block if bytes, the end of
+/// the input or a fault has arrived.
 pub(crate) fn is_readable(fd: RawFd) -> bool {
     c::poll(&mut [waits_for(fd, c::POLLIN)], 0) > 0
 }
 
-/// Returns whether a write to a descriptor wouldn't block, because there is room or a fault.
+/// Returns true if a write to a descriptor wouldn't block. A write doesn't block if there is room
+/// for bytes, or if there is a fault.
 pub(crate) fn is_writable(fd: RawFd) -> bool {
     c::poll(&mut [waits_for(fd, c::POLLOUT)], 0) > 0
 }

@@ -7,18 +7,18 @@ ghost use Rattle.desk_server.specs.RequestLine as spec;
 use club_http::Line;
 use std::marker::Model;
 
-/// The most bytes of a request that are kept. The desk's longest request line has 80: it cancels a
-/// booking at a facility whose name has 24 letters.
+/// The most bytes of a request that the log keeps. The desk's longest request line has 80 bytes.
+/// That line cancels a booking at a facility whose name has 24 letters.
 pub const MAX_KEPT: usize = 96;
 
-/// The most letters of a method that the log shows; the desk's longest method is `DELETE`.
+/// The most letters of a method that the log shows. The desk's longest method is `DELETE`.
 const MAX_METHOD_LEN: usize = 7;
 
-/// The first bytes of a request. Contracts see this type as these bytes.
+/// The first bytes of a request. Contracts represent this type by these bytes.
 ///
-/// The method and the path are returned only if all their characters also occur in the desk's own
-/// methods and paths. So no pass is logged, since the text of every pass has a capital letter or a
-/// brace.
+/// This type shows the method and the path only if all their characters also occur in the desk's
+/// own methods and paths. So the log never shows a pass, because the text of every pass has a
+/// capital letter or a brace.
 #[derive(Drop)]
 pub struct RequestLine {
     kept: Line,
@@ -38,7 +38,8 @@ impl RequestLine {
     ghost use Rattle.std.specs.Prelude.{◌≡◌, ◌≤◌, IfSome, length, take};
     ghost use Rattle.desk_server.specs.RequestLine.{word_bytes, method_of, path_of};
 
-    /// Returns the first `MAX_KEPT` bytes of a request, or all its bytes if there are fewer.
+    /// Returns the first `MAX_KEPT` bytes of a request. Returns all bytes of the request if it has
+    /// fewer.
     #[tactic(auto, using(std::proofs::lemmas::List::take_min))]
     pub fn of(request: &[u8]) -> RequestLine
         ensures { result ≡ take 96 request.now }
@@ -49,7 +50,7 @@ impl RequestLine {
         RequestLine { kept }
     }
 
-    /// Returns the method, if it consists of 1 to 7 capital letters.
+    /// Returns the method if it consists of 1 to 7 capital letters.
     #[tactic(auto, unfolding(crate::specs::RequestLine::method_of))]
     pub fn method(&self) -> Option<&[u8]>
         ensures word { word_bytes result ≡ method_of self.now }
@@ -63,7 +64,7 @@ impl RequestLine {
         }
     }
 
-    /// Returns the path, if it consists of small letters, digits, dashes and slashes.
+    /// Returns the path if it consists of small letters, digits, dashes and slashes.
     #[tactic(auto, unfolding(crate::specs::RequestLine::path_of))]
     pub fn path(&self) -> Option<&[u8]>
         ensures word { word_bytes result ≡ path_of self.now }
@@ -74,7 +75,7 @@ impl RequestLine {
     }
 }
 
-// Returns the first two words, if a space follows each.
+// Returns the first two words if a space follows each of them.
 fn two_words(bytes: &[u8]) -> Option<(&[u8], &[u8])>
     ensures words { option_map (λ words. (words.0.now, words.1.now)) result
         ≡ spec.two_words bytes.now }

@@ -1,4 +1,4 @@
-//! Serves the clients and commands that arrive.
+//! The server's loop, which serves the clients and commands that arrive.
 
 ghost use Rattle.desk_server.specs.{Served.HasTalked, Server.{ServesLogged, ServesOn}};
 
@@ -12,7 +12,7 @@ use club_http::Face;
 use std::error::Error;
 use std::fmt;
 
-/// The clock shows a year before 2000 or after 2099, or it can't be read.
+/// The error of a clock that can't be read, or that shows a year before 2000 or after 2099.
 #[derive(Clone, Copy, Debug, PartialEq, Eq)]
 pub struct ClockOutOfRange;
 
@@ -28,15 +28,15 @@ impl fmt::Display for ClockOutOfRange {
 
 impl Error for ClockOutOfRange {}
 
-/// Serves this many clients of a listener, one after the other. Carries out each command of the
-/// office that comes before a client or while a client's request is awaited. A client gets the
-/// clock's moment at its start. A client counts even if its connection or exchange fails, or if its
-/// request is refused. Commands don't count.
+/// Serves `count` clients of a listener, one after the other. Also carries out each command of the
+/// office that comes before a client or during the wait for a client's request. A client gets the
+/// clock's moment at the start of its turn. A client counts even if its connection or exchange
+/// fails, or if its request is refused. Commands don't count.
 ///
 /// # Errors
 ///
-/// Fails with `ClockOutOfRange` if the clock shows no moment within the club's years. Then the
-/// client's connection is closed unanswered, and the server accepts no other.
+/// Fails with `ClockOutOfRange` if the clock shows no moment within the club's years. In that case
+/// the server closes the client's connection without an answer, and accepts no other client.
 pub fn serve_on<L: Arrivals, M: Moments, D: Office>(
     listener: &mut L,
     count: u32,

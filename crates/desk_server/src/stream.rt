@@ -16,10 +16,10 @@ use std::time::Duration;
 pub enum Woken<O> {
     /// A command came.
     Command(O),
-    /// The client can be read: its bytes or its end have arrived, the time limit is over, or
-    /// waiting failed.
+    /// The client can be read. Its bytes or the end of its input have arrived, the time limit is
+    /// over, or waiting failed.
     Client,
-    /// The connection of a command was gone before it was accepted, or it couldn't be accepted.
+    /// The server couldn't accept the connection of a command, or the connection was already gone.
     Nobody,
 }
 
@@ -29,13 +29,13 @@ pub trait ClientStream: TimedStream {
 
     type Command: Handover + Drop;
 
-    /// Waits at most this long for the client and for the office at once. If both are ready,
-    /// `command_first` says whose turn it is.
+    /// Waits at most this long for the client and for the office at once. If both are ready, the
+    /// office goes first if `command_first` is true, else the client.
     fn wait_within(&mut self, limit: Duration, command_first: bool) -> Woken<Self::Command>
         ensures reads_nothing { Keeps (Self.to_come self.old) (Self.to_come self.new) }
         ensures writes_nothing { Keeps (Self.taken self.old) (Self.taken self.new) };
 
-    /// Tells the client that no more bytes will come, and returns whether that succeeded.
+    /// Tells the client that the server will send no more bytes. Returns true if that succeeded.
     fn end_writing(&mut self) -> bool
         ensures reads_nothing { Keeps (Self.to_come self.old) (Self.to_come self.new) }
         ensures writes_nothing { Keeps (Self.taken self.old) (Self.taken self.new) };
@@ -50,12 +50,12 @@ pub struct ClientSocket<'a, C> {
     stream: TcpStream,
     door: Option<&'a UnixListener>,
     clock: &'a C,
-    // whether the last wait found that the next read doesn't block
+    // True if the last wait found that the next read doesn't block.
     readable: bool,
 }
 
 impl<'a, C: MonotonicClock> ClientSocket<'a, C> {
-    // Makes the socket of a client that was just accepted.
+    // Returns the socket of a client that the server has just accepted.
     pub(crate) fn new(
         stream: TcpStream,
         door: Option<&'a UnixListener>,
@@ -70,7 +70,7 @@ impl<'a, C: MonotonicClock> ClientSocket<'a, C> {
     }
 }
 
-/// No contract states which bytes a client's socket gives or takes.
+/// No contract states which bytes a client's socket returns or takes.
 impl<C: MonotonicClock> TimedStream for ClientSocket<'_, C> {
     ghost use Rattle.std.specs.Prelude.{None};
 

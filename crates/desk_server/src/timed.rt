@@ -24,35 +24,36 @@ pub enum Waited {
     Failed,
 }
 
-/// A stream whose reads and writes take a time limit, such as a socket. With a limit of zero, a
-/// read returns the bytes that are there, and a write takes as many bytes as there is room for.
+/// A stream whose reads and writes have a time limit, such as a socket. With a limit of zero, a
+/// read returns the bytes that have already arrived. With that limit, a write takes as many bytes
+/// as there is room for.
 pub trait TimedStream {
     ghost use Rattle.std.specs.{Duration.as_nanos, Io.KnownBytes.Keeps};
     ghost use Rattle.std.specs.Prelude.{◌≤◌, ℕ, List, length, Option, IfSome};
     ghost use Rattle.club_http.specs.Ends.{Fills, Takes};
     ghost use Rattle.desk_server.specs.Limits.{Calls, moved};
 
-    // the bytes still to come, if they are known
+    // The bytes still to come, if they are known.
     ghost to_come: { Self → Option (List ℕ) };
 
-    // the bytes that the stream took, if they are known
+    // The bytes that the stream took, if they are known.
     ghost taken: { Self → Option (List ℕ) };
 
-    // a read that waits at most this long, with the stream before and after
+    // A read that waits at most this long, with the stream before and after the read.
     ghost reads: { Calls Self };
 
-    // a write that waits at most this long, with the stream before and after
+    // A write that waits at most this long, with the stream before and after the write.
     ghost writes: { Calls Self };
 
-    /// Reads the next bytes into the front of the buffer, and returns how many. If the buffer isn't
-    /// empty, 0 means the end of the input.
+    /// Reads the next bytes into the front of the buffer, and returns the number of bytes read. If
+    /// the buffer isn't empty, the number 0 means the end of the input.
     fn read_within(&mut self, limit: Duration, room: &mut [u8]) -> Waited
         ensures within { IfSome (moved result) (λ n. n ≤ length room.new) }
         ensures bytes { Fills (to_come self.old) (to_come self.new) (moved result) room.new }
         ensures writes_nothing { Keeps (taken self.old) (taken self.new) }
         ensures limited { reads self.old (as_nanos limit) result self.new };
 
-    /// Takes a prefix of the bytes, and returns its length.
+    /// Writes a prefix of the bytes, and returns the length of the prefix.
     fn write_within(&mut self, limit: Duration, bytes: &[u8]) -> Waited
         ensures within { IfSome (moved result) (λ n. n ≤ length bytes.now) }
         ensures bytes { Takes (taken self.old) (taken self.new) (moved result) bytes.now }
@@ -60,11 +61,11 @@ pub trait TimedStream {
         ensures limited { writes self.old (as_nanos limit) result self.new };
 }
 
-/// The shortest timeout that a socket takes, in microseconds. A write that mustn't wait needs a
+/// The shortest timeout that a socket accepts, in microseconds. A write that must not wait needs a
 /// timeout if it has more bytes than there is room for.
 pub(crate) const LEAST_MICROSECONDS: u64 = 1;
 
-/// No contract states which bytes a socket gives or takes.
+/// No contract states which bytes a socket returns or takes.
 impl TimedStream for &UnixStream {
     ghost use Rattle.std.specs.Prelude.{None};
 
@@ -100,7 +101,7 @@ impl TimedStream for &UnixStream {
     }
 }
 
-/// Returns how a call of `std` ended.
+/// Converts the result of a read or write of `std` to a `Waited`.
 pub(crate) fn outcome_of(returned: io::Result<usize>) -> Waited
     ensures { MatchResult returned (λ n. result ≡ Waited.Moved n) (λ _. moved result ≡ None) }
 {
@@ -111,7 +112,7 @@ pub(crate) fn outcome_of(returned: io::Result<usize>) -> Waited
     }
 }
 
-// Reads within the time left of a limit. Once the limit is over, the read doesn't wait, but it
+// Reads within the time left of a limit. After the limit, the read doesn't wait. The read then
 // still returns bytes that came while the server was stopped.
 fn read_under<R: TimedStream, C: MonotonicClock>(
     reader: &mut R,
@@ -132,7 +133,7 @@ fn read_under<R: TimedStream, C: MonotonicClock>(
     None
 }
 
-// Writes within the time left of a limit. Once the limit is over, the write doesn't wait.
+// Writes within the time left of a limit. After the limit, the write doesn't wait.
 fn write_under<W: TimedStream, C: MonotonicClock>(
     writer: &mut W,
     limit: &Limit<'_, C>,
@@ -152,32 +153,33 @@ fn write_under<W: TimedStream, C: MonotonicClock>(
     None
 }
 
-/// The most bytes that `take_rest` takes.
+/// The most bytes that `take_rest` reads.
 pub const MAX_REST: usize = 65_536;
 
-/// The time limit of `take_rest` for the next bytes or the end, in milliseconds.
+/// The time limit of `take_rest` for the next bytes or the end of the input, in milliseconds.
 const REST_MILLISECONDS: u64 = 200;
 
 /// The most bytes that `take_rest` reads in one call.
 const MAX_REST_AT_ONCE: usize = 4_096;
 
-/// Both ends of an accepted connection, with time limits. The limit of all reads together is the
-/// patience, counted from when the connection was accepted. The limit of all writes together is the
-/// patience, counted from the first write. A call waits at most for the time left of its limit. If
-/// no time is left or the clock can't be read, the call is still made, but doesn't wait. A call
+/// Both ends of an accepted connection, with time limits. All reads together may take the patience,
+/// counted from the start of the connection. All writes together may take the patience, counted
+/// from the first write. A call waits at most for the time left of its limit.
+///
+/// If no time is left or the clock can't be read, the call is still made, but doesn't wait. A call
 /// that a signal interrupted is repeated with the time that is left.
 #[derive(Drop)]
 pub struct Accepted<'c, S, C> {
     pub(crate) stream: S,
     clock: &'c C,
     patience: Duration,
-    // the limit of the reads
+    // The time limit of all reads.
     pub(crate) reading: Limit<'c, C>,
-    // the limit of the writes, which starts with the first one
+    // The time limit of all writes, which starts with the first write.
     writing: Option<Limit<'c, C>>,
     read_failures: u64,
     write_failures: u64,
-    // whether a command goes before the client's bytes if both are ready
+    // True if a command goes before the client's bytes when both are ready.
     pub(crate) command_first: bool,
 }
 
@@ -221,8 +223,9 @@ impl<'c, S: TimedStream, C: MonotonicClock> Accepted<'c, S, C> {
         self.stream
     }
 
-    /// Reads the bytes that still come, up to the end of the input, at most `MAX_REST`. Stops once
-    /// the patience, counted from now, is over, or no byte came for 200 milliseconds.
+    /// Reads the bytes that the client still sends, at most `MAX_REST`. Stops at the end of the
+    /// input. Also stops once the patience, counted from this call, is over, or once no byte came
+    /// for 200 milliseconds.
     pub fn take_rest(&mut self)
         ensures taken { TakesAtMost 65_536 (S.to_come self.old.stream) (S.to_come self.new.stream) }
         ensures writes_nothing { Keeps (S.taken self.old.stream) (S.taken self.new.stream) }

@@ -1,4 +1,4 @@
--- The first `len` bytes of the buffer are the bytes read so far.
+-- The invariant of the loop in `read_command`.
 use Rattle.std.proofs.Common.{◌-◌, ◌≤◌, length, take}
 use Rattle.std.specs.Io.KnownBytes.{Consumes}
 use Rattle.desk_server.proofs.door.read_command.Given as goal

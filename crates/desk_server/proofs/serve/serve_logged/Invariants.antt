@@ -1,4 +1,4 @@
--- The server has served at most `count` clients, in the turns so far.
+-- The invariant of the loop in `serve_logged`.
 use Rattle.std.proofs.Common.{◌+◌, ◌-◌, ◌≤◌}
 use Rattle.desk_server.specs.Served.{HasTalked}
 use Rattle.desk_server.proofs.ServedLemmas.{SoFar}

@@ -1,4 +1,4 @@
--- All calls so far were interrupted.
+-- The invariant of the loop in `read_under`.
 use Rattle.desk_server.proofs.TimedLemmas.{Interrupted}
 use Rattle.desk_server.proofs.timed.read_under.Given as goal
 

@@ -1,4 +1,4 @@
--- All calls so far were interrupted.
+-- The invariant of the loop in `write_under`.
 use Rattle.desk_server.proofs.TimedLemmas.{Interrupted}
 use Rattle.desk_server.proofs.timed.write_under.Given as goal
 

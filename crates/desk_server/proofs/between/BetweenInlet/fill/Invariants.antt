@@ -1,4 +1,4 @@
--- So far there were only waits and commands, and no byte was read.
+-- The invariant of the loop in `BetweenInlet::fill`.
 use Rattle.std.proofs.Common.{◌≡◌}
 use Rattle.std.specs.Io.KnownBytes.{Keeps}
 use Rattle.desk_server.specs.Between.{AreWaits, CommandsAlone}

@@ -1,4 +1,4 @@
--- So far the connection has only waited.
+-- The invariant of the loop in `Accepted::command_before`.
 use Rattle.desk_server.specs.Accepted.{HasWaited}
 use Rattle.desk_server.proofs.connections.AcceptedWaits.command_before.Given as goal
 

@@ -1,4 +1,4 @@
--- So far `taken` bytes were read, at most 65,536, and none were written.
+-- The invariant of the loop in `Accepted::take_rest`.
 use Rattle.std.proofs.Common.{◌≡◌, ◌-◌, ◌≤◌, ℕ, List, length}
 use Rattle.std.specs.Io.KnownBytes.{Consumes, Keeps}
 use Rattle.desk_server.specs.Accepted.{HasMoved}
