@@ -1,4 +1,4 @@
--- Lemmas on the parts of a body.
+-- Lemmas for the proofs about the body of a request.
 use Rattle.http_request.proofs.Common.{◌≡◌, ℕ, ◌&&◌, Bool, true, false, cond, List, [], ◌∷◌, Option, Some, None, Result, inl, inr, refl, ap, MatchResult, ok_or}
 use Rattle.http_request.proofs.Common.{option_and_then, list_all, bytes_eq, IsUtf8, is_utf8, only_named}
 use Rattle.std.specs.{Map.keys_of, String.string_bytes, declared.{alloc.Global.Global, string.String.String}}
@@ -7,13 +7,11 @@ use Rattle.serde_json.specs.{Data.Data, View.members_view, declared.value.Value.
 use Rattle.club_core.specs.declared.refusal.Refusal.{Refusal, TheVariants.BadRequest}
 use Rattle.http_request.specs.Refused.{Refuses}
 
--- all entries of a map have this name if and only if all members of its object have it
 pub all_named : (name : List ℕ) (entries : List (String Global × Value))
     → list_all (λ key. bytes_eq (string_bytes key) name) (keys_of entries) ≡ only_named name (members_view entries)
 all_named name [] = refl
 all_named name (entry ∷ entries) = ap (λ (b : Bool). bytes_eq (string_bytes entry.0) name && b) (all_named name entries)
 
--- the bytes have no JSON value if they aren't UTF-8, or if their text isn't JSON
 pub no_value : (bytes : List ℕ) (test : Bool) (found : Option Data) → is_utf8 bytes ≡ test → (IsUtf8 bytes → found ≡ None) → cond test found None ≡ None
 no_value bytes true found e none = none (IsUtf8-from_is_utf8 bytes e)
 no_value bytes false found e none = refl

@@ -1,12 +1,12 @@
--- Lemmas on the values of fields, one field at a time.
+-- Lemmas for the proofs of `next_value` and `values_of`.
 use Rattle.http_request.proofs.Common.{◌≡◌, ℕ, ◌+◌, ◌<◌, Bool, List, ◌∷◌, cond, length, get_or, drop, refl, at_drop_more, HeaderSpan, same_word, values_in_head}
 use Rattle.httparse.specs.Spans.{header_bytes}
 
--- the empty span in a parser's buffer that wasn't written to
+-- The empty span, which a parser's buffer has before the parser writes to it.
 abbrev pub no_field : HeaderSpan
 no_field = record { name = record { start = 0; end = 0 }; value = record { start = 0; end = 0 } }
 
--- the name of the field with this index in a head
+-- The name of the field with this index in a head.
 abbrev pub name_at : List ℕ → List HeaderSpan → ℕ → List ℕ
 name_at head fields i = (header_bytes head (get_or fields i no_field)).0
 

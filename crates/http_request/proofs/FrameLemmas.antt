@@ -1,16 +1,17 @@
--- Lemmas on frames: bytes have only one.
+-- Lemmas about a request's head and body at the front of bytes.
 use Rattle.http_request.proofs.Common.{◌≡◌, ℕ, ◌<◌, ◌≤◌, inl, inr, false, List, [], ◌++◌, length, take, drop, nat_eq, sym, ap, ◌∙◌, arith, length-append}
 use Rattle.http_request.proofs.Common.{ends_with, cases_order, take-append-le, take-append-drop, length-take-le, HeaderSpan, RequestHead, Head, empty_line}
 use Rattle.http_request.proofs.Common.{IsHeadOf, IsPiece, AsksForBody, IsFramed, IsOneRequest, IsRefusedHead, HasNoPiece, IsHeadAt}
 use Rattle.std.proofs.Math.Seq.{take-append_seam, drop-append_seam}
 use Rattle.httparse.proofs.GrammarLemmas.{request_unique}
 
--- the bytes are a head's piece, followed by the rest
+-- The bytes are a piece that ends with an empty line, followed by the rest.
 pub record IsCut (bytes piece rest : List ℕ) : Type 0 where
   pub cut : IsPiece piece
   pub parts : bytes ≡ piece ++ rest
 
--- the bytes are a piece, followed by the rest, and the piece is a head whose body has this length
+-- The bytes are a piece followed by the rest. The piece is a head that announces a body of this
+-- length.
 pub record Asks (bytes : List ℕ) (head : RequestHead) (body_len : ℕ) (rest : List ℕ) : Type 0 where
   pub piece : List ℕ
   pub cut : IsCut bytes piece rest
@@ -29,7 +30,6 @@ pub asks_at : {bytes : List ℕ} {fields : List HeaderSpan} {found : Head} (at :
     → Asks bytes at.head found.body_len (drop found.len bytes)
 asks_at {bytes} {found} at = record { piece = take found.len bytes; cut = cut_at bytes found.len at.cut; asks = at.asks }
 
--- a head and a complete body after it are a frame
 pub whole_frame : {bytes : List ℕ} {fields : List HeaderSpan} {found : Head} (at : IsHeadAt bytes fields found)
     → found.body_len ≤ length (drop found.len bytes)
     → IsFramed bytes at.head (take found.body_len (drop found.len bytes))
@@ -41,7 +41,6 @@ whole_frame {bytes} {found} at long = record {
   asks = rw (length-take-le found.body_len (drop found.len bytes) long) at.asks;
 }
 
--- of two pieces at the front of the same bytes, the first isn't shorter than the second
 not_shorter : {bytes p q r s : List ℕ} → IsCut bytes p r → IsCut bytes q s → ¬ (length p < length q)
 not_shorter {p} {q} {r} {s} is other h =
     let le : length p ≤ length q = omega arith in
@@ -52,7 +51,6 @@ not_shorter {p} {q} {r} {s} is other h =
     let yes = is.cut.ends in
     cc
 
--- if two concatenations are equal and their first parts have equal lengths, the parts are equal
 pub same_parts : (p q r s : List ℕ) → length p ≡ length q → p ++ r ≡ q ++ s → (p ≡ q) × (r ≡ s)
 same_parts p q r s len same = (
   sym (take-append_seam p r) ∙ ap (take (length p)) same ∙ ap (λ (n : ℕ). take n (q ++ s)) len ∙ take-append_seam q s,
@@ -66,7 +64,6 @@ one_piece {p} {q} {r} {s} is other = elim (cases_order (length p) (length q)) [
   | inr (inr more) ↦ absurd (not_shorter other is more)
 ]
 
--- bytes that begin with a piece don't satisfy `HasNoPiece`
 pub no_piece : {bytes piece rest : List ℕ} → IsCut bytes piece rest → ¬ (HasNoPiece bytes)
 no_piece {piece} {rest} is none =
     let front : take (length piece) (piece ++ rest) ≡ piece = take-append_seam piece rest in
@@ -75,17 +72,14 @@ no_piece {piece} {rest} is none =
     let yes = is.cut.ends in
     cc
 
--- bytes that begin with an allowed head don't satisfy `IsRefusedHead`
 pub not_refused : {bytes rest : List ℕ} {head : RequestHead} {n : ℕ} → Asks bytes head n rest → ¬ (IsRefusedHead bytes)
 not_refused {head} {n} is refused =
     let same = one_piece is.cut (record { cut = refused.cut; parts = refused.parts }) in
     refused.refusal head n (rw same.0 at is.asks)
 
--- a piece parses to only one head
 pub one_head : {piece : List ℕ} {head other : RequestHead} → IsHeadOf piece head → IsHeadOf piece other → other ≡ head
 one_head {piece} {head} {other} is again = (request_unique piece other head [] [] again.reads is.reads).0
 
--- bytes have only one head, one length of the body, and one rest after the head
 pub same_asked : {bytes r s : List ℕ} {head other : RequestHead} {n m : ℕ} → Asks bytes head n r → Asks bytes other m s
     → (other ≡ head) × (n ≡ m) × (r ≡ s)
 same_asked {head} {other} {n} {m} is again =
@@ -96,7 +90,6 @@ same_asked {head} {other} {n} {m} is again =
     let second = rw same_head at again.asks.requests in
     (same_head, cc, same.1)
 
--- bytes whose body isn't complete have no frame
 pub cut_frame : {bytes rest : List ℕ} {head : RequestHead} {n : ℕ} → Asks bytes head n rest → length rest < n
     → (other : RequestHead) (body : List ℕ) → ¬ (IsFramed bytes other body)
 cut_frame {rest} {n} asks short other body frame =

@@ -1,11 +1,11 @@
--- Lemmas on the length of a body, which is at most 256 bytes.
+-- Lemmas about the length of a body, which is at most 256 bytes.
 use Rattle.http_request.proofs.Common.{◌≡◌, ℕ, ◌-◌, ◌<◌, ◌≤◌, ◌||◌, Bool, true, false, cond, eqb, leb, List, [], ◌∷◌, length, Option, Some, None, arith, codes}
 use Rattle.http_request.proofs.Common.{take, nat_tests, length-take-le, bytes_eq, HeaderSpan, Head, values_of, header_fields, IsHeadAt}
 use Rattle.std.proofs.Common.{option_and_then}
 use Rattle.club_values.specs.Number.{number_of_digits}
 use Rattle.http_request.specs.Length.{body_length, declared_length, where_allowed, unless_coded}
 
--- the length, if there is one, is at most that of the longest body
+-- The length is missing, or is at most the length of the longest body.
 abbrev IsFew : Option ℕ → Type 0
 IsFew found = (n : ℕ) → found ≡ Some n → n ≤ 256
 
@@ -30,7 +30,6 @@ few_uncoded : (codings : List (List ℕ)) (found : Option ℕ) → IsFew found �
 few_uncoded [] found few n e = few n e
 few_uncoded (coding ∷ more) found few n e = absurd cc
 
--- if a body isn't complete, there are fewer than 16,640 bytes
 pub room_for : (bytes : List ℕ) (fields : List HeaderSpan) (found : Head) → IsHeadAt bytes fields found → length bytes - found.len < found.body_len
     → length bytes < 16640
 room_for bytes fields found at short =

@@ -1,4 +1,4 @@
--- Proves that the computed place of a target is the place that the target names.
+-- This file proves that `place_of` computes the place that a target names.
 use Rattle.http_request.proofs.Common.{◌≡◌, ℕ, ◌==◌, Bool, true, false, cond, List, [], ◌∷◌, Option, Some, None, codes, refl, sym, ap, ◌∙◌, arith, ◌&&◌, nat_le}
 use Rattle.http_request.proofs.Common.{option_map, IfSome, bytes_eq, cond-true, eqb-true, nat_tests, segments, account_at, place_of, under_root, under_slots}
 use Rattle.http_request.proofs.Common.{ReadsPlaces}
@@ -10,7 +10,6 @@ use Rattle.club_rows.specs.{Limits.{IsBookingNumber, booking_number_limit}, Rows
 use Rattle.http_request.specs.{Path.{HasRealValues, IsPlace, place_parts}, computed.Parts.{number_of_text, slot_of_parts, within_limits, ◌>>=◌}}
 use Rattle.http_request.specs.declared.path.Place.{Place, TheVariants.{SlotPlace, BookingPlace, AccountPlace}}
 
--- if a property holds for each value found, it holds for a value found after a test, in two steps, or by mapping
 if_all : {A : Type 0} (P : A → Type 0) (test : Bool) (found : Option A) → (test ≡ true → IfSome found P) → IfSome (cond test found None) P
 if_all P true found is = is refl
 if_all P false found is = tt
@@ -24,24 +23,23 @@ map_all : {A B : Type 0} (P : B → Type 0) (found : Option A) (f : A → B) →
 map_all P None f is = tt
 map_all P (Some a) f is = is a refl
 
--- if the test finds two texts equal, they are equal
 same : (text other : List ℕ) → bytes_eq text other ≡ true → text ≡ other
 same text other e = (bytes_eq-Decides text other).0 e
 
 within : (n : ℕ) → IsBookingNumber n → within_limits n ≡ Some n
 within n h = cond-true (nat_le 1 n && nat_le n booking_number_limit) (Some n) None (grind (arith, nat_tests, h.0, h.1))
 
--- the values of a place are within their limits, and these are the parts of its path
+-- The values of a place are within their limits, and the given texts are the parts of the place's
+-- path.
 abbrev Spells : List (List ℕ) → Place → Type 0
 Spells parts place = (parts ≡ place_parts place) × HasRealValues place
 
--- these are the texts of a slot's facility, day and hour, which are within their limits
+-- The three texts are a slot's facility, day and hour, and these values are within their limits.
 abbrev SpellsSlot : List ℕ → List ℕ → List ℕ → Slot → Type 0
 SpellsSlot facility day hour slot =
     IsSlot slot × (facility ≡ slot.facility) × (day ≡ day_text slot.day) × (hour ≡ two_digits slot.hour)
 
 module _ (names : ReadsNames) (days : ReadsDays) (texts : IsTextOfDay) (hours : ReadsHours) (numbers : ReadsNumbers) where
-  -- ---- the place computed from the texts of some values has these values
 
   number_found : (n : ℕ) → IsBookingNumber n → number_of_text (decimal n) ≡ Some n
   unfolding number_of_text
@@ -60,8 +58,6 @@ module _ (names : ReadsNames) (days : ReadsDays) (texts : IsTextOfDay) (hours : 
   place_found (SlotPlace slot) h = rw (slot_found slot h) refl
   place_found (BookingPlace slot n) h = rw (slot_found slot h.0, number_found n h.1) refl
   place_found AccountPlace h = refl
-
-  -- ---- each computed place has the values whose texts were given
 
   number_spelled : (text : List ℕ) → IfSome (number_of_text text) (λ n. IsBookingNumber n × (text ≡ decimal n))
   unfolding number_of_text
@@ -109,8 +105,6 @@ module _ (names : ReadsNames) (days : ReadsDays) (texts : IsTextOfDay) (hours : 
         | true ↦ λ is. rw (same word (codes "slots") is) (slots_spelled parts)
         | false ↦ λ is. account_spelled word parts
       ] refl
-
-  -- ---- the place of a target
 
   target_spelled : (target : List ℕ) → IfSome (place_of target) (IsPlace target)
   target_spelled [] = tt

@@ -1,4 +1,4 @@
--- Proves that every place of the desk has a route.
+-- This file proves that every place of the desk has a route.
 use Rattle.http_request.proofs.Common.{◌≡◌, ℕ, ◌<◌, List, [], ◌∷◌, ◌++◌, length, Some, true, false, cond, ◌==◌, append-nil, codes, refl, sym, ap, subst, ◌∙◌}
 use Rattle.http_request.proofs.{Common.{arith, IsSome, eqb-true, ReadsPlaces, with_front, segments}, Segments.first_part}
 use Rattle.http_request.proofs.Walks.{over_bytes, over_part, takes_two, takes_one, takes_last, takes_end}
@@ -9,13 +9,13 @@ use Rattle.club_values.specs.{Day.day_text, Digits.two_digits}
 use Rattle.http_request.specs.{Path.{HasRealValues, IsPlace, place_parts}, Routes.KnowsPlaces, declared.path.Place.Place}
 use Rattle.http_request.specs.declared.path.Place.TheVariants.{SlotPlace, BookingPlace, AccountPlace}
 
--- the path with these parts, separated by slashes
+-- The path with these parts, separated by slashes.
 abbrev glued : List (List ℕ) → List ℕ
 glued [] = []
 glued (part ∷ []) = part
 glued (part ∷ other ∷ parts) = part ++ 47 ∷ glued (other ∷ parts)
 
--- no part has a slash
+-- None of these parts has a slash.
 abbrev AreParts : List (List ℕ) → Type 0
 AreParts [] = Unit {0}
 AreParts (part ∷ parts) = (has_slash part ≡ false) × AreParts parts
@@ -24,7 +24,6 @@ glued_more : (b : ℕ) (part : List ℕ) (parts : List (List ℕ)) → glued ((b
 glued_more b part [] = refl
 glued_more b part (other ∷ parts) = refl
 
--- a path is its parts separated by slashes, and no part has a slash
 parted : (path : List ℕ) → (path ≡ glued (segments path)) × AreParts (segments path)
 parted [] = (refl, (refl, tt))
 parted (byte ∷ path) =
@@ -37,7 +36,7 @@ parted (byte ∷ path) =
       | false ↦ λ is. (ap (λ (l : List ℕ). byte ∷ l) before.0 ∙ sym (glued_more byte first.0 first.1), (rw is before.1.0, before.1.1))
     ] refl)
 
--- the routes of the desk: the account, a booking, a slot
+-- The routes of the desk's three places: the account, a booking, and a slot.
 abbrev pub routes : {K : Type 0} → K → K → K → RowsOf K
 routes account booking slot =
     (codes "/account", account)
@@ -62,11 +61,12 @@ some_day : (day : ℕ) → 0 < length (day_text day)
 unfolding day_text
 some_day day = omega arith
 
--- a route's parameter accepts this part of a path
+-- A route's parameter accepts this part of a path.
 abbrev IsPart : List ℕ → Type 0
 IsPart part = (0 < length part) × (has_slash part ≡ false)
 
--- the routes after a slot's facility and day: its hour, alone or with a booking
+-- The routes that remain after a slot's facility and day. One route ends with the hour, and the
+-- other continues with a booking.
 hour_routes : {K : Type 0} → K → K → RowsOf K
 hour_routes booking slot = (param_token ∷ codes "/bookings/" ++ param_token ∷ [], booking) ∷ (param_token ∷ [], slot) ∷ []
 
@@ -81,7 +81,6 @@ at_hour account booking slot facility day rest f d is =
     (over_part _ _ _ day (47 ∷ rest) d.0 refl (takes_two _ _ _ _ day rest d.0 d.1)
     (over_bytes (codes "/") _ rest is))))
 
--- if no part of a place's path has a slash, the path has a route
 placed : {K : Type 0} (a b s : K) (place : Place) → HasRealValues place → AreParts (place_parts place)
     → IsSome (first (routes a b s) (47 ∷ glued (place_parts place)))
 unfolding hour_routes

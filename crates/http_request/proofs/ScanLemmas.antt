@@ -1,8 +1,7 @@
--- Lemmas on the scan for the end of a head, and on the tests of its result.
+-- Lemmas about the search for the end of a head.
 use Rattle.http_request.proofs.Common.{◌≡◌, ℕ, ◌+◌, ◌<◌, ◌≤◌, ◌↔◌, inl, inr, true, false, leb, List, length, take, nat_eq, arith, IsTrue, ends_with, cases_lt}
 use Rattle.http_request.proofs.Common.{le-leb, leb-true, nat_tests, length-take-le, take-take, empty_line, IsPiece, HasNoPiece}
 
--- if a prefix is the first that ends with an empty line, it is a piece
 pub piece_at : (bytes : List ℕ) (n : ℕ) → n ≤ length bytes → n ≤ 16384 → ends_with nat_eq (take n bytes) empty_line ≡ true
     → ((k : ℕ) → k < n → ends_with nat_eq (take k bytes) empty_line ≡ false) → IsPiece (take n bytes)
 piece_at bytes n within short ends before =
@@ -13,7 +12,6 @@ piece_at bytes n within short ends before =
       short = omega arith;
     }
 
--- no piece ends within the searched bytes
 pub ends_none : (bytes : List ℕ) (searched : ℕ) → searched ≤ length bytes → HasNoPiece (take searched bytes)
     → (k : ℕ) → k < searched + 1 → k ≤ 16384 → ends_with nat_eq (take k bytes) empty_line ≡ false
 ends_none bytes searched inside open' k below short =
@@ -21,20 +19,17 @@ ends_none bytes searched inside open' k below short =
     let within : k ≤ length (take searched bytes) = rw (length-take-le searched bytes inside) upto in
     rw take-take at (open' k within short)
 
--- a comparison tells whether a property holds
 pub tested : (a b : ℕ) (P : Type 0) → (a ≤ b → P) → (b < a → ¬ P) → IsTrue (leb a b) ↔ P
 tested a b P holds_if fails_if = elim (cases_lt b a) [
   | inl less ↦ (λ test. let le : a ≤ b = leb-true a b test in omega arith, λ holds. absurd (fails_if less holds))
   | inr le ↦ (λ _. holds_if le, λ _. le-leb a b le)
 ]
 
--- a test of equality tells whether a property holds
 pub tested_same : (a b : ℕ) (P : Type 0) → (a ≡ b) ↔ P → IsTrue (nat_eq a b) ↔ P
 tested_same a b P is = (
   λ test. is.0 (let same : a ≡ b = grind (arith, nat_tests) in same),
   λ holds. let same : a ≡ b = is.1 holds in grind (arith, nat_tests),
 )
 
--- `false` is the right result of a test for a property that doesn't hold
 pub tested_none : (P : Type 0) → ¬ P → IsTrue false ↔ P
 tested_none P none = (λ test. let bad : false ≡ true = test in cc, λ holds. absurd (none holds))

@@ -1,11 +1,12 @@
--- Lemmas on the paths that have a route: matchit walks over one part of a path at a time.
+-- Lemmas about matchit's search for the route of a path, which handles one part of the path at a
+-- time.
 use Rattle.http_request.proofs.Common.{◌≡◌, ℕ, zero, suc, ◌-◌, ◌<◌, List, [], ◌∷◌, ◌++◌, length, drop, Option, Some, None, true, false, cond, ◌==◌, ltb, nat_eq}
 use Rattle.http_request.proofs.Common.{refl, ap, ◌∙◌, arith, length-append, IsSome, and_right, nat_tests}
 use Rattle.std.specs.Cmp.Lexicographic.{pointwise}
 use Rattle.std.proofs.Math.Seq.{drop-append_seam}
 use Rattle.matchit.specs.{Rows.{RowsOf, param_token}, Seek.{segment, has_slash, cuts, step, or_else, param_step, seek}}
 
--- the rows that continue after some bytes
+-- The rows that still match after these bytes of a path.
 abbrev pub steps : {K : Type 0} → List ℕ → RowsOf K → RowsOf K
 steps [] rs = rs
 steps (b ∷ word) rs = steps word (step b rs)
@@ -28,7 +29,6 @@ unfolding seek
 skipped [] rs rest = refl
 skipped (b ∷ part) rs rest = skipped part rs rest
 
--- after a parameter takes a part, the walk skips the other bytes of the part and continues with the rest
 past : {K : Type 0} (gone : ℕ × RowsOf K) (b : ℕ) (part rest : List ℕ) (kept : RowsOf K) → gone ≡ (length (b ∷ part), kept) → IsSome (seek 0 kept rest)
     → IsSome (seek (gone.0 - 1) gone.1 (part ++ rest))
 past gone b part rest kept e is =
@@ -43,7 +43,6 @@ over_part rs ts kept [] rest some from takes is = let no : ⊥ = omega arith in 
 over_part rs ts kept (b ∷ part) rest some from takes is =
     some_second _ _ (some_first _ _ (past _ b part rest kept (ap (λ (r : _). param_step r (b ∷ part ++ rest)) from ∙ takes) is))
 
--- if a part has no slash, its first byte isn't a slash, and its rest has none
 no_slash : (b : ℕ) (part : List ℕ) → has_slash (b ∷ part) ≡ false → ((b == 47) ≡ false) × (has_slash part ≡ false)
 no_slash b part none =
     elim (b == 47) as (λ v. cond v true (has_slash part) ≡ false → (v ≡ false) × (has_slash part ≡ false)) [
@@ -51,7 +50,6 @@ no_slash b part none =
       | false ↦ λ no. (refl, no)
     ] none
 
--- the segment of a part that a slash follows is the part with the slash
 segment_of : (part rest : List ℕ) → has_slash part ≡ false → segment (part ++ 47 ∷ rest) ≡ part ++ 47 ∷ []
 segment_of [] rest none = refl
 segment_of (b ∷ part) rest none = rw (no_slash b part none).0 (ap (λ (l : List ℕ). b ∷ l) (segment_of part rest (no_slash b part none).1))
@@ -79,19 +77,16 @@ not_at (suc n) (b ∷ part) none = not_at n part (no_slash b part none).1
 cuts_no_slash : (part : List ℕ) → has_slash part ≡ false → cuts part (47 ∷ []) ≡ false
 cuts_no_slash part none = and_right _ _ (not_at (length part - 1) part none)
 
--- if each of two rows continues with a slash, the parameter takes the part and keeps both rows
 pub takes_two : {K : Type 0} (t s : List ℕ) (k j : K) (part rest : List ℕ) → 0 < length part → has_slash part ≡ false
     → param_step ((47 ∷ t, k) ∷ (47 ∷ s, j) ∷ []) (part ++ 47 ∷ rest) ≡ (length part, (47 ∷ t, k) ∷ (47 ∷ s, j) ∷ [])
 unfolding param_step
 takes_two t s k j part rest some none = rw (segment_of part rest none, cuts_slash part some, one_less part) refl
 
--- if one row continues with a slash and one ends, the parameter takes the part and keeps the first row
 pub takes_one : {K : Type 0} (t : List ℕ) (k j : K) (part rest : List ℕ) → 0 < length part → has_slash part ≡ false
     → param_step ((47 ∷ t, k) ∷ ([], j) ∷ []) (part ++ 47 ∷ rest) ≡ (length part, (47 ∷ t, k) ∷ [])
 unfolding param_step
 takes_one t k j part rest some none = rw (segment_of part rest none, cuts_slash part some, one_less part) refl
 
--- a parameter takes all of the last part of a path, and keeps both rows
 pub takes_last : {K : Type 0} (t : List ℕ) (k j : K) (part : List ℕ) → has_slash part ≡ false
     → param_step ((47 ∷ t, k) ∷ ([], j) ∷ []) part ≡ (length part, (47 ∷ t, k) ∷ ([], j) ∷ [])
 unfolding param_step

@@ -1,4 +1,4 @@
--- Lemmas on the conditions under which a request is complete, and on the bytes after it.
+-- Lemmas about complete requests at the front of bytes.
 use Rattle.http_request.proofs.Common.{◌≡◌, ◌⊎◌, ℕ, ◌-◌, ◌<◌, ◌≤◌, ◌↔◌, inl, inr, List, ◌++◌, length, take, drop, sym, ap, ◌∙◌, arith, append_assoc}
 use Rattle.http_request.proofs.Common.{length-append, take-append-le, take-append-drop, length-drop, HeaderSpan, RequestHead, Head, IsFramed, IsOneRequest}
 use Rattle.http_request.proofs.Common.{IsRefusedHead, HasNoPiece, IsWhole, has_frame, endless, bad_head, IsHeadAt, IsHeadResultOf, OneReading, ReadsPlaces}
@@ -7,19 +7,16 @@ use Rattle.http_request.proofs.FrameLemmas.{Asks, asks_at, cut_frame, framed, no
 use Rattle.http_request.specs.declared.head_result.HeadResult.{HeadResult, TheVariants.{Refused, Asking}}
 use Rattle.http_request.specs.Words as words
 
--- if no head has ended, and more bytes may still be in it, the bytes have no complete request
 pub open_head : (bytes : List ℕ) → HasNoPiece bytes → length bytes < 16384 → ¬ (IsWhole bytes)
 open_head bytes none short (has_frame head body is) = no_piece (framed is).cut none
 open_head bytes none short (endless empty long) = omega arith
 open_head bytes none short (bad_head is) = no_piece (record { cut = is.cut; parts = is.parts }) none
 
--- if the body isn't complete, the bytes have no complete request
 pub open_body : {bytes rest : List ℕ} {head : RequestHead} {n : ℕ} → Asks bytes head n rest → length rest < n → ¬ (IsWhole bytes)
 open_body asks short (has_frame other body is) = cut_frame asks short other body is
 open_body asks short (endless none long) = no_piece asks.cut none
 open_body asks short (bad_head is) = not_refused asks is
 
--- bytes that begin with a head are one request if and only if they end with its body
 pub body_only : (bytes : List ℕ) (fields : List HeaderSpan) (found : Head) → IsHeadAt bytes fields found
     → (length bytes - found.len ≡ found.body_len) ↔ IsOneRequest bytes
 body_only bytes fields found at =
@@ -35,7 +32,6 @@ body_only bytes fields found at =
       λ one. let same = same_asked (asks_at at) (only one) in omega (arith, same.1, ap length same.2),
     )
 
--- bytes decode in only one way
 pub one : ReadsPlaces → OneReading
 one reads bytes a b (words.has_frame head body place is at decoded) (words.has_frame other again found and there returned) =
     let asked = same_asked (framed is) (framed and) in
@@ -47,7 +43,6 @@ one reads bytes a b (words.has_frame head body place is at decoded) (words.lacks
 one reads bytes a b (words.lacks_frame none returned) (words.has_frame head body place is at decoded) = absurd (none head body is)
 one reads bytes a b (words.lacks_frame none returned) (words.lacks_frame again decoded) = cc
 
--- a frame at the front of bytes is still there if more bytes follow
 frame_more : (bytes more : List ℕ) (head : RequestHead) (body : List ℕ) → IsFramed bytes head body → IsFramed (bytes ++ more) head body
 frame_more bytes more head body is = record {
   piece = is.piece;

@@ -1,22 +1,23 @@
--- The fields of a head, by their names.
+-- This file defines how the fields of a head are found by their names.
 use Rattle.std.specs.{Char.to_ascii_lowercase, Prelude.{◌≡◌, ℕ, Bool, List, [], ◌∷◌, map, if◌then◌else◌}, Str.bytes_eq}
 use Rattle.httparse.specs.{Spans.header_bytes, declared.spans.HeaderSpan.HeaderSpan}
 use Rattle.http_request.specs.declared.fields.Values.{Values, TheVariants.{None, One, More}}
 
--- two names are equal if case is ignored (RFC 9110, section 5.1)
+-- The two names are equal if upper and lower case are ignored (RFC 9110, section 5.1).
 abbrev pub same_word : List ℕ → List ℕ → Bool
 same_word a b = bytes_eq (map to_ascii_lowercase a) (map to_ascii_lowercase b)
 
--- the values of the fields with a name, in order; each field is a name with its value
+-- The values of the fields with this name, in the order of the fields. Each field is a pair of a
+-- name and a value.
 abbrev pub values_of : List ℕ → List (List ℕ × List ℕ) → List (List ℕ)
 values_of name [] = []
 values_of name (field ∷ fields) = if same_word field.0 name then field.1 ∷ values_of name fields else values_of name fields
 
--- the values of the fields with a name, for fields that are spans of a head
+-- The values of the fields with this name, for fields that are spans of a head.
 abbrev pub values_in_head : List ℕ → List ℕ → List HeaderSpan → List (List ℕ)
 values_in_head head name fields = values_of name (map (header_bytes head) fields)
 
--- the result tells whether there is no value, one value, or several
+-- The result distinguishes three cases: the list has no value, one value, or several values.
 abbrev pub ClassifiesValues : List (List ℕ) → Values → Type 0
 ClassifiesValues values None = values ≡ []
 ClassifiesValues values (One value) = values ≡ value.now ∷ []

@@ -1,19 +1,21 @@
--- The head of a request at the front of bytes.
+-- This file defines the head of a request at the front of bytes.
 use Rattle.std.specs.{List.ends_with, Prelude.{◌≡◌, ℕ, ◌<◌, ◌≤◌, true, false, List, [], length, take, nat_eq, codes}}
 use Rattle.httparse.specs.Grammar.{RequestHead, ReadsRequest}
 use Rattle.http_request.specs.Limits.{max_fields, max_head_len}
 
--- the end of the last line, then an empty line
+-- The end of the last line of a head, and an empty line.
 abbrev pub empty_line : List ℕ
 empty_line = codes "\r\n\r\n"
 
--- the shortest prefix that ends with an empty line; its length is within the limit of a head
+-- The piece ends with an empty line, but no shorter prefix of the piece does. The piece isn't
+-- longer than the limit of a head.
 pub record IsPiece (piece : List ℕ) : Type 0 where
   pub ends : ends_with nat_eq piece empty_line ≡ true
   pub shortest : (n : ℕ) → n < length piece → ends_with nat_eq (take n piece) empty_line ≡ false
   pub short : length piece ≤ max_head_len
 
--- the whole piece is the head of a request (RFC 9112, as httparse parses it), with at most the allowed number of fields
+-- All of the piece is the head of a request, as httparse parses it (RFC 9112). The head has at most
+-- the allowed number of fields.
 pub record IsHeadOf (piece : List ℕ) (head : RequestHead) : Type 0 where
   pub reads : ReadsRequest piece head []
   pub few : length head.fields ≤ max_fields

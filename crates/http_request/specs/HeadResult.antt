@@ -1,10 +1,10 @@
--- The head at the front of bytes, if there is one.
+-- This file defines the result of looking for a head at the front of bytes.
 use Rattle.std.specs.Prelude.{◌≤◌, ℕ, List, length, take}
 use Rattle.httparse.specs.{Grammar.RequestHead, Spans.{IsRequestWithin, IsRequestAt}, declared.spans.HeaderSpan.HeaderSpan}
 use Rattle.http_request.specs.{Frame.{AsksForBody, HasNoPiece, IsRefusedHead}, Head.IsPiece, declared.head_result.HeadResult.HeadResult}
 use Rattle.http_request.specs.declared.{head_result.{HeadResult.TheVariants.{NoPiece, Refused, Asking}, Head.Head}, scan.HeadScan.HeadScan}
 
--- the bytes begin with a head; the fields and the spans are the positions of its parts
+-- The bytes begin with a head. `fields` and `found.spans` are the positions of the head's parts.
 pub record IsHeadAt (bytes : List ℕ) (fields : List HeaderSpan) (found : Head) : Type 0 where
   pub head : RequestHead
   pub inside : found.len ≤ length bytes
@@ -13,12 +13,13 @@ pub record IsHeadAt (bytes : List ℕ) (fields : List HeaderSpan) (found : Head)
   pub within : IsRequestWithin (take found.len bytes) fields found.spans
   pub spans : IsRequestAt (take found.len bytes) fields found.spans head
 
--- the bytes have no complete head yet, begin with a refused head, or begin with a head whose body has a known length
+-- The result of looking for a head at the front of these bytes. No head has ended yet, or the head
+-- is refused, or the head announces a body of a known length.
 abbrev pub IsHeadResultOf : List ℕ → List HeaderSpan → HeadResult → Type 0
 IsHeadResultOf bytes fields NoPiece = HasNoPiece bytes
 IsHeadResultOf bytes fields Refused = IsRefusedHead bytes
 IsHeadResultOf bytes fields (Asking found) = IsHeadAt bytes fields found
 
--- the scan has the result of looking for a head at the front of these bytes
+-- The scan has the result of looking for a head at the front of these bytes.
 abbrev pub Covers : HeadScan → List ℕ → Type 0
 Covers scan bytes = IsHeadResultOf bytes scan.fields scan.front

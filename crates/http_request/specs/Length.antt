@@ -1,33 +1,35 @@
--- The length of a body (RFC 9112, section 6.2).
+-- This file defines the length of a request's body (RFC 9112, section 6.2).
 use Rattle.std.specs.{Prelude.{ℕ, ◌==◌, ◌||◌, List, [], ◌∷◌, length, nat_le, codes, if◌then◌else◌, Option, Some, None, option_and_then}, Str.bytes_eq}
 use Rattle.club_values.specs.Number.{number_of_digits}
 use Rattle.http_request.specs.{Fields.values_of, Limits.max_body_len}
 
--- the length, if it is within the limit of a body
+-- The given length. The result is `None` if the length is over the limit of a body.
 abbrev pub body_length : ℕ → Option ℕ
 body_length n = if nat_le n max_body_len then Some n else None
 
--- the number that 1 to 4 digits represent, if it is within the limit of a body (ours)
+-- The number that 1 to 4 digits represent. The result is `None` if the number is over the limit of
+-- a body.
 abbrev pub length_in : List ℕ → Option ℕ
 length_in value = if nat_le (length value) 4 then option_and_then body_length (number_of_digits value) else None
 
--- without a field, the length is 0; with two fields, the head is refused
+-- The length in the fields `Content-Length`. Without such a field, the length is 0. The desk
+-- refuses a head with two or more such fields.
 abbrev pub declared_length : List (List ℕ) → Option ℕ
 declared_length [] = Some 0
 declared_length (value ∷ []) = length_in value
 declared_length (value ∷ other ∷ more) = None
 
--- a body that isn't empty is allowed only with PUT (ours)
+-- The desk allows a body that isn't empty only with the method PUT.
 abbrev pub where_allowed : List ℕ → Option ℕ → Option ℕ
 where_allowed method None = None
 where_allowed method (Some n) = if n == 0 || bytes_eq method (codes "PUT") then Some n else None
 
--- a head with a transfer coding is refused (ours)
+-- The desk refuses a head with a transfer coding.
 abbrev pub unless_coded : List (List ℕ) → Option ℕ → Option ℕ
 unless_coded [] found_len = found_len
 unless_coded (coding ∷ more) found_len = None
 
--- the length of the body of a head; none if the head is refused
+-- The length of the body that a head announces. The result is `None` if the desk refuses the head.
 abbrev pub asked_length : List ℕ → List (List ℕ × List ℕ) → Option ℕ
 asked_length method fields =
     unless_coded (values_of (codes "transfer-encoding") fields)

@@ -1,12 +1,14 @@
--- The pass of a request (RFC 6750, section 2.1).
+-- This file defines the pass of a request (RFC 6750, section 2.1).
 use Rattle.std.specs.Prelude.{ℕ, List, [], ◌∷◌, take, drop, codes, if◌then◌else◌, Option, Some, None}
 use Rattle.http_request.specs.Fields.{same_word, values_of}
 
--- the text of the pass is everything after `Bearer`, in capital or small letters, and one space
+-- The text of the pass in a field's value. The text is everything after `Bearer` and one space. The
+-- case of the letters of `Bearer` doesn't matter.
 abbrev pub bearer_text : List ℕ → Option (List ℕ)
 bearer_text value = if same_word (take 7 value) (codes "bearer ") then Some (drop 7 value) else None
 
--- the text of the pass, if there is exactly one field
+-- The text of the pass in the list's only value. The result is `None` if the list has no value or
+-- several values.
 abbrev pub only_text : List (List ℕ) → Option (List ℕ)
 only_text [] = None
 only_text (value ∷ []) = bearer_text value

@@ -1,4 +1,4 @@
--- The decoding of a request (ours).
+-- This file defines the decoding of a request.
 use Rattle.std.specs.{Option.ok_or, Prelude.{◌≡◌, ◌⊎◌, ℕ, ◌<◌, List, length, if◌then◌else◌, codes, Option, Some, Result, Ok, Err}, Str.bytes_eq}
 use Rattle.httparse.specs.Grammar.{RequestHead}
 use Rattle.club_core.specs.declared.refusal.Refusal.{Refusal, TheVariants.{BadRequest, NoSuchPath, MethodNotAllowed, NoPass, Unavailable}}
@@ -13,16 +13,18 @@ abbrev pub ◌>>=◌ : {A B : Type 0} → Result A Refusal → (A → Result B R
 Ok a >>= f = f a
 Err e >>= f = Err e
 
--- a decoded request: the text of its pass, and the request itself
+-- A decoded request: the text of its pass, and the request itself.
 pub record DecodedRequest : Type 0 where
   pub pass : List ℕ
   pub request : Request
 
--- the guests of a request: the number in the body of a PUT, or 0 for any other method
+-- The number of guests of a request. For PUT it is the number in the body. For any other method it
+-- is 0.
 abbrev pub guests_by_method : List ℕ → List ℕ → Option ℕ
 guests_by_method method body = if bytes_eq method (codes "PUT") then guests_in body else Some 0
 
--- the request that a method makes at a place; methods are compared by their bytes
+-- The request that a method makes at a place. The bytes of the method are compared, so case
+-- matters.
 abbrev pub request_at : Place → List ℕ → ℕ → Result Request Refusal
 request_at (SlotPlace slot) method guests =
     if bytes_eq method (codes "GET") then Ok (requests.View slot) else Err (MethodNotAllowed resources.Slot)
@@ -32,7 +34,8 @@ request_at (BookingPlace slot number) method guests =
 request_at AccountPlace method guests =
     if bytes_eq method (codes "GET") then Ok requests.Account else Err (MethodNotAllowed resources.Account)
 
--- a request, decoded from its method, the place of its target, its fields and its body; or the first refusal that applies
+-- The request decoded from its method, its place, its fields and its body. If the desk refuses the
+-- request, the result is the first refusal that applies.
 unfoldable pub decoded_request : List ℕ → Option Place → List (List ℕ × List ℕ) → List ℕ → Result DecodedRequest Refusal
 decoded_request method place fields body = do
   guests ← ok_or (guests_by_method method body) BadRequest
@@ -41,20 +44,22 @@ decoded_request method place fields body = do
   pass ← ok_or (pass_text_of fields) NoPass
   Ok (record { pass = pass; request = request })
 
--- the bytes decode by the head and the body at their front; without these, the result is `BadRequest`
+-- The decoding of the bytes. If the bytes begin with a head and a body, the answer is the decoding
+-- of that head and body. Otherwise, the answer is `BadRequest`.
 pub data IsRequestReading (bytes : List ℕ) (answer : Result DecodedRequest Refusal) : Type 0 where
   has_frame : (head : RequestHead) (body : List ℕ) (place : Option Place) → IsFramed bytes head body → IsPlaceOf head.target place
       → answer ≡ decoded_request head.method place (header_fields head) body → IsRequestReading bytes answer
   lacks_frame : ((head : RequestHead) (body : List ℕ) → ¬ (IsFramed bytes head body)) → answer ≡ Err BadRequest → IsRequestReading bytes answer
 
--- only the body of a PUT needs memory
+-- Decoding needs memory only for the body of a PUT, and only if this body isn't empty.
 abbrev pub NeedsMemory : List ℕ → List ℕ → Type 0
 NeedsMemory method body = (method ≡ codes "PUT") × (0 < length body)
 
 abbrev pub HoldsBody : List ℕ → Type 0
 HoldsBody bytes = (head : RequestHead) × (body : List ℕ) × IsFramed bytes head body × NeedsMemory head.method body
 
--- the relation holds for the answer, or the answer is `Unavailable` because the decoding needed memory and there was none
+-- The answer satisfies the relation `Answers`. The answer may also be `Unavailable` if the decoding
+-- needs memory.
 abbrev pub OrUnavailable : Type 0 → (Result DecodedRequest Refusal → Type 0) → Result Words Refusal → Type 0
 OrUnavailable Needs Answers (Ok words) = Answers (Ok (record { pass = words.pass.now; request = words.request }))
 OrUnavailable Needs Answers (Err refusal) = ((refusal ≡ Unavailable) × Needs) ⊎ Answers (Err refusal)

@@ -13,7 +13,7 @@ use club_values::MAX_GUESTS;
 use serde_json::{Map, Value};
 use std::alloc::Global;
 
-/// Returns whether the value is an object with no other name than `guests`.
+/// Returns true if the value is an object with no name other than `guests`.
 fn has_only_guests(value: &Value) -> bool
     ensures { result ≡ spec.has_only_name (codes "guests") (view value.now) }
 {
@@ -55,7 +55,7 @@ fn guests_of_value(value: &Value) -> Option<Guests>
     few_guests(whole_number(value))
 }
 
-/// Parses the bytes as JSON. Fails with `Unavailable` if there is no memory.
+/// Parses the bytes as JSON. Fails with `Unavailable` if memory runs out.
 fn json_value_of(alloc: Global, bytes: &[u8]) -> Result<Value, Refusal>
     ensures ok { IfOk result (λ value. spec.json_value_of bytes.now ≡ Some (view value)) }
     ensures err { IfErr result (Refuses (0 < length bytes.now) (spec.json_value_of bytes.now)) }

@@ -14,7 +14,8 @@ pub const MAX_HEAD_LEN: usize = 16_384;
 pub const MAX_FIELDS: usize = 32;
 
 /// Returns the length of the head at the front of the bytes. A head ends with the first empty line,
-/// CR LF CR LF. No head ends within the first `searched` bytes, so these aren't searched again.
+/// CR LF CR LF. The caller knows that no head ends within the first `searched` bytes. So this
+/// function doesn't search these bytes again.
 pub(crate) fn piece_len(bytes: &[u8], searched: usize) -> Option<usize>
     requires inside { searched ≤ length bytes.now }
     requires open { HasNoPiece (take searched bytes.now) }
@@ -31,7 +32,7 @@ pub(crate) fn piece_len(bytes: &[u8], searched: usize) -> Option<usize>
     None
 }
 
-/// Returns the positions of a head's parts; `None` if the piece isn't exactly a head.
+/// Returns the positions of a head's parts. Returns `None` if the piece isn't exactly a head.
 pub(crate) fn read_head(piece: &[u8], fields: &mut [HeaderSpan; MAX_FIELDS]) -> Option<RequestSpans>
     ensures { MatchOption result
         ((head : RequestHead) → ¬ (IsHeadOf piece.now head))

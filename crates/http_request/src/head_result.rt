@@ -1,4 +1,4 @@
-//! The head at the front of bytes, if there is one.
+//! Looks for a head at the front of bytes.
 
 ghost use Rattle.std.specs.Prelude.{◌≡◌, ◌≤◌, length, map, take, All};
 ghost use Rattle.http_request.specs.{Frame.HasNoPiece, HeadResult.IsHeadResultOf};
@@ -23,14 +23,14 @@ pub(crate) struct Head {
 pub(crate) enum HeadResult {
     /// No head ends within the first `MAX_HEAD_LEN` bytes.
     NoPiece,
-    /// The head is refused, whatever bytes follow it.
+    /// The desk refuses the head, whatever bytes follow it.
     Refused,
-    /// A head, with the length of its body.
+    /// A complete head, which announces a body of a known length.
     Asking(Head),
 }
 
-/// Looks for a head at the front of the bytes, given that no head ends within the first `searched`
-/// bytes. Writes the positions of the head's fields to `fields`.
+/// Looks for a head at the front of the bytes. The caller knows that no head ends within the first
+/// `searched` bytes. Writes the positions of the head's fields to `fields`.
 pub(crate) fn head_result_of(
     bytes: &[u8],
     searched: usize,

@@ -1,4 +1,4 @@
-//! Laws of the decoding of requests. Each is the contract of a function that does nothing.
+//! Laws about the decoding of requests. Each law is the contract of a function with an empty body.
 
 ghost use Rattle.http_request.specs.Laws.{OneReading, WholeKeepsItsReading, BodyStays, ReadsPlaces};
 
@@ -15,19 +15,20 @@ pub fn reads_places()
     reads_hours();
 }
 
-/// Bytes decode in at most one way.
+/// A list of bytes decodes in at most one way.
 pub fn one_reading()
     ensures { OneReading }
 {
     reads_places();
 }
 
-/// A complete request decodes the same, whatever bytes follow it.
+/// A complete request decodes in the same way, whatever bytes follow the request.
 pub fn whole_keeps_its_reading()
     ensures { WholeKeepsItsReading }
 {}
 
-/// If bytes have a body that needs memory, they still have it after more bytes are appended.
+/// If a list of bytes begins with a request whose body needs memory, every extension of the list
+/// also begins with a request whose body needs memory.
 pub fn body_stays()
     ensures { BodyStays }
 {}

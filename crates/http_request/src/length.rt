@@ -14,7 +14,8 @@ pub const MAX_BODY_LEN: usize = 256;
 /// The most digits of a body's length.
 const MAX_DIGITS: usize = 4;
 
-/// Parses the length of a body: 1 to 4 digits for a number of at most `MAX_BODY_LEN`.
+/// Parses the length of a body. The text must have 1 to 4 digits, and the number must be at most
+/// `MAX_BODY_LEN`.
 fn length_in(value: &[u8]) -> Option<usize>
     ensures { result ≡ spec.length_in value.now }
 {
@@ -25,7 +26,8 @@ fn length_in(value: &[u8]) -> Option<usize>
     if len <= MAX_BODY_LEN { Some(len) } else { None }
 }
 
-/// Returns the length in bytes of the body that a head announces; `None` if the head is refused.
+/// Returns the length of the body that a head announces, in bytes. Returns `None` if the desk
+/// refuses the head.
 pub(crate) fn asked_length(head: &[u8], fields: &[HeaderSpan], method: &[u8]) -> Option<usize>
     requires { All (IsHeaderWithin (length head.now)) fields.now }
     ensures { result ≡ spec.asked_length method.now (map (header_bytes head.now) fields.now) }

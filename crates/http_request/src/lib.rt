@@ -1,4 +1,4 @@
-//! Decodes requests to the desk from the bytes of HTTP/1.1.
+//! Decodes the bytes of HTTP/1.1 requests to the desk.
 #![tactic(auto)]
 
 mod body;
@@ -13,7 +13,7 @@ mod requests;
 mod routes;
 mod scan;
 
-/// A request as it was sent: the text of its pass, and the parsed request.
+/// A request as a client sends it: the text of its pass, and the parsed request.
 pub use club_core::SentWords as Words;
 pub use head::{MAX_FIELDS, MAX_HEAD_LEN};
 pub use length::MAX_BODY_LEN;

@@ -7,10 +7,10 @@ ghost use Rattle.http_request.specs.Pass as spec;
 use crate::fields::{Values, values_of};
 use httparse::spans::HeaderSpan;
 
-/// The number of bytes of `Bearer` and one space.
+/// The length of `Bearer` and one space, in bytes.
 const SCHEME_LEN: usize = 7;
 
-/// Returns the text of the pass in a field's value, after `Bearer` and one space.
+/// Returns the text of the pass in a field's value. The text comes after `Bearer` and one space.
 fn bearer_text(value: &[u8]) -> Option<&[u8]>
     ensures { option_map (λ text. text.now) result ≡ spec.bearer_text value.now }
 {
@@ -25,7 +25,8 @@ fn bearer_text(value: &[u8]) -> Option<&[u8]>
     }
 }
 
-/// Returns the text of the pass if there is exactly one field `Authorization`, and it holds a pass.
+/// Returns the text of the pass. Returns `None` unless there is exactly one field `Authorization`,
+/// and its value has a pass.
 pub(crate) fn pass_text_of<'a>(head: &'a [u8], fields: &[HeaderSpan]) -> Option<&'a [u8]>
     requires { All (IsHeaderWithin (length head.now)) fields.now }
     ensures { option_map (λ text. text.now) result

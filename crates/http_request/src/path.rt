@@ -17,7 +17,7 @@ pub(crate) enum Place {
     AccountPlace,
 }
 
-/// Returns the first part of a path, and the rest after the following slash.
+/// Returns the first part of a path, and the rest of the path after the following slash.
 fn next_part(path: &[u8]) -> (&[u8], Option<&[u8]>)
     ensures { BeginsWith path.now result.0.now result.1 }
 {
@@ -51,7 +51,8 @@ fn read_slot(facility: &[u8], day: &[u8], hour: &[u8]) -> Option<Slot>
     })
 }
 
-/// Returns the place of a slot or of one of its bookings, from the rest of the path.
+/// Returns the place of a slot or of a booking in the slot. `rest` is the rest of the path after
+/// the slot's parts.
 fn at_slot(slot: Slot, rest: Option<&[u8]>) -> Option<Place>
     ensures { result ≡ spec.at_slot slot (following_parts rest.entry) }
 {

@@ -1,4 +1,4 @@
-//! The request that a method makes at a place.
+//! The requests that a method can make at a place.
 
 ghost use Rattle.std.specs.Prelude.{◌≡◌, Ok};
 ghost use Rattle.http_request.specs.Words as spec;

@@ -1,4 +1,4 @@
-//! The routes of the desk, and the decoding of requests with them.
+//! The routes of the desk, and the decoding of requests with these routes.
 
 ghost use Rattle.std.specs.Prelude.{◌≡◌, length, map, All, codes, IfOk, MatchResult, Some, Ok};
 ghost use Rattle.std.specs.Str.{IsUtf8};
@@ -31,8 +31,8 @@ pub struct Routes {
     ghost knows: { KnowsPlaces router },
 }
 
-/// Adds a route. The desk's routes are valid and don't conflict, so this fails only if there is no
-/// memory.
+/// Adds a route. The desk's routes are valid and don't conflict, so this function fails only if
+/// memory runs out.
 fn add(router: &mut Router<()>, route: &str) -> Result<(), AllocError>
     ensures { IfOk result (λ _.
         InsertsRead (parse_route route.now) tt router.old router.new (Ok tt)) }
@@ -48,7 +48,7 @@ impl Routes {
     ///
     /// # Errors
     ///
-    /// Fails if there is no memory for the routes.
+    /// Fails if memory runs out.
     pub fn new(alloc: Global) -> Result<Routes, AllocError> {
         let mut router = Router::new(alloc);
         add(
@@ -61,7 +61,8 @@ impl Routes {
         Ok(Routes { alloc, router })
     }
 
-    /// Returns the place that a target names, if it has a route and its parts parse.
+    /// Returns the place that a target names. Returns `None` if the target has no route or one of
+    /// its parts doesn't parse.
     fn place_of(&self, target: &[u8]) -> Option<Place>
         requires { IsUtf8 target.now }
         ensures { result ≡ path.place_of target.now }
@@ -74,7 +75,8 @@ impl Routes {
     }
 }
 
-/// Returns the guests of a request: the number in the body of a PUT, or 0 for any other method.
+/// Returns the number of guests of a request. For PUT it is the number in the body. For any other
+/// method it is 0.
 fn guests_of_body(alloc: Global, method: &[u8], body: &[u8]) -> Result<Guests, Refusal>
     ensures { MatchResult result
         (λ guests. guests_by_method method.now body.now ≡ Some guests)
@@ -112,8 +114,8 @@ fn decode_request<'a>(
     Ok(Words { pass, request })
 }
 
-/// Decodes the bytes of a request with a scan that covers them, so that the head isn't parsed
-/// again. Bytes after the request change nothing.
+/// Decodes the bytes of a request. `scan` must cover the bytes, so this function doesn't parse the
+/// head again. Bytes after the request change nothing.
 ///
 /// # Errors
 ///
@@ -141,13 +143,14 @@ pub fn words_by_scan<'a>(
     decode_request(routes, piece, fields, method, target, body)
 }
 
-/// Decodes the bytes of a request: the text of its pass, and the request itself. Bytes after the
-/// request change nothing.
+/// Decodes the bytes of a request. Returns the text of the request's pass, and the request itself.
+/// Bytes after the request change nothing.
 ///
 /// # Errors
 ///
-/// Fails with the first fault that applies: `BadRequest`, `NoSuchPath`, `MethodNotAllowed`,
-/// `NoPass`. `Unavailable` means that there is no memory, which only the body of a PUT needs.
+/// Fails with the first of these faults that applies: `BadRequest`, `NoSuchPath`,
+/// `MethodNotAllowed`, `NoPass`. Fails with `Unavailable` if memory runs out. Only the body of a
+/// PUT needs memory.
 pub fn words_of<'a>(routes: &Routes, bytes: &'a [u8]) -> Result<Words<'a>, Refusal>
     ensures { OrUnavailable (HoldsBody bytes.now) (IsRequestReading bytes.now) result }
 {

@@ -12,8 +12,8 @@ use httparse::spans::{EMPTY_HEADER_SPAN, HeaderSpan};
 /// The most bytes of a request.
 pub const MAX_REQUEST_LEN: usize = MAX_HEAD_LEN + MAX_BODY_LEN;
 
-/// A scan for the head of a request. It keeps what the scanned bytes parse to. The head is parsed
-/// once, when its end has arrived.
+/// A scan for the head of a request. It keeps the result of looking for a head in the scanned
+/// bytes. It parses the head once, after the end of the head has arrived.
 #[derive(Drop)]
 pub struct HeadScan {
     pub(crate) front: HeadResult,
@@ -22,7 +22,7 @@ pub struct HeadScan {
 }
 
 impl HeadScan {
-    /// Makes a scan that covers no bytes.
+    /// Returns a scan that covers no bytes.
     pub fn new() -> HeadScan
         ensures { Covers result [] }
     {
@@ -32,9 +32,10 @@ impl HeadScan {
         }
     }
 
-    /// Extends the scan from the first `searched` bytes, which it already covers, to all the bytes.
-    /// If no head has ended yet, it searches the new bytes for the end of one, and parses the head
-    /// that it finds. Once a head has ended, it looks at no more bytes.
+    /// Extends the scan to all of `bytes`. The scan must already cover the first `searched` bytes.
+    /// If no head has ended yet, this function looks for the end of a head in the new bytes. If it
+    /// finds a head, it parses the head. Once a head has ended, this function looks at no more
+    /// bytes.
     pub fn go_on(&mut self, bytes: &[u8], searched: usize)
         requires inside { searched ≤ length bytes.now }
         requires before { Covers self.old (take searched bytes.now) }
@@ -46,8 +47,8 @@ impl HeadScan {
         }
     }
 
-    /// Returns whether the bytes that the scan covers begin with a complete request. If they don't,
-    /// they are fewer than `MAX_REQUEST_LEN`.
+    /// Returns true if the bytes that the scan covers begin with a complete request. If they don't,
+    /// there are fewer than `MAX_REQUEST_LEN` bytes.
     pub fn is_whole(&self, bytes: &[u8]) -> bool
         requires { Covers self.now bytes.now }
         ensures whole { IsTrue result ↔ IsWhole bytes.now }
@@ -59,7 +60,7 @@ impl HeadScan {
             HeadResult::Asking(head) => bytes.len() - head.len >= head.body_len,
         }
     }
-    /// Returns whether the bytes that the scan covers are exactly a head and its body.
+    /// Returns true if the bytes that the scan covers are exactly a head and its body.
     pub fn is_over(&self, bytes: &[u8]) -> bool
         requires { Covers self.now bytes.now }
         ensures { IsTrue result ↔ IsOneRequest bytes.now }

@@ -1,10 +1,11 @@
--- Computes the place that a target names.
+-- This file computes the place that a target names.
 use Rattle.std.specs.{Prelude.{ℕ, ◌==◌, List, [], ◌∷◌, codes, if◌then◌else◌, Option, Some, None, option_map}, Str.bytes_eq}
 use Rattle.club_values.specs.declared.slot.Slot.{Slot}
 use Rattle.http_request.specs.{Parts.segments, computed.Parts.{number_of_text, slot_of_parts, ◌>>=◌}, declared.path.Place.Place}
 use Rattle.http_request.specs.declared.path.Place.TheVariants.{SlotPlace, BookingPlace, AccountPlace}
 
--- the place of a slot, or of a booking in it, from the parts that follow the slot's parts
+-- The place of a slot, or of a booking in the slot. The list has the parts of the path after the
+-- slot's own parts.
 abbrev pub at_slot : Slot → List (List ℕ) → Option Place
 at_slot slot [] = Some (SlotPlace slot)
 at_slot slot (word ∷ []) = None
@@ -26,7 +27,7 @@ abbrev pub under_root : List (List ℕ) → Option Place
 under_root [] = None
 under_root (word ∷ parts) = if bytes_eq word (codes "slots") then under_slots parts else account_at word parts
 
--- the place that a target names
+-- The place that a target names.
 abbrev pub place_of : List ℕ → Option Place
 place_of [] = None
 place_of (byte ∷ path) = if byte == 47 then under_root (segments path) else None

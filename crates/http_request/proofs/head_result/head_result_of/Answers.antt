@@ -2,7 +2,6 @@ use Rattle.http_request.proofs.Common.{ℕ, List, take, drop, sym, ◌∙◌, ta
 use Rattle.http_request.proofs.FrameLemmas.{one_head}
 use Rattle.http_request.proofs.head_result.head_result_of.Goals as goal
 
--- if the piece at the front isn't an allowed head, the bytes are refused
 refused_at : (bytes : List ℕ) (n : ℕ) → IsPiece (take n bytes) → ((head : RequestHead) (body_len : ℕ) → ¬ (AsksForBody (take n bytes) head body_len)) →
     IsRefusedHead bytes
 refused_at bytes n cut refusal =

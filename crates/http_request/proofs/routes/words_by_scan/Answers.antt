@@ -5,14 +5,12 @@ use Rattle.http_request.specs.Words.{DecodedRequest, has_frame, HoldsBody, IsReq
 use Rattle.http_request.specs.declared.head_result.HeadResult.{HeadResult, TheVariants.{NoPiece, Refused, Asking}}
 use Rattle.http_request.proofs.routes.words_by_scan.Goals as goal
 
--- if the front of bytes is no allowed head, the bytes have no frame
 unasked : (bytes : List ℕ) (fields : List HeaderSpan) (front : HeadResult) → IsHeadResultOf bytes fields front → ((found : Head) → ¬ (front ≡ Asking found))
     → (head : RequestHead) (body : List ℕ) → ¬ (IsFramed bytes head body)
 unasked bytes fields NoPiece is not head body frame = no_piece (framed frame).cut is
 unasked bytes fields Refused is not head body frame = not_refused (framed frame) is
 unasked bytes fields (Asking found) is not head body frame = not found refl
 
--- a property of the decoded request also holds for the answer, unless the answer is that memory ran out
 follows : {Needs More : Type 0} {found : Result DecodedRequest Refusal} (P : Result DecodedRequest Refusal → Type 0) (result : Result Words Refusal)
     → (Needs → More) → P found → OrUnavailable Needs (λ answer. found ≡ answer) result → OrUnavailable More P result
 follows P (Ok words) needs so is = rw is at so
