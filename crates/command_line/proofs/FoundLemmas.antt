@@ -1,4 +1,5 @@
--- Lemmas on the rows that clap collects for arguments, and on how clap finds the argument of a name.
+-- Lemmas about the rows that clap collects for arguments, and about clap's search for an argument
+-- by its name.
 use Rattle.std.proofs.Common.{◌≡◌, ◌∙◌, ℕ, ◌==◌, ◌&&◌, Bool, true, false, not, List, [], ◌∷◌, ◌++◌, Some, is_some, append_assoc, refl, sym, ap, map, unwrap_or}
 use Rattle.std.proofs.{Common.find, lemmas.{Bool.{and_parts, or_parts}, List.append-nil, Slice.Eq.bytes_eq-Decides}}
 use Rattle.std.specs.{List.list_any, Option.option_map_or, Str.bytes_eq}
@@ -8,12 +9,9 @@ use Rattle.clap.specs.declared.parser.matches.ValueSource.TheVariants.{CommandLi
 use Rattle.clap.proofs.SimpleLemmas.{is_false}
 use Rattle.command_line.specs.Given.{Given, rule_given, row_given, are_apart}
 
--- ---- lists of rows
-
 pub same_text : (text : Text) → bytes_eq text text ≡ true
 same_text text = (bytes_eq-Decides text text).1 refl
 
--- if no row in `before` has this name, a change at the name's row leaves `before` as it is
 past : (id : Text) (change : Found → List Found) (missing before tail : List Found) → has_row id before ≡ false
     → at_row id change missing (before ++ tail) ≡ before ++ at_row id change missing tail
 past id change missing [] tail new = refl
@@ -21,7 +19,6 @@ past id change missing (row ∷ before) tail new =
     let parts = or_parts (bytes_eq row.id id) (has_row id before) new in
     rw parts.0 (ap (λ (rows : List Found). row ∷ rows) (past id change missing before tail parts.1))
 
--- an argument that has no row yet gets one at the end of the list
 pub added : (name : Text) (values : List Text) (rows : List Found) → has_row name rows ≡ false
     → at_row name (more_values CommandLine values) (row_given name values ∷ []) rows ≡ rows ++ row_given name values ∷ []
 added name values rows new =
@@ -36,13 +33,10 @@ pub set_row : (name : Text) (values : List Text) (rows : List Found) → has_row
 set_row name values rows new =
     ap (at_row name (more_values CommandLine values) (row_given name values ∷ [])) (untouched name rows new) ∙ added name values rows new
 
--- further values of an argument are added to its row
 pub grown : (name : Text) (some more : List Text) (rows : List Found) → has_row name rows ≡ false
     → at_row name (more_values CommandLine more) (row_given name more ∷ []) (rows ++ row_given name some ∷ []) ≡ rows ++ row_given name (some ++ more) ∷ []
 grown name some more rows new =
     past name (more_values CommandLine more) (row_given name more ∷ []) rows (row_given name some ∷ []) new ∙ rw (same_text name) refl
-
--- ---- how clap finds an argument
 
 find_there : {X : Type 0} (test : X → Bool) (before : List X) (x : X) (after : List X) → list_any test before ≡ false → test x ≡ true
     → find test (before ++ x ∷ after) ≡ Some x

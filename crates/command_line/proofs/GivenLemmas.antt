@@ -1,4 +1,4 @@
--- Lemmas on how clap walks over a command's arguments, if their values are given.
+-- Lemmas about clap's walk over the arguments of a command.
 use Rattle.std.proofs.Common.{◌≡◌, ◌∙◌, ℕ, ◌==◌, ◌&&◌, Bool, true, false, not, List, [], ◌∷◌, ◌++◌, Option, Some, None, is_some, append_assoc, fold, refl, sym}
 use Rattle.std.proofs.{Common.{ap, ap₂, inl, inr, codes, cond, map, subst, arith}, Math.Bool.and-false, lemmas.Bool.{and_parts, cond_both, cases_Bool}}
 use Rattle.std.proofs.lemmas.{Bool.Decides.nat_tests, List.{append-nil, Folds.list_any_at}}
@@ -27,15 +27,15 @@ long_alone : (first : ℕ) (name : Text) → not (list_any (λ byte. byte == 61)
     → long_of (codes "--" ++ (first ∷ name)) ≡ Some (first ∷ name, None)
 long_alone first name named = ap (λ parts. Some parts) (name_and_value-without (first ∷ name) (lacks (first ∷ name) named))
 
--- the state of a walk with these rows and this pending argument
+-- The state of a walk with these rows and this pending argument.
 abbrev held_with : List Found → Option (Text × List Text) → Held
 held_with rows pending = record { rows = rows; pending = pending; skip = 0 }
 
--- the walk at a point between two options
+-- The walk at a point between two options.
 abbrev at_option : List Found → Option (Text × List Text) → Walk
 at_option rows pending = record (walk_from nothing_held) { held = held_with rows pending }
 
--- the walk after `--`, when the next text belongs to the positional argument at this place
+-- The walk after `--`. The next text belongs to the positional argument at this place.
 abbrev at_place : List Found → Option (Text × List Text) → Waiting → ℕ → Walk
 at_place rows pending waiting place = record {
   held = held_with rows pending;
@@ -62,11 +62,11 @@ module _ (s : Shape) where
   IsStep : Walk → Text → Walk → Type 0
   IsStep w argument next = (walked s.rules [] w argument ≡ next) × (turn_fault s [] w argument ≡ [])
 
-  -- storing the values of the pending argument succeeds, and gives these rows
+  -- Clap can store the values of the pending argument, and the result has these rows.
   abbrev Holds : Held → List Found → Type 0
   Holds held now = ((settled s.rules held).rows ≡ now) × (settle_fault s.rules again held ≡ [])
 
-  -- the walk over the arguments succeeds, and ends with these rows
+  -- The walk over the arguments succeeds and ends with these rows.
   Settles : Walk → List Text → List Found → Type 0
   Settles w arguments now = (end : Walk) × (fold (walked s.rules []) w arguments ≡ end) × (walk_fault s [] w arguments ≡ []) × Holds end.held now
 
@@ -80,14 +80,11 @@ module _ (s : Shape) where
     on.3,
   )
 
-  -- if no arguments are left, the walk has ended
   stands : (w : Walk) (arguments : List Text) (now : List Found) → arguments ≡ [] → Holds w.held now → Settles w arguments now
   unfolding Settles walk_fault
   stands w arguments now none holds = rw none (w, refl, refl, holds)
 
-  -- ---- options
-
-  -- the walk after an argument that looks like a long option
+  -- The walk after an argument that looks like a long option.
   abbrev after_long : Text → Held → Option (Text × Option Text) → Walk
   after_long argument held long =
       let met = long_or_other s.rules idle argument long held in after_step s.rules argument (record (walk_from nothing_held) { held = held }) met.0 met.1
@@ -110,7 +107,7 @@ module _ (s : Shape) where
           ap (long_fails argument (held_with rows pending)) long ∙ rw (by_name, holds.1, holds.0, new) refl,
         )
 
-    -- the walk after an option whose value is the next argument
+    -- The walk after an option whose value is the next argument.
     abbrev waits : Walk
     waits = record (at_option now (Some (first ∷ name, []))) { waiting = option (first ∷ name) }
 
@@ -153,9 +150,6 @@ module _ (s : Shape) where
   unfolding IsStep walked
   dashes_step rows pending = (refl, refl)
 
-  -- ---- positional arguments
-
-  -- at a positional text, the values of the pending argument are stored, and the text becomes pending
   positional_step : (rule : Rule) (place : ℕ) (rows now : List Found) (pending : Option (Text × List Text)) (waiting : Waiting) (argument : Text)
       → arg_by_index s.rules place ≡ Some rule → takes_several rule ≡ false → Holds (held_with rows pending) now
       → IsStep (at_place rows pending waiting place) argument
@@ -170,7 +164,6 @@ module _ (s : Shape) where
     rw by_place (cond_both (is_pending rule pending && takes_several rule) [] _ (λ kinds. kinds ≡ []) (λ _. refl) (λ _. holds.1)),
   )
 
-  -- the walk over further texts for the positional argument that takes several
   more_walked : (required : Bool) (name : Text) (place : ℕ) (rows before : List Found) (some : List Text) (last : Text) (more : List Text)
       → IsFound s.rules (with_index place (filled (record (positionals_named name) { required = required }))) → has_row name before ≡ false
       → Holds (held_with rows (Some (name, last ∷ []))) (before ++ row_given name some ∷ [])
@@ -219,15 +212,15 @@ module _ (s : Shape) where
   positionals_walked i (_ ∷ given) rows now pending waiting found new ordered holds =
       positionals_walked i given rows now pending waiting found.1 new ordered holds
 
-  -- ---- the options, and then the positional arguments
-
-  -- from the rows found so far, the walk over the tail succeeds and adds the last rows
+  -- The walk starts with the rows found so far. It reads the remaining arguments without a fault
+  -- and adds the last rows.
   GoesOn : List Text → List Found → List Found → Type 0
   GoesOn tail last now = (rows : List Found) (pending : Option (Text × List Text)) → Holds (held_with rows pending) now → are_new now last ≡ true
       → Settles (at_option rows pending) tail (now ++ last)
 
   module _ (tail : List Text) (last : List Found) where
-    -- from the rows found so far, the walk over the given options and the tail adds the rows of both
+    -- The walk starts with the rows found so far. It reads the given options and the remaining
+    -- arguments without a fault, and adds the rows of the options and of the remaining arguments.
     OptionsGoOn : List Given → List Found → Type 0
     OptionsGoOn given now = (rows : List Found) (pending : Option (Text × List Text)) → Holds (held_with rows pending) now
         → are_new now (option_rows given ++ last) ≡ true → Settles (at_option rows pending) (options_spelled given ++ tail) (now ++ (option_rows given ++ last))
@@ -273,7 +266,6 @@ module _ (s : Shape) where
     options_walked i (one ∷ given) now found named then rows pending holds new =
         options_walked (index_after i (rule_given one)) given now found.1 named then rows pending holds new
 
-  -- the claim for options that no positional argument follows
   ends_with_options : (given : List Given) → has_no_positionals given ≡ true → GoesOn [] (positional_rows given) (option_rows given)
   unfolding GoesOn
   ends_with_options given none rows pending holds new =
@@ -285,7 +277,6 @@ module _ (s : Shape) where
   positionals_after_options given found ordered rows pending holds new = step_on _ _ (codes "--") (positionals_spelled given) _ (dashes_step rows pending)
       (positionals_walked 1 given rows (option_rows given) pending idle found new ordered holds)
 
-  -- the walk succeeds, and finds the rows of the given values
   pub given_taken : (given : List Given) (others : List Rule) (arguments : List Text) → s.rules ≡ filled_from 1 (map rule_given given ++ others)
       → are_apart [] s.rules ≡ true → are_options_named given ≡ true → are_new [] (rows_given given) ≡ true → is_in_order given ≡ true
       → end_fault s (rows_given given) ≡ [] → AreSpelled given arguments

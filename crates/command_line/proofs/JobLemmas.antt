@@ -1,4 +1,4 @@
--- Lemmas on parsing arguments, and on the job that the arguments ask for.
+-- Lemmas for the proof of `read_job`.
 use Rattle.std.proofs.Common.{◌≡◌, List, [], Option, Some, None, IsSome, Result, Ok, Err, inl, inr, refl, ap, subst, arith, ◌∙◌, true, sym}
 use Rattle.std.proofs.lemmas.Bool.{and_parts}
 use Rattle.clap.specs.Words.{subcommand_rows_of, IsAmong, Kinds, Row, Text, fault_of, subcommand_of, App, HasKind, HasMatchesOf, is_simple, is_simple_and_free}
@@ -10,7 +10,6 @@ use Rattle.command_line.specs.declared.{errors.ArgumentsFault.TheVariants.{Refus
 use Rattle.clap.specs.declared.error.kind.ErrorKind.TheVariants as kind
 
 module _ (made app : App) (arguments : List Text) (is : made ≡ app) (free : is_simple_and_free app ≡ true) where
-  -- if clap returns matches, it found no fault, and the matches are those of the program
   pub accepted : (m : ArgMatches) → HasMatchesOf made arguments m → (is_simple_and_free made ≡ true → fault_of made arguments ≡ [])
       → (fault_of app arguments ≡ []) × (subcommand_rows_of m ≡ subcommand_of app arguments)
   accepted m found clear = (
@@ -18,7 +17,6 @@ module _ (made app : App) (arguments : List Text) (is : made ≡ app) (free : is
     (subst (λ a. HasMatchesOf a arguments m) is found (and_parts (is_simple app) _ free).0).1,
   )
 
-  -- if clap returns an error, its kind is one that clap may return here, or it is out of memory
   pub refused : (e : Error) (k : ErrorKind) → (is_simple_and_free made ≡ true → HasKind (fault_of made arguments) e) → k ≡ kind_of e
       → (k ≡ kind.OutOfMemory → ⊥) → IsAmong k (fault_of app arguments)
   refused e k has same other = elim (subst (λ a. is_simple_and_free a ≡ true → HasKind (fault_of a arguments) e) is has free) [
@@ -26,7 +24,7 @@ module _ (made app : App) (arguments : List Text) (is : made ≡ app) (free : is
     | inr among ↦ subst (λ (x : ErrorKind). IsAmong x (fault_of app arguments)) (sym same) among
   ]
 
--- clap accepted the arguments, and found these values
+-- Lemmas for the case that clap accepts the arguments and finds the values `found`.
 module _ {C J V : Type 0} (table : Table C) (Reads : ReadsRow C J V) (arguments : List Text) (found : Option (Text × List Row))
     (clear : fault_of (app_of_table table) arguments ≡ []) (same : found ≡ subcommand_of (app_of_table table) arguments) where
   pub reads_accepted : (result : Result J (ArgumentsFault V)) → ReadsFound Reads (asked_in table found) result → ReadsAccepted table Reads arguments result
@@ -42,8 +40,6 @@ module _ {C J V : Type 0} (table : Table C) (Reads : ReadsRow C J V) (arguments 
 pub row_named : {C : Type 0} (table : Table C) → WordsNameARow C → IsGood table → (arguments : List Text) → refusals table arguments ≡ []
     → IsSome (asked table arguments)
 row_named table law good arguments clear = law table arguments clear
-
--- ---- one job
 
 pub answers_once : {J V : Type 0} → RowsAnswerOnce J V
 answers_once (Ok expected) job (Ok other) is that = let same : other ≡ job = cc in inl (ap Ok same)

@@ -1,4 +1,4 @@
--- Arguments that clap accepts name one of a program's commands.
+-- This file proves that arguments that clap accepts name one of a program's commands.
 use Rattle.std.proofs.Common.{◌≡◌, ℕ, Bool, true, false, List, [], ◌∷◌, Option, Some, None, is_some, refl, codes, fold, not, ◌&&◌}
 use Rattle.std.proofs.lemmas.Bool.{false_from_ne_true, cond_both}
 use Rattle.std.specs.{List.list_any, Str.bytes_eq}
@@ -9,12 +9,11 @@ use Rattle.clap.specs.Walk.{after_step, done, long_or_other, nothing_held, optio
 use Rattle.clap.specs.Walk.{to_positional, value, waits, walk, walk_from, walked, word_met, subcommand as enters, arg_by_index, finished, settled, walked_from}
 use Rattle.clap.specs.Words.{App, Kinds, Row, Rule, Shape, Text}
 
--- if the combination of two lists of kinds is empty, both lists are
 or_else_nil : (a b : Kinds) → or_else a b ≡ [] → (a ≡ []) × (b ≡ [])
 or_else_nil [] b h = (refl, h)
 or_else_nil (k ∷ ks) b h = cc
 
--- the walk met no subcommand, or met one other than `help`
+-- The walk met no subcommand, or a subcommand other than `help`.
 abbrev pub StopsNotAtHelp : Option (Text × List Text) → Type 0
 StopsNotAtHelp None = Unit {0}
 StopsNotAtHelp (Some p) = bytes_eq p.0 (codes "help") ≡ false
@@ -40,8 +39,6 @@ other_enters_none : (c : List Rule) (waiting : Waiting) (word : Text) (long : Op
     → EntersNotHelp (long_or_other c waiting word long h).1
 other_enters_none c waiting word (Some p) h = flag_enters_none c waiting word _ _
 other_enters_none c waiting word None h = short_enters_none c waiting word _ h
-
--- ---- if the words have no fault, the walk over them doesn't stop at `help`
 
 module _ (s : Shape) (helps : s.disable_help_subcommand ≡ false) (names : Names) where
   name_met : (name : Text) (word : Text) (h : Held) → other_fault s (Some name) word h ≡ [] → bytes_eq name (codes "help") ≡ false
@@ -86,8 +83,6 @@ module _ (s : Shape) (helps : s.disable_help_subcommand ≡ false) (names : Name
       let both = or_else_nil _ _ clear in
       walk_stops rest (walked s.rules names w word) both.1 (turn_stops w word both.0 before)
 
--- ---- after the walk
-
 check_no_subcommand : (help sub arg : Bool) → check_kinds help sub arg ≡ [] → sub ≡ false
 check_no_subcommand false false arg h = refl
 check_no_subcommand _ _ arg h = cc
@@ -99,7 +94,6 @@ check_needs s rows false needs clear =
     (not (s.subcommand_negates_reqs && false) && list_any (λ a. a.required && not (is_given a.id rows)) s.rules) clear in
     cc
 
--- if a command requires a subcommand and clap finds no fault, clap entered a subcommand other than `help`
 pub enters_command : (a : App) (words : List Text) → a.top.subcommand_required ≡ true → built_fault a nothing_held words ≡ []
     → let stop = stop_after a.top.rules (names_of a) words in
     (is_some (entered a stop) ≡ true) × (a.top.disable_help_subcommand ≡ false → StopsNotAtHelp stop)

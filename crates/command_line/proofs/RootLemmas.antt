@@ -1,4 +1,4 @@
--- Lemmas on `root_of`.
+-- Lemmas for the proof of `Root::from_hex`.
 use Rattle.std.proofs.Common.{◌≡◌, ◌⊎◌, ◌∙◌, ℕ, ◌*◌, ◌/◌, ◌%◌, ◌<◌, ◌≤◌, List, length, take, ◌++◌, Some, None, Result, Ok, Err, MatchResult, length-take-le}
 use Rattle.std.proofs.{Common.{inl, inr, refl, sym, ap, arith}, lemmas.Bool.{cases_eq, Decides.nat_tests}}
 use lib.Seq.{take-append_seam}
@@ -9,7 +9,6 @@ use Rattle.command_line.specs.Root.{has_root_length, root_among, root_of}
 kept : (bytes : List ℕ) → 1 ≤ length bytes → length bytes ≤ 64 → has_root_length bytes ≡ Some bytes
 kept bytes least most = grind (arith, nat_tests)
 
--- a text with too few or too many digits spells no root
 pub none_by_length : (text : List ℕ) → (length text / 2 ≡ 0) ⊎ (64 < length text / 2) → root_of text ≡ None
 unfolding root_of
 none_by_length text h = go (decode_of text) refl
@@ -19,7 +18,6 @@ none_by_length text h = go (decode_of text) refl
     go (Ok bytes) same =
         let long = (decode_of-ok text bytes same).2 in grind (arith, nat_tests)
 
--- decoding a text into the first n bytes of a buffer gives its root, if the text has 2 n digits
 pub root_of_decoded : (text out buffer : List ℕ) (n : ℕ) (r : Result Unit FromHexError) → n ≡ length text / 2 → 1 ≤ n → n ≤ 64 → n ≤ length buffer
     → MatchResult (decode_sized text (length (take n buffer))) (λ bytes. (r ≡ Ok tt) × (out ≡ bytes)) (λ e. r ≡ Err e)
     → MatchResult r (λ _. (root_of text ≡ Some out) × (length out ≡ n)) (λ _. root_of text ≡ None)
@@ -41,6 +39,5 @@ root_of_decoded text out buffer n r half least most fits decoded = elim (cases_e
     go (Err e) same (Ok x) h = cc h
     go (Err e) same (Err f) h = ap root_among same
 
--- the bytes written at the front of a buffer are its first bytes
 pub front_of : (n : ℕ) (out rest : List ℕ) → length out ≡ n → take n (out ++ rest) ≡ out
 front_of n out rest full = rw (← full) (take-append_seam out rest)

@@ -1,4 +1,5 @@
--- Clap accepts the values that are given to a row of the table, and finds them.
+-- This file proves that clap accepts the values that are given to a row of the table, and finds
+-- these values.
 use Rattle.std.proofs.Common.{◌≡◌, ◌∙◌, true, false, List, [], ◌∷◌, ◌++◌, Option, Some, None, append_assoc, fold, refl, sym, ap, ap₂, codes, map, find, drop}
 use Rattle.std.proofs.{Common.{is_some, IsSome, option_map, subst, inl, inr}, lemmas.Bool.{and_parts, false_from_ne_true, both_ways, cases_Bool}}
 use Rattle.std.proofs.lemmas.{List.append-nil, Slice.Eq.bytes_eq-Decides}
@@ -13,8 +14,6 @@ use Rattle.command_line.specs.{Application.program_named, Given.{AreSpelled, Giv
 use Rattle.command_line.specs.JobLaws.{RowsTakeWhatTheyAreGiven, WordsNameARow}
 use Rattle.command_line.specs.Table.{Entry, Table, asked, asked_in, entry_app, entry_named, refusals, with_entries}
 use Rattle.command_line.proofs.{GivenLemmas.given_taken, NamedLemmas.{StopsNotAtHelp, enters_command}}
-
--- ---- the program that clap builds from a table
 
 rules_added : (app : App) (rules : List Rule) → fold with_rule app rules ≡ on_top (λ s. record s { rules = s.rules ++ rules }) app
 rules_added app [] = ap (λ (rules : List Rule). on_top (λ s. record s { rules = rules }) app) (sym (append-nil app.top.rules))
@@ -41,7 +40,6 @@ no_other_name : (name : Text) → bytes_eq name (codes "help") ≡ false → byt
 no_other_name name other =
     false_from_ne_true _ (λ is. both_ways _ other ((bytes_eq-Decides name (codes "help")).1 (sym ((bytes_eq-Decides (codes "help") name).0 is))))
 
--- clap's built program finds the command of a row by its name, if the name isn't `help`
 shape_found : {C : Type 0} (above : Shape) (entries : List (Entry C)) (name : Text) → bytes_eq name (codes "help") ≡ false
     → find (λ s. answers_to name (label_of s)) (map built_leaf (map (inherited above) (map shape_of_entry entries) ++ help_shape ∷ []))
     ≡ option_map (λ entry. built_leaf (inherited above (shape_of_entry entry))) (entry_named name entries)
@@ -51,9 +49,8 @@ shape_found above (next ∷ entries) name other = elim (cases_Bool (bytes_eq nex
   | inr past ↦ rw past (shape_found above entries name other)
 ]
 
--- ---- the arguments after the name of a command
-
--- the walk that has stopped at the command of this name, with the arguments after the name
+-- The walk that has stopped at the command with this name. `arguments` are the arguments after the
+-- name.
 abbrev at_command : Text → List Text → Walk
 at_command name arguments = record (walk_from nothing_held) { stopped = Some (name, arguments) }
 
@@ -73,7 +70,7 @@ module _ {C : Type 0} (title : Text) (first : Entry C) (others : List (Entry C))
   abbrev app : App
   app = built (with_more (program_named title) (map shape_of_entry (first ∷ others)))
 
-  -- the shape that the commands inherit from
+  -- The shape from which the commands inherit.
   abbrev above : Shape
   above = with_leaf_noted (marked_built (with_more (program_named title) []).top)
 
@@ -128,8 +125,6 @@ module _ {C : Type 0} (title : Text) (first : Entry C) (others : List (Entry C))
         (check_fault app.top (finished app.top.rules w.held) (is_some (entered app w.stopped))))) in
         ap₂ or_else walks_clear (ap Fails walks ∙ rw (shape_is, below) refl)
 
--- ---- arguments that clap accepts
-
 name_found : {C : Type 0} (name : Text) (entries : List (Entry C)) (entry : Entry C) → entry_named name entries ≡ Some entry → entry.name ≡ name
 name_found name [] entry is = cc
 name_found {C} name (next ∷ entries) entry is = elim (cases_Bool (bytes_eq next.name name)) [
@@ -179,8 +174,6 @@ named {C} title (first ∷ others) arguments clear =
 
 pub arguments_name_a_row : {C : Type 0} → WordsNameARow C
 arguments_name_a_row table = named table.title table.entries
-
--- ---- the law
 
 taken : {C : Type 0} (title : Text) (entries : List (Entry C)) (entry : Entry C) (given : List Given) (program : Text) (arguments : List Text)
     → entry_named entry.name entries ≡ Some entry → map rule_given given ≡ entry.rules → can_be_given entry.name given ≡ true → AreSpelled given arguments

@@ -1,30 +1,30 @@
--- Values of options, and the kinds of results that `clap` has for arguments (ours).
+-- This file defines the values of options, and the results of parsing arguments with `clap`.
 use Rattle.std.specs.{Prelude.{◌≡◌, ◌≢◌, ◌⊎◌, Bool, List, [], codes, unwrap_or}, Str.bytes_eq}
 use Rattle.clap.specs.{Words.{IsAmong, Kinds, Row, Text, first_of, kind_of}, declared.error.kind.ErrorKind.ErrorKind}
 use Rattle.clap.specs.declared.error.kind.ErrorKind.TheVariants as kind
 use Rattle.command_line.specs.declared.errors.ArgumentsFault.{ArgumentsFault, TheVariants.{Refused, BadValue, Memory}}
 
--- the value of an option, or an empty text if the option was left out
+-- The value of an option. The result is an empty text if the option is missing.
 abbrev pub value_in : Text → List Row → Text
 value_in id rows = unwrap_or (first_of id rows) []
 
--- whether a flag was given, which clap represents by the text `true`
+-- The command line has this flag. Clap represents the value of a given flag by the text `true`.
 abbrev pub is_set : Text → List Row → Bool
 is_set id rows = bytes_eq (value_in id rows) (codes "true")
 
--- whether the arguments ask for the text of help or of the version
+-- The arguments ask for the text of the help or of the version.
 abbrev pub HasText : Kinds → Type 0
 HasText kinds = IsAmong kind.DisplayHelp kinds ⊎ IsAmong kind.DisplayVersion kinds
 
--- the error isn't a request for the text of help or of the version
+-- The error isn't a request for the text of the help or of the version.
 abbrev pub IsNoText : ErrorKind → Type 0
 IsNoText of_kind = (of_kind ≢ kind.DisplayHelp) × (of_kind ≢ kind.DisplayVersion)
 
--- clap may refuse the arguments with an error of this kind
+-- Clap may refuse the arguments with an error of this kind.
 abbrev pub IsRefusedAs : Kinds → ErrorKind → Type 0
 IsRefusedAs kinds of_kind = IsAmong of_kind kinds × IsNoText of_kind
 
--- the fault is clap's error of this kind, or memory ran out
+-- The fault is clap's error of this kind, or memory ran out.
 abbrev pub IsOfKind : {V : Type 0} → ErrorKind → ArgumentsFault V → Type 0
 IsOfKind of_kind (Refused error) = kind_of error ≡ of_kind
 IsOfKind of_kind (BadValue value) = ⊥

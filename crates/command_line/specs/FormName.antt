@@ -1,4 +1,4 @@
--- The names of the forms on the command line (ours).
+-- This file defines the names of the forms on the command line.
 use Rattle.std.specs.{Prelude.{ℕ, List, Option, Some, None, codes, if◌then◌else◌}, Str.bytes_eq}
 use Rattle.pass_forms.specs.declared.form.Form.{Form, TheVariants.{V1, V2, Json}}
 
@@ -7,7 +7,7 @@ form_name V1 = codes "v1"
 form_name V2 = codes "v2"
 form_name Json = codes "json"
 
--- the form that has this name
+-- The form with this name.
 abbrev pub form_named : List ℕ → Option Form
 form_named name =
     if bytes_eq name (form_name V1) then Some V1

@@ -1,4 +1,5 @@
--- Values for a row's arguments, how a command line spells them, and what clap finds for them (ours).
+-- This file defines values for the arguments of a row. It also defines how a command line contains
+-- these values, and what clap finds for them.
 use Rattle.std.specs.{List.list_any, Option.option_map_or, Prelude.{◌≡◌, ◌⊎◌, ◌==◌, ◌&&◌, ◌||◌, Bool, true, false, not, List, [], ◌∷◌, ◌++◌, Some, None, codes}}
 use Rattle.std.specs.{Prelude.{fold, is_some, map, unwrap_or, if◌then◌else◌}, Str.bytes_eq}
 use Rattle.clap.specs.{Faults.{check_fault, defaults_fault}, Kinds.{Kinds, or_else}, Lexer.strip_byte, Simple.{built_leaf, new_shape, wants_index}}
@@ -6,8 +7,15 @@ use Rattle.clap.specs.{Walk.{has_long, has_row, is_empty, reading_by, with_defau
 use Rattle.clap.specs.declared.parser.matches.ValueSource.TheVariants.{CommandLine}
 use Rattle.command_line.specs.Application.{flag_named, option_named, positional_named, positionals_named}
 
--- An argument of a row with its value. The fields of an option say whether one text has both name and value (`--NAME=VALUE`), and whether the option is
--- required. Then come defaults, name and value. `positionals_given` has its first value apart from the others. `left_out` is an argument without a value.
+-- An argument of a row with its value.
+--
+-- - `option_given` is an option. Its first field is true for one text `--NAME=VALUE`. Its other
+--   fields are: required or not, the defaults, the name and the value.
+-- - `flag_given` is a flag.
+-- - `positional_given` is a positional argument with one value.
+-- - `positionals_given` is a positional argument with one or more values. The first value is a
+--   field of its own.
+-- - `left_out` is an argument without a value.
 pub data Given : Type 0 where
   option_given : Bool → Bool → List Text → Text → Text → Given
   flag_given : Text → Given
@@ -22,7 +30,8 @@ rule_given (positional_given required name value) = record (positional_named nam
 rule_given (positionals_given required name first more) = record (positionals_named name) { required = required }
 rule_given (left_out rule) = rule
 
--- `--NAME=VALUE` or `--NAME VALUE` for each option, and `--NAME` for each flag
+-- The texts of options and flags. An option is `--NAME=VALUE` or `--NAME VALUE`, and a flag is
+-- `--NAME`.
 abbrev pub options_spelled : List Given → List Text
 options_spelled [] = []
 options_spelled (option_given true required defaults name value ∷ given) = (codes "--" ++ (name ++ 61 ∷ value)) ∷ options_spelled given
@@ -30,14 +39,14 @@ options_spelled (option_given false required defaults name value ∷ given) = (c
 options_spelled (flag_given name ∷ given) = (codes "--" ++ name) ∷ options_spelled given
 options_spelled (_ ∷ given) = options_spelled given
 
--- the texts of positional arguments; an argument that takes several is the last
+-- The texts of positional arguments. A positional argument with several values ends the list.
 abbrev pub positionals_spelled : List Given → List Text
 positionals_spelled [] = []
 positionals_spelled (positional_given required name value ∷ given) = value ∷ positionals_spelled given
 positionals_spelled (positionals_given required name first more ∷ given) = first ∷ more
 positionals_spelled (_ ∷ given) = positionals_spelled given
 
--- the row that clap finds for an argument with these values
+-- The row that clap finds for an argument with these values.
 abbrev pub row_given : Text → List Text → Found
 row_given name values = record { id = name; values = values; count = None; source = Some CommandLine; reading = reading_by (positional_named name) }
 
@@ -56,17 +65,15 @@ positional_rows (_ ∷ given) = positional_rows given
 abbrev pub rows_given : List Given → List Found
 rows_given given = option_rows given ++ positional_rows given
 
--- the command of a row, as clap builds it
+-- The command of a row, as clap builds the command.
 abbrev pub shape_given : Text → List Given → Shape
 shape_given name given = built_leaf (record (new_shape name) { rules = map rule_given given })
 
--- the given values, and the defaults of the arguments that were left out
+-- The given values, and the defaults of the arguments without a value.
 abbrev pub found_given : Text → List Given → List Found
 found_given name given = fold with_default (rows_given given) (shape_given name given).rules
 
--- ---- conditions on a row, which are computed for each row of a table
-
--- whether no earlier argument has the name or the place of this one
+-- No argument in `before` has the same name or the same position as `rule`.
 abbrev is_apart : List Rule → Rule → Bool
 is_apart before rule =
     not (list_any (λ other. bytes_eq other.id rule.id) before)
@@ -77,17 +84,18 @@ abbrev pub are_apart : List Rule → List Rule → Bool
 are_apart before [] = true
 are_apart before (rule ∷ rules) = is_apart before rule && are_apart (before ++ rule ∷ []) rules
 
--- whether all rows belong to different arguments
+-- All rows belong to different arguments.
 abbrev pub are_new : List Found → List Found → Bool
 are_new before [] = true
 are_new before (row ∷ rows) = not (has_row row.id before) && are_new (before ++ row ∷ []) rows
 
--- whether the text can be the name of an option: it isn't empty and has no `=`
+-- The text can be the name of an option, because it isn't empty and has no `=`.
 abbrev is_option_name : Text → Bool
 is_option_name [] = false
 is_option_name (first ∷ rest) = not (list_any (λ byte. byte == 61) (first ∷ rest))
 
--- whether each option has such a name, and no value in a text of its own begins with a dash
+-- Each option's name isn't empty and has no `=`. If an option's value is a text of its own, this
+-- value doesn't begin with a dash.
 abbrev pub are_options_named : List Given → Bool
 are_options_named [] = true
 are_options_named (option_given joined required defaults name value ∷ given) =
@@ -101,18 +109,20 @@ has_no_positionals (positional_given required name value ∷ given) = false
 has_no_positionals (positionals_given required name first more ∷ given) = false
 has_no_positionals (_ ∷ given) = has_no_positionals given
 
--- whether no positional argument is given after one that takes several or one that is left out
+-- No positional argument with a value comes after one with several values, or after one without a
+-- value.
 abbrev pub is_in_order : List Given → Bool
 is_in_order [] = true
 is_in_order (positionals_given required name first more ∷ given) = has_no_positionals given
 is_in_order (left_out rule ∷ given) = if wants_index rule then has_no_positionals given else is_in_order given
 is_in_order (_ ∷ given) = is_in_order given
 
--- the fault of clap's last checks, on defaults and required arguments
+-- The fault of clap's last checks, which test defaults and required arguments.
 abbrev pub end_fault : Shape → List Found → Kinds
 end_fault shape rows = or_else (defaults_fault rows shape.rules) (check_fault shape (fold with_default rows shape.rules) false)
 
--- Whether a row can be given these values. Its name isn't `help`, its arguments differ and are in order, and each required one is present.
+-- A row can be given these values. Its name isn't `help`. Its arguments are different and in order.
+-- Each required argument is present.
 abbrev pub can_be_given : Text → List Given → Bool
 can_be_given name given =
     let shape = shape_given name given in
@@ -121,13 +131,14 @@ can_be_given name given =
     && (are_new [] (rows_given given)
     && (are_options_named given && (is_in_order given && is_empty (end_fault shape (rows_given given))))))
 
--- the options, then `--`, then the positional arguments; if there are none of these, `--` may be missing
+-- The arguments on the command line are the options, then `--`, and then the positional arguments.
+-- If there are no positional arguments, `--` may be missing.
 abbrev pub AreSpelled : List Given → List Text → Type 0
 AreSpelled given arguments =
     (arguments ≡ options_spelled given ++ codes "--" ∷ positionals_spelled given)
     ⊎ ((arguments ≡ options_spelled given) × (has_no_positionals given ≡ true))
 
--- the given argument for a rule, if its value is looked up by its name
+-- The argument that a rule describes. The function `value` gives the argument's value for its name.
 abbrev pub given_by : (Text → Text) → Rule → Given
 given_by value rule =
     if is_some rule.long

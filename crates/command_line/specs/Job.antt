@@ -1,4 +1,5 @@
--- The job that arguments ask for, which is a row's command with the values of its arguments (ours).
+-- This file defines the job that arguments ask for. A job is a row's command with the values of its
+-- arguments.
 use Rattle.std.specs.{Option.ok_or, Prelude.{◌≡◌, ◌⊎◌, List, [], Option, Some, None, Result, Ok, Err, codes}}
 use Rattle.clap.specs.{Words.{Row, Text, kind_of}, declared.error.kind.ErrorKind.ErrorKind}
 use Rattle.clap.specs.declared.error.kind.ErrorKind.TheVariants as kind
@@ -7,22 +8,22 @@ use Rattle.command_line.specs.{Arguments.{HasText, IsRefusedAs, value_in}, FormN
 use Rattle.command_line.specs.declared.{errors.ArgumentsFault.{ArgumentsFault, TheVariants.{Refused, BadValue, Memory}}, job.Asked.Asked}
 use Rattle.command_line.specs.declared.job.Asked.TheVariants.{ShowText, Perform}
 
--- why a row's arguments ask for no job: clap's error of this kind, or an invalid argument
+-- The reason why a row's arguments ask for no job: an error of clap, or an invalid argument.
 pub data Refusal (V : Type 0) : Type 0 where
   refused_as : ErrorKind → Refusal V
   bad_value : V → Refusal V
 
--- the bind operator of results, like `?` in code
+-- This operator passes on the first refusal, like `?` in code.
 infixl 10 ◌>>=◌
 abbrev pub ◌>>=◌ : {A B V : Type 0} → Result A (Refusal V) → (A → Result B (Refusal V)) → Result B (Refusal V)
 Ok x >>= f = f x
 Err refusal >>= f = Err refusal
 
--- the function from a command and the rows that clap found to the job, or to the reason why there is none
+-- A function of this type maps a command and the rows that clap found to a job or to a refusal.
 abbrev pub JobOf : Type 0 → Type 0 → Type 0 → Type 0
 JobOf C J V = C → List Row → Result J (Refusal V)
 
--- the form that `--form` names
+-- The form that `--form` names.
 abbrev pub form_given : {V : Type 0} → List Row → Result Form (Refusal V)
 form_given rows = ok_or (form_named (value_in (codes "form") rows)) (refused_as kind.InvalidValue)
 
@@ -33,20 +34,22 @@ Answers expected (Err (Refused error)) = expected ≡ Err (refused_as (kind_of e
 Answers expected (Err (BadValue value)) = expected ≡ Err (bad_value value)
 Answers expected (Err Memory) = Unit {0}
 
--- the results that a call may return for a command and the rows that clap found
+-- A relation of this type relates a command, the rows that clap found, and a result that a call may
+-- return.
 abbrev pub ReadsRow : Type 0 → Type 0 → Type 0 → Type 1
 ReadsRow C J V = C → List Row → Result J (ArgumentsFault V) → Type 0
 
--- the result is one that reading the found row may have
+-- Clap found a row, and a call that reads this row may return the result.
 abbrev pub ReadsFound : {C J V : Type 0} → ReadsRow C J V → Option (C × List Row) → Result J (ArgumentsFault V) → Type 0
 ReadsFound Reads None result = ⊥
 ReadsFound Reads (Some row) result = Reads row.0 row.1 result
 
--- clap accepts the arguments, and reading the row that they name may have this result
+-- Clap accepts the arguments. A call that reads the row that they name may return the result.
 abbrev pub ReadsAccepted : {C J V : Type 0} → Table C → ReadsRow C J V → List Text → Result J (ArgumentsFault V) → Type 0
 ReadsAccepted table Reads arguments result = (refusals table arguments ≡ []) × ReadsFound Reads (asked table arguments) result
 
--- The results of reading arguments. Clap checks the arguments first, then the row reads its values.
+-- The results of reading arguments. Clap checks the arguments first, and then the row reads its
+-- values.
 abbrev pub ReadsJob : {C J V : Type 0} → Table C → ReadsRow C J V → List Text → Result (Asked J) (ArgumentsFault V) → Type 0
 ReadsJob table Reads arguments (Ok (ShowText text)) = HasText (refusals table arguments)
 ReadsJob table Reads arguments (Ok (Perform job)) = ReadsAccepted table Reads arguments (Ok job)

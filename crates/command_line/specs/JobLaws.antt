@@ -1,4 +1,4 @@
--- Laws of the job that arguments ask for. Accepted arguments name a row, and have at most one job.
+-- This file defines laws about the job that arguments ask for.
 use Rattle.std.specs.Prelude.{◌≡◌, ◌⊎◌, List, [], ◌∷◌, Some, IsSome, Result, Ok, Err, map, true}
 use Rattle.clap.specs.Words.{Row, Text}
 use Rattle.command_line.specs.{Given.{AreSpelled, Given, can_be_given, found_given, rule_given}, Job.{Answers, ReadsJob, ReadsRow, Refusal}}
@@ -9,28 +9,32 @@ use Rattle.command_line.specs.declared.job.Asked.{Asked, TheVariants.Perform}
 abbrev pub WordsNameARow : Type 0 → Type 0
 WordsNameARow C = (table : Table C) (arguments : List Text) → refusals table arguments ≡ [] → IsSome (asked table arguments)
 
--- Clap accepts any values that can be given to a row. It finds exactly these values, and the defaults of the arguments that are left out.
+-- Clap accepts all values that a row can be given. Clap finds exactly these values, and the
+-- defaults of the arguments without a value.
 abbrev pub RowsTakeWhatTheyAreGiven : Type 0 → Type 0
 RowsTakeWhatTheyAreGiven C = (table : Table C) (entry : Entry C) (given : List Given) (program : Text) (arguments : List Text)
     → entry_named entry.name table.entries ≡ Some entry → map rule_given given ≡ entry.rules → can_be_given entry.name given ≡ true → AreSpelled given arguments
     → (refusals table (program ∷ entry.name ∷ arguments) ≡ [])
     × (asked table (program ∷ entry.name ∷ arguments) ≡ Some (entry.command, found_given entry.name given))
 
--- the call returned this value, or ran out of memory
+-- The call returned this value, or ran out of memory.
 abbrev pub IsOrLacksMemory : {A V : Type 0} → A → Result A (ArgumentsFault V) → Type 0
 IsOrLacksMemory value result = (result ≡ Ok value) ⊎ (result ≡ Err Memory)
 
--- If reading a row's values may return a job, it may return no other job and no fault.
+-- If reading a row's values may return a job, it may return no other job. In that case the only
+-- possible fault is that memory runs out.
 abbrev pub ReadsOnce : {C J V : Type 0} → ReadsRow C J V → Type 0
 ReadsOnce {C} {J} {V} Reads = (row : C) (rows : List Row) (job : J) (result : Result J (ArgumentsFault V)) → Reads row rows (Ok job) → Reads row rows result
     → IsOrLacksMemory job result
 
--- A row whose values are read by a function has at most one job, and no fault besides it.
+-- If a function computes a row's job from the row's values, the row has at most one job. If the row
+-- has a job, the only possible fault is that memory runs out.
 abbrev pub RowsAnswerOnce : Type 0 → Type 0 → Type 0
 RowsAnswerOnce J V = (expected : Result J (Refusal V)) (job : J) (result : Result J (ArgumentsFault V)) → Answers expected (Ok job) → Answers expected result
     → IsOrLacksMemory job result
 
--- If arguments ask for a job, they ask for no other job and have no fault.
+-- If arguments ask for a job, they ask for no other job. In that case the only possible fault is
+-- that memory runs out.
 abbrev pub AskOnce : {C J V : Type 0} → Table C → ReadsRow C J V → Type 0
 AskOnce {C} {J} {V} table Reads = (arguments : List Text) (job : J) (result : Result (Asked J) (ArgumentsFault V))
     → ReadsJob table Reads arguments (Ok (Perform job)) → ReadsJob table Reads arguments result → IsOrLacksMemory (Perform job) result

@@ -1,6 +1,7 @@
--- The text of a fault on standard error (ours).
+-- This file defines the text of a fault on standard error.
 use Rattle.std.specs.{Fmt.with_newline, Prelude.{ℕ, List, Bool, Option, if◌then◌else◌}}
 
--- the bytes printed for a text; clap's texts end with a line feed already, and other texts get one
+-- The bytes printed for a text. A text of clap already ends with a line feed. Any other text gets a
+-- line feed at its end.
 abbrev pub printed : Bool → Option (List ℕ) → Option (List ℕ)
 printed is_text_of_clap text = if is_text_of_clap then text else with_newline text

@@ -1,5 +1,5 @@
-//! The faults of arguments. Some are errors that `clap` doesn't find itself; their usage text comes
-//! from `clap`.
+//! The faults of arguments. `clap` doesn't find some of these faults itself, but it makes the usage
+//! text for all of them.
 
 ghost use Rattle.clap.specs.declared.error.kind.ErrorKind.TheVariants as kinds;
 ghost use Rattle.command_line.specs.Arguments.{IsOfKind};
@@ -9,12 +9,12 @@ use clap::Error;
 use clap::error::ErrorKind;
 use std::alloc::{AllocError, Global};
 
-/// Why arguments ask for no job.
+/// The reason why arguments ask for no job.
 #[derive(Debug, Drop)]
 pub enum ArgumentsFault<V> {
-    /// An error with its text, from `clap` or made by this crate.
+    /// An error with its text. `clap` or this crate made the error.
     Refused(Error),
-    /// An argument isn't a valid value.
+    /// An argument is an invalid value.
     BadValue(V),
     /// Memory ran out.
     Memory,
@@ -31,7 +31,8 @@ impl<V> From<AllocError> for ArgumentsFault<V> {
     }
 }
 
-/// Returns the fault of arguments that aren't UTF-8, which are never passed to `clap`.
+/// Returns the fault of arguments that aren't UTF-8. The program never passes such arguments to
+/// `clap`.
 pub fn text_fault<C: Commands, V>(alloc: Global) -> ArgumentsFault<V>
     ensures { IsOfKind kinds.ValueValidation result }
 {
@@ -39,7 +40,7 @@ pub fn text_fault<C: Commands, V>(alloc: Global) -> ArgumentsFault<V>
     arguments_fault::<C, V>(alloc, ErrorKind::ValueValidation, message)
 }
 
-/// Returns the fault of a name that no form has.
+/// Returns the fault for a name that no form has.
 pub fn form_fault<C: Commands, V>(alloc: Global, name: &str) -> ArgumentsFault<V>
     ensures { IsOfKind kinds.InvalidValue result }
 {
@@ -51,7 +52,7 @@ pub fn form_fault<C: Commands, V>(alloc: Global, name: &str) -> ArgumentsFault<V
     }
 }
 
-/// Returns a fault with `clap`'s error of this kind and with this message.
+/// Returns a fault with this message. The fault is an error of `clap` of this kind.
 pub fn arguments_fault<C: Commands, V>(
     alloc: Global,
     kind: ErrorKind,

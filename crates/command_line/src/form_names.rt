@@ -16,7 +16,7 @@ pub fn form_name(form: Form) -> &'static str
     }
 }
 
-/// Returns the form that has this name, or `None` if no form has it.
+/// Returns the form with this name. Returns `None` if no form has this name.
 pub fn form_named(name: &str) -> Option<Form>
     ensures { result ≡ spec.form_named name.now }
 {

@@ -8,8 +8,8 @@ ghost use Rattle.command_line.specs.Input.{ReadsAtMost};
 use crate::signal::is_interrupted;
 use std::io::{self, ErrorKind, Read};
 
-/// Reads to the end of the input, or until the buffer is full, and returns the number of bytes
-/// read. Retries a read that a signal interrupts.
+/// Reads to the end of the input, or until the buffer is full. Returns the number of bytes read. If
+/// a signal interrupts a read, the function retries the read.
 ///
 /// # Errors
 /// Returns the reader's error, unless it is an interruption by a signal.
@@ -50,7 +50,8 @@ fn read_after<R: Read>(reader: &mut R, buffer: &mut [u8], filled: usize) -> io::
     reader.read(&mut buffer[filled..])
 }
 
-/// Returns the bytes without the line feed at their end, if there is one.
+/// Returns the bytes with one trailing line feed removed. Bytes without a trailing line feed stay
+/// unchanged.
 pub fn without_line_feed(bytes: &[u8]) -> &[u8]
     ensures { result.now ≡ strip_last 10 bytes.now }
 {

@@ -1,4 +1,4 @@
-//! Parses arguments into a job, which is the command of a row with the values of its arguments.
+//! Parses arguments into a job. A job is the command of a row with the values of its arguments.
 
 ghost use Rattle.std.specs.Prelude.{◌≡◌, IsSome, map};
 ghost use Rattle.clap.specs.Words.{found_of, rows_of, subcommand_rows_of};
@@ -16,10 +16,10 @@ use pass_forms::Form;
 use std::alloc::Global;
 use std::convert::AsStr;
 
-/// The request that the arguments make: for a text or for a job.
+/// The request that the arguments make. They ask for a text or for a job.
 #[derive(Drop)]
 pub enum Asked<J> {
-    /// The text of help or of the version, which `clap` made.
+    /// The text of the help or of the version, which `clap` made.
     ShowText(Error),
     /// A job, which is a command with the values of its arguments.
     Perform(J),
@@ -29,16 +29,16 @@ pub enum Asked<J> {
 pub trait Job<'a> {
     type Command: Commands;
 
-    /// The type that says which argument is invalid.
+    /// The type that identifies an invalid argument.
     type BadValue;
 
     ghost use Rattle.clap.specs.Words.{found_of, rows_of};
     ghost use Rattle.command_line.specs.Job.{ReadsRow};
 
-    // the results that `read` may have
+    // The results that `read` may return.
     ghost Reads: { ReadsRow Self.Command Self Self.BadValue };
 
-    /// Returns the job of a command, from the values that `clap` found for its arguments.
+    /// Returns the job of a command, from the values that `clap` found for the command's arguments.
     fn read(
         alloc: Global,
         command: Self::Command,
@@ -48,12 +48,13 @@ pub trait Job<'a> {
 }
 
 /// Returns the text or the job that the arguments ask for. The first argument is the program's
-/// name. `clap` checks the arguments first, then the command checks the values.
+/// name. `clap` checks the arguments first, and then the command checks the values.
 ///
 /// # Errors
 ///
-/// Fails with `Refused` if `clap` or the command refuses the arguments, and with `BadValue` if the
-/// command finds an invalid value. Fails with `Memory` only if an allocation fails.
+/// - `Refused` if `clap` or the command refuses the arguments.
+/// - `BadValue` if the command finds an invalid value.
+/// - `Memory` only if an allocation fails.
 pub fn read_job<'a, J: Job<'a>, S: AsStr>(
     alloc: Global,
     arguments: &'a [S],

@@ -1,4 +1,4 @@
-//! Makes arguments of commands, and reads the values that `clap` found for them.
+//! Makes the arguments of commands, and reads the values that `clap` found for these arguments.
 
 ghost use Rattle.std.specs.Prelude.{◌≡◌, false};
 ghost use Rattle.clap.specs.Words.{found_of, rows_of, rule_of};
@@ -49,14 +49,15 @@ pub fn make_positionals<'a>(alloc: Global, name: &'a str, value: &'a str, help: 
         .help(help)
 }
 
-/// Returns the value of an option, or an empty text if the option was left out.
+/// Returns the value of an option. Returns an empty text if the option is missing.
 pub fn value_of<'a>(options: &ArgMatches<'a>, id: &str) -> &'a str
     ensures { result.now ≡ value_in id.now (rows_of (found_of options.now)) }
 {
     options.get_str(id).unwrap_or("")
 }
 
-/// Returns whether a flag was given. `clap` represents a given flag by the text `true`.
+/// Returns true if the command line has this flag. `clap` represents the value of a given flag by
+/// the text `true`.
 pub fn is_set(options: &ArgMatches<'_>, id: &str) -> bool
     ensures { result ≡ is_set id.now (rows_of (found_of options.now)) }
 {

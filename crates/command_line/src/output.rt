@@ -1,4 +1,4 @@
-//! Writes texts.
+//! Writes texts to a writer.
 
 ghost use Rattle.std.specs.{Io.KnownBytes.{Appends, Keeps}, IoError.error_kind};
 ghost use Rattle.std.specs.Prelude.{◌≢◌, ◌+◌, ◌≤◌, IfErr, IfOk, OnErr, OnOk, drop, length, take};
@@ -7,12 +7,13 @@ ghost use Rattle.command_line.specs.Output.{AppendsFront};
 use crate::signal::is_interrupted;
 use std::io::{self, ErrorKind, Write};
 
-/// Writes a text and flushes the writer. Retries a write or a flush that a signal interrupts.
+/// Writes a text and flushes the writer. If a signal interrupts a write or a flush, the function
+/// retries it.
 ///
 /// # Errors
 ///
-/// Returns the writer's error, unless it is an interruption by a signal. By then the writer may
-/// have got a prefix of the text, or all of it.
+/// Returns the writer's error, unless it is an interruption by a signal. Before an error the writer
+/// may have taken a prefix of the text, or all of the text.
 pub fn write_text<W: Write>(writer: &mut W, text: &str) -> io::Result<()>
     ensures ok { OnOk result (Appends (W.contents writer.old) (W.contents writer.new) text.now) }
     ensures err { OnErr result
@@ -23,7 +24,7 @@ pub fn write_text<W: Write>(writer: &mut W, text: &str) -> io::Result<()>
     flush(writer)
 }
 
-/// Flushes the writer. Retries a flush that a signal interrupts.
+/// Flushes the writer. If a signal interrupts the flush, the function retries it.
 ///
 /// # Errors
 ///
@@ -41,8 +42,8 @@ pub fn flush<W: Write>(writer: &mut W) -> io::Result<()>
     Err(io::Error::from(ErrorKind::TimedOut))
 }
 
-// Writes until the writer has got all bytes. Its contract says how many bytes were written before
-// an error, which the contract of `write_all` doesn't say.
+// Writes until the writer has taken all bytes. The contract of this function states how many bytes
+// were written before an error. The contract of `write_all` doesn't state this number.
 fn write_bytes<W: Write>(writer: &mut W, bytes: &[u8]) -> io::Result<()>
     ensures ok { OnOk result (Appends (W.contents writer.old) (W.contents writer.new) bytes.now) }
     ensures err { OnErr result

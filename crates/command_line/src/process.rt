@@ -16,15 +16,15 @@ pub trait GivenArguments {
     ghost use Rattle.std.specs.{Prelude.{List, IfOk, map}, String.string_bytes};
     ghost use Rattle.clap.specs.Words.{Text};
 
-    // the arguments that the process may have
+    // The arguments that the process may have.
     ghost given: { Self → List Text → Type 0 };
 
-    /// Returns all arguments. The first one is the program's name.
+    /// Returns all arguments. The first argument is the program's name.
     ///
     /// # Errors
     ///
-    /// Fails with `OutOfMemory` if an allocation fails, and with another kind if an argument isn't
-    /// UTF-8.
+    /// Fails with `OutOfMemory` if an allocation fails. Fails with another kind if an argument
+    /// isn't UTF-8.
     fn arguments(&self, alloc: Global) -> io::Result<Vec<String>>
         ensures { IfOk result (λ arguments. given self.now (map string_bytes arguments.items)) };
 }
@@ -42,10 +42,10 @@ impl<R: Env + AllocGlobal> GivenArguments for R {
 pub trait FaultLines {
     ghost use Rattle.std.specs.Prelude.{ℕ, List, Option};
 
-    // a text that was to be printed, if the text is known
+    // A text that the program tried to print, if the text is known.
     ghost asked: { Self → Option (List ℕ) → Type 0 };
 
-    /// Prints a text. Ignores a failure to print, since no place is left to report it.
+    /// Prints a text. Ignores a failure to print, since no place is left to report the failure.
     fn print_text<F: Display>(&self, text: &F)
         ensures { asked self.now (F.output text.now) };
 }
@@ -59,11 +59,12 @@ impl<R: Eprint> FaultLines for R {
     }
 }
 
-/// Returns the arguments of the process. The first one is the program's name.
+/// Returns the arguments of the process. The first argument is the program's name.
 ///
 /// # Errors
 ///
-/// Fails with `Refused` if an argument isn't UTF-8, and with `Memory` only if an allocation fails.
+/// Fails with `Refused` if an argument isn't UTF-8. Fails with `Memory` only if an allocation
+/// fails.
 pub fn given_arguments<P: GivenArguments, C: Commands, V>(
     alloc: Global,
     process: &P,
@@ -79,8 +80,8 @@ pub fn given_arguments<P: GivenArguments, C: Commands, V>(
     }
 }
 
-/// Prints a fault on standard error, as a line. A text of `clap` already ends with a line feed, and
-/// any other text gets one.
+/// Prints a fault on standard error, as a line. A text of `clap` already ends with a line feed. Any
+/// other text gets a line feed at its end.
 pub fn report<P: FaultLines, F: Display>(process: &P, fault: &F, is_text_of_clap: bool)
     ensures { P.asked process.now (printed is_text_of_clap (F.output fault.now)) }
 {

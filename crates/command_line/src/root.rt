@@ -27,7 +27,7 @@ impl Model for Root {
 }
 
 impl Root {
-    /// Parses a root in hexadecimal, with letters in either case.
+    /// Parses a root in hexadecimal, with capital or small letters.
     pub fn from_hex(text: &str) -> Option<Root>
         ensures { result ≡ root_of text.now }
     {

@@ -1,10 +1,10 @@
-//! Errors of calls that a signal interrupted.
+//! Recognizes errors of calls that a signal interrupted.
 
 ghost use Rattle.std.specs.{IoError.error_kind, Prelude.{◌≡◌, ◌↔◌, IsTrue}};
 
 use std::io::{Error, ErrorKind};
 
-/// Returns whether a signal interrupted the call. The caller may then try again.
+/// Returns true if a signal interrupted the call. In that case the caller may try again.
 pub(crate) fn is_interrupted(error: &Error) -> bool
     ensures { IsTrue result ↔ (error_kind error.now ≡ ErrorKind.Interrupted) }
 {

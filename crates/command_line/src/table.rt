@@ -10,22 +10,24 @@ use crate::tree::{make_program, new_command, with_argument, with_command};
 use clap::{Arg, Command};
 use std::alloc::{AllocError, Global};
 
-/// An argument of a command: its name, the name of its value in the help, and the help's text.
+/// An argument of a command. The fields are the argument's name, the name of its value in the help,
+/// and the text of the help.
 #[derive(Clone, Copy)]
 pub enum Argument {
-    /// `--NAME VALUE`
+    /// The option `--NAME VALUE`.
     Value(&'static str, &'static str, &'static str),
-    /// `--NAME VALUE`, which is required
+    /// The required option `--NAME VALUE`.
     Needed(&'static str, &'static str, &'static str),
-    /// `--NAME VALUE`, whose default is the last field
+    /// The option `--NAME VALUE`. The last field is its default.
     Or(&'static str, &'static str, &'static str, &'static str),
-    /// `--NAME`
+    /// The flag `--NAME`.
     Flag(&'static str, &'static str),
-    /// A positional argument. The help shows its name, and no other text.
+    /// A positional argument. The help shows its name and no other text.
     Positional(&'static str),
-    /// A required positional argument, like `Positional`.
+    /// A required positional argument. The help shows its name and no other text.
     NeededPositional(&'static str),
-    /// A required positional argument. The help shows the second field in place of its name.
+    /// A required positional argument. The help shows the second field instead of the argument's
+    /// name.
     NeededPositionalAs(&'static str, &'static str),
     /// A positional argument that takes any number of values.
     Positionals(&'static str, &'static str, &'static str),
@@ -33,7 +35,8 @@ pub enum Argument {
     NeededPositionals(&'static str, &'static str, &'static str),
 }
 
-/// A command: its value, its name, its help and the help's last text, and its arguments.
+/// A command of a program: its value, its name, its help, and its arguments. The field `help` is
+/// the last text of the command's help.
 pub struct Row<C: Copy> {
     pub command: C,
     pub name: &'static str,
@@ -56,15 +59,16 @@ pub trait Commands: Copy {
     ghost use Rattle.clap.specs.Words.{app_of};
     ghost use Rattle.command_line.specs.Table.{IsGood, Table, app_of_table, entry_named};
 
-    // the rows of the program's table
+    // The rows of the program's table.
     ghost table: { Table Self };
 
-    /// Returns the program for `clap`, whose contract covers the program's arguments.
+    /// Returns the program for `clap`. The contract of this function covers the program's
+    /// arguments.
     fn application<'a>(alloc: Global) -> Result<Command<'a>, AllocError>
         ensures made { IfOk result (λ made. app_of made ≡ app_of_table table) }
         ensures good { IsGood table };
 
-    /// Returns the command of this name.
+    /// Returns the command with this name.
     fn named(name: &str) -> Option<Self>
         ensures { result ≡ option_map (λ entry. entry.command)
             (entry_named name.now table.entries) };

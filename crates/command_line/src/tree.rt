@@ -11,7 +11,7 @@ use std::alloc::{AllocError, Global};
 /// The version of both programs, which `--version` prints.
 const VERSION: &str = "0.1.0";
 
-/// Returns a program without its commands. Its exit statuses are at the end of its long help.
+/// Returns a program without commands. The long help of the program ends with its exit statuses.
 pub fn make_program<'a>(
     alloc: Global,
     name: &'a str,
@@ -27,7 +27,7 @@ pub fn make_program<'a>(
         .subcommand_required(true)
 }
 
-/// Returns a command without options. `help` is the text at the end of its help.
+/// Returns a command without options. The text `help` comes at the end of the command's help.
 pub fn new_command<'a>(alloc: Global, name: &'a str, about: &'a str, help: &'a str) -> Command<'a>
     ensures { IsMade (new_app name.entry.now) result }
 {
@@ -39,7 +39,7 @@ pub fn new_command<'a>(alloc: Global, name: &'a str, about: &'a str, help: &'a s
 ///
 /// # Errors
 ///
-/// Fails if an allocation fails, here or in the command.
+/// Fails if an allocation fails in this function, or if `command` is already an error.
 pub fn with_argument<'a>(
     command: Result<Command<'a>, AllocError>,
     argument: Arg<'a>,
@@ -55,7 +55,7 @@ pub fn with_argument<'a>(
 ///
 /// # Errors
 ///
-/// Fails if an allocation fails, here, in the program or in the command.
+/// Fails if an allocation fails in this function, or if `program` or `command` is already an error.
 pub fn with_command<'a>(
     program: Result<Command<'a>, AllocError>,
     command: Result<Command<'a>, AllocError>,

@@ -15,7 +15,7 @@ use pass_forms::Form;
 pub trait Value {
     ghost spelled: { List ℕ → Option Self };
 
-    /// Returns the value that the text spells, or `None` if it spells no value.
+    /// Returns the value that the text represents. Returns `None` if the text represents no value.
     fn read(text: &str) -> Option<Self>
         ensures { result ≡ spelled text.now };
 }
@@ -36,8 +36,8 @@ impl Value for Form {
     }
 }
 
-/// Returns the value of an option, or `None` if the option was left out or its text isn't a valid
-/// value.
+/// Returns the value of an option. Returns `None` if the option is missing, or if its text isn't a
+/// valid value.
 pub fn read_value<V: Value>(options: &ArgMatches<'_>, id: &str) -> Option<V>
     ensures { result ≡ V.spelled (value_in id.now (rows_of (found_of options.now))) }
 {

@@ -1,4 +1,4 @@
--- The bytes written so far are a prefix of all bytes to write.
+-- The invariant of the loop in `write_bytes`.
 use Rattle.std.proofs.Common.{◌≤◌, take, length}
 use Rattle.std.specs.Io.KnownBytes.{Appends}
 use Rattle.command_line.proofs.output.write_bytes.Given as goal

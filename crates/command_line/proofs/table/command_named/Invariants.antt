@@ -1,4 +1,4 @@
--- No row that was compared so far has the name.
+-- The invariant of the loop in `command_named`.
 use Rattle.std.proofs.Common.{◌≡◌, map, drop}
 use Rattle.command_line.specs.Table.{entry_named, entry_of}
 use Rattle.command_line.proofs.table.command_named.Given as goal

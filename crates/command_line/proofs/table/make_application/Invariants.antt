@@ -1,4 +1,4 @@
--- The application has the commands of the rows so far.
+-- The invariant of the loop in `make_application`.
 use Rattle.std.proofs.Common.{◌≡◌, IfOk, map, take}
 use Rattle.clap.specs.Words.{app_of}
 use Rattle.command_line.specs.{Application.program_named, Table.{entry_of, with_entries}}

@@ -1,4 +1,4 @@
--- The command has the arguments so far.
+-- The invariant of the loop in `make_command`.
 use Rattle.std.proofs.Common.{IfOk, fold, map, take}
 use Rattle.clap.specs.Words.{new_app, with_rule}
 use Rattle.command_line.specs.{Application.IsMade, Table.rule_for}
