@@ -1,4 +1,4 @@
--- Lemmas on zones, and on the times that clocks in a zone show.
+-- Lemmas for the proofs of `Zone::from_rule` and `Zone::moment_at`.
 use Rattle.std.proofs.{Common.{◌≡◌, ◌↔◌, ℕ, ◌+◌, ◌*◌, ◌<◌, ◌≤◌, Bool, cond, true, false, List, Option, Some, None, inl, inr, refl, arith}, lemmas.Bool.cases_lt}
 use Rattle.std.specs.Prelude.{IsSome, IfSome, is_some, ℤ, pos, negsuc, ◌+ℤ◌, ◌*ℤ◌}
 use borrow.Author.Differences.{ints}
@@ -20,13 +20,9 @@ no_zone text none = go (is_some (read_whole text)) none
     go true h = absurd (h refl)
     go false h = refl
 
--- ---- the time that a clock shows
-
--- a time of day is shorter than a day
 within_day : (t : Time) → time_nanos t < 86_400_000_000_000
 within_day t = omega (arith, t.hour_in, t.minute_in, t.second_in, t.subsec_in)
 
--- a time within the bounds of a minute is in that minute
 in_minute : (day nanos n : ℕ) → n * 60_000_000_000 ≤ day * 86_400_000_000_000 + nanos
     → day * 86_400_000_000_000 + nanos < n * 60_000_000_000 + 60_000_000_000
     → IsInMinute (pos day *ℤ pos 86_400_000_000_000 +ℤ pos nanos) n
@@ -36,11 +32,9 @@ minute_bounds : (day nanos n : ℕ) → IsInMinute (pos day *ℤ pos 86_400_000_
     → (n * 60_000_000_000 ≤ day * 86_400_000_000_000 + nanos) × (day * 86_400_000_000_000 + nanos < n * 60_000_000_000 + 60_000_000_000)
 minute_bounds day nanos n h = (omega (arith, ints, h.0), omega (arith, ints, h.1))
 
--- a time on a day before 1970 is in no moment of the club
 never_before : (k nanos n : ℕ) → nanos < 86_400_000_000_000 → IsMoment n → ¬ (IsInMinute (negsuc k *ℤ pos 86_400_000_000_000 +ℤ pos nanos) n)
 never_before k nanos n short within h = absurd (omega (arith, ints, h.0))
 
--- a time on a day outside the club's days is in no moment of the club
 never_out : (day : ℤ) (nanos n : ℕ) → nanos < 86_400_000_000_000 → ((x : ℕ) → ¬ (IsDay x × (day ≡ pos x)))
     → ¬ (IsMoment n × IsInMinute (day *ℤ pos 86_400_000_000_000 +ℤ pos nanos) n)
 never_out (negsuc k) nanos n short out (within, h) = never_before k nanos n short within h

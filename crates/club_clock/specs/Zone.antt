@@ -1,29 +1,33 @@
--- The civil time in the club's zone (ours).
+-- This file defines the civil time in the club's zone.
 use Rattle.std.specs.Prelude.{◌≡◌, ℕ, ◌+◌, ◌*◌, ℤ, pos, ◌+ℤ◌, ◌≤ℤ◌, ◌<ℤ◌, List, is_some, if◌then◌else◌, Option, Some, None, MatchOption}
 use Rattle.jiff_core.specs.{Timestamp.nanos_of_seconds, declared.timestamp.Timestamp.Timestamp}
 use Rattle.jiff_tz.specs.{PosixReader.read_whole, PosixRule.offset_at, PosixText.tz_view, declared.posix.TimeZone.TimeZone}
 use Rattle.club_values.specs.{Moment.IsMoment, Reading.Reads}
 
--- the text of a zone's rule, if it is a rule of POSIX (IEEE Std 1003.1, 8.3)
+-- The given text, if it is a zone's rule of POSIX (IEEE Std 1003.1, 8.3). Otherwise, the result is
+-- `None`.
 unfoldable pub zone_of : List ℕ → Option (List ℕ)
 zone_of text = if is_some (read_whole text) then Some text else None
 
--- the zone is what the rule parses to
+-- The rule parses to this zone.
 abbrev pub IsZoneOf : List ℕ → TimeZone → Type 0
 IsZoneOf rule zone = read_whole rule ≡ Some (tz_view zone)
 
--- a clock's time, in nanoseconds since 1970-01-01T00:00, is in the minute with this number
+-- The time of a clock is in the minute with this number. The time is in nanoseconds since
+-- 1970-01-01T00:00.
 abbrev pub IsInMinute : ℤ → ℕ → Type 0
 IsInMinute nanos minute =
     (pos (minute * 60_000_000_000) ≤ℤ nanos) × (nanos <ℤ pos (minute * 60_000_000_000 + 60_000_000_000))
 
--- The moment is the minute that a clock in the rule's zone shows at the instant. It is `None` if that minute is no moment of the club.
+-- The moment is the minute that a clock in the rule's zone shows at the instant. The moment is
+-- `None` if that minute is outside the club's years.
 pub record IsShown (rule : List ℕ) (instant : ℤ) (moment : Option ℕ) : Type 0 where
   pub zone : TimeZone
   pub of_rule : IsZoneOf rule zone
   pub minute : Reads (λ n. IsMoment n × IsInMinute (instant +ℤ nanos_of_seconds (offset_at zone instant).seconds) n) moment
 
--- the moment that the zone of a rule shows at the given instant; none if no instant is given
+-- The moment that a clock in the rule's zone shows at the given instant. The moment is `None` if no
+-- instant is given.
 abbrev pub ShowsIn : List ℕ → (Option Timestamp → Type 0) → Option ℕ → Type 0
 ShowsIn rule Given moment = (given : Option Timestamp) × Given given
     × MatchOption given (moment ≡ None) (λ instant. IsShown rule instant.nanosecond moment)

@@ -1,4 +1,5 @@
-//! The club's clock: sources of moments, and the zone in which the machine's clock is shown.
+//! The club's clock. This crate has the sources of moments, and the zone in which the club's clock
+//! shows the time.
 #![tactic(auto)]
 
 mod clock;

@@ -13,10 +13,11 @@ use std::time::{self, SystemTime};
 pub trait Moments {
     ghost use Rattle.club_clock.specs.Moments.{GivesMoment};
 
-    // the moments that `now` may return, with the source before and after
+    // The moments that `now` may return, with the source before and after the call.
     ghost gives: { GivesMoment Self };
 
-    /// Returns the current moment, or `None` if it is outside the club's years or can't be read.
+    /// Returns the current moment. Returns `None` if the clock can't be read, or if its time is
+    /// outside the club's years.
     fn now(&mut self) -> Option<Moment>
         ensures { gives self.old result self.new };
 }
@@ -26,15 +27,16 @@ pub trait Instants {
     ghost use Rattle.std.specs.Prelude.{Option};
     ghost use Rattle.jiff_core.specs.declared.timestamp.Timestamp.{Timestamp};
 
-    // the instants that the clock may show
+    // The instants that the clock may show.
     ghost shows: { Self → Option Timestamp → Type 0 };
 
-    /// Returns the instant now, or `None` if the clock can't be read or its time is no `Timestamp`.
+    /// Returns the current instant. Returns `None` if the clock can't be read, or if a `Timestamp`
+    /// can't represent its time.
     fn instant(&self) -> Option<Timestamp>
         ensures { shows self.now result };
 }
 
-/// The instants of a clock of the machine. The contract promises nothing about them.
+/// The instants of a clock of the machine. The contract promises nothing about these instants.
 impl<C: time::Clock> Instants for C {
     ghost shows = { λ _ _. Unit {0} };
 
@@ -43,7 +45,7 @@ impl<C: time::Clock> Instants for C {
     }
 }
 
-// Returns the instant of a time, or `None` if the time is too late for a `Timestamp`.
+// Returns the instant of a time. Returns `None` if the time is too late for a `Timestamp`.
 fn instant_of(time: SystemTime) -> Option<Timestamp>
     ensures { MatchOption result
         (¬ (IsTimestampNanos (pos (system_time_nanos time))))
@@ -53,8 +55,8 @@ fn instant_of(time: SystemTime) -> Option<Timestamp>
     Timestamp::from_nanosecond(i128::try_from(since.as_nanos()).ok()?).ok()
 }
 
-/// The moments of a clock. They are fixed, or are read from the machine's clock. In contracts this
-/// is the pair of both clocks.
+/// The moments of a clock. The moment is fixed, or is read from the machine's clock. Contracts
+/// represent this type by the pair of the club's clock and the machine's clock.
 #[derive(Drop)]
 pub struct MomentsOf<'z, 'c, C> {
     pub clock: Clock<'z>,
@@ -72,8 +74,8 @@ impl<'z, 'c, C> Model for MomentsOf<'z, 'c, C> {
 impl<'z, 'c, C: Instants> Moments for MomentsOf<'z, 'c, C> {
     ghost use Rattle.club_clock.specs.Moments.{showing};
 
-    // the fixed moment, or the moment at the instant that the machine's clock gave; none if it gave
-    // no instant
+    // The fixed moment, or the moment at the instant that the machine's clock gave. The moment is
+    // `None` if the machine's clock gave no instant.
     ghost gives = { showing C.shows };
 
     fn now(&mut self) -> Option<Moment> {

@@ -8,8 +8,8 @@ use jiff_core::Timestamp;
 use jiff_tz::posix::TimeZone;
 use std::marker::Model;
 
-/// A zone, given by the text of its POSIX rule, such as `UTC0` or `CET-1CEST,M3.5.0,M10.5.0/3`. In
-/// contracts a zone is this text.
+/// A zone, given by the text of its POSIX rule, such as `UTC0` or `CET-1CEST,M3.5.0,M10.5.0/3`.
+/// Contracts represent a zone by this text.
 #[derive(Drop)]
 pub struct Zone<'a> {
     rule: &'a str,
@@ -28,7 +28,7 @@ impl<'a> Model for Zone<'a> {
 }
 
 impl<'a> Zone<'a> {
-    /// Returns the zone of a rule, or `None` if the text isn't a POSIX rule.
+    /// Returns the zone with this rule. Returns `None` if the text isn't a POSIX rule.
     pub fn from_rule(rule: &'a str) -> Option<Zone<'a>>
         ensures { result ≡ zone_of rule.entry.now }
     {
@@ -38,8 +38,8 @@ impl<'a> Zone<'a> {
         }
     }
 
-    /// Returns the minute that a clock in the zone shows at an instant, or `None` if its year is
-    /// before 2000 or after 2099.
+    /// Returns the minute that a clock in the zone shows at an instant. Returns `None` if the year
+    /// of that minute is before 2000 or after 2099.
     pub fn moment_at(&self, instant: Timestamp) -> Option<Moment>
         ensures { IsShown self.now instant.nanosecond result }
     {

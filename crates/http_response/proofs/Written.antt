@@ -1,4 +1,4 @@
--- Lemmas on two texts that are written to a buffer, one after the other.
+-- Lemmas for the proof of `reply_bytes`.
 use Rattle.std.proofs.{Common.{◌≡◌, ℕ, ◌+◌, ◌-◌, List, ◌++◌, length, drop, ap, append_assoc}, Math.Nat.add-sub_cancel_left}
 use Rattle.std.proofs.Math.Seq.{take-append_seam, drop-append_seam, drop-drop}
 use borrow.Rule.Slice.PartMut.{put_mid, post_of}

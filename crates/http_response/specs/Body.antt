@@ -1,10 +1,11 @@
--- The bodies of replies: JSON objects (RFC 8259) with these members in this order (ours).
+-- This file defines the bodies of replies. A body is a JSON object (RFC 8259) whose members have a
+-- fixed order.
 use Rattle.std.specs.{Fmt.decimal, List.join_by, Prelude.{ℕ, Bool, true, false, List, [], ◌∷◌, ◌++◌, codes, Option, Some, None}}
 use Rattle.club_values.specs.{Day.day_text, Kind.kind_text}
 use Rattle.club_core.specs.{Refusal.{details_of, caveat_of_refusal}, declared.reply.Reply.Reply}
 use Rattle.club_core.specs.declared.reply.Reply.TheVariants.{SlotShown, Booked, Cancelled, AccountShown, Refused}
 
--- a value: a text that needs no escapes, a number, or a truth value
+-- The value of a member: a text that needs no escapes, a number, or a truth value.
 pub data Value : Type 0 where
   text : List ℕ → Value
   number : ℕ → Value
@@ -19,7 +20,7 @@ value_text (text bytes) = codes "\"" ++ bytes ++ codes "\""
 value_text (number n) = decimal n
 value_text (truth b) = truth_text b
 
--- a member: its name, and its value
+-- A member of an object: a name and a value.
 abbrev pub Member : Type 0
 Member = List ℕ × Value
 
@@ -29,20 +30,21 @@ name_text name = codes "\"" ++ name ++ codes "\":"
 unfoldable pub member_text : Member → List ℕ
 member_text member = name_text member.0 ++ value_text member.1
 
--- the text of an object with these members
+-- The text of an object with these members.
 abbrev pub object_text : List Member → List ℕ
 object_text members = codes "{" ++ join_by member_text (codes ",") members ++ codes "}"
 
--- the member with a booking's key and number
+-- The member with a booking's key and number.
 abbrev pub booking_member : List ℕ → ℕ → Member
 booking_member key n = (codes "booking", text (key ++ codes "/" ++ decimal n))
 
--- the member with the number of the caveat that refused the request, if one did
+-- The member with the number of the caveat that refused the request. If no caveat refused the
+-- request, the list is empty.
 abbrev pub caveat_member : Option ℕ → List Member
 caveat_member None = []
 caveat_member (Some n) = (codes "caveat", number n) ∷ []
 
--- the members of the body of each reply
+-- The members in the body of a reply.
 abbrev pub members_of : Reply → List Member
 members_of (SlotShown slot kind price places taken closed) =
     (codes "facility", text slot.facility) ∷ (codes "day", text (day_text slot.day)) ∷ (codes "hour", number slot.hour)
@@ -58,6 +60,6 @@ members_of (Refused refusal) =
     (codes "fault", number (details_of refusal).number) ∷ (codes "text", text (details_of refusal).text)
     ∷ caveat_member (caveat_of_refusal refusal)
 
--- the body of a reply
+-- The body of a reply.
 abbrev pub body_text : Reply → List ℕ
 body_text reply = object_text (members_of reply)

@@ -1,6 +1,6 @@
--- The limits of a reply (ours).
+-- This file defines the limits of a reply.
 use Rattle.std.specs.Prelude.{ℕ}
 
--- the most bytes of a line
+-- The most bytes of a `Line`.
 abbrev pub max_line_len : ℕ
 max_line_len = 256

@@ -1,4 +1,5 @@
--- The statuses of replies (RFC 9110, section 15), and the methods of a path's resource (ours).
+-- This file defines the HTTP statuses of replies (RFC 9110, section 15). It also defines the
+-- methods of the resource that a path names.
 use Rattle.std.specs.Prelude.{ℕ, List, codes}
 use Rattle.club_core.specs.declared.refusal.Refusal.{Refusal, TheVariants.{BadRequest, NoSuchPath, MethodNotAllowed, NoPass, PassTooLong, PassMalformed}}
 use Rattle.club_core.specs.declared.refusal.Refusal.TheVariants.{ThirdPartyCaveat, TooManyCaveats, NotVerified, KeyRevoked, CaveatNotUnderstood, CaveatDenies}
@@ -35,7 +36,8 @@ abbrev pub status_of : Reply → ℕ
 status_of (Refused refusal) = refusal_status refusal
 status_of served = 200
 
--- the methods of a resource: a slot and the account can be viewed, a booking can be made and cancelled
+-- The methods of a resource. A client can view a slot or its account, and can make or cancel a
+-- booking.
 abbrev pub methods_of : Resource → List ℕ
 methods_of resources.Slot = codes "GET"
 methods_of resources.Booking = codes "PUT, DELETE"

@@ -1,10 +1,10 @@
--- The text of a reply: an HTTP/1.1 response (RFC 9112).
+-- This file defines the text of a reply, which is an HTTP/1.1 response (RFC 9112).
 use Rattle.std.specs.{Fmt.decimal, Prelude.{ℕ, ◌==◌, List, [], ◌++◌, length, codes, if◌then◌else◌}}
 use Rattle.http.specs.StatusCode.{code_digits}
 use Rattle.club_core.specs.declared.{refusal.Refusal.TheVariants.MethodNotAllowed, reply.Reply.{Reply, TheVariants.Refused}}
 use Rattle.http_response.specs.{Body.body_text, Status.{status_of, methods_of}}
 
--- the phrases of the statuses (RFC 9110, section 15)
+-- The reason phrase of a status (RFC 9110, section 15).
 abbrev pub phrase_of : ℕ → List ℕ
 phrase_of status =
     if status == 200 then codes "OK" else (
@@ -19,16 +19,18 @@ phrase_of status =
 abbrev pub status_line : Reply → List ℕ
 status_line reply = codes "HTTP/1.1 " ++ code_digits (status_of reply) ++ codes " " ++ phrase_of (status_of reply) ++ codes "\r\n"
 
--- the challenge, for status 401 (RFC 9110, section 11.6.1; RFC 6750, section 3)
+-- The field with the challenge for status 401 (RFC 9110, section 11.6.1; RFC 6750, section 3). For
+-- any other status the text is empty.
 abbrev pub challenge_field : Reply → List ℕ
 challenge_field reply = if status_of reply == 401 then codes "WWW-Authenticate: Bearer\r\n" else []
 
--- the methods of the path's resource, for status 405 (RFC 9110, section 10.2.1)
+-- The field `Allow` with the methods of the path's resource, for status 405 (RFC 9110, section
+-- 10.2.1). For any other status the text is empty.
 abbrev pub allow_field : Reply → List ℕ
 allow_field (Refused (MethodNotAllowed resource)) = codes "Allow: " ++ methods_of resource ++ codes "\r\n"
 allow_field reply = []
 
--- the head of a reply whose body has `body_len` bytes
+-- The head of a reply whose body has `body_len` bytes.
 unfoldable pub head_text : Reply → ℕ → List ℕ
 head_text reply body_len =
     status_line reply
@@ -39,6 +41,6 @@ head_text reply body_len =
     ++ allow_field reply
     ++ codes "Connection: close\r\n\r\n"
 
--- the text of a reply
+-- The text of a reply.
 unfoldable pub reply_text : Reply → List ℕ
 reply_text reply = head_text reply (length (body_text reply)) ++ body_text reply

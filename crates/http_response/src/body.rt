@@ -1,4 +1,4 @@
-//! The bodies of replies: JSON objects, written member by member.
+//! Writes the bodies of replies. A body is a JSON object, and is written member by member.
 
 ghost use Rattle.std.specs.Prelude.{◌≡◌, ◌≤◌, ◌+◌, ◌++◌, length, codes};
 ghost use Rattle.club_core.specs.declared.reply.Reply.TheVariants.{SlotShown, Booked, Cancelled};

@@ -1,4 +1,4 @@
-//! The head of a reply.
+//! Writes the head of a reply.
 
 ghost use Rattle.std.specs.Prelude.{◌≡◌, ◌≤◌, ◌+◌, ◌++◌, length};
 ghost use Rattle.http_response.specs.{Limits.max_line_len, Status.status_of as number_of};
@@ -28,7 +28,7 @@ fn push_allow(line: &mut Line, reply: &Reply)
     }
 }
 
-/// Returns the field `WWW-Authenticate` if the status is 401, else nothing.
+/// Returns the field `WWW-Authenticate` if the status is 401, else no bytes.
 fn challenge(reply: &Reply) -> &'static [u8]
     ensures text { result.now ≡ spec.challenge_field reply.now }
     ensures len { length result.now ≤ 26 }

@@ -1,5 +1,5 @@
-//! The replies of the desk as bytes: an HTTP/1.1 response with a JSON object as its body. Nothing
-//! here allocates memory.
+//! The replies of the desk as bytes. A reply is an HTTP/1.1 response with a JSON object as its
+//! body. This crate allocates no memory.
 #![tactic(auto)]
 
 mod body;

@@ -3,10 +3,11 @@
 use itoa::Buffer;
 use std::marker::Model;
 
-/// The most bytes of a `Line`. A reply consists of two: its head and its body.
+/// The most bytes of a `Line`. A reply consists of two lines: its head and its body.
 pub const MAX_LINE_LEN: usize = 256;
 
-/// A text that grows by `push`. Contracts see it as the list of its bytes, at most 256.
+/// A text that grows by `push`. Contracts represent this type by the list of its bytes, at most
+/// 256.
 #[derive(Drop)]
 pub struct Line {
     bytes: [u8; MAX_LINE_LEN],
@@ -28,7 +29,7 @@ impl Line {
     ghost use Rattle.std.specs.{Fmt.decimal, Prelude.{◌≡◌, ◌≤◌, ◌+◌, ◌++◌, [], length}};
     ghost use Rattle.http_response.specs.Limits.{max_line_len};
 
-    /// Makes an empty text.
+    /// Returns an empty text.
     pub fn new() -> Line
         ensures { result ≡ [] }
     {
@@ -38,7 +39,7 @@ impl Line {
         }
     }
 
-    /// Appends bytes.
+    /// Appends bytes to the text.
     pub fn push(&mut self, bytes: &[u8])
         requires { length self.old + length bytes.now ≤ max_line_len }
         ensures bytes { self.new ≡ self.old ++ bytes.now }
@@ -49,7 +50,7 @@ impl Line {
         self.len = end;
     }
 
-    /// Appends the decimal digits of a number, at most 20.
+    /// Appends the decimal digits of a number, at most 20 digits.
     pub fn push_number(&mut self, number: u64)
         requires { length self.old + 20 ≤ max_line_len }
         ensures digits { self.new ≡ self.old ++ decimal number }

@@ -1,4 +1,4 @@
-//! The text of a reply: its head and its body.
+//! Writes the text of a reply, which consists of its head and its body.
 
 ghost use Rattle.std.specs.Prelude.{◌≡◌, ◌≤◌, ◌++◌, length, drop};
 ghost use Rattle.http_response.specs.Text.{reply_text};
@@ -10,12 +10,12 @@ use club_core::Reply;
 /// The most bytes of a reply.
 pub const MAX_REPLY_LEN: usize = 512;
 
-/// Writes the text of a reply to the front of the buffer `room`, and returns its length in bytes.
-/// The rest of the buffer is unchanged. Every reply fits.
+/// Writes the text of a reply to the front of the buffer `room`, and returns the text's length in
+/// bytes. The rest of the buffer is unchanged. Every reply fits.
 ///
-/// The text is an HTTP/1.1 response (RFC 9112) whose body is a JSON object. Its fields are the
+/// The text is an HTTP/1.1 response (RFC 9112) with a JSON object as its body. Its fields are the
 /// content type, the content length and `Connection: close`. Status 401 adds the challenge `Bearer`
-/// (RFC 6750), and status 405 adds the methods of the path.
+/// (RFC 6750). Status 405 adds the methods of the path.
 #[tactic(auto, unfolding(crate::specs::Text::reply_text, crate::specs::Text::head_text))]
 pub fn reply_bytes(reply: &Reply, room: &mut [u8; MAX_REPLY_LEN]) -> usize
     ensures len { result ≡ length (reply_text reply.now) }

@@ -1,4 +1,4 @@
-//! The HTTP statuses of replies, and the methods of a path's resource.
+//! The HTTP statuses of replies, and the methods of the resource that a path names.
 
 ghost use Rattle.std.specs.Prelude.{◌≡◌, ◌≤◌, length};
 ghost use Rattle.http_response.specs.Status as spec;
@@ -30,8 +30,8 @@ fn refusal_status(refusal: Refusal) -> u16
     }
 }
 
-/// Returns the HTTP status of a reply: 200 if the request is served, else the status of the
-/// refusal.
+/// Returns the HTTP status of a reply. The status is 200 if the request was served. Otherwise, it
+/// is the status of the refusal.
 pub fn status_of(reply: &Reply) -> u16
     ensures { result ≡ spec.status_of reply.now }
 {
