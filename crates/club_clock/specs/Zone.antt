@@ -4,8 +4,8 @@ use Rattle.jiff_core.specs.{Timestamp.nanos_of_seconds, declared.timestamp.Times
 use Rattle.jiff_tz.specs.{PosixReader.read_whole, PosixRule.offset_at, PosixText.tz_view, declared.posix.TimeZone.TimeZone}
 use Rattle.club_values.specs.{Moment.IsMoment, Reading.Reads}
 
--- The given text, if it is a zone's rule of POSIX (IEEE Std 1003.1, 8.3). Otherwise, the result is
--- `None`.
+-- The given text, if it is a zone's rule of POSIX (IEEE Std 1003.1, 8.3). A text that isn't a rule
+-- of POSIX has no zone (`None`).
 unfoldable pub zone_of : List ℕ → Option (List ℕ)
 zone_of text = if is_some (read_whole text) then Some text else None
 

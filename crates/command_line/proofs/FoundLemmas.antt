@@ -1,5 +1,5 @@
 -- Lemmas about the rows that clap collects for arguments, and about clap's search for an argument
--- by its name.
+-- by name.
 use Rattle.std.proofs.Common.{◌≡◌, ◌∙◌, ℕ, ◌==◌, ◌&&◌, Bool, true, false, not, List, [], ◌∷◌, ◌++◌, Some, is_some, append_assoc, refl, sym, ap, map, unwrap_or}
 use Rattle.std.proofs.{Common.find, lemmas.{Bool.{and_parts, or_parts}, List.append-nil, Slice.Eq.bytes_eq-Decides}}
 use Rattle.std.specs.{List.list_any, Option.option_map_or, Str.bytes_eq}

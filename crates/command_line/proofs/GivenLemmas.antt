@@ -27,15 +27,16 @@ long_alone : (first : ℕ) (name : Text) → not (list_any (λ byte. byte == 61)
     → long_of (codes "--" ++ (first ∷ name)) ≡ Some (first ∷ name, None)
 long_alone first name named = ap (λ parts. Some parts) (name_and_value-without (first ∷ name) (lacks (first ∷ name) named))
 
--- The state of a walk with these rows and this pending argument.
+-- The state of a walk with the given rows and the given pending argument.
 abbrev held_with : List Found → Option (Text × List Text) → Held
 held_with rows pending = record { rows = rows; pending = pending; skip = 0 }
 
--- The walk at a point between two options.
+-- The state of clap's walk between two options.
 abbrev at_option : List Found → Option (Text × List Text) → Walk
 at_option rows pending = record (walk_from nothing_held) { held = held_with rows pending }
 
--- The walk after `--`. The next text belongs to the positional argument at this place.
+-- The state of clap's walk after `--`. The next text belongs to the positional argument at the
+-- given position.
 abbrev at_place : List Found → Option (Text × List Text) → Waiting → ℕ → Walk
 at_place rows pending waiting place = record {
   held = held_with rows pending;
@@ -62,11 +63,11 @@ module _ (s : Shape) where
   IsStep : Walk → Text → Walk → Type 0
   IsStep w argument next = (walked s.rules [] w argument ≡ next) × (turn_fault s [] w argument ≡ [])
 
-  -- Clap can store the values of the pending argument, and the result has these rows.
+  -- Clap can store the values of the pending argument, and the result has the given rows.
   abbrev Holds : Held → List Found → Type 0
   Holds held now = ((settled s.rules held).rows ≡ now) × (settle_fault s.rules again held ≡ [])
 
-  -- The walk over the arguments succeeds and ends with these rows.
+  -- Clap's walk over the arguments succeeds and ends with the given rows.
   Settles : Walk → List Text → List Found → Type 0
   Settles w arguments now = (end : Walk) × (fold (walked s.rules []) w arguments ≡ end) × (walk_fault s [] w arguments ≡ []) × Holds end.held now
 
@@ -84,7 +85,7 @@ module _ (s : Shape) where
   unfolding Settles walk_fault
   stands w arguments now none holds = rw none (w, refl, refl, holds)
 
-  -- The walk after an argument that looks like a long option.
+  -- The state of clap's walk after an argument that looks like a long option.
   abbrev after_long : Text → Held → Option (Text × Option Text) → Walk
   after_long argument held long =
       let met = long_or_other s.rules idle argument long held in after_step s.rules argument (record (walk_from nothing_held) { held = held }) met.0 met.1
@@ -107,7 +108,7 @@ module _ (s : Shape) where
           ap (long_fails argument (held_with rows pending)) long ∙ rw (by_name, holds.1, holds.0, new) refl,
         )
 
-    -- The walk after an option whose value is the next argument.
+    -- The state of clap's walk after an option whose value is the next argument.
     abbrev waits : Walk
     waits = record (at_option now (Some (first ∷ name, []))) { waiting = option (first ∷ name) }
 
@@ -212,15 +213,14 @@ module _ (s : Shape) where
   positionals_walked i (_ ∷ given) rows now pending waiting found new ordered holds =
       positionals_walked i given rows now pending waiting found.1 new ordered holds
 
-  -- The walk starts with the rows found so far. It reads the remaining arguments without a fault
-  -- and adds the last rows.
+  -- Clap's walk over the remaining arguments succeeds and adds the rows `last`.
   GoesOn : List Text → List Found → List Found → Type 0
   GoesOn tail last now = (rows : List Found) (pending : Option (Text × List Text)) → Holds (held_with rows pending) now → are_new now last ≡ true
       → Settles (at_option rows pending) tail (now ++ last)
 
   module _ (tail : List Text) (last : List Found) where
-    -- The walk starts with the rows found so far. It reads the given options and the remaining
-    -- arguments without a fault, and adds the rows of the options and of the remaining arguments.
+    -- Clap's walk over the given options and the remaining arguments succeeds. The walk adds the
+    -- rows of the options, and then the rows `last`.
     OptionsGoOn : List Given → List Found → Type 0
     OptionsGoOn given now = (rows : List Found) (pending : Option (Text × List Text)) → Holds (held_with rows pending) now
         → are_new now (option_rows given ++ last) ≡ true → Settles (at_option rows pending) (options_spelled given ++ tail) (now ++ (option_rows given ++ last))

@@ -1,4 +1,5 @@
--- This file proves that arguments that clap accepts name one of a program's commands.
+-- This file proves that the arguments name one of a program's commands if clap accepts the
+-- arguments.
 use Rattle.std.proofs.Common.{◌≡◌, ℕ, Bool, true, false, List, [], ◌∷◌, Option, Some, None, is_some, refl, codes, fold, not, ◌&&◌}
 use Rattle.std.proofs.lemmas.Bool.{false_from_ne_true, cond_both}
 use Rattle.std.specs.{List.list_any, Str.bytes_eq}

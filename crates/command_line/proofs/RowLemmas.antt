@@ -49,8 +49,8 @@ shape_found above (next ∷ entries) name other = elim (cases_Bool (bytes_eq nex
   | inr past ↦ rw past (shape_found above entries name other)
 ]
 
--- The walk that has stopped at the command with this name. `arguments` are the arguments after the
--- name.
+-- The state of clap's walk that has stopped at the command with the given name. The list
+-- `arguments` has the arguments after the name.
 abbrev at_command : Text → List Text → Walk
 at_command name arguments = record (walk_from nothing_held) { stopped = Some (name, arguments) }
 

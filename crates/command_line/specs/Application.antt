@@ -34,7 +34,7 @@ form_option = option_named (codes "form")
 abbrev pub form_or_v2 : Rule
 form_or_v2 = with_default (codes "v2") form_option
 
--- The shape of a program. It has a version and requires a command.
+-- The shape of a program. A program has a version and requires a command.
 abbrev pub as_program : Shape → Shape
 as_program top = record top { has_version = true; subcommand_required = true }
 

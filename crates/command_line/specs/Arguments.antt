@@ -4,11 +4,12 @@ use Rattle.clap.specs.{Words.{IsAmong, Kinds, Row, Text, first_of, kind_of}, dec
 use Rattle.clap.specs.declared.error.kind.ErrorKind.TheVariants as kind
 use Rattle.command_line.specs.declared.errors.ArgumentsFault.{ArgumentsFault, TheVariants.{Refused, BadValue, Memory}}
 
--- The value of an option. The result is an empty text if the option is missing.
+-- The value of an option. The value is an empty text if the option is missing.
 abbrev pub value_in : Text → List Row → Text
 value_in id rows = unwrap_or (first_of id rows) []
 
--- The command line has this flag. Clap represents the value of a given flag by the text `true`.
+-- The command line has the given flag. Clap represents the value of a given flag by the text
+-- `true`.
 abbrev pub is_set : Text → List Row → Bool
 is_set id rows = bytes_eq (value_in id rows) (codes "true")
 

@@ -1,5 +1,5 @@
--- This file defines values for the arguments of a row. It also defines how a command line contains
--- these values, and what clap finds for them.
+-- This file defines values for the arguments of a row. The file also defines how a command line
+-- contains the values, and what clap finds for them.
 use Rattle.std.specs.{List.list_any, Option.option_map_or, Prelude.{◌≡◌, ◌⊎◌, ◌==◌, ◌&&◌, ◌||◌, Bool, true, false, not, List, [], ◌∷◌, ◌++◌, Some, None, codes}}
 use Rattle.std.specs.{Prelude.{fold, is_some, map, unwrap_or, if◌then◌else◌}, Str.bytes_eq}
 use Rattle.clap.specs.{Faults.{check_fault, defaults_fault}, Kinds.{Kinds, or_else}, Lexer.strip_byte, Simple.{built_leaf, new_shape, wants_index}}
@@ -9,12 +9,13 @@ use Rattle.command_line.specs.Application.{flag_named, option_named, positional_
 
 -- An argument of a row with its value.
 --
--- - `option_given` is an option. Its first field is true for one text `--NAME=VALUE`. Its other
---   fields are: required or not, the defaults, the name and the value.
+-- - `option_given` is an option. The first field is true if one text `--NAME=VALUE` has both the
+--   name and the value. The second field is true if the option is required. The other fields are
+--   the defaults, the name and the value.
 -- - `flag_given` is a flag.
 -- - `positional_given` is a positional argument with one value.
--- - `positionals_given` is a positional argument with one or more values. The first value is a
---   field of its own.
+-- - `positionals_given` is a positional argument with one or more values. The first value has a
+--   separate field.
 -- - `left_out` is an argument without a value.
 pub data Given : Type 0 where
   option_given : Bool → Bool → List Text → Text → Text → Given
@@ -73,7 +74,7 @@ shape_given name given = built_leaf (record (new_shape name) { rules = map rule_
 abbrev pub found_given : Text → List Given → List Found
 found_given name given = fold with_default (rows_given given) (shape_given name given).rules
 
--- No argument in `before` has the same name or the same position as `rule`.
+-- No argument in `before` has the same name or the same position as the argument of `rule`.
 abbrev is_apart : List Rule → Rule → Bool
 is_apart before rule =
     not (list_any (λ other. bytes_eq other.id rule.id) before)
@@ -89,12 +90,12 @@ abbrev pub are_new : List Found → List Found → Bool
 are_new before [] = true
 are_new before (row ∷ rows) = not (has_row row.id before) && are_new (before ++ row ∷ []) rows
 
--- The text can be the name of an option, because it isn't empty and has no `=`.
+-- The text can be the name of an option. The name of an option isn't empty and has no `=`.
 abbrev is_option_name : Text → Bool
 is_option_name [] = false
 is_option_name (first ∷ rest) = not (list_any (λ byte. byte == 61) (first ∷ rest))
 
--- Each option's name isn't empty and has no `=`. If an option's value is a text of its own, this
+-- Each option's name isn't empty and has no `=`. If an option's value is a separate argument, the
 -- value doesn't begin with a dash.
 abbrev pub are_options_named : List Given → Bool
 are_options_named [] = true
@@ -109,8 +110,8 @@ has_no_positionals (positional_given required name value ∷ given) = false
 has_no_positionals (positionals_given required name first more ∷ given) = false
 has_no_positionals (_ ∷ given) = has_no_positionals given
 
--- No positional argument with a value comes after one with several values, or after one without a
--- value.
+-- A positional argument with several values, or without a value, comes after all other positional
+-- arguments with values.
 abbrev pub is_in_order : List Given → Bool
 is_in_order [] = true
 is_in_order (positionals_given required name first more ∷ given) = has_no_positionals given
@@ -121,8 +122,8 @@ is_in_order (_ ∷ given) = is_in_order given
 abbrev pub end_fault : Shape → List Found → Kinds
 end_fault shape rows = or_else (defaults_fault rows shape.rules) (check_fault shape (fold with_default rows shape.rules) false)
 
--- A row can be given these values. Its name isn't `help`. Its arguments are different and in order.
--- Each required argument is present.
+-- A row can be given the given values. The name of the row isn't `help`. The arguments of the row
+-- are different and in order. Each required argument of the row is present.
 abbrev pub can_be_given : Text → List Given → Bool
 can_be_given name given =
     let shape = shape_given name given in
@@ -138,7 +139,8 @@ AreSpelled given arguments =
     (arguments ≡ options_spelled given ++ codes "--" ∷ positionals_spelled given)
     ⊎ ((arguments ≡ options_spelled given) × (has_no_positionals given ≡ true))
 
--- The argument that a rule describes. The function `value` gives the argument's value for its name.
+-- The argument that a rule describes. The function `value` returns the argument's value for the
+-- argument's name.
 abbrev pub given_by : (Text → Text) → Rule → Given
 given_by value rule =
     if is_some rule.long

@@ -13,7 +13,7 @@ pub data Refusal (V : Type 0) : Type 0 where
   refused_as : ErrorKind → Refusal V
   bad_value : V → Refusal V
 
--- This operator passes on the first refusal, like `?` in code.
+-- The bind operator of results, which works like `?` in code.
 infixl 10 ◌>>=◌
 abbrev pub ◌>>=◌ : {A B V : Type 0} → Result A (Refusal V) → (A → Result B (Refusal V)) → Result B (Refusal V)
 Ok x >>= f = f x
@@ -44,7 +44,8 @@ abbrev pub ReadsFound : {C J V : Type 0} → ReadsRow C J V → Option (C × Lis
 ReadsFound Reads None result = ⊥
 ReadsFound Reads (Some row) result = Reads row.0 row.1 result
 
--- Clap accepts the arguments. A call that reads the row that they name may return the result.
+-- Clap accepts the arguments. A call that reads the row that the arguments name may return the
+-- result.
 abbrev pub ReadsAccepted : {C J V : Type 0} → Table C → ReadsRow C J V → List Text → Result J (ArgumentsFault V) → Type 0
 ReadsAccepted table Reads arguments result = (refusals table arguments ≡ []) × ReadsFound Reads (asked table arguments) result
 

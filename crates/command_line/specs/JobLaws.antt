@@ -21,8 +21,8 @@ RowsTakeWhatTheyAreGiven C = (table : Table C) (entry : Entry C) (given : List G
 abbrev pub IsOrLacksMemory : {A V : Type 0} → A → Result A (ArgumentsFault V) → Type 0
 IsOrLacksMemory value result = (result ≡ Ok value) ⊎ (result ≡ Err Memory)
 
--- If reading a row's values may return a job, it may return no other job. In that case the only
--- possible fault is that memory runs out.
+-- If a call that reads a row's values may return a job, the call may return no other job. A call
+-- that may return a job can fail only if memory runs out.
 abbrev pub ReadsOnce : {C J V : Type 0} → ReadsRow C J V → Type 0
 ReadsOnce {C} {J} {V} Reads = (row : C) (rows : List Row) (job : J) (result : Result J (ArgumentsFault V)) → Reads row rows (Ok job) → Reads row rows result
     → IsOrLacksMemory job result
@@ -33,8 +33,8 @@ abbrev pub RowsAnswerOnce : Type 0 → Type 0 → Type 0
 RowsAnswerOnce J V = (expected : Result J (Refusal V)) (job : J) (result : Result J (ArgumentsFault V)) → Answers expected (Ok job) → Answers expected result
     → IsOrLacksMemory job result
 
--- If arguments ask for a job, they ask for no other job. In that case the only possible fault is
--- that memory runs out.
+-- If arguments ask for a job, they ask for no other job. Arguments that ask for a job can have only
+-- one fault: memory runs out.
 abbrev pub AskOnce : {C J V : Type 0} → Table C → ReadsRow C J V → Type 0
 AskOnce {C} {J} {V} table Reads = (arguments : List Text) (job : J) (result : Result (Asked J) (ArgumentsFault V))
     → ReadsJob table Reads arguments (Ok (Perform job)) → ReadsJob table Reads arguments result → IsOrLacksMemory (Perform job) result

@@ -1,4 +1,4 @@
--- This file defines a program's commands as the rows of a table. It also defines the row that
+-- This file defines a program's commands as the rows of a table. The file also defines the row that
 -- arguments name.
 use Rattle.std.specs.{List.list_all, Prelude.{◌≡◌, List, Option, fold, map, find, option_map, option_and_then, true}, Str.bytes_eq}
 use Rattle.clap.specs.Words.{App, Kinds, Row as Found, Rule, Text, fault_of, is_simple_and_free, new_app, subcommand_of, with_rule, with_subcommand}

@@ -1,5 +1,5 @@
-//! The faults of arguments. `clap` doesn't find some of these faults itself, but it makes the usage
-//! text for all of them.
+//! The faults of arguments. This crate finds some of the faults itself, and takes their usage text
+//! from `clap`.
 
 ghost use Rattle.clap.specs.declared.error.kind.ErrorKind.TheVariants as kinds;
 ghost use Rattle.command_line.specs.Arguments.{IsOfKind};

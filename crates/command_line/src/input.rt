@@ -12,7 +12,8 @@ use std::io::{self, ErrorKind, Read};
 /// a signal interrupts a read, the function retries the read.
 ///
 /// # Errors
-/// Returns the reader's error, unless it is an interruption by a signal.
+///
+/// Returns the reader's error, unless the error is an interruption by a signal.
 pub fn fill<R: Read>(reader: &mut R, buffer: &mut [u8]) -> io::Result<usize>
     ensures bytes { IfOk result (λ count. (count ≤ length buffer.new)
         × ReadsAtMost (length buffer.new) (R.remaining reader.old) (R.remaining reader.new)

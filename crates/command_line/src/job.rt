@@ -16,7 +16,7 @@ use pass_forms::Form;
 use std::alloc::Global;
 use std::convert::AsStr;
 
-/// The request that the arguments make. They ask for a text or for a job.
+/// The request that the arguments make: to show a text or to perform a job.
 #[derive(Drop)]
 pub enum Asked<J> {
     /// The text of the help or of the version, which `clap` made.
@@ -102,7 +102,7 @@ fn job_found<'a, J: Job<'a>>(
 ///
 /// # Errors
 ///
-/// Fails with `Refused` if no form has the name, and with `Memory` only if an allocation fails.
+/// Fails with `Refused` if no form has the name. Fails with `Memory` only if an allocation fails.
 pub fn read_form<C: Commands, V>(
     alloc: Global,
     options: &ArgMatches<'_>,

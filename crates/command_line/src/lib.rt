@@ -1,5 +1,5 @@
-//! The code that both command-line programs share. It builds and parses command lines. It parses
-//! roots and the names of forms, reads input up to a limit, and writes texts.
+//! The code that both command-line programs share. The crate builds and parses command lines. The
+//! crate also parses roots and the names of forms, reads input up to a limit, and writes texts.
 #![tactic(auto)]
 
 mod errors;

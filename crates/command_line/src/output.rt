@@ -12,8 +12,8 @@ use std::io::{self, ErrorKind, Write};
 ///
 /// # Errors
 ///
-/// Returns the writer's error, unless it is an interruption by a signal. Before an error the writer
-/// may have taken a prefix of the text, or all of the text.
+/// Returns the writer's error, unless the error is an interruption by a signal. Before an error the
+/// writer may have taken a prefix of the text, or all of the text.
 pub fn write_text<W: Write>(writer: &mut W, text: &str) -> io::Result<()>
     ensures ok { OnOk result (Appends (W.contents writer.old) (W.contents writer.new) text.now) }
     ensures err { OnErr result
@@ -28,7 +28,7 @@ pub fn write_text<W: Write>(writer: &mut W, text: &str) -> io::Result<()>
 ///
 /// # Errors
 ///
-/// Returns the writer's error, unless it is an interruption by a signal.
+/// Returns the writer's error, unless the error is an interruption by a signal.
 pub fn flush<W: Write>(writer: &mut W) -> io::Result<()>
     ensures bytes { Keeps (W.contents writer.old) (W.contents writer.new) }
     ensures retried { IfErr result (λ error. error_kind error ≢ ErrorKind.Interrupted) }

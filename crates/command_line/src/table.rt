@@ -45,7 +45,7 @@ pub struct Row<C: Copy> {
     pub arguments: &'static [Argument],
 }
 
-/// A program with its commands. Its long help ends with its exit statuses.
+/// A program with its commands. The program's long help ends with the exit statuses.
 pub struct Program<C: Copy + 'static> {
     pub name: &'static str,
     pub about: &'static str,

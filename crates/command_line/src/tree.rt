@@ -11,7 +11,7 @@ use std::alloc::{AllocError, Global};
 /// The version of both programs, which `--version` prints.
 const VERSION: &str = "0.1.0";
 
-/// Returns a program without commands. The long help of the program ends with its exit statuses.
+/// Returns a program without commands. The program's long help ends with the exit statuses.
 pub fn make_program<'a>(
     alloc: Global,
     name: &'a str,

@@ -1,4 +1,4 @@
--- Lemmas about the lines that a log writes.
+-- Lemmas for the proof of `a_log_has_its_lines`.
 use Rattle.std.proofs.Common.{◌≡◌, ℕ, List, [], ◌∷◌, ◌++◌, append_assoc, append-nil, ap, sym, ◌∙◌}
 use Rattle.std.specs.Prelude.{Option}
 use Rattle.desk_server.specs.{Laws.WritesLines, Log.{AreWritten, IsTextWritten, line_text}, Served.{AreNotedMeanwhile, IsBegun, Notes, Turn, events_in}}

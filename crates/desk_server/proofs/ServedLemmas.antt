@@ -1,4 +1,4 @@
--- Lemmas for the proofs of `serve_on` and `serve_logged`.
+-- Lemmas for the proof of `serve_logged`.
 use Rattle.std.proofs.Common.{◌≡◌, ℕ, ◌+◌, List, [], ◌∷◌, ◌++◌, ◌≤◌, length, arith, length-append}
 use Rattle.club_clock.specs.Moments.{GivesMoment}
 use Rattle.club_http.specs.Replied.{AnswerRelation}
@@ -12,8 +12,8 @@ clients_more (first ∷ turns) turn = omega (arith, clients_more turns turn)
 
 module _ {Clock Desk Source Log : Type 0} (Gives : GivesMoment Clock) (Answers : ℕ → AnswerRelation Desk) (Carries : CommandRelation Desk)
     (Ended : Ends) (waited failures : Source → ℕ) (Begins : Log → Log → Type 0) (Noted : Notes Log) where
-  -- The effect of the turns so far. Exactly `clients` of these turns are clients' turns. There are
-  -- at least `commands` turns in total.
+  -- The effect of the server's turns before an iteration of its loop. Exactly `clients` of the
+  -- turns are clients' turns. There are at least `commands` turns in total.
   pub record SoFar (clients commands : ℕ) (s s' : Source) (c : Clock) (d : Desk) (l : Log) (c' : Clock) (d' : Desk) (l' : Log) : Type 0 where
     pub turns : List Turn
     pub so_many : clients_in turns ≡ clients

@@ -1,4 +1,4 @@
--- Lemmas for the proofs of `read_under`, `write_under` and `Accepted::take_rest`.
+-- Lemmas for the proofs of `read_command`, `read_under` and `write_under`.
 use Rattle.std.proofs.{Common.{◌≡◌, ◌+◌, ◌≤◌, ◌∙◌, ℕ, List, ◌++◌, length, take, Option, sym, ap}, Math.Seq.take-append-add}
 use Rattle.std.proofs.lemmas.List.{take-append-le, length-take-le}
 use borrow.Rule.Slice.PartMut.{put_mid}
@@ -12,7 +12,7 @@ filled room part len n k within few =
     ∙ take-append-add (take len room) _ n
     ∙ ap (λ (l : List ℕ). take len room ++ l) (take-append-le n part _ few)
 
--- Signals interrupted all calls so far, and no call moved a byte.
+-- Signals interrupted the first `n` calls, and none of these calls moved a byte.
 pub record Interrupted {C Stream : Type 0} (Shows : C → Option ℕ → Type 0) (Does : Calls Stream) (near far : Stream → Option (List ℕ)) (limit : Limit C)
     (first : Stream) (n : ℕ) (last : Stream) : Type 0 where
   pub repeated : AreInterrupted Shows Does limit first n last

@@ -8,20 +8,20 @@ use Rattle.desk_server.specs.{Served.{CommandRelation, Meanwhile, Notes}, declar
 abbrev pub Wait : Type 0 → Type 1
 Wait Reader = Reader → Reader → Type 0
 
--- Any number of consecutive waits led from the reader `old` to the new reader.
+-- Zero or more consecutive waits change the reader `old` to the new reader.
 pub data AreWaits {Reader : Type 0} (Waits : Wait Reader) (old : Reader) : Reader → Type 0 where
   no_wait : AreWaits Waits old old
   wait_again : (mid new : Reader) → AreWaits Waits old mid → Waits mid new → AreWaits Waits old new
 
--- The reader waited any number of times, and then filled a buffer.
+-- The reader waited zero or more times, and then filled a buffer.
 pub record Awaits {Reader : Type 0} (Waits : Wait Reader) (Fills : Call Reader) (old : Reader) (result : Option ℕ) (room : List ℕ) (new : Reader)
     : Type 0 where
   pub awaited : Reader
   pub waits : AreWaits Waits old awaited
   pub fills : Fills awaited result room new
 
--- The reader borrows the same values as before, and only commands of the office changed these
--- values.
+-- The reader borrows the same values as before, and only commands of the office changed the
+-- borrowed values.
 pub record CommandsAlone {R M D G : Type 0} (Gives : GivesMoment M) (Carries : CommandRelation D) (Begins : G → G → Type 0) (Noted : Notes G)
     (old new : Between R M D G) : Type 0 where
   pub same_reader : new.reader.ghost_name ≡ old.reader.ghost_name

@@ -8,37 +8,38 @@ use Rattle.desk_server.specs.declared.{limit.Limit.Limit, timed.Waited.{Waited, 
 abbrev pub nanos_of : Option Instant → Option ℕ
 nanos_of instant = option_map instant_nanos instant
 
--- The given time of a clock plus `patience`, in nanoseconds. The result is `None` if the clock
--- can't be read or can't show the later time.
+-- The given time of a clock plus `patience`, in nanoseconds. The sum is `None` if the clock can't
+-- be read, or if the clock can't show so late a time.
 abbrev pub due_after : ℕ → Option ℕ → Option ℕ
 due_after patience None = None
 due_after patience (Some now) = if nat_lt (now + patience) (2 ^ 63 * 1_000_000_000) then Some (now + patience) else None
 
--- The nanoseconds until a deadline. The result is 0 if the deadline has passed, if there is no
+-- The nanoseconds until a deadline. The time left is 0 if the deadline has passed, if there is no
 -- deadline, or if the clock can't be read.
 abbrev pub left_until : Option ℕ → Option ℕ → ℕ
 left_until (Some due) (Some now) = due - now
 left_until due now = 0
 
--- The predicate `P` is true for some time that the clock may show.
+-- The clock may show a time for which the predicate `P` is true.
 abbrev pub AtShown : (Option ℕ → Type 0) → (Option ℕ → Type 0) → Type 0
 AtShown Shows P = (shown : Option ℕ) × Shows shown × P shown
 
--- The effect of a call on a limit that starts with the first call. If the limit has already
--- started, the call leaves it unchanged. Otherwise, the limit's deadline is `patience` nanoseconds
--- after the call.
+-- The effect of a call on a time limit that starts with the first call. If the time limit has
+-- already started, the call leaves it unchanged. The first call sets the deadline to `patience`
+-- nanoseconds after that call.
 abbrev pub StartsLimit : {C : Type 0} → (C → Option ℕ → Type 0) → C → ℕ → Option (Limit C) → Option (Limit C) → Type 0
 StartsLimit Shows clock patience (Some limit) new = new ≡ Some limit
 StartsLimit Shows clock patience None new = IsSomeAnd new (λ limit. (limit.clock.now ≡ clock)
     × AtShown (Shows clock) (λ shown. nanos_of limit.due ≡ due_after patience shown))
 
--- A relation of this type relates a stream before a call, the most nanoseconds that the call may
--- wait, its result, and the stream after the call.
+-- A relation of this type describes a call of a stream. The relation has four terms: the stream
+-- before the call, the longest allowed wait in nanoseconds, the result, and the stream after the
+-- call.
 abbrev pub Calls : Type 0 → Type 1
 Calls Stream = Stream → ℕ → Waited → Stream → Type 0
 
--- The number of bytes that a call read or wrote. The result is `None` if a signal interrupted the
--- call or the call failed.
+-- The number of bytes that a call read or wrote. The number is `None` if a signal interrupted the
+-- call, or if the call failed.
 abbrev pub moved : Waited → Option ℕ
 moved (Moved n) = Some n
 moved Interrupted = None
@@ -49,21 +50,21 @@ abbrev pub ended : Option ℕ → Waited
 ended (Some n) = Moved n
 ended None = Failed
 
--- A call is made with `left` nanoseconds left, and no signal interrupts it. If `left` is 0, the
--- call is still made but may not wait.
+-- The effect of a call that has `left` nanoseconds left and that no signal interrupts. If `left` is
+-- 0, the call is still made but may not wait.
 abbrev pub IsCalled : {Stream : Type 0} → Calls Stream → ℕ → Stream → Option ℕ → Stream → Type 0
 IsCalled Does left old result new = Does old left (ended result) new
 
--- Signals interrupted this many consecutive calls. Each call had the time left of the limit,
--- measured at a time that the limit's clock may show.
+-- Signals interrupted a given number of consecutive calls. Each interrupted call had the time left
+-- of the limit. The time left is measured at a time that the limit's clock may show.
 pub data AreInterrupted {C Stream : Type 0} (Shows : C → Option ℕ → Type 0) (Does : Calls Stream) (limit : Limit C) (first : Stream) : ℕ → Stream → Type 0 where
   not_called : AreInterrupted Shows Does limit first 0 first
   once_more : (n : ℕ) (old new : Stream) → AreInterrupted Shows Does limit first n old
       → AtShown (Shows limit.clock.now) (λ shown. Does old (left_until (nanos_of limit.due) shown) Interrupted new)
       → AreInterrupted Shows Does limit first (n + 1) new
 
--- A call that may wait for the time left of a limit. If a signal interrupts the call, the call is
--- repeated with the time left then. It is repeated fewer than 2 ^ 64 times.
+-- The effect of a call that may wait for the time left of a limit. If a signal interrupts the call,
+-- the call is repeated with the time left then. The call is repeated fewer than 2 ^ 64 times.
 pub record IsCalledUnder {C Stream : Type 0} (Shows : C → Option ℕ → Type 0) (Does : Calls Stream) (limit : Limit C) (old : Stream) (result : Option ℕ)
     (new : Stream) : Type 0 where
   pub interruptions : ℕ
@@ -72,8 +73,9 @@ pub record IsCalledUnder {C Stream : Type 0} (Shows : C → Option ℕ → Type 
   pub called : AtShown (Shows limit.clock.now) (λ shown. IsCalled Does (left_until (nanos_of limit.due) shown) last result new)
       ⊎ (interruptions ≡ 2 ^ 64 - 1) × (result ≡ None) × (new ≡ last)
 
--- A call under a limit moved at most `most` bytes. `Moved` states the effect at the end of the
--- stream that the call used. `Still` states that the call moved no bytes at the stream's other end.
+-- The effect of a call under a limit, which moves at most `most` bytes. `Moved` states the effect
+-- at the end of the stream that the call used. `Still` states that the call moved no bytes at the
+-- stream's other end.
 pub record EndsUnder {C Stream : Type 0} (Shows : C → Option ℕ → Type 0) (Does : Calls Stream) (limit : Limit C) (old : Stream) (result : Option ℕ)
     (new : Stream) (most : ℕ) (Moved Still : Type 0) : Type 0 where
   pub within : IfSome result (λ n. n ≤ most)

@@ -12,7 +12,7 @@ use Rattle.desk_server.specs.declared.log.LogEvent.{LogEvent, TheVariants.{Absen
 abbrev pub or_dash : Option (List ℕ) → List ℕ
 or_dash word = unwrap_or word (codes "-")
 
--- The HTTP status of a completely written reply. The result is `None` if the exchange failed.
+-- The HTTP status of a completely written reply. If the exchange failed, the status is `None`.
 abbrev pub written_status : Result Reply AnswerFault → Option ℕ
 written_status (Ok reply) = Some (status_of reply)
 written_status (Err fault) = None
@@ -46,8 +46,8 @@ IsTextWritten taken taken' failures failures' text =
     (Appends taken taken' text × (failures' ≡ failures))
     ⊎ ((n : ℕ) × (n < length text) × Appends taken taken' (take n text) × (failures' ≡ one_more failures))
 
--- The writer took a line for each event, in the order of the events. Each line has some number of
--- microseconds.
+-- The writer took a line for each event, in the order of the events. Each line ends with some
+-- number of microseconds.
 pub data AreWritten (taken : Option (List ℕ)) (failures : ℕ) : List LogEvent → Option (List ℕ) → ℕ → Type 0 where
   no_line : AreWritten taken failures [] taken failures
   one_line : (events : List LogEvent) (event : LogEvent) (microseconds : ℕ) (t : Option (List ℕ)) (f : ℕ) (t' : Option (List ℕ)) (f' : ℕ)

@@ -2,22 +2,22 @@
 use Rattle.std.specs.{Borrow.Bor, Char.{is_ascii_digit, is_ascii_lowercase, is_ascii_uppercase}, List.list_all, Prelude.{ℕ, ◌+◌, Bool, ◌==◌, ◌||◌, ◌&&◌, List}}
 use Rattle.std.specs.Prelude.{length, take, drop, position, nat_lt, nat_le, Option, Some, None, option_map, option_and_then, if◌then◌else◌}
 
--- The bytes of the given word. The result is `None` if the word is missing.
+-- The bytes of the given word. The bytes are `None` if the word is missing.
 abbrev pub word_bytes : Option (Bor (List ℕ)) → Option (List ℕ)
 word_bytes word = option_map (λ (w : Bor (List ℕ)). w.now) word
 
 abbrev pub place_of_space : List ℕ → Option ℕ
 place_of_space bytes = position (λ byte. byte == 32) bytes
 
--- The first two words of the given bytes. The result is `None` unless a space follows each of the
--- two words.
+-- The first two words of the given bytes. The pair of words is `None` unless a space follows each
+-- word.
 abbrev pub two_words : List ℕ → Option (List ℕ × List ℕ)
 two_words bytes = option_and_then
     (λ first. let rest = drop (first + 1) bytes in option_map (λ second. (take first bytes, take second rest)) (place_of_space rest))
     (place_of_space bytes)
 
--- The byte is a small letter, a digit, a dash or a slash. The desk's own paths have only such
--- bytes.
+-- A byte of a path is a small letter, a digit, a dash or a slash. The desk's own paths have only
+-- these characters.
 abbrev pub is_path_byte : ℕ → Bool
 is_path_byte byte = is_ascii_lowercase byte || is_ascii_digit byte || byte == 45 || byte == 47
 

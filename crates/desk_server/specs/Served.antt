@@ -18,8 +18,13 @@ CountsOn count more count' = count + more < 2 ^ 64 → count' ≡ count + more
 abbrev pub CommandRelation : Type 0 → Type 1
 CommandRelation Desk = List ℕ → Desk → Answer → Desk → Type 0
 
--- A relation of this type describes an exchange. It relates the connection before the exchange, the
--- bytes read, the bytes written, the outcome, and the connection after the exchange.
+-- A relation of this type describes an exchange. The relation has these terms:
+--
+-- - the connection before the exchange
+-- - the bytes read
+-- - the bytes written
+-- - the outcome
+-- - the connection after the exchange
 abbrev pub Talk : Type 0 → Type 1
 Talk Client = Client → List ℕ → List ℕ → Result Reply AnswerFault → Client → Type 0
 
@@ -32,11 +37,12 @@ Ends = List ℕ → List ℕ → Result Reply AnswerFault → Type 0
 abbrev pub HasTalked : {Client : Type 0} → Talk Client → Ends
 HasTalked {Client} Talks bytes written outcome = (old : Client) × (new : Client) × Talks old bytes written outcome new
 
--- The effect of an exchange with this outcome on the desk.
+-- The effect of an exchange with a given outcome on the desk.
 --
--- - If the outcome is a reply, the reply is the desk's reply to the bytes read, and the exchange
---   wrote exactly the reply's text.
--- - If the writer failed, the exchange wrote only the first `n` bytes of the reply's text.
+-- - If the exchange succeeded, the desk gave the reply to the bytes read, and the exchange wrote
+--   exactly the reply's text.
+-- - If the writer failed, the desk still gave a reply, but the exchange wrote only the first `n`
+--   bytes of the reply's text.
 -- - If the reader failed, the desk is unchanged, and the exchange wrote nothing.
 abbrev pub IsExchanged : {Desk : Type 0} → AnswerRelation Desk → List ℕ → Desk → List ℕ → Result Reply AnswerFault → Desk → Type 0
 IsExchanged Answers bytes old written outcome new = Exchanges
@@ -53,7 +59,7 @@ IsCarriedOut Carries old None new = new ≡ old
 IsCarriedOut Carries old (Some carried) new =
     (bytes : List ℕ) × (answer : Answer) × Carries bytes old answer new × (carried ≡ answer.carried)
 
--- The bytes of an answer: the status, the text, and a zero byte. No text of an answer has a zero
+-- The bytes of an answer: the status, the text, and a zero byte. The text of an answer has no zero
 -- byte.
 abbrev pub answer_bytes : ℕ → List ℕ → List ℕ
 answer_bytes status text = status ∷ text ++ 0 ∷ []
@@ -67,33 +73,33 @@ pub record AnswersCommand {Desk : Type 0} (Carries : CommandRelation Desk) (byte
   pub same : carried ≡ answer.carried
   pub writes : (n : ℕ) × Appends taken taken' (take n (answer_bytes answer.carried.status (string_bytes answer.text)))
 
--- A turn of the server: the event of an arrival, and the events of the commands that came while the
--- server waited for the arrival's request.
+-- A turn of the server. A turn has the event of an arrival, and the events of the commands that
+-- came while the server waited for the arrival's request.
 pub record Turn : Type 0 where
   pub meanwhile : List LogEvent
   pub event : LogEvent
 
--- A turn with this event, during which no commands came.
+-- The turn that has the given event, and during which no commands came.
 abbrev pub alone : LogEvent → Turn
 alone event = record { meanwhile = []; event = event }
 
--- The events of these turns, in the order in which the events ended. In each turn the client's
--- event comes after the events of the commands.
+-- The events of the turns, in the order in which the events ended. In each turn the client's event
+-- comes after the events of the commands.
 abbrev pub events_in : List Turn → List LogEvent
 events_in [] = []
 events_in (turn ∷ turns) = (turn.meanwhile ++ turn.event ∷ []) ++ events_in turns
 
--- The number of clients that an event uses up: 0 for a command, otherwise 1.
+-- The number of clients that the server counts for an event: 0 for a command, otherwise 1.
 abbrev pub client_in : LogEvent → ℕ
 client_in (Commanded moment carried) = 0
 client_in event = 1
 
--- The number of these turns that are clients' turns.
+-- The number of turns in the list that are clients' turns.
 abbrev pub clients_in : List Turn → ℕ
 clients_in [] = 0
 clients_in (turn ∷ turns) = client_in turn.event + clients_in turns
 
--- An overrun can be the next event only after at least 2 ^ 64 - 1 turns.
+-- An overrun comes only after at least 2 ^ 64 - 1 turns.
 abbrev pub IsDue : List Turn → LogEvent → Type 0
 IsDue turns Overrun = 2 ^ 64 ≤ suc (length turns)
 IsDue turns event = Unit {0}
@@ -107,9 +113,10 @@ module _ {Clock Desk : Type 0} (Gives : GivesMoment Clock) (Carries : CommandRel
         → AreCommanded clock desk (events ++ Commanded moment carried ∷ []) c' d'
 
 module _ {Clock Desk : Type 0} (Gives : GivesMoment Clock) (Answers : ℕ → AnswerRelation Desk) (Carries : CommandRelation Desk) (Ended : Ends) where
-  -- The effect of a client on the clock and the desk. The clock gave the client's moment. Then the
-  -- desk carried out commands, each at its own moment. Last came the client's exchange, with the
-  -- desk as the commands left it. An exchange with a connection may have this outcome.
+  -- The effect of a client on the clock and the desk. The clock first gave the client's moment.
+  -- After the client's moment was known, the desk carried out commands, each at its own moment.
+  -- After the commands, the client's exchange took place. An exchange with a connection may have
+  -- the given outcome.
   pub record IsAttended (meanwhile : List LogEvent) (moment : ℕ) (line : List ℕ) (outcome : Result Reply AnswerFault) (clock : Clock) (desk : Desk)
       (clock' : Clock) (desk' : Desk) : Type 0 where
     pub given : Clock
@@ -139,15 +146,16 @@ module _ {Clock Desk : Type 0} (Gives : GivesMoment Clock) (Answers : ℕ → An
       (meanwhile ≡ []) × (failures' ≡ failures) × Gives clock moment clock' × IsCarriedOut Carries desk carried desk'
   ServesOne clock desk failures meanwhile Unanswered clock' desk' failures' = ⊥
 
-  -- The server took these turns one after the other.
+  -- The server took the given turns one after the other.
   pub data AreServed (clock : Clock) (desk : Desk) (failures : ℕ) : List Turn → Clock → Desk → ℕ → Type 0 where
     none : AreServed clock desk failures [] clock desk failures
     more : (turns : List Turn) (turn : Turn) (c : Clock) (d : Desk) (f : ℕ) (c' : Clock) (d' : Desk) (f' : ℕ)
         → AreServed clock desk failures turns c d f → IsDue turns turn.event → ServesOne c d f turn.meanwhile turn.event c' d' f'
         → AreServed clock desk failures (turns ++ turn ∷ []) c' d' f'
 
-  -- The effect of a server for `count` clients. The server served them all, or stopped because the
-  -- clock failed. The list `all` has the turns of all arrivals that the server waited for.
+  -- The effect of a server for `count` clients. The server served all `count` clients, or stopped
+  -- because the clock failed. The list `all` has the turns of all arrivals that the server waited
+  -- for.
   pub record ServesTurns (all : List Turn) (count : ℕ) (clock : Clock) (desk : Desk) (failures : ℕ) (outcome : Result Unit ClockOutOfRange)
       (clock' : Clock) (desk' : Desk) (failures' : ℕ) : Type 0 where
     pub turns : List Turn
@@ -170,23 +178,23 @@ abbrev pub Notes : Type 0 → Type 1
 Notes Log = Log → LogEvent → Log → Type 0
 
 module _ {Log : Type 0} (Begins : Log → Log → Type 0) (Noted : Notes Log) where
-  -- For each command during a turn, the log notes the command's beginning, and then its event. The
-  -- log notes the commands in order.
+  -- For each command during a turn, the log notes the command's beginning, and then the command's
+  -- event. The log notes the commands in order.
   pub data AreNotedMeanwhile (log : Log) : List LogEvent → Log → Type 0 where
     no_note : AreNotedMeanwhile log [] log
     one_note : (events : List LogEvent) (event : LogEvent) (l begun l' : Log) → AreNotedMeanwhile log events l → Begins l begun → Noted begun event l'
         → AreNotedMeanwhile log (events ++ event ∷ []) l'
 
-  -- If the server accepted the arrival, the log notes that the arrival begins. Otherwise, the log
-  -- is unchanged.
+  -- If the server accepted the arrival, the log notes that the arrival begins. If the server
+  -- accepted nothing, the log is unchanged.
   abbrev pub IsBegun : Log → LogEvent → Log → Type 0
   IsBegun log Absent begun = begun ≡ log
   IsBegun log Overrun begun = begun ≡ log
   IsBegun log event begun = Begins log begun
 
   -- The effect of a turn on the log. If the server accepted the arrival, the log first notes that
-  -- the arrival begins. Then the log notes the beginning and the event of each command during the
-  -- turn. Last, the log notes the arrival's own event.
+  -- the arrival begins. After the arrival's beginning, the log notes the beginning and the event of
+  -- each command during the turn. At the end of the turn, the log notes the arrival's own event.
   pub record IsNoted (log : Log) (turn : Turn) (log' : Log) : Type 0 where
     pub begun : Log
     pub awaited : Log
@@ -194,7 +202,7 @@ module _ {Log : Type 0} (Begins : Log → Log → Type 0) (Noted : Notes Log) wh
     pub meanwhile : AreNotedMeanwhile begun turn.meanwhile awaited
     pub notes : Noted awaited turn.event log'
 
-  -- The log notes all of these turns, in order.
+  -- The log notes all of the given turns, in order.
   pub data AreNoted (log : Log) : List Turn → Log → Type 0 where
     nothing : AreNoted log [] log
     one_noted : (turns : List Turn) (turn : Turn) (l l' : Log) → AreNoted log turns l → IsNoted l turn l' → AreNoted log (turns ++ turn ∷ []) l'
@@ -207,8 +215,8 @@ module _ {Clock Desk Log : Type 0} (Gives : GivesMoment Clock) (Carries : Comman
     pub noted : AreNotedMeanwhile Begins Noted log events log'
 
   -- The effect of an exchange. While the server waited for the request, the desk carried out
-  -- commands, and the log noted them. Then the exchange took place with the desk as these commands
-  -- left it.
+  -- commands, and the log noted the commands. After the commands, the exchange with the desk took
+  -- place.
   pub record ExchangesBetween {Client : Type 0} (Answers : AnswerRelation Desk) (ToCome : Client → Option (List ℕ)) (Talks : Talk Client)
       (bytes : List ℕ) (clock : Clock) (desk : Desk) (log : Log) (client : Client) (outcome : Result Reply AnswerFault) (clock' : Clock)
       (desk' : Desk) (log' : Log) (client' : Client) : Type 0 where
@@ -216,7 +224,7 @@ module _ {Clock Desk Log : Type 0} (Gives : GivesMoment Clock) (Carries : Comman
     pub written : List ℕ
     pub meanwhile : Meanwhile clock desk log clock' left log'
     pub exchanged : IsExchanged Answers bytes left written outcome desk'
-    -- The exchange has the same effect for all bytes that the client would send until it closes the
-    -- connection.
+    -- The exchange has the same effect for all bytes that the client would send until the client
+    -- closes the connection.
     pub to_all : IfSome (ToCome client) (λ all. IsExchanged Answers all left written outcome desk')
     pub talked : Talks client bytes written outcome client'

@@ -6,8 +6,9 @@ use Rattle.desk_server.specs.{Served.{AreNoted, CommandRelation, CountsOn, Ends,
 use Rattle.desk_server.specs.declared.{office.Carried.Carried, serve.ClockOutOfRange.ClockOutOfRange}
 
 module _ {Clock Desk Log : Type 0} (Gives : GivesMoment Clock) (Begins : Log → Log → Type 0) (Noted : Notes Log) where
-  -- The effect of a connection of the office. The desk carries out the command if it is complete.
-  -- The log notes the beginning and the event of the command at the clock's moment.
+  -- The effect of a connection of the office. The desk carries out the office's command if the
+  -- command is complete. The log notes the beginning and the event of the command at the clock's
+  -- moment.
   abbrev pub IsCommanded : CommandRelation Desk → Clock → Desk → Log → Clock → Desk → Log → Type 0
   IsCommanded Carries clock desk log clock' desk' log' =
       (moment : Option ℕ) × (carried : Option Carried) × (begun : Log) × Begins log begun × Noted begun (Commanded moment carried) log'

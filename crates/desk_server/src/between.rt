@@ -95,7 +95,8 @@ impl<R: Waits, M: Moments, D: Office, G: Log> Inlet for Between<'_, '_, '_, '_, 
 /// Reads a request as `Face::receive` does. While it waits for the request, it carries out commands
 /// of the office. Each command has its own moment and is logged.
 ///
-/// An exchange has two steps. This function is the first step, and `Face::respond` is the second.
+/// An exchange has two steps: `receive_between` is the first step, and `Face::respond` is the
+/// second.
 pub fn receive_between<R: Waits, M: Moments, D: Office, G: Log>(
     face: &mut Face,
     reader: &mut R,

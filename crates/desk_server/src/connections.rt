@@ -42,9 +42,9 @@ pub trait Connection {
             result moments.new desk.new log.new self.new };
 }
 
-/// If both the client's bytes and a command are ready, the client and the office take turns. They
-/// take turns even if the server couldn't accept the office's connection. Carrying out a command
-/// doesn't extend the client's patience.
+/// If both the client's bytes and a command are ready, the client and the office take turns. The
+/// office's turn also ends if the server couldn't accept the office's connection. Carrying out a
+/// command doesn't extend the client's patience.
 impl<S: ClientStream, C: MonotonicClock> Waits for Accepted<'_, S, C> {
     ghost use Rattle.desk_server.specs.Accepted.{HasWaited};
 
@@ -117,9 +117,9 @@ impl<S: ClientStream, C: MonotonicClock> Accepted<'_, S, C> {
     ghost use Rattle.desk_server.specs.Accepted.{TakesRest};
 
     // Ends a connection after its reply was written. Closing a socket with unread bytes resets the
-    // connection. A client that is still sending may then lose its reply. So unless `over` is true,
-    // this function first shuts down the writing side. Then it reads the bytes that the client
-    // still sends.
+    // connection, and a client that is still sending may then lose its reply. Unless `over` is
+    // true, this function therefore shuts down the writing side, and then reads the bytes that the
+    // client still sends.
     fn end(&mut self, over: bool)
         ensures over { IsTrue over → self.new ≡ self.old }
         ensures rest { TakesRest S.to_come S.taken self.old self.new }

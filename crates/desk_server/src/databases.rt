@@ -18,15 +18,15 @@ pub trait Visit {
     ghost gives: { Giving Self };
 
     /// Sends the bytes of a command to the server, and returns the answer's status and text.
-    /// Returns `None` if no answer comes. In that case the server may or may not have carried out
-    /// the command.
+    /// Returns `None` if no answer comes. Without an answer, the server may or may not have carried
+    /// out the command.
     fn give(self, command: &[u8]) -> Option<(u8, String)>
         ensures { gives self command.now (in_bytes result) };
 }
 
 /// The result of reaching a database.
 pub enum Reached<S, V> {
-    /// This program opened the database.
+    /// The caller opened the database.
     Opened(S),
     /// A server has the database open and takes commands.
     Served(V),
@@ -51,13 +51,15 @@ pub trait Databases {
     // The databases before and after closing a store.
     ghost closes: { Closing Self Self.Store };
 
-    /// Opens the database with this name for a server. Creates an empty database if none has this
-    /// name. If another program has the database open, this function retries for a while.
+    /// Opens the database with this name for a server. Creates an empty database if there is no
+    /// database with this name. If another program has the database open, this function retries for
+    /// a while.
     fn open(&mut self, name: &str) -> Result<Self::Store, StoreFault>
         ensures { opens self.old name.now result self.new };
 
     /// Reaches the database with this name for the office. If a server has the database open, this
-    /// function connects to that server. Otherwise it opens the database as `open` does.
+    /// function connects to that server. If no server has the database open, this function opens
+    /// the database as `open` does.
     fn reach(&mut self, name: &str) -> Result<Reached<Self::Store, Self::Visit>, StoreFault>
         ensures { reaches self.old name.now result self.new };
 

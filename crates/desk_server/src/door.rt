@@ -14,18 +14,19 @@ use std::os::unix::net::{UnixListener, UnixStream};
 use std::time::Duration;
 
 /// The byte that the server sends once it has accepted a connection of the office. The office sends
-/// its command only after this greeting. So an office that left before the greeting has sent no
-/// command.
+/// its command only after this greeting. An office that left before the greeting has therefore sent
+/// no command.
 pub const GREETING: [u8; 1] = *b"!";
 
-/// The size of the buffer for a command, in bytes. The longest command has one byte less.
+/// The size of the buffer for a command, in bytes. The longest command is one byte shorter than
+/// this buffer.
 pub const MAX_COMMAND_LEN: usize = 8_192;
 
-/// The last byte of an answer. No text of an answer has a zero byte, because arguments have none.
-/// So a truncated answer doesn't end with this byte.
+/// The last byte of an answer. The text of an answer has no zero byte, because arguments have no
+/// zero bytes. A truncated answer therefore doesn't end with a zero byte.
 pub const ANSWER_END: [u8; 1] = [0];
 
-/// The status of the answer to bytes that aren't a complete command. This status means that the
+/// The status of the answer to bytes that aren't a complete command. The status 9 means that the
 /// server did nothing, and will do nothing.
 pub const NOTHING_DONE: u8 = 9;
 
@@ -33,7 +34,7 @@ pub const NOTHING_DONE: u8 = 9;
 pub const NOTHING_DONE_TEXT: &str = "nothing was done";
 
 /// The timeout for the office to send its command, in milliseconds. The office has the same time
-/// again to take the answer. Clients wait meanwhile.
+/// again to take the answer. Clients wait while the office sends its command or takes the answer.
 const OFFICE_MILLISECONDS: u64 = 200;
 
 /// A connection of the office that the server accepted at its door.
@@ -57,8 +58,8 @@ impl<'c, C: MonotonicClock> Handed<'c, C> {
     }
 }
 
-/// Reads the bytes of a command up to the end of the input, and returns their number. Returns
-/// `None` if the reader fails, or if the buffer is full before the end of the input.
+/// Reads the bytes of a command up to the end of the input, and returns the number of bytes.
+/// Returns `None` if the reader fails, or if the buffer is full before the end of the input.
 pub fn read_command<R: Inlet>(reader: &mut R, room: &mut [u8]) -> Option<usize>
     ensures { IfSome result (λ n. (n ≤ length room.new)
         × Consumes (R.to_come reader.old) (R.to_come reader.new) (take n room.new)
@@ -86,8 +87,8 @@ pub fn answer_command<D: Office, W: Outlet>(desk: &mut D, bytes: &[u8], writer: 
     carried
 }
 
-/// Writes an answer: the status, the text and the end byte. If the writer fails, it has taken only
-/// a prefix of the answer.
+/// Writes an answer: the status, the text and the end byte. If the writer fails, the writer has
+/// taken only a prefix of the answer.
 pub fn put_answer<W: Outlet>(writer: &mut W, status: u8, text: &str)
     ensures { (n : ℕ) × Appends (W.taken writer.old) (W.taken writer.new)
         (take n (answer_bytes status text.now)) }

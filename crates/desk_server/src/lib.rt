@@ -1,7 +1,7 @@
-//! The server of the desk. It serves clients and commands of the office one after the other. While
-//! it waits for a client's request, it also carries out commands. The server serves each client at
-//! the moment that the club's clock shows. The server and the office open a database through the
-//! trait `Databases`.
+//! The server of the desk. The server serves clients and commands of the office one after the
+//! other. While the server waits for a client's request, it also carries out commands. The server
+//! serves each client at the moment that the club's clock shows. The server and the office open a
+//! database through the trait `Databases`.
 #![tactic(auto)]
 
 mod between;

@@ -19,7 +19,7 @@ use std::time::Duration;
 /// listener that keeps failing would soon use up the number of clients to serve.
 const REST_MILLISECONDS: u64 = 10;
 
-/// The number that replaces a missing descriptor. `poll` ignores this number.
+/// The number that replaces a missing descriptor. `poll` ignores the descriptor -1.
 const NO_DESCRIPTOR: RawFd = -1;
 
 /// The timeout that makes `poll` wait without a limit.
@@ -29,7 +29,8 @@ const NO_END: i32 = -1;
 type Arrived<'a, C> = Arrival<Accepted<'a, ClientSocket<'a, C>, C>, Handed<'a, C>>;
 
 /// The clients of a listener, and the commands of the office if there is a door. All clients have
-/// the same patience. If a client and a command are both waiting, they take turns.
+/// the same patience. If a client and a command are both waiting, the client and the office take
+/// turns.
 #[derive(Drop)]
 pub struct Listening<'a, C> {
     clients: &'a TcpListener,
@@ -45,7 +46,7 @@ pub struct Listening<'a, C> {
 impl<'a, C: MonotonicClock> Listening<'a, C> {
     ghost use Rattle.std.specs.Prelude.{◌≡◌};
 
-    /// Returns a new source, without any call of `next` so far. `clock` measures the time limits.
+    /// Returns a new source, on which `next` hasn't been called. `clock` measures the time limits.
     pub fn new(
         clients: &'a TcpListener,
         door: Option<&'a UnixListener>,
@@ -68,8 +69,9 @@ impl<'a, C: MonotonicClock> Listening<'a, C> {
 
     // Waits until a command or a client has arrived. If a connection is gone before the server
     // accepts it, the server drops that connection. If the server can't accept a connection of the
-    // office, it tries again after a pause. In that case a waiting client goes first. A connection
-    // of the office that the server couldn't accept doesn't count as a client.
+    // office, the server tries again after a pause. A waiting client goes before the second
+    // attempt. A connection of the office that the server couldn't accept doesn't count as a
+    // client.
     fn wait(&self) -> Arrived<'a, C> {
         let door = match self.door {
             Some(door) => door.as_raw_fd(),

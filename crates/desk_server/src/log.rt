@@ -22,8 +22,8 @@ pub enum LogEvent {
     /// The server closed a client's connection without an answer, because the clock showed no
     /// moment within the club's years.
     Unanswered,
-    /// The office connected at this moment. The desk carried out its command, or no complete
-    /// command came.
+    /// The office connected at this moment. The desk carried out the office's command, or no
+    /// complete command came.
     Commanded {
         moment: Option<Moment>,
         carried: Option<Carried>,
@@ -37,9 +37,9 @@ pub enum LogEvent {
     },
 }
 
-/// A log of clients and commands. The server calls the log when each client or command begins and
-/// ends. The log doesn't affect the outcome. Commands that come while the server waits for a
-/// client's request begin and end between that client's two calls.
+/// A log of clients and commands. The server calls `begin` when a client or command begins, and
+/// `note` when it ends. The log doesn't affect the outcome. If a command comes while the server
+/// waits for a client's request, the calls for the command are between the client's two calls.
 pub trait Log {
     ghost use Rattle.desk_server.specs.Served.{Notes};
 

@@ -6,7 +6,7 @@ use club_http::Responder;
 /// The parts of a carried-out command that the log shows.
 #[derive(Drop)]
 pub struct Carried {
-    /// The first bytes of a line. The second word of that line is the command's name.
+    /// The first bytes of the line of a command. The second word of the line is the command's name.
     pub line: RequestLine,
     /// The exit status of the command.
     pub status: u8,
@@ -16,8 +16,8 @@ pub struct Carried {
 #[derive(Drop)]
 pub struct Answer {
     pub carried: Carried,
-    /// The text that the command prints. The command prints it on standard output if the status is
-    /// 0, else on standard error.
+    /// The text that the command prints. The command prints the text on standard output if the
+    /// status is 0, else on standard error.
     pub text: String,
 }
 

@@ -6,9 +6,9 @@ use std::os::fd::RawFd;
 
 /// The result of a wait for a command and for a client.
 pub(crate) enum Next {
-    /// The command goes first.
+    /// The command goes before the client.
     Command,
-    /// The client goes first.
+    /// The client goes before the command.
     Client,
     /// Neither a command nor a client came in time.
     Nothing,
@@ -16,8 +16,8 @@ pub(crate) enum Next {
     Failed,
 }
 
-/// Waits for a command at a door or for a client, and returns which of the two goes first. The wait
-/// takes at most `milliseconds`. If `milliseconds` is -1, the wait has no limit.
+/// Waits for a command at a door or for a client, and returns which of the two goes first. Waits at
+/// most `milliseconds`. If `milliseconds` is -1, the wait has no limit.
 pub(crate) fn next_of(door: RawFd, client: RawFd, milliseconds: i32, command_first: bool) -> Next {
     let mut asked = [waits_for(door, c::POLLIN), waits_for(client, c::POLLIN)];
     let ready = c::poll(&mut asked, milliseconds);

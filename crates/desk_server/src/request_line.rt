@@ -7,18 +7,19 @@ ghost use Rattle.desk_server.specs.RequestLine as spec;
 use club_http::Line;
 use std::marker::Model;
 
-/// The most bytes of a request that the log keeps. The desk's longest request line has 80 bytes.
-/// That line cancels a booking at a facility whose name has 24 letters.
+/// The maximum number of bytes of a request that the log keeps. The desk's longest request line has
+/// 80 bytes. The longest request line cancels a booking at a facility whose name has 24 letters.
 pub const MAX_KEPT: usize = 96;
 
-/// The most letters of a method that the log shows. The desk's longest method is `DELETE`.
+/// The maximum number of letters in a method that the log shows. The desk's longest method is
+/// `DELETE`.
 const MAX_METHOD_LEN: usize = 7;
 
-/// The first bytes of a request. Contracts represent this type by these bytes.
+/// The first bytes of a request. Contracts represent a `RequestLine` by these bytes.
 ///
-/// This type shows the method and the path only if all their characters also occur in the desk's
-/// own methods and paths. So the log never shows a pass, because the text of every pass has a
-/// capital letter or a brace.
+/// A `RequestLine` shows the method and the path only if all their characters also occur in the
+/// desk's own methods and paths. The text of every pass has a capital letter or a brace. The log
+/// therefore never shows a pass.
 #[derive(Drop)]
 pub struct RequestLine {
     kept: Line,
@@ -38,8 +39,8 @@ impl RequestLine {
     ghost use Rattle.std.specs.Prelude.{◌≡◌, ◌≤◌, IfSome, length, take};
     ghost use Rattle.desk_server.specs.RequestLine.{word_bytes, method_of, path_of};
 
-    /// Returns the first `MAX_KEPT` bytes of a request. Returns all bytes of the request if it has
-    /// fewer.
+    /// Returns the first `MAX_KEPT` bytes of a request. If the request is shorter, returns all of
+    /// its bytes.
     #[tactic(auto, using(std::proofs::lemmas::List::take_min))]
     pub fn of(request: &[u8]) -> RequestLine
         ensures { result ≡ take 96 request.now }
@@ -75,7 +76,7 @@ impl RequestLine {
     }
 }
 
-// Returns the first two words if a space follows each of them.
+// Returns the first two words if a space follows each word.
 fn two_words(bytes: &[u8]) -> Option<(&[u8], &[u8])>
     ensures words { option_map (λ words. (words.0.now, words.1.now)) result
         ≡ spec.two_words bytes.now }

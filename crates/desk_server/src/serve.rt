@@ -28,15 +28,16 @@ impl fmt::Display for ClockOutOfRange {
 
 impl Error for ClockOutOfRange {}
 
-/// Serves `count` clients of a listener, one after the other. Also carries out each command of the
-/// office that comes before a client or during the wait for a client's request. A client gets the
-/// clock's moment at the start of its turn. A client counts even if its connection or exchange
-/// fails, or if its request is refused. Commands don't count.
+/// Serves `count` clients of a listener, one after the other. The server carries out commands of
+/// the office between clients, and while it waits for a client's request. A client gets the clock's
+/// moment at the start of its turn. A client counts even if its connection or exchange fails, or if
+/// its request is refused. Commands don't count.
 ///
 /// # Errors
 ///
-/// Fails with `ClockOutOfRange` if the clock shows no moment within the club's years. In that case
-/// the server closes the client's connection without an answer, and accepts no other client.
+/// Fails with `ClockOutOfRange` if the clock shows no moment within the club's years. After this
+/// error the client's connection is closed without an answer, and the server accepts no other
+/// client.
 pub fn serve_on<L: Arrivals, M: Moments, D: Office>(
     listener: &mut L,
     count: u32,

@@ -16,8 +16,8 @@ use std::time::Duration;
 pub enum Woken<O> {
     /// A command came.
     Command(O),
-    /// The client can be read. Its bytes or the end of its input have arrived, the time limit is
-    /// over, or waiting failed.
+    /// The client can be read. A client can be read if bytes or the end of its input have arrived,
+    /// if its time limit is over, or if waiting failed.
     Client,
     /// The server couldn't accept the connection of a command, or the connection was already gone.
     Nobody,
@@ -29,13 +29,13 @@ pub trait ClientStream: TimedStream {
 
     type Command: Handover + Drop;
 
-    /// Waits at most this long for the client and for the office at once. If both are ready, the
-    /// office goes first if `command_first` is true, else the client.
+    /// Waits at most for the time `limit`, for the client and for the office at once. If both are
+    /// ready, the office goes first if `command_first` is true, else the client.
     fn wait_within(&mut self, limit: Duration, command_first: bool) -> Woken<Self::Command>
         ensures reads_nothing { Keeps (Self.to_come self.old) (Self.to_come self.new) }
         ensures writes_nothing { Keeps (Self.taken self.old) (Self.taken self.new) };
 
-    /// Tells the client that the server will send no more bytes. Returns true if that succeeded.
+    /// Tells the client that the server will send no more bytes. Returns true on success.
     fn end_writing(&mut self) -> bool
         ensures reads_nothing { Keeps (Self.to_come self.old) (Self.to_come self.new) }
         ensures writes_nothing { Keeps (Self.taken self.old) (Self.taken self.new) };

@@ -16,7 +16,7 @@ use std::time::Duration;
 /// The result of a call that waits for a limited time.
 #[derive(Clone, Copy, Debug, PartialEq, Eq)]
 pub enum Waited {
-    /// The call read or wrote this many bytes.
+    /// The call read or wrote the given number of bytes.
     Moved(usize),
     /// A signal interrupted the call before any byte was read or written.
     Interrupted,
@@ -24,25 +24,25 @@ pub enum Waited {
     Failed,
 }
 
-/// A stream whose reads and writes have a time limit, such as a socket. With a limit of zero, a
-/// read returns the bytes that have already arrived. With that limit, a write takes as many bytes
-/// as there is room for.
+/// A stream whose reads and writes have a time limit, such as a socket. With a time limit of zero,
+/// a read returns the bytes that have already arrived. With a time limit of zero, a write takes as
+/// many bytes as there is room for.
 pub trait TimedStream {
     ghost use Rattle.std.specs.{Duration.as_nanos, Io.KnownBytes.Keeps};
     ghost use Rattle.std.specs.Prelude.{◌≤◌, ℕ, List, length, Option, IfSome};
     ghost use Rattle.club_http.specs.Ends.{Fills, Takes};
     ghost use Rattle.desk_server.specs.Limits.{Calls, moved};
 
-    // The bytes still to come, if they are known.
+    // The bytes that the stream will still return, if they are known.
     ghost to_come: { Self → Option (List ℕ) };
 
     // The bytes that the stream took, if they are known.
     ghost taken: { Self → Option (List ℕ) };
 
-    // A read that waits at most this long, with the stream before and after the read.
+    // A read that waits at most for the given time, with the stream before and after the read.
     ghost reads: { Calls Self };
 
-    // A write that waits at most this long, with the stream before and after the write.
+    // A write that waits at most for the given time, with the stream before and after the write.
     ghost writes: { Calls Self };
 
     /// Reads the next bytes into the front of the buffer, and returns the number of bytes read. If
@@ -112,8 +112,8 @@ pub(crate) fn outcome_of(returned: io::Result<usize>) -> Waited
     }
 }
 
-// Reads within the time left of a limit. After the limit, the read doesn't wait. The read then
-// still returns bytes that came while the server was stopped.
+// Reads within the time left of a limit. Once the limit is over, a read doesn't wait. Even then a
+// read returns bytes that came while the server was stopped.
 fn read_under<R: TimedStream, C: MonotonicClock>(
     reader: &mut R,
     limit: &Limit<'_, C>,
@@ -133,7 +133,7 @@ fn read_under<R: TimedStream, C: MonotonicClock>(
     None
 }
 
-// Writes within the time left of a limit. After the limit, the write doesn't wait.
+// Writes within the time left of a limit. Once the limit is over, a write doesn't wait.
 fn write_under<W: TimedStream, C: MonotonicClock>(
     writer: &mut W,
     limit: &Limit<'_, C>,
@@ -153,21 +153,21 @@ fn write_under<W: TimedStream, C: MonotonicClock>(
     None
 }
 
-/// The most bytes that `take_rest` reads.
+/// The maximum number of bytes that `take_rest` reads.
 pub const MAX_REST: usize = 65_536;
 
 /// The time limit of `take_rest` for the next bytes or the end of the input, in milliseconds.
 const REST_MILLISECONDS: u64 = 200;
 
-/// The most bytes that `take_rest` reads in one call.
+/// The maximum number of bytes that `take_rest` reads in one call.
 const MAX_REST_AT_ONCE: usize = 4_096;
 
 /// Both ends of an accepted connection, with time limits. All reads together may take the patience,
 /// counted from the start of the connection. All writes together may take the patience, counted
 /// from the first write. A call waits at most for the time left of its limit.
 ///
-/// If no time is left or the clock can't be read, the call is still made, but doesn't wait. A call
-/// that a signal interrupted is repeated with the time that is left.
+/// If no time is left or the clock can't be read, the call is still made, but doesn't wait. If a
+/// signal interrupts a call, the call is repeated with the time that is left.
 #[derive(Drop)]
 pub struct Accepted<'c, S, C> {
     pub(crate) stream: S,
@@ -223,9 +223,9 @@ impl<'c, S: TimedStream, C: MonotonicClock> Accepted<'c, S, C> {
         self.stream
     }
 
-    /// Reads the bytes that the client still sends, at most `MAX_REST`. Stops at the end of the
-    /// input. Also stops once the patience, counted from this call, is over, or once no byte came
-    /// for 200 milliseconds.
+    /// Reads the bytes that the client still sends, at most `MAX_REST`. Reading stops at the end of
+    /// the input, or once no byte came for 200 milliseconds. Reading also stops once the patience,
+    /// counted from the start of this call, is over.
     pub fn take_rest(&mut self)
         ensures taken { TakesAtMost 65_536 (S.to_come self.old.stream) (S.to_come self.new.stream) }
         ensures writes_nothing { Keeps (S.taken self.old.stream) (S.taken self.new.stream) }

@@ -1,4 +1,4 @@
--- This file declares nothing. It exports the names that most proofs of this crate use.
+-- This file only exports the names that most proofs of this crate use.
 pub use Rattle.std.proofs.Common.{◌≡◌, ℕ, List, ◌∙◌, false, ap, sym, ◌<◌, length, arith, true, ◌∷◌, refl, drop, take, cond, [], Option, Some, inr, ◌≤◌, Bool}
 pub use Rattle.std.proofs.Common.{None, inl, ◌++◌, ◌-◌, codes, ◌+◌, nat_eq, length-append, ◌==◌, ◌&&◌, Result, get_or, eqb, leb, append-nil, IsSome, ◌↔◌}
 pub use Rattle.std.proofs.Common.{append_assoc, MatchResult, ◌||◌, nat_le, IfSome, Bor, subst, IsTrue, zero, suc, ltb, ◌⊎◌, option_map, rules, tests, Ok, Err}

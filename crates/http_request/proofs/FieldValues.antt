@@ -1,8 +1,8 @@
--- Lemmas for the proofs of `next_value` and `values_of`.
+-- Lemmas for the proof of `next_value`.
 use Rattle.http_request.proofs.Common.{◌≡◌, ℕ, ◌+◌, ◌<◌, Bool, List, ◌∷◌, cond, length, get_or, drop, refl, at_drop_more, HeaderSpan, same_word, values_in_head}
 use Rattle.httparse.specs.Spans.{header_bytes}
 
--- The empty span, which a parser's buffer has before the parser writes to it.
+-- The empty span, which fills a parser's buffer before the parser writes to the buffer.
 abbrev pub no_field : HeaderSpan
 no_field = record { name = record { start = 0; end = 0 }; value = record { start = 0; end = 0 } }
 

@@ -5,13 +5,13 @@ use Rattle.http_request.proofs.Common.{IsHeadOf, IsPiece, AsksForBody, IsFramed,
 use Rattle.std.proofs.Math.Seq.{take-append_seam, drop-append_seam}
 use Rattle.httparse.proofs.GrammarLemmas.{request_unique}
 
--- The bytes are a piece that ends with an empty line, followed by the rest.
+-- The bytes are a piece that ends with an empty line, followed by the rest of the bytes.
 pub record IsCut (bytes piece rest : List ℕ) : Type 0 where
   pub cut : IsPiece piece
   pub parts : bytes ≡ piece ++ rest
 
--- The bytes are a piece followed by the rest. The piece is a head that announces a body of this
--- length.
+-- The bytes are a piece followed by the rest of the bytes. The piece is a head that announces a
+-- body of the given length.
 pub record Asks (bytes : List ℕ) (head : RequestHead) (body_len : ℕ) (rest : List ℕ) : Type 0 where
   pub piece : List ℕ
   pub cut : IsCut bytes piece rest

@@ -4,7 +4,7 @@ use Rattle.std.specs.Str.{bytes_eq, is_utf8}
 use Rattle.serde_json.specs.{Data.{Data, Members, no_members, member}, Find.{get, as_number, as_object, as_u64}, Read.read}
 use Rattle.club_values.specs.Slot.{guests_limit}
 
--- Every member of the object has this name.
+-- Every member of the object has the given name.
 abbrev pub only_named : List ℕ → Members → Bool
 only_named name no_members = true
 only_named name (member key value members) = bytes_eq key name && only_named name members
@@ -12,18 +12,18 @@ only_named name (member key value members) = bytes_eq key name && only_named nam
 abbrev pub has_only_name : List ℕ → Data → Bool
 has_only_name name value = unwrap_or (option_map (only_named name) (as_object value)) false
 
--- The value as a number. The result is `None` unless the value is a whole number that isn't
+-- The value as a number. The number is `None` unless the value is a whole number that isn't
 -- negative.
 abbrev pub whole_number : Option Data → Option ℕ
 whole_number value = option_and_then as_u64 (option_and_then as_number value)
 
--- The number of guests. The result is `None` if a booking may not have so many guests.
+-- The number of guests. The number is `None` if a booking may not have so many guests.
 abbrev pub few_guests : Option ℕ → Option ℕ
 few_guests None = None
 few_guests (Some n) = if nat_le n guests_limit then Some n else None
 
--- The number of guests in an object whose only name is `guests`. The result is `None` unless the
--- number is whole and within the limit.
+-- The number of guests in an object whose only name is `guests`. The number of guests must be a
+-- whole number within the limit of a booking.
 unfoldable pub guests_of_value : Data → Option ℕ
 guests_of_value value = if has_only_name (codes "guests") value then few_guests (whole_number (get (codes "guests") value)) else None
 

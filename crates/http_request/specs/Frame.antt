@@ -1,5 +1,5 @@
--- This file defines a request as a head and a body (RFC 9112, section 6). It also defines when a
--- request is complete.
+-- This file defines a request as a head and a body (RFC 9112, section 6). The file also defines
+-- when a request is complete.
 use Rattle.std.specs.{List.ends_with, Prelude.{◌≡◌, ℕ, ◌≤◌, false, List, ◌++◌, length, take, map, nat_eq, Some}}
 use Rattle.httparse.specs.{Grammar.RequestHead, Spans.name_and_value}
 use Rattle.http_request.specs.{Head.{empty_line, IsPiece, IsHeadOf}, Length.asked_length, Limits.max_head_len}
@@ -8,12 +8,12 @@ use Rattle.http_request.specs.{Head.{empty_line, IsPiece, IsHeadOf}, Length.aske
 abbrev pub header_fields : RequestHead → List (List ℕ × List ℕ)
 header_fields head = map name_and_value head.fields
 
--- The piece is a head, and this head announces a body of this length.
+-- The piece is a head that announces a body of the given length.
 pub record AsksForBody (piece : List ℕ) (head : RequestHead) (body_len : ℕ) : Type 0 where
   pub is : IsHeadOf piece head
   pub requests : asked_length head.method (header_fields head) ≡ Some body_len
 
--- The bytes begin with this head and then its body.
+-- The bytes begin with the given head, followed by the given body.
 pub record IsFramed (bytes : List ℕ) (head : RequestHead) (body : List ℕ) : Type 0 where
   pub piece : List ℕ
   pub after : List ℕ
@@ -21,12 +21,12 @@ pub record IsFramed (bytes : List ℕ) (head : RequestHead) (body : List ℕ) : 
   pub parts : bytes ≡ piece ++ (body ++ after)
   pub asks : AsksForBody piece head (length body)
 
--- No prefix of the bytes within the limit of a head ends with an empty line.
+-- No prefix of at most `max_head_len` bytes ends with an empty line.
 abbrev pub HasNoPiece : List ℕ → Type 0
 HasNoPiece bytes = (n : ℕ) → n ≤ length bytes → n ≤ max_head_len → ends_with nat_eq (take n bytes) empty_line ≡ false
 
--- The bytes begin with a piece that ends with an empty line. This piece isn't a valid head, or it
--- is a head whose body the desk refuses.
+-- The bytes begin with a head that the desk refuses. A refused head ends with an empty line. A
+-- refused head isn't valid, or announces a body that the desk doesn't allow.
 pub record IsRefusedHead (bytes : List ℕ) : Type 0 where
   pub piece : List ℕ
   pub rest : List ℕ

@@ -7,8 +7,8 @@ use Rattle.http_request.specs.Limits.{max_fields, max_head_len}
 abbrev pub empty_line : List ℕ
 empty_line = codes "\r\n\r\n"
 
--- The piece ends with an empty line, but no shorter prefix of the piece does. The piece isn't
--- longer than the limit of a head.
+-- The piece ends with an empty line, but no shorter prefix of the piece ends with an empty line.
+-- The piece isn't longer than the limit of a head.
 pub record IsPiece (piece : List ℕ) : Type 0 where
   pub ends : ends_with nat_eq piece empty_line ≡ true
   pub shortest : (n : ℕ) → n < length piece → ends_with nat_eq (take n piece) empty_line ≡ false

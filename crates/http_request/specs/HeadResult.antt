@@ -13,13 +13,13 @@ pub record IsHeadAt (bytes : List ℕ) (fields : List HeaderSpan) (found : Head)
   pub within : IsRequestWithin (take found.len bytes) fields found.spans
   pub spans : IsRequestAt (take found.len bytes) fields found.spans head
 
--- The result of looking for a head at the front of these bytes. No head has ended yet, or the head
--- is refused, or the head announces a body of a known length.
+-- The result of looking for a head at the front of the bytes. Either no head has ended yet, or the
+-- head is refused, or the head announces a body of a known length.
 abbrev pub IsHeadResultOf : List ℕ → List HeaderSpan → HeadResult → Type 0
 IsHeadResultOf bytes fields NoPiece = HasNoPiece bytes
 IsHeadResultOf bytes fields Refused = IsRefusedHead bytes
 IsHeadResultOf bytes fields (Asking found) = IsHeadAt bytes fields found
 
--- The scan has the result of looking for a head at the front of these bytes.
+-- The scan has the result of looking for a head at the front of the bytes.
 abbrev pub Covers : HeadScan → List ℕ → Type 0
 Covers scan bytes = IsHeadResultOf bytes scan.fields scan.front

@@ -19,7 +19,6 @@ WholeKeepsItsReading =
     (bytes more : List ℕ) (answer : Result DecodedRequest Refusal)
     → IsWhole bytes → IsRequestReading bytes answer → IsRequestReading (bytes ++ more) answer
 
--- If a list of bytes begins with a request whose body needs memory, every extension of the list
--- also begins with a request whose body needs memory.
+-- A request whose body needs memory stays at the front of the bytes when more bytes are appended.
 abbrev pub BodyStays : Type 0
 BodyStays = (bytes more : List ℕ) → HoldsBody bytes → HoldsBody (bytes ++ more)

@@ -3,17 +3,16 @@ use Rattle.std.specs.{Prelude.{ℕ, ◌==◌, ◌||◌, List, [], ◌∷◌, len
 use Rattle.club_values.specs.Number.{number_of_digits}
 use Rattle.http_request.specs.{Fields.values_of, Limits.max_body_len}
 
--- The given length. The result is `None` if the length is over the limit of a body.
+-- The given length. The length is `None` if it is over the limit of a body.
 abbrev pub body_length : ℕ → Option ℕ
 body_length n = if nat_le n max_body_len then Some n else None
 
--- The number that 1 to 4 digits represent. The result is `None` if the number is over the limit of
--- a body.
+-- The number that 1 to 4 digits represent. The number is `None` if it is over the limit of a body.
 abbrev pub length_in : List ℕ → Option ℕ
 length_in value = if nat_le (length value) 4 then option_and_then body_length (number_of_digits value) else None
 
--- The length in the fields `Content-Length`. Without such a field, the length is 0. The desk
--- refuses a head with two or more such fields.
+-- The length in the fields `Content-Length`. A head without a field `Content-Length` has the length
+-- 0. The desk refuses a head with two or more fields `Content-Length`.
 abbrev pub declared_length : List (List ℕ) → Option ℕ
 declared_length [] = Some 0
 declared_length (value ∷ []) = length_in value
@@ -29,7 +28,7 @@ abbrev pub unless_coded : List (List ℕ) → Option ℕ → Option ℕ
 unless_coded [] found_len = found_len
 unless_coded (coding ∷ more) found_len = None
 
--- The length of the body that a head announces. The result is `None` if the desk refuses the head.
+-- The length of the body that a head announces. The length is `None` if the desk refuses the head.
 abbrev pub asked_length : List ℕ → List (List ℕ × List ℕ) → Option ℕ
 asked_length method fields =
     unless_coded (values_of (codes "transfer-encoding") fields)

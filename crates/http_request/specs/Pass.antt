@@ -2,12 +2,12 @@
 use Rattle.std.specs.Prelude.{ℕ, List, [], ◌∷◌, take, drop, codes, if◌then◌else◌, Option, Some, None}
 use Rattle.http_request.specs.Fields.{same_word, values_of}
 
--- The text of the pass in a field's value. The text is everything after `Bearer` and one space. The
--- case of the letters of `Bearer` doesn't matter.
+-- The text of the pass in a field's value. The text of the pass is everything after `Bearer` and
+-- one space. The case of the letters of `Bearer` doesn't matter.
 abbrev pub bearer_text : List ℕ → Option (List ℕ)
 bearer_text value = if same_word (take 7 value) (codes "bearer ") then Some (drop 7 value) else None
 
--- The text of the pass in the list's only value. The result is `None` if the list has no value or
+-- The text of the pass in the list's only value. The text is `None` if the list has no value or
 -- several values.
 abbrev pub only_text : List (List ℕ) → Option (List ℕ)
 only_text [] = None

@@ -32,7 +32,7 @@ pub record IsPlace (target : List ℕ) (place : Place) : Type 0 where
   pub parts : segments path ≡ place_parts place
   pub real : HasRealValues place
 
--- The given place is the place that the target names. It is `None` if the target names no place.
+-- The place that the target names. The place is `None` if the target names no place.
 abbrev pub IsPlaceOf : List ℕ → Option Place → Type 0
 IsPlaceOf target None = (place : Place) → ¬ IsPlace target place
 IsPlaceOf target (Some place) = IsPlace target place

@@ -1,5 +1,5 @@
--- This file defines a property of the desk's routes. matchit, a library, refuses a target without a
--- route.
+-- This file defines a property of the desk's routes. The router of the library `matchit` refuses a
+-- target without a route.
 use Rattle.std.specs.Prelude.{◌≡◌, ℕ, List, Some, IsSome}
 use Rattle.matchit.specs.{Rows.RowsOf, Seek.first}
 use Rattle.http_request.specs.{computed.Path.place_of, declared.path.Place.Place}

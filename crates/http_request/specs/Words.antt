@@ -18,13 +18,12 @@ pub record DecodedRequest : Type 0 where
   pub pass : List ℕ
   pub request : Request
 
--- The number of guests of a request. For PUT it is the number in the body. For any other method it
--- is 0.
+-- The number of guests of a request. For PUT the number of guests is in the body. For any other
+-- method the number of guests is 0.
 abbrev pub guests_by_method : List ℕ → List ℕ → Option ℕ
 guests_by_method method body = if bytes_eq method (codes "PUT") then guests_in body else Some 0
 
--- The request that a method makes at a place. The bytes of the method are compared, so case
--- matters.
+-- The request that a method makes at a place. The case of a method's letters matters.
 abbrev pub request_at : Place → List ℕ → ℕ → Result Request Refusal
 request_at (SlotPlace slot) method guests =
     if bytes_eq method (codes "GET") then Ok (requests.View slot) else Err (MethodNotAllowed resources.Slot)
@@ -45,7 +44,8 @@ decoded_request method place fields body = do
   Ok (record { pass = pass; request = request })
 
 -- The decoding of the bytes. If the bytes begin with a head and a body, the answer is the decoding
--- of that head and body. Otherwise, the answer is `BadRequest`.
+-- of that head and body. If the bytes don't begin with a head and a body, the answer is
+-- `BadRequest`.
 pub data IsRequestReading (bytes : List ℕ) (answer : Result DecodedRequest Refusal) : Type 0 where
   has_frame : (head : RequestHead) (body : List ℕ) (place : Option Place) → IsFramed bytes head body → IsPlaceOf head.target place
       → answer ≡ decoded_request head.method place (header_fields head) body → IsRequestReading bytes answer

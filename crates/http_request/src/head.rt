@@ -7,15 +7,15 @@ ghost use Rattle.http_request.specs.{Frame.HasNoPiece, Head.{IsPiece, IsHeadOf}}
 use httparse::Status;
 use httparse::spans::{HeaderSpan, RequestSpans, parse_request};
 
-/// The most bytes of a head.
+/// The maximum number of bytes in a head.
 pub const MAX_HEAD_LEN: usize = 16_384;
 
-/// The most fields of a head.
+/// The maximum number of fields in a head.
 pub const MAX_FIELDS: usize = 32;
 
 /// Returns the length of the head at the front of the bytes. A head ends with the first empty line,
-/// CR LF CR LF. The caller knows that no head ends within the first `searched` bytes. So this
-/// function doesn't search these bytes again.
+/// CR LF CR LF. The caller knows that no head ends within the first `searched` bytes. This function
+/// therefore doesn't search the first `searched` bytes again.
 pub(crate) fn piece_len(bytes: &[u8], searched: usize) -> Option<usize>
     requires inside { searched ≤ length bytes.now }
     requires open { HasNoPiece (take searched bytes.now) }

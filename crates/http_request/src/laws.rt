@@ -27,8 +27,7 @@ pub fn whole_keeps_its_reading()
     ensures { WholeKeepsItsReading }
 {}
 
-/// If a list of bytes begins with a request whose body needs memory, every extension of the list
-/// also begins with a request whose body needs memory.
+/// A request whose body needs memory stays at the front of the bytes when more bytes are appended.
 pub fn body_stays()
     ensures { BodyStays }
 {}

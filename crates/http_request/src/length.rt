@@ -8,10 +8,10 @@ use crate::fields::{Values, values_of};
 use club_values::digits::read_digits;
 use httparse::spans::HeaderSpan;
 
-/// The most bytes of a body.
+/// The maximum number of bytes in a body.
 pub const MAX_BODY_LEN: usize = 256;
 
-/// The most digits of a body's length.
+/// The maximum number of digits in the length of a body.
 const MAX_DIGITS: usize = 4;
 
 /// Parses the length of a body. The text must have 1 to 4 digits, and the number must be at most

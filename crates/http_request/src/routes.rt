@@ -75,8 +75,8 @@ impl Routes {
     }
 }
 
-/// Returns the number of guests of a request. For PUT it is the number in the body. For any other
-/// method it is 0.
+/// Returns the number of guests of a request. For PUT the number of guests is in the body. For any
+/// other method the number of guests is 0.
 fn guests_of_body(alloc: Global, method: &[u8], body: &[u8]) -> Result<Guests, Refusal>
     ensures { MatchResult result
         (λ guests. guests_by_method method.now body.now ≡ Some guests)

@@ -9,11 +9,11 @@ use crate::head_result::{HeadResult, head_result_of};
 use crate::length::MAX_BODY_LEN;
 use httparse::spans::{EMPTY_HEADER_SPAN, HeaderSpan};
 
-/// The most bytes of a request.
+/// The maximum number of bytes in a request.
 pub const MAX_REQUEST_LEN: usize = MAX_HEAD_LEN + MAX_BODY_LEN;
 
-/// A scan for the head of a request. It keeps the result of looking for a head in the scanned
-/// bytes. It parses the head once, after the end of the head has arrived.
+/// A scan for the head of a request. The scan keeps the result of looking for a head in the scanned
+/// bytes. The scan parses the head once, after the end of the head has arrived.
 #[derive(Drop)]
 pub struct HeadScan {
     pub(crate) front: HeadResult,
@@ -47,8 +47,8 @@ impl HeadScan {
         }
     }
 
-    /// Returns true if the bytes that the scan covers begin with a complete request. If they don't,
-    /// there are fewer than `MAX_REQUEST_LEN` bytes.
+    /// Returns true if the bytes that the scan covers begin with a complete request. If the request
+    /// isn't complete, there are fewer than `MAX_REQUEST_LEN` bytes.
     pub fn is_whole(&self, bytes: &[u8]) -> bool
         requires { Covers self.now bytes.now }
         ensures whole { IsTrue result ↔ IsWhole bytes.now }

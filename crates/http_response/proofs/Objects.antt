@@ -2,7 +2,7 @@
 use Rattle.std.proofs.{Common.{◌≡◌, ℕ, List, [], ◌∷◌, ◌++◌, codes, flat_map, ap, sym, ◌∙◌, append_assoc}, lemmas.List.append-nil}
 use Rattle.http_response.specs.Body.{Member, member_text, object_text}
 
--- The text `text`, followed by these members of an object.
+-- The text `line`, followed by the given members of an object.
 abbrev pub written : List ℕ → List Member → List ℕ
 written line [] = line
 written line (member ∷ members) = written (line ++ codes "," ++ member_text member) members

@@ -39,7 +39,7 @@ abbrev pub booking_member : List ℕ → ℕ → Member
 booking_member key n = (codes "booking", text (key ++ codes "/" ++ decimal n))
 
 -- The member with the number of the caveat that refused the request. If no caveat refused the
--- request, the list is empty.
+-- request, the list of members is empty.
 abbrev pub caveat_member : Option ℕ → List Member
 caveat_member None = []
 caveat_member (Some n) = (codes "caveat", number n) ∷ []

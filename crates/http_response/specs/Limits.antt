@@ -1,6 +1,6 @@
 -- This file defines the limits of a reply.
 use Rattle.std.specs.Prelude.{ℕ}
 
--- The most bytes of a `Line`.
+-- The maximum number of bytes in a `Line`.
 abbrev pub max_line_len : ℕ
 max_line_len = 256

@@ -1,4 +1,4 @@
--- This file defines the HTTP statuses of replies (RFC 9110, section 15). It also defines the
+-- This file defines the HTTP statuses of replies (RFC 9110, section 15). The file also defines the
 -- methods of the resource that a path names.
 use Rattle.std.specs.Prelude.{ℕ, List, codes}
 use Rattle.club_core.specs.declared.refusal.Refusal.{Refusal, TheVariants.{BadRequest, NoSuchPath, MethodNotAllowed, NoPass, PassTooLong, PassMalformed}}

@@ -19,13 +19,13 @@ phrase_of status =
 abbrev pub status_line : Reply → List ℕ
 status_line reply = codes "HTTP/1.1 " ++ code_digits (status_of reply) ++ codes " " ++ phrase_of (status_of reply) ++ codes "\r\n"
 
--- The field with the challenge for status 401 (RFC 9110, section 11.6.1; RFC 6750, section 3). For
--- any other status the text is empty.
+-- The field with the challenge for status 401 (RFC 9110, section 11.6.1; RFC 6750, section 3). A
+-- reply with any other status has no challenge.
 abbrev pub challenge_field : Reply → List ℕ
 challenge_field reply = if status_of reply == 401 then codes "WWW-Authenticate: Bearer\r\n" else []
 
 -- The field `Allow` with the methods of the path's resource, for status 405 (RFC 9110, section
--- 10.2.1). For any other status the text is empty.
+-- 10.2.1). A reply with any other status has no field `Allow`.
 abbrev pub allow_field : Reply → List ℕ
 allow_field (Refused (MethodNotAllowed resource)) = codes "Allow: " ++ methods_of resource ++ codes "\r\n"
 allow_field reply = []

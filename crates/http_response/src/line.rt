@@ -3,7 +3,7 @@
 use itoa::Buffer;
 use std::marker::Model;
 
-/// The most bytes of a `Line`. A reply consists of two lines: its head and its body.
+/// The maximum number of bytes in a `Line`. A reply consists of two lines: its head and its body.
 pub const MAX_LINE_LEN: usize = 256;
 
 /// A text that grows by `push`. Contracts represent this type by the list of its bytes, at most

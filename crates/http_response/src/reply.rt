@@ -7,15 +7,15 @@ use crate::body::body_of;
 use crate::head::head_of;
 use club_core::Reply;
 
-/// The most bytes of a reply.
+/// The maximum number of bytes in a reply.
 pub const MAX_REPLY_LEN: usize = 512;
 
 /// Writes the text of a reply to the front of the buffer `room`, and returns the text's length in
-/// bytes. The rest of the buffer is unchanged. Every reply fits.
+/// bytes. The rest of the buffer is unchanged. Every reply fits into the buffer.
 ///
-/// The text is an HTTP/1.1 response (RFC 9112) with a JSON object as its body. Its fields are the
-/// content type, the content length and `Connection: close`. Status 401 adds the challenge `Bearer`
-/// (RFC 6750). Status 405 adds the methods of the path.
+/// The text is an HTTP/1.1 response (RFC 9112) with a JSON object as its body. The fields of a
+/// reply are the content type, the content length and `Connection: close`. Status 401 adds the
+/// challenge `Bearer` (RFC 6750). Status 405 adds the methods of the path.
 #[tactic(auto, unfolding(crate::specs::Text::reply_text, crate::specs::Text::head_text))]
 pub fn reply_bytes(reply: &Reply, room: &mut [u8; MAX_REPLY_LEN]) -> usize
     ensures len { result ≡ length (reply_text reply.now) }
