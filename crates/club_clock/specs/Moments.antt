@@ -3,8 +3,8 @@ use Rattle.std.specs.Prelude.{◌≡◌, ℕ, Option, Some}
 use Rattle.jiff_core.specs.declared.timestamp.Timestamp.{Timestamp}
 use Rattle.club_clock.specs.{Zone.ShowsIn, declared.clock.Clock.{Clock, TheVariants.{Fixed, InZone}}}
 
--- A relation of this type relates a clock before a call, the moment that the call returns, and the
--- clock after the call.
+-- A relation `GivesMoment` describes a call of a clock by three terms: the clock before the call,
+-- the returned moment, and the clock after the call.
 abbrev pub GivesMoment : Type 0 → Type 1
 GivesMoment Clock = Clock → Option ℕ → Clock → Type 0
 

@@ -9,12 +9,12 @@ use Rattle.club_values.specs.{Moment.IsMoment, Reading.Reads}
 unfoldable pub zone_of : List ℕ → Option (List ℕ)
 zone_of text = if is_some (read_whole text) then Some text else None
 
--- The rule parses to this zone.
+-- The rule parses to the given zone.
 abbrev pub IsZoneOf : List ℕ → TimeZone → Type 0
 IsZoneOf rule zone = read_whole rule ≡ Some (tz_view zone)
 
--- The time of a clock is in the minute with this number. The time is in nanoseconds since
--- 1970-01-01T00:00.
+-- The time of a clock is in the minute with the given number. The time of a clock is in nanoseconds
+-- since 1970-01-01T00:00.
 abbrev pub IsInMinute : ℤ → ℕ → Type 0
 IsInMinute nanos minute =
     (pos (minute * 60_000_000_000) ≤ℤ nanos) × (nanos <ℤ pos (minute * 60_000_000_000 + 60_000_000_000))

@@ -36,7 +36,8 @@ pub trait Instants {
         ensures { shows self.now result };
 }
 
-/// The instants of a clock of the machine. The contract promises nothing about these instants.
+/// The instants of a clock of the machine. The contract promises nothing about the instants of the
+/// machine's clock.
 impl<C: time::Clock> Instants for C {
     ghost shows = { λ _ _. Unit {0} };
 
@@ -56,7 +57,7 @@ fn instant_of(time: SystemTime) -> Option<Timestamp>
 }
 
 /// The moments of a clock. The moment is fixed, or is read from the machine's clock. Contracts
-/// represent this type by the pair of the club's clock and the machine's clock.
+/// represent a `MomentsOf` by the pair of the club's clock and the machine's clock.
 #[derive(Drop)]
 pub struct MomentsOf<'z, 'c, C> {
     pub clock: Clock<'z>,

@@ -9,7 +9,7 @@ use jiff_tz::posix::TimeZone;
 use std::marker::Model;
 
 /// A zone, given by the text of its POSIX rule, such as `UTC0` or `CET-1CEST,M3.5.0,M10.5.0/3`.
-/// Contracts represent a zone by this text.
+/// Contracts represent a zone by the text of its rule.
 #[derive(Drop)]
 pub struct Zone<'a> {
     rule: &'a str,
@@ -28,7 +28,7 @@ impl<'a> Model for Zone<'a> {
 }
 
 impl<'a> Zone<'a> {
-    /// Returns the zone with this rule. Returns `None` if the text isn't a POSIX rule.
+    /// Returns the zone with the given rule. Returns `None` if the text isn't a POSIX rule.
     pub fn from_rule(rule: &'a str) -> Option<Zone<'a>>
         ensures { result ≡ zone_of rule.entry.now }
     {

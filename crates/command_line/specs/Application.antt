@@ -38,7 +38,7 @@ form_or_v2 = with_default (codes "v2") form_option
 abbrev pub as_program : Shape → Shape
 as_program top = record top { has_version = true; subcommand_required = true }
 
--- A program with this name and without commands.
+-- A program with the given name and without commands.
 abbrev pub program_named : Text → App
 program_named name = on_top as_program (new_app name)
 

@@ -21,11 +21,11 @@ HasText kinds = IsAmong kind.DisplayHelp kinds ⊎ IsAmong kind.DisplayVersion k
 abbrev pub IsNoText : ErrorKind → Type 0
 IsNoText of_kind = (of_kind ≢ kind.DisplayHelp) × (of_kind ≢ kind.DisplayVersion)
 
--- Clap may refuse the arguments with an error of this kind.
+-- Clap may refuse the arguments with an error of the given kind.
 abbrev pub IsRefusedAs : Kinds → ErrorKind → Type 0
 IsRefusedAs kinds of_kind = IsAmong of_kind kinds × IsNoText of_kind
 
--- The fault is clap's error of this kind, or memory ran out.
+-- The fault is clap's error of the given kind, or memory ran out.
 abbrev pub IsOfKind : {V : Type 0} → ErrorKind → ArgumentsFault V → Type 0
 IsOfKind of_kind (Refused error) = kind_of error ≡ of_kind
 IsOfKind of_kind (BadValue value) = ⊥

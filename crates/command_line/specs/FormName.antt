@@ -7,7 +7,7 @@ form_name V1 = codes "v1"
 form_name V2 = codes "v2"
 form_name Json = codes "json"
 
--- The form with this name.
+-- The form with the given name.
 abbrev pub form_named : List ℕ → Option Form
 form_named name =
     if bytes_eq name (form_name V1) then Some V1

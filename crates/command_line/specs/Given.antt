@@ -47,7 +47,7 @@ positionals_spelled (positional_given required name value ∷ given) = value ∷
 positionals_spelled (positionals_given required name first more ∷ given) = first ∷ more
 positionals_spelled (_ ∷ given) = positionals_spelled given
 
--- The row that clap finds for an argument with these values.
+-- The row that clap finds for an argument with the given values.
 abbrev pub row_given : Text → List Text → Found
 row_given name values = record { id = name; values = values; count = None; source = Some CommandLine; reading = reading_by (positional_named name) }
 

@@ -19,7 +19,7 @@ abbrev pub ◌>>=◌ : {A B V : Type 0} → Result A (Refusal V) → (A → Resu
 Ok x >>= f = f x
 Err refusal >>= f = Err refusal
 
--- A function of this type maps a command and the rows that clap found to a job or to a refusal.
+-- A function `JobOf` maps a command and the rows that clap found to a job or to a refusal.
 abbrev pub JobOf : Type 0 → Type 0 → Type 0 → Type 0
 JobOf C J V = C → List Row → Result J (Refusal V)
 
@@ -34,12 +34,12 @@ Answers expected (Err (Refused error)) = expected ≡ Err (refused_as (kind_of e
 Answers expected (Err (BadValue value)) = expected ≡ Err (bad_value value)
 Answers expected (Err Memory) = Unit {0}
 
--- A relation of this type relates a command, the rows that clap found, and a result that a call may
--- return.
+-- A relation `ReadsRow` describes a call by three terms: a command, the rows that clap found, and a
+-- result that the call may return.
 abbrev pub ReadsRow : Type 0 → Type 0 → Type 0 → Type 1
 ReadsRow C J V = C → List Row → Result J (ArgumentsFault V) → Type 0
 
--- Clap found a row, and a call that reads this row may return the result.
+-- Clap found a row, and a call that reads the row may return the result.
 abbrev pub ReadsFound : {C J V : Type 0} → ReadsRow C J V → Option (C × List Row) → Result J (ArgumentsFault V) → Type 0
 ReadsFound Reads None result = ⊥
 ReadsFound Reads (Some row) result = Reads row.0 row.1 result

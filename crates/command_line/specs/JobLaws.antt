@@ -9,7 +9,7 @@ use Rattle.command_line.specs.declared.job.Asked.{Asked, TheVariants.Perform}
 abbrev pub WordsNameARow : Type 0 → Type 0
 WordsNameARow C = (table : Table C) (arguments : List Text) → refusals table arguments ≡ [] → IsSome (asked table arguments)
 
--- Clap accepts all values that a row can be given. Clap finds exactly these values, and the
+-- Clap accepts all values that a row can be given. Clap finds exactly the given values, and the
 -- defaults of the arguments without a value.
 abbrev pub RowsTakeWhatTheyAreGiven : Type 0 → Type 0
 RowsTakeWhatTheyAreGiven C = (table : Table C) (entry : Entry C) (given : List Given) (program : Text) (arguments : List Text)
@@ -17,7 +17,7 @@ RowsTakeWhatTheyAreGiven C = (table : Table C) (entry : Entry C) (given : List G
     → (refusals table (program ∷ entry.name ∷ arguments) ≡ [])
     × (asked table (program ∷ entry.name ∷ arguments) ≡ Some (entry.command, found_given entry.name given))
 
--- The call returned this value, or ran out of memory.
+-- The call returned the given value, or ran out of memory.
 abbrev pub IsOrLacksMemory : {A V : Type 0} → A → Result A (ArgumentsFault V) → Type 0
 IsOrLacksMemory value result = (result ≡ Ok value) ⊎ (result ≡ Err Memory)
 

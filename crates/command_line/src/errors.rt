@@ -52,7 +52,7 @@ pub fn form_fault<C: Commands, V>(alloc: Global, name: &str) -> ArgumentsFault<V
     }
 }
 
-/// Returns a fault with this message. The fault is an error of `clap` of this kind.
+/// Returns an error of `clap` with the given kind and the given message, as a fault.
 pub fn arguments_fault<C: Commands, V>(
     alloc: Global,
     kind: ErrorKind,

@@ -16,7 +16,7 @@ pub fn form_name(form: Form) -> &'static str
     }
 }
 
-/// Returns the form with this name. Returns `None` if no form has this name.
+/// Returns the form with the given name. Returns `None` if no form has the given name.
 pub fn form_named(name: &str) -> Option<Form>
     ensures { result ≡ spec.form_named name.now }
 {

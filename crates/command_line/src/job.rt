@@ -61,7 +61,7 @@ pub fn read_job<'a, J: Job<'a>, S: AsStr>(
 ) -> Result<Asked<J>, ArgumentsFault<J::BadValue>>
     ensures { ReadsJob J.Command.table J.Reads (map S.text arguments.entry.now) result }
 {
-    // By this law, arguments that `clap` accepts name a row.
+    // By the law `arguments_name_a_row`, arguments that `clap` accepts name a row.
     arguments_name_a_row::<J::Command>();
     let Ok(application) = J::Command::application(alloc) else {
         return Err(ArgumentsFault::Memory);

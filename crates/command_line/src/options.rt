@@ -56,8 +56,8 @@ pub fn value_of<'a>(options: &ArgMatches<'a>, id: &str) -> &'a str
     options.get_str(id).unwrap_or("")
 }
 
-/// Returns true if the command line has this flag. `clap` represents the value of a given flag by
-/// the text `true`.
+/// Returns true if the command line has the given flag. `clap` represents the value of a given flag
+/// by the text `true`.
 pub fn is_set(options: &ArgMatches<'_>, id: &str) -> bool
     ensures { result ≡ is_set id.now (rows_of (found_of options.now)) }
 {

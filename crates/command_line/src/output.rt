@@ -43,7 +43,8 @@ pub fn flush<W: Write>(writer: &mut W) -> io::Result<()>
 }
 
 // Writes until the writer has taken all bytes. The contract of this function states how many bytes
-// were written before an error. The contract of `write_all` doesn't state this number.
+// were written before an error. The contract of `write_all` doesn't state the number of bytes
+// written.
 fn write_bytes<W: Write>(writer: &mut W, bytes: &[u8]) -> io::Result<()>
     ensures ok { OnOk result (Appends (W.contents writer.old) (W.contents writer.new) bytes.now) }
     ensures err { OnErr result

@@ -68,7 +68,7 @@ pub trait Commands: Copy {
         ensures made { IfOk result (λ made. app_of made ≡ app_of_table table) }
         ensures good { IsGood table };
 
-    /// Returns the command with this name.
+    /// Returns the command with the given name.
     fn named(name: &str) -> Option<Self>
         ensures { result ≡ option_map (λ entry. entry.command)
             (entry_named name.now table.entries) };
@@ -123,7 +123,7 @@ fn make_argument<'a>(alloc: Global, argument: Argument) -> Arg<'a>
     }
 }
 
-/// Returns the command of the first row with this name.
+/// Returns the command of the first row with the given name.
 pub fn command_named<C: Copy>(rows: &[Row<C>], name: &str) -> Option<C>
     ensures { result ≡ option_map (λ entry. entry.command)
         (entry_named name.now (map entry_of rows.now)) }

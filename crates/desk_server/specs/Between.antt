@@ -4,7 +4,8 @@ use Rattle.club_clock.specs.Moments.{GivesMoment}
 use Rattle.club_http.specs.Calls.{Call}
 use Rattle.desk_server.specs.{Served.{CommandRelation, Meanwhile, Notes}, declared.between.Between.Between}
 
--- The type of a relation between a reader before a wait and the reader after the wait.
+-- A relation `Wait` describes a wait by two terms: the reader before the wait and the reader after
+-- the wait.
 abbrev pub Wait : Type 0 → Type 1
 Wait Reader = Reader → Reader → Type 0
 

@@ -3,24 +3,25 @@ use Rattle.std.specs.{Prelude.{ℕ, List, Option, Some, None, Result, String}, S
 use Rattle.club_core.specs.declared.store.StoreFault.{StoreFault}
 use Rattle.desk_server.specs.declared.databases.Reached.{Reached}
 
--- A relation of this type describes a call of `open`. The relation has four terms: the databases
--- before the call, the name, the result, and the databases after the call.
+-- An `Opening` describes a call of `open` by four terms: the databases before the call, the name,
+-- the result, and the databases after the call.
 abbrev pub Opening : Type 0 → Type 0 → Type 1
 Opening Databases Store = Databases → List ℕ → Result Store StoreFault → Databases → Type 0
 
--- A relation of this type describes a call of `close`. The relation has three terms: the databases
--- before the call, the store, and the databases after the call.
+-- A `Closing` describes a call of `close` by three terms: the databases before the call, the store,
+-- and the databases after the call.
 abbrev pub Closing : Type 0 → Type 0 → Type 1
 Closing Databases Store = Databases → Store → Databases → Type 0
 
--- A relation of this type describes a call of `reach`. The relation has four terms: the databases
--- before the call, the name, the result, and the databases after the call. The result of reaching a
--- database is an opened store, a server that takes commands, or a fault.
+-- A `Reaching` describes a call of `reach` by four terms: the databases before the call, the name,
+-- the result, and the databases after the call. The result of reaching a database is an opened
+-- store, a server that takes commands, or a fault.
 abbrev pub Reaching : Type 0 → Type 0 → Type 0 → Type 1
 Reaching Databases Store Visit = Databases → List ℕ → Result (Reached Store Visit) StoreFault → Databases → Type 0
 
--- A relation of this type relates a server, the bytes of a command, and the answer. An answer is an
--- exit status with the bytes of a text. The answer is `None` if the server doesn't answer.
+-- A `Giving` describes a call of `give` by three terms: a server, the bytes of a command, and the
+-- answer. An answer is an exit status with the bytes of a text. The answer is `None` if the server
+-- doesn't answer.
 abbrev pub Giving : Type 0 → Type 1
 Giving Visit = Visit → List ℕ → Option (ℕ × List ℕ) → Type 0
 

@@ -9,7 +9,7 @@ abbrev pub nanos_of : Option Instant → Option ℕ
 nanos_of instant = option_map instant_nanos instant
 
 -- The given time of a clock plus `patience`, in nanoseconds. The sum is `None` if the clock can't
--- be read, or if the clock can't show so late a time.
+-- be read, or if the clock can't show the later time.
 abbrev pub due_after : ℕ → Option ℕ → Option ℕ
 due_after patience None = None
 due_after patience (Some now) = if nat_lt (now + patience) (2 ^ 63 * 1_000_000_000) then Some (now + patience) else None
@@ -32,9 +32,8 @@ StartsLimit Shows clock patience (Some limit) new = new ≡ Some limit
 StartsLimit Shows clock patience None new = IsSomeAnd new (λ limit. (limit.clock.now ≡ clock)
     × AtShown (Shows clock) (λ shown. nanos_of limit.due ≡ due_after patience shown))
 
--- A relation of this type describes a call of a stream. The relation has four terms: the stream
--- before the call, the longest allowed wait in nanoseconds, the result, and the stream after the
--- call.
+-- A relation `Calls` describes a call of a stream by four terms: the stream before the call, the
+-- longest allowed wait in nanoseconds, the result, and the stream after the call.
 abbrev pub Calls : Type 0 → Type 1
 Calls Stream = Stream → ℕ → Waited → Stream → Type 0
 

@@ -16,8 +16,8 @@ two_words bytes = option_and_then
     (λ first. let rest = drop (first + 1) bytes in option_map (λ second. (take first bytes, take second rest)) (place_of_space rest))
     (place_of_space bytes)
 
--- A byte of a path is a small letter, a digit, a dash or a slash. The desk's own paths have only
--- these characters.
+-- A byte of a path is a small letter, a digit, a dash or a slash. The desk's own paths have no
+-- other characters.
 abbrev pub is_path_byte : ℕ → Bool
 is_path_byte byte = is_ascii_lowercase byte || is_ascii_digit byte || byte == 45 || byte == 47
 
@@ -27,12 +27,12 @@ is_method word = nat_lt 0 (length word) && nat_le (length word) 7 && list_all is
 abbrev pub is_path : List ℕ → Bool
 is_path word = nat_lt 0 (length word) && list_all is_path_byte word
 
--- The method of a request that starts with these bytes. The method is the first word, if that word
--- is 1 to 7 capital letters.
+-- The method of a request that starts with the given bytes. The method is the first word, if that
+-- word is 1 to 7 capital letters.
 unfoldable pub method_of : List ℕ → Option (List ℕ)
 method_of bytes = option_and_then (λ words. if is_method words.0 then Some words.0 else None) (two_words bytes)
 
--- The path of a request that starts with these bytes. The path is the second word, if that word
+-- The path of a request that starts with the given bytes. The path is the second word, if that word
 -- consists of small letters, digits, dashes and slashes.
 unfoldable pub path_of : List ℕ → Option (List ℕ)
 path_of bytes = option_and_then (λ words. if is_path words.1 then Some words.1 else None) (two_words bytes)

@@ -13,12 +13,12 @@ use Rattle.desk_server.specs.declared.{office.Carried.Carried, serve.ClockOutOfR
 abbrev pub CountsOn : ℕ → ℕ → ℕ → Type 0
 CountsOn count more count' = count + more < 2 ^ 64 → count' ≡ count + more
 
--- A relation of this type relates the bytes of a command, the desk before the command, the answer,
--- and the desk after the command.
+-- A `CommandRelation` describes a command by four terms: the command's bytes, the desk before the
+-- command, the answer, and the desk after the command.
 abbrev pub CommandRelation : Type 0 → Type 1
 CommandRelation Desk = List ℕ → Desk → Answer → Desk → Type 0
 
--- A relation of this type describes an exchange. The relation has these terms:
+-- A relation `Talk` describes an exchange with a connection by five terms:
 --
 -- - the connection before the exchange
 -- - the bytes read
@@ -28,12 +28,12 @@ CommandRelation Desk = List ℕ → Desk → Answer → Desk → Type 0
 abbrev pub Talk : Type 0 → Type 1
 Talk Client = Client → List ℕ → List ℕ → Result Reply AnswerFault → Client → Type 0
 
--- A relation of this type relates the bytes that an exchange read, the bytes that it wrote, and its
--- outcome.
+-- A relation `Ends` describes an exchange by three terms: the bytes read, the bytes written, and
+-- the outcome.
 abbrev pub Ends : Type 1
 Ends = List ℕ → List ℕ → Result Reply AnswerFault → Type 0
 
--- An exchange with some connection may have these bytes and this outcome.
+-- An exchange with some connection may have the given bytes and the given outcome.
 abbrev pub HasTalked : {Client : Type 0} → Talk Client → Ends
 HasTalked {Client} Talks bytes written outcome = (old : Client) × (new : Client) × Talks old bytes written outcome new
 
@@ -172,8 +172,8 @@ module _ {Clock Desk : Type 0} (Gives : GivesMoment Clock) (Answers : ℕ → An
     pub serves : ServesTurns all count clock desk failures outcome clock' desk' failures'
     pub besides : Besides all
 
--- A relation of this type relates a log before it notes an event, the event, and the log after that
--- note.
+-- A relation `Notes` describes a call of `note` by three terms: the log before the call, the event,
+-- and the log after the call.
 abbrev pub Notes : Type 0 → Type 1
 Notes Log = Log → LogEvent → Log → Type 0
 

@@ -48,12 +48,12 @@ pub trait Waits: Inlet {
     // The known effects of one wait.
     ghost waits: { Self → Self → Type 0 };
 
-    /// Waits for a command and returns it. Returns `None` in these cases:
+    /// Waits for a command and returns it. Returns `None` after one of these events:
     ///
-    /// - The client's bytes have arrived.
-    /// - The client has closed its end.
-    /// - The client's time limit is over.
-    /// - Waiting failed.
+    /// - Bytes of the client arrive.
+    /// - The client ends its input.
+    /// - The client's time limit ends.
+    /// - Waiting fails.
     fn command_before(&mut self) -> Option<Self::Command>
         ensures reads_nothing { Keeps (Self.to_come self.old) (Self.to_come self.new) }
         ensures counted { Self.failures self.new ≡ Self.failures self.old }

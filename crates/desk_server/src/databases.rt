@@ -4,7 +4,7 @@
 use club_http::{ClubStore, StoreFault};
 use std::os::unix::net::UnixListener;
 
-/// The door of a server, where commands of the office arrive. Dropping this value removes the door.
+/// The door of a server, where commands of the office arrive. Dropping a `Door` removes the door.
 pub trait Door {
     /// Returns the listener for commands, or `None` if there is no door.
     fn listener(&self) -> Option<&UnixListener>;
@@ -51,15 +51,15 @@ pub trait Databases {
     // The databases before and after closing a store.
     ghost closes: { Closing Self Self.Store };
 
-    /// Opens the database with this name for a server. Creates an empty database if there is no
-    /// database with this name. If another program has the database open, this function retries for
-    /// a while.
+    /// Opens the database with the given name for a server. Creates an empty database if no
+    /// database has the given name. If another program has the database open, this function retries
+    /// for a while.
     fn open(&mut self, name: &str) -> Result<Self::Store, StoreFault>
         ensures { opens self.old name.now result self.new };
 
-    /// Reaches the database with this name for the office. If a server has the database open, this
-    /// function connects to that server. If no server has the database open, this function opens
-    /// the database as `open` does.
+    /// Reaches the database with the given name for the office. If a server has the database open,
+    /// this function connects to that server. If no server has the database open, this function
+    /// opens the database as `open` does.
     fn reach(&mut self, name: &str) -> Result<Reached<Self::Store, Self::Visit>, StoreFault>
         ensures { reaches self.old name.now result self.new };
 
@@ -67,7 +67,7 @@ pub trait Databases {
     fn close(&mut self, store: Self::Store)
         ensures { closes self.old store self.new };
 
-    /// Makes a door for the server that has opened the database with this name. The new door
+    /// Makes a door for the server that has opened the database with the given name. The new door
     /// replaces the door of a server that was killed.
     fn make_door(&self, name: &str) -> Result<Self::Door, StoreFault>;
 }

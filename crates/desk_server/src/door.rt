@@ -14,12 +14,12 @@ use std::os::unix::net::{UnixListener, UnixStream};
 use std::time::Duration;
 
 /// The byte that the server sends once it has accepted a connection of the office. The office sends
-/// its command only after this greeting. An office that left before the greeting has therefore sent
+/// its command only after the greeting. An office that left before the greeting has therefore sent
 /// no command.
 pub const GREETING: [u8; 1] = *b"!";
 
-/// The size of the buffer for a command, in bytes. The longest command is one byte shorter than
-/// this buffer.
+/// The size of the buffer for a command, in bytes. The longest command is one byte shorter than the
+/// buffer.
 pub const MAX_COMMAND_LEN: usize = 8_192;
 
 /// The last byte of an answer. The text of an answer has no zero byte, because arguments have no
@@ -51,7 +51,7 @@ impl<'c, C: MonotonicClock> Handed<'c, C> {
         Ok(Handed { stream, clock })
     }
 
-    // Returns both ends of the connection. The office's time limit starts with this call.
+    // Returns both ends of the connection. The office's time limit starts with the call of `ends`.
     fn ends(&self) -> Accepted<'c, &UnixStream, C> {
         let patience = Duration::from_millis(OFFICE_MILLISECONDS);
         Accepted::new(&self.stream, self.clock, patience)

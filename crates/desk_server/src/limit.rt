@@ -16,7 +16,7 @@ pub trait MonotonicClock {
     fn instant_now(&self) -> Option<Instant>
         ensures { shows self.now (nanos_of result) };
 
-    /// Sleeps for this duration.
+    /// Sleeps for the given duration.
     fn rest(&self, duration: Duration);
 }
 
@@ -45,7 +45,7 @@ impl<'c, C: MonotonicClock> Limit<'c, C> {
     ghost use Rattle.desk_server.specs.Limits.{AtShown, due_after, left_until, nanos_of};
 
     /// Returns the deadline that is `patience` after the current time. If the clock can't be read,
-    /// or can't show so late a time, the deadline has already passed.
+    /// or can't show the time of the deadline, the deadline has already passed.
     pub fn after(clock: &'c C, patience: Duration) -> Limit<'c, C>
         ensures clock { result.clock ≡ clock.entry }
         ensures due { AtShown (C.shows clock.entry.now)

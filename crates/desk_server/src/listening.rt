@@ -15,7 +15,7 @@ use std::os::fd::{AsRawFd, RawFd};
 use std::os::unix::net::UnixListener;
 use std::time::Duration;
 
-/// The server's sleep after waiting or accepting failed, in milliseconds. Without this sleep, a
+/// The server's sleep after waiting or accepting failed, in milliseconds. Without a sleep, a
 /// listener that keeps failing would soon use up the number of clients to serve.
 const REST_MILLISECONDS: u64 = 10;
 

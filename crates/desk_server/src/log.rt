@@ -177,7 +177,7 @@ fn line_of(event: &LogEvent, microseconds: u64) -> Line
     }
 }
 
-// Returns a line of these words, with a dash for each missing word.
+// Returns a line of the given words, with a dash for each missing word.
 #[tactic(auto, unfolding(crate::specs::Log::words_text))]
 fn words(
     moment: &Option<Moment>,

@@ -47,7 +47,7 @@ pub(crate) fn is_writable(fd: RawFd) -> bool {
     c::poll(&mut [waits_for(fd, c::POLLOUT)], 0) > 0
 }
 
-// Returns the entry that makes `poll` wait for these events of a descriptor.
+// Returns the entry that makes `poll` wait for the given events of a descriptor.
 fn waits_for(fd: RawFd, events: i16) -> pollfd {
     pollfd {
         fd,

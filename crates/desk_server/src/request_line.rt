@@ -15,7 +15,7 @@ pub const MAX_KEPT: usize = 96;
 /// `DELETE`.
 const MAX_METHOD_LEN: usize = 7;
 
-/// The first bytes of a request. Contracts represent a `RequestLine` by these bytes.
+/// The first bytes of a request. Contracts represent a `RequestLine` by its bytes.
 ///
 /// A `RequestLine` shows the method and the path only if all their characters also occur in the
 /// desk's own methods and paths. The text of every pass has a capital letter or a brace. The log

@@ -35,9 +35,9 @@ impl Error for ClockOutOfRange {}
 ///
 /// # Errors
 ///
-/// Fails with `ClockOutOfRange` if the clock shows no moment within the club's years. After this
-/// error the client's connection is closed without an answer, and the server accepts no other
-/// client.
+/// Fails with `ClockOutOfRange` if the clock shows no moment within the club's years. After
+/// `ClockOutOfRange` the server closes the client's connection without an answer, and accepts no
+/// other client.
 pub fn serve_on<L: Arrivals, M: Moments, D: Office>(
     listener: &mut L,
     count: u32,

@@ -16,8 +16,8 @@ use std::time::Duration;
 pub enum Woken<O> {
     /// A command came.
     Command(O),
-    /// The client can be read. A client can be read if bytes or the end of its input have arrived,
-    /// if its time limit is over, or if waiting failed.
+    /// No command came. The client has sent bytes or ended its input, or the time limit is over, or
+    /// waiting failed.
     Client,
     /// The server couldn't accept the connection of a command, or the connection was already gone.
     Nobody,

@@ -112,8 +112,8 @@ pub(crate) fn outcome_of(returned: io::Result<usize>) -> Waited
     }
 }
 
-// Reads within the time left of a limit. Once the limit is over, a read doesn't wait. Even then a
-// read returns bytes that came while the server was stopped.
+// Reads within the time left of a limit. Once the limit is over, a read doesn't wait. A read after
+// the limit still returns bytes that came while the server was stopped.
 fn read_under<R: TimedStream, C: MonotonicClock>(
     reader: &mut R,
     limit: &Limit<'_, C>,

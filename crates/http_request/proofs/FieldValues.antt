@@ -6,7 +6,7 @@ use Rattle.httparse.specs.Spans.{header_bytes}
 abbrev pub no_field : HeaderSpan
 no_field = record { name = record { start = 0; end = 0 }; value = record { start = 0; end = 0 } }
 
--- The name of the field with this index in a head.
+-- The name of the field with the given index in a head.
 abbrev pub name_at : List ℕ → List HeaderSpan → ℕ → List ℕ
 name_at head fields i = (header_bytes head (get_or fields i no_field)).0
 

@@ -9,13 +9,13 @@ use Rattle.club_values.specs.{Day.day_text, Digits.two_digits}
 use Rattle.http_request.specs.{Path.{HasRealValues, IsPlace, place_parts}, Routes.KnowsPlaces, declared.path.Place.Place}
 use Rattle.http_request.specs.declared.path.Place.TheVariants.{SlotPlace, BookingPlace, AccountPlace}
 
--- The path with these parts, separated by slashes.
+-- The path with the given parts, separated by slashes.
 abbrev glued : List (List ℕ) → List ℕ
 glued [] = []
 glued (part ∷ []) = part
 glued (part ∷ other ∷ parts) = part ++ 47 ∷ glued (other ∷ parts)
 
--- None of these parts has a slash.
+-- None of the given parts has a slash.
 abbrev AreParts : List (List ℕ) → Type 0
 AreParts [] = Unit {0}
 AreParts (part ∷ parts) = (has_slash part ≡ false) × AreParts parts
@@ -61,7 +61,7 @@ some_day : (day : ℕ) → 0 < length (day_text day)
 unfolding day_text
 some_day day = omega arith
 
--- A route's parameter accepts this part of a path.
+-- A route's parameter accepts the given part of a path.
 abbrev IsPart : List ℕ → Type 0
 IsPart part = (0 < length part) × (has_slash part ≡ false)
 

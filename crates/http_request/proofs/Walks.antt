@@ -6,7 +6,7 @@ use Rattle.std.specs.Cmp.Lexicographic.{pointwise}
 use Rattle.std.proofs.Math.Seq.{drop-append_seam}
 use Rattle.matchit.specs.{Rows.{RowsOf, param_token}, Seek.{segment, has_slash, cuts, step, or_else, param_step, seek}}
 
--- The rows that still match after these bytes of a path.
+-- The rows that still match after the given bytes of a path.
 abbrev pub steps : {K : Type 0} → List ℕ → RowsOf K → RowsOf K
 steps [] rs = rs
 steps (b ∷ word) rs = steps word (step b rs)

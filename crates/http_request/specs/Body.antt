@@ -17,7 +17,7 @@ has_only_name name value = unwrap_or (option_map (only_named name) (as_object va
 abbrev pub whole_number : Option Data → Option ℕ
 whole_number value = option_and_then as_u64 (option_and_then as_number value)
 
--- The number of guests. The number is `None` if a booking may not have so many guests.
+-- The number of guests. The number is `None` if it is over the limit of a booking.
 abbrev pub few_guests : Option ℕ → Option ℕ
 few_guests None = None
 few_guests (Some n) = if nat_le n guests_limit then Some n else None

@@ -21,7 +21,7 @@ fn is_named(head: &[u8], field: &HeaderSpan, name: &[u8]) -> bool
     field.name.of(head).eq_ignore_ascii_case(name)
 }
 
-/// Returns the value of the first field with this name, and the fields after that field.
+/// Returns the value of the first field with the given name, and the fields after that field.
 fn next_value<'a, 'b>(
     head: &'a [u8],
     fields: &'b [HeaderSpan],
@@ -42,7 +42,8 @@ fn next_value<'a, 'b>(
     None
 }
 
-/// Returns the values of the fields with this name. Upper and lower case don't matter in names.
+/// Returns the values of the fields with the given name. Upper and lower case don't matter in
+/// names.
 pub(crate) fn values_of<'a>(head: &'a [u8], fields: &[HeaderSpan], name: &[u8]) -> Values<'a>
     requires { All (IsHeaderWithin (length head.now)) fields.now }
     ensures { ClassifiesValues (values_in_head head.now name.now fields.now) result }

@@ -1,4 +1,4 @@
-//! The routes of the desk, and the decoding of requests with these routes.
+//! The routes of the desk, and the decoding of requests with the desk's routes.
 
 ghost use Rattle.std.specs.Prelude.{◌≡◌, length, map, All, codes, IfOk, MatchResult, Some, Ok};
 ghost use Rattle.std.specs.Str.{IsUtf8};

@@ -30,7 +30,7 @@ name_text name = codes "\"" ++ name ++ codes "\":"
 unfoldable pub member_text : Member → List ℕ
 member_text member = name_text member.0 ++ value_text member.1
 
--- The text of an object with these members.
+-- The text of an object with the given members.
 abbrev pub object_text : List Member → List ℕ
 object_text members = codes "{" ++ join_by member_text (codes ",") members ++ codes "}"
 

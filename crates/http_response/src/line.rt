@@ -6,8 +6,7 @@ use std::marker::Model;
 /// The maximum number of bytes in a `Line`. A reply consists of two lines: its head and its body.
 pub const MAX_LINE_LEN: usize = 256;
 
-/// A text that grows by `push`. Contracts represent this type by the list of its bytes, at most
-/// 256.
+/// A text that grows by `push`. Contracts represent a `Line` by the list of its bytes, at most 256.
 #[derive(Drop)]
 pub struct Line {
     bytes: [u8; MAX_LINE_LEN],
