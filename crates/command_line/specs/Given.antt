@@ -122,8 +122,8 @@ is_in_order (_ ∷ given) = is_in_order given
 abbrev pub end_fault : Shape → List Found → Kinds
 end_fault shape rows = or_else (defaults_fault rows shape.rules) (check_fault shape (fold with_default rows shape.rules) false)
 
--- A row can be given the given values. The name of the row isn't `help`. The arguments of the row
--- are different and in order. Each required argument of the row is present.
+-- A row can have the given values. The name of the row isn't `help`. The arguments of the row are
+-- different and in order. Each required argument of the row is present.
 abbrev pub can_be_given : Text → List Given → Bool
 can_be_given name given =
     let shape = shape_given name given in

@@ -22,9 +22,9 @@ pub enum Argument {
     Or(&'static str, &'static str, &'static str, &'static str),
     /// The flag `--NAME`.
     Flag(&'static str, &'static str),
-    /// A positional argument. The help shows its name and no other text.
+    /// A positional argument. The help shows the argument's name and no other text.
     Positional(&'static str),
-    /// A required positional argument. The help shows its name and no other text.
+    /// A required positional argument. The help shows the argument's name and no other text.
     NeededPositional(&'static str),
     /// A required positional argument. The help shows the second field instead of the argument's
     /// name.

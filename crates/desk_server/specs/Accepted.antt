@@ -56,9 +56,9 @@ module _ {S C : Type 0} (to_come taken : S → Option (List ℕ)) where
   IsEnded (Err fault) bytes old new = new ≡ old
 
   module _ (Shows : C → Option ℕ → Type 0) (Reads Writes : Calls S) where
-    -- The course of an exchange. The server read the request, and made no read once the request was
-    -- complete. After the request the server wrote the reply, and ended the connection. The server
-    -- wrote exactly the bytes `written`.
+    -- The course of an exchange. The server read the request, and stopped reading once the request
+    -- was complete. Once the request was complete, the server wrote the reply, and ended the
+    -- connection. The server wrote exactly the bytes `written`.
     pub record Talks (old : Accepted S C) (bytes written : List ℕ) (outcome : Result Reply AnswerFault) (new : Accepted S C) : Type 0 where
       pub heard : Accepted S C
       pub sent : Accepted S C

@@ -20,7 +20,7 @@ pub trait MonotonicClock {
     fn rest(&self, duration: Duration);
 }
 
-/// The machine's clock. The contract promises nothing about its instants.
+/// The machine's clock. The contract promises nothing about the clock's instants.
 impl<C: Clock> MonotonicClock for C {
     ghost shows = { λ _ _. Unit {0} };
 

@@ -11,8 +11,8 @@ body_length n = if nat_le n max_body_len then Some n else None
 abbrev pub length_in : List ℕ → Option ℕ
 length_in value = if nat_le (length value) 4 then option_and_then body_length (number_of_digits value) else None
 
--- The length in the fields `Content-Length`. A head without a field `Content-Length` has the length
--- 0. The desk refuses a head with two or more fields `Content-Length`.
+-- The length that the field `Content-Length` declares. A head without a field `Content-Length` has
+-- the length 0. The desk refuses a head with two or more fields `Content-Length`.
 abbrev pub declared_length : List (List ℕ) → Option ℕ
 declared_length [] = Some 0
 declared_length (value ∷ []) = length_in value
