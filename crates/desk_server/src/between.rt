@@ -54,6 +54,8 @@ pub trait Waits: Inlet {
     /// - The client ends its input.
     /// - The client's time limit ends.
     /// - Waiting fails.
+    ///
+    /// Returns `None` at once if the stream has no door for commands.
     fn command_before(&mut self) -> Option<Self::Command>
         ensures reads_nothing { Keeps (Self.to_come self.old) (Self.to_come self.new) }
         ensures counted { Self.failures self.new ≡ Self.failures self.old }

@@ -17,7 +17,7 @@ pub enum Woken<O> {
     /// A command came.
     Command(O),
     /// No command came. The client has sent bytes or ended its input, or the time limit is over, or
-    /// waiting failed.
+    /// waiting failed, or the stream has no door for commands.
     Client,
     /// The server couldn't accept the connection of a command, or the connection was already gone.
     Nobody,
