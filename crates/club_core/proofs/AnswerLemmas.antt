@@ -1,4 +1,4 @@
--- A refusal changes nothing, since no refusing line of a decision has a change.
+-- Lemmas for the proof that a refusal changes nothing.
 use Rattle.std.proofs.Common.{ℕ, Option, Some, Ok, arith}
 use Rattle.std.specs.Prelude.{Result}
 use Rattle.club_core.specs.{Answer.answer_to, Basis.{Basis, view_of}, Laws.{KeepsWhereRefused, RefusalsChangeNothing}, Pass.Pass, Verdict.verdict_of}

@@ -1,4 +1,4 @@
--- The rows of a sheet: lists in a strict order, and the order of bookings.
+-- Lemmas about the order of the rows in a day sheet.
 use Rattle.std.proofs.Common.{◌≡◌, ℕ, zero, suc, ◌<◌, List, [], ◌∷◌, length, get_or, refl, sym, ap, ◌∙◌, ◌⊎◌, inl, inr, arith}
 use Rattle.std.proofs.lemmas.List.{Elements.{All-cons, All-contains, All-tail, All-weaker}, Kept.{AllPairs-cons, AllPairs-filter}, Sorted.All-permutation}
 use Rattle.std.proofs.lemmas.List.Sorted.{IsPermutation-cons, IsPermutation-middle, IsPermutation-refl, IsPermutation-trans, Contains-permutation}
@@ -48,7 +48,7 @@ module _ {X : Type 0} (R : X → X → Type 0) (asymmetric : Asymmetric R) where
         | inr there ↦ there
       ]
 
-  -- two lists in the same strict order with the same elements are equal
+  -- Two lists are equal if they have the same elements in the same strict order.
   pub one_order : (xs ys : List X) → AllPairs R xs → AllPairs R ys → ((z : X) → Contains xs z → Contains ys z) → ((z : X) → Contains ys z → Contains xs z) →
       xs ≡ ys
   one_order [] [] p q to back = refl
@@ -59,7 +59,7 @@ module _ {X : Type 0} (R : X → X → Type 0) (asymmetric : Asymmetric R) where
       let same_rest = one_order xs ys (rest R x xs p) (rest R y ys q) (tails x y xs ys same p to) (tails y x ys xs (sym same) q back) in
       ap (λ z. z ∷ xs) same ∙ ap (λ zs. y ∷ zs) same_rest
 
--- the list `zs` has the elements of `xs`, in the order `R`
+-- The list `zs` is `xs` sorted by the order `R`.
 pub record IsOrdering {X : Type 0} (R : X → X → Type 0) (xs zs : List X) : Type 0 where
   pub same : IsPermutation xs zs
   pub sorted : AllPairs R zs
@@ -93,7 +93,7 @@ module _ {X : Type 0} (R Same : X → X → Type 0) (transitive : (x y z : X) �
         ]
       ]
 
-  -- a list without equal elements can be put into this order
+  -- Every list without equal elements can be sorted.
   pub ordering : (xs : List X) → AllPairs (λ x y. ¬ (Same x y)) xs → (zs : List X) × IsOrdering R xs zs
   ordering [] new = ([], record { same = IsPermutation-refl []; sorted = nothing_sorted })
   ordering (x ∷ xs) new =
@@ -107,8 +107,6 @@ module _ {X : Type 0} (R Same : X → X → Type 0) (transitive : (x y z : X) �
         },
       )
 
--- ---- the order of a day sheet's rows
-
 before_once : Asymmetric IsBefore
 before_once a b h k =
     let turned : Less ≡ Greater = sym h ∙ nat_list_cmp_total.antisymm a b ∙ ap ordering_reverse k in
@@ -117,7 +115,7 @@ before_once a b h k =
 precedes_once : Asymmetric Precedes
 precedes_once a b h k = grind (arith, before_once)
 
--- a day has only one list of rows
+-- Only one list of bookings can be the rows of a day's sheet.
 pub one_list : (club : Club) (day : ℕ) (rows others : List Booking) → AreRowsOf club day rows → AreRowsOf club day others → rows ≡ others
 one_list club day rows others a b =
     let there = IsPermutation-trans rows (filter (is_on day) club.bookings) others (IsPermutation-sym _ rows a.same) b.same in
@@ -125,9 +123,7 @@ one_list club day rows others a b =
     (λ z. Contains-permutation rows others z there)
     (λ z. Contains-permutation others rows z (IsPermutation-sym rows others there))
 
--- ---- each sound club has a sheet for each day
-
--- the order is total: of two elements, one precedes the other or they are equal
+-- In a total order, one of any two different elements precedes the other element.
 abbrev pub Total : {K : Type 0} → (K → K → Type 0) → Type 0
 Total {K} R = (x y : K) → R x y ⊎ ((x ≡ y) ⊎ R y x)
 
@@ -145,7 +141,7 @@ before_transitive a b c h k = nat_list_cmp_total.trans a b c h k
 precedes_transitive : (a b c : Booking) → Precedes a b → Precedes b c → Precedes a c
 precedes_transitive a b c h k = grind (arith, before_transitive)
 
--- bookings that have the same position in this order: facility, hour, key and number are equal
+-- The two bookings have the same facility, hour, key and number.
 abbrev Same : Booking → Booking → Type 0
 Same a b = (a.slot.facility ≡ b.slot.facility) × ((a.slot.hour ≡ b.slot.hour) × ((a.key ≡ b.key) × (a.number ≡ b.number)))
 
@@ -155,7 +151,7 @@ precedes_total a b =
     let key = before_total a.key b.key in
     grind arith
 
--- a sound club has a list of rows for each day
+-- For every day, the bookings of a sound club can be sorted into the rows of a day sheet.
 pub day_rows : (club : Club) → IsSound club → (day : ℕ) → (rows : List Booking) × AreRowsOf club day rows
 day_rows club sound day =
     let named = AllPairs-filter (λ (a : Booking) (b : Booking). ¬ ((a.key ≡ b.key) × (a.number ≡ b.number))) (is_on day) club.bookings sound.unique.bookings in

@@ -1,4 +1,4 @@
--- Texts padded to a width, as `{:<24}` and `{:>9}` write them.
+-- Lemmas about padded texts, such as the results of the format strings `{:<24}` and `{:>9}`.
 use Rattle.std.proofs.Common.{◌≡◌, ℕ, ◌+◌, ◌-◌, ◌<◌, ◌≤◌, ◌==◌, ◌^◌, true, false, List, [], ◌∷◌, ◌++◌, length, zero, suc, refl, ap, ◌∙◌, arith, append_assoc}
 use Rattle.std.proofs.lemmas.{Bool.Decides.nat_tests, List.{append-nil, Elements.All-tail}}
 use Rattle.std.specs.Fmt.{char_count, take_chars, padded, padded_integral, format_spec, styled_text, styled_decimal, decimal, is_char_start}
@@ -35,7 +35,6 @@ fill-spaces : (n : ℕ) → repeat {A = ℕ} n (32 ∷ []) ≡ replicate n 32
 fill-spaces zero = refl
 fill-spaces (suc n) = ap (λ rest. 32 ∷ rest) (fill-spaces n)
 
--- `repeat` of one space gives that number of spaces
 spaces : (m n : ℕ) → m ≡ n → repeat {A = ℕ} m (32 ∷ []) ≡ replicate n 32
 spaces m n e = ap (λ k. repeat {A = ℕ} k (32 ∷ [])) e ∙ fill-spaces n
 
@@ -58,7 +57,6 @@ padded_integral-right places numeral =
     let behind = ap (laid (replicate room 32)) (spaces (room - 0 - 0 - (room - 0 - 0)) 0 (omega arith)) in
     e ∙ before ∙ behind ∙ simp append-nil
 
--- with these format options, a text is padded to 24 characters and aligned to the left
 pub left-of : (options : _) (text name : List ℕ) → options ≡ format_spec 32 1 0 24 (2 ^ 64 - 1) → text ≡ name → IsName text →
     styled_text options text ≡ left_in 24 name
 left-of options text name e same h = ap (λ s. styled_text s text) e ∙ styled_text-left text h ∙ ap (left_in 24) same
@@ -70,7 +68,8 @@ right-of places options n m e same h =
     rw (not_zero places h) refl in
     ap (λ s. styled_decimal s n) e ∙ wide ∙ padded_integral-right places (decimal n) ∙ ap (λ k. right_in places (decimal k)) same
 
--- the text of `{} {}:00 {} {} {} {}` with a line feed, for these pieces
+-- The text that the format string `{} {}:00 {} {} {} {}` gives for these arguments, with a line
+-- feed.
 unfoldable pub laid_text : List ℕ → ℕ → List ℕ → List ℕ → List ℕ → List ℕ → List ℕ
 laid_text facility hour key number persons charge =
     facility ++ (codes " " ++ (two_digits hour ++
@@ -82,7 +81,7 @@ pub laid_text-row_text : (row : Booking) (facility key number persons charge : L
 unfolding laid_text
 laid_text-row_text row facility key number persons charge f k n p c = rw (f, k, n, p, c) (simp append_assoc)
 
--- the text of `Total bookings {}, persons {}, charge {}` with a line feed
+-- The text of the totals line in a day sheet, with its line feed.
 unfoldable pub laid_totals : ℕ → ℕ → ℕ → List ℕ
 laid_totals count persons charge =
     codes "Total bookings " ++ (decimal count ++ (codes ", persons " ++ (decimal persons ++ (codes ", charge " ++ (decimal charge ++ 10 ∷ [])))))

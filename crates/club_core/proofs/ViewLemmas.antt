@@ -1,11 +1,10 @@
--- The sums of a key's view, computed from the club's bookings.
+-- Lemmas about the sums that a view of a request contains.
 use Rattle.std.proofs.{Common.{◌≡◌, ℕ, zero, suc, ◌<◌, Bool, true, List, [], ◌∷◌, length, get_or, refl, ap, arith}, lemmas.Bool.and_parts}
 use Rattle.std.proofs.lemmas.Slice.Eq.{bytes_eq-Decides}
 use Rattle.std.specs.{List.list_any, Prelude.{◌&&◌, ◌==◌, filter, find, sum_by, Contains}, Str.bytes_eq}
 use Rattle.club_rows.specs.declared.{booking.Booking.Booking, key.Key.Key}
 use Rattle.club_core.specs.{Club.{Club, is_key_of}, Laws.OwnBookings, Sums.{cost_of, is_under}}
 
--- filtering by a weaker test first doesn't change the result of the stricter test
 filter_twice : (strict wide : Booking → Bool) (bookings : List Booking) → ((b : Booking) → strict b ≡ true → wide b ≡ true) →
     filter strict (filter wide bookings) ≡ filter strict bookings
 filter_twice strict wide [] h = refl
@@ -16,7 +15,6 @@ find_twice : (strict wide : Booking → Bool) (bookings : List Booking) → ((b 
 find_twice strict wide [] h = refl
 find_twice strict wide (b ∷ bookings) h = grind (arith, find_twice strict wide bookings h, h b)
 
--- a key of the list is found among the keys of its own member
 is_among : (keys : List Key) (key : Key) (i : ℕ) → i < length keys → get_or keys i key ≡ key
     → list_any (λ (k : Key). bytes_eq k.name key.name) (filter (λ (k : Key). bytes_eq k.member key.member) keys) ≡ true
 is_among [] key i lt e = absurd (omega arith)

@@ -1,26 +1,26 @@
--- The passes that are accepted, and the requests that an accepted pass allows (ours).
+-- Defines when the desk accepts a pass for a request.
 use Rattle.std.specs.Prelude.{◌≡◌, ◌≢◌, ℕ, All, false, Option, Some, None, Ok}
 use Rattle.pass_caveats.specs.{Caveat.Permits, declared.{ask.Ask.Ask, caveat.Caveat.Caveat}}
 use Rattle.club_core.specs.{Answer.ask_of, Basis.{Basis, basis_of, view_of}, Club.{Club, key_named}, Pass.{Pass, IsSignedUnder, Words}}
 use Rattle.club_core.specs.declared.{refusal.Refusal.Refusal, reply.Reply.{Reply, TheVariants.Refused}, request.Request.Request}
 
--- any reply but a refusal
+-- The reply isn't a refusal.
 abbrev pub IsServed : Reply → Type 0
 IsServed reply = (refusal : Refusal) → reply ≢ Refused refusal
 
--- the caveat is understood and allows the request
+-- The caveat is understood, and it allows the request.
 abbrev pub IsAllowedBy : Ask → Option Caveat → Type 0
 IsAllowedBy ask None = ⊥
 IsAllowedBy ask (Some caveat) = Permits caveat ask
 
--- The pass is accepted for the request. It is signed under a root of the basis's key that is valid at the moment.
--- The key isn't revoked, and each caveat of the pass allows the request.
+-- The pass is accepted for the request. A root of the basis's key signs the pass, and that root is
+-- valid at the moment. The key isn't revoked, and each caveat of the pass allows the request.
 pub record IsAcceptedPass (pass : Pass) (request : Request) (moment : ℕ) (basis : Basis) : Type 0 where
   pub signed : IsSignedUnder pass basis.key moment
   pub not_revoked : basis.key.revoked ≡ false
   pub permission : All (IsAllowedBy (ask_of (view_of basis request moment) request moment)) pass.caveats
 
--- the text is a pass that names a key of the club, and the pass is accepted for the request
+-- The text is a pass that names a key of the club, and the pass is accepted for the request.
 pub record IsAcceptedIn (club : Club) (words : Words) (moment : ℕ) : Type 0 where
   pub pass : Pass
   pub basis : Basis
@@ -28,8 +28,9 @@ pub record IsAcceptedIn (club : Club) (words : Words) (moment : ℕ) : Type 0 wh
   pub known : basis_of club words ≡ Some basis
   pub acceptance : IsAcceptedPass pass words.request moment basis
 
--- The text is a pass that entitles its holder to the request. It names a key of the club that isn't revoked. It is
--- signed under a root of that key that is valid at the moment. Each of its caveats allows the request.
+-- The text is a pass that allows its holder to make the request. The pass names a key of the club,
+-- and the key isn't revoked. A root of the key signs the pass, and that root is valid at the
+-- moment. Each caveat of the pass allows the request.
 pub record IsEntitled (club : Club) (words : Words) (moment : ℕ) : Type 0 where
   pub pass : Pass
   pub basis : Basis

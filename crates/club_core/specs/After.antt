@@ -1,4 +1,4 @@
--- The club after a change (ours).
+-- Defines how a change edits the club's rows.
 use Rattle.std.specs.{Prelude.{ℕ, ◌+◌, ◌-◌, ◌==◌, ◌&&◌, ◌||◌, not, Bool, List, [], ◌∷◌, ◌++◌, map, filter, Some, if◌then◌else◌}, Str.bytes_eq}
 use Rattle.club_values.specs.declared.slot.Slot.{Slot}
 use Rattle.club_rows.specs.{Booking.same_slot, declared.{booking.Booking.Booking, facility.Facility.Facility, key.{Key.Key, OlderRoot.OlderRoot}}}
@@ -7,21 +7,22 @@ use Rattle.club_core.specs.{Club.Club, Sums.is_under, declared.change.Change.{Ch
 use Rattle.club_core.specs.declared.change.Change.TheVariants.{ReplaceNumbers, InsertKey, MarkRevoked, ReplaceRoot, MarkClosed, MarkOpen, ReplaceQuota}
 use Rattle.club_core.specs.declared.change.Change.TheVariants.{InsertBooking, MarkCancelled}
 
--- a member's row after a credit for the member with this name; other rows don't change
+-- A member's row after a credit. Only the row of the member with this name changes.
 abbrev pub credited_member : List ℕ → ℕ → Member → Member
 credited_member name points member =
     record member { credited = if bytes_eq member.name name then member.credited + points else member.credited }
 
--- a member's row after a debit of the member with this name; other rows don't change
+-- A member's row after a debit. Only the row of the member with this name changes.
 abbrev pub debited_member : List ℕ → ℕ → Member → Member
 debited_member name points member =
     record member { credited = if bytes_eq member.name name then member.credited - points else member.credited }
 
--- a member's row after a new quota for the member with this name; other rows don't change
+-- A member's row after a change of quota. Only the row of the member with this name changes.
 abbrev pub member_with_quota : List ℕ → ℕ → Member → Member
 member_with_quota name quota member = record member { quota = if bytes_eq member.name name then quota else member.quota }
 
--- a facility's row after new places, a new price and new hours for the facility with this name; its kind and other rows don't change
+-- A facility's row after a change of its places, price and opening hours. Only the row of the
+-- facility with this name changes.
 abbrev pub facility_with_numbers : List ℕ → ℕ → ℕ → ℕ → ℕ → Facility → Facility
 facility_with_numbers name places price opens shuts facility = record facility {
   places = if bytes_eq facility.name name then places else facility.places;
@@ -30,36 +31,38 @@ facility_with_numbers name places price opens shuts facility = record facility {
   shuts = if bytes_eq facility.name name then shuts else facility.shuts;
 }
 
--- a key's row after the key with this name was revoked; other rows don't change
+-- A key's row after a revocation. Only the row of the key with this name changes.
 abbrev pub revoked_key : List ℕ → Key → Key
 revoked_key name key = record key { revoked = key.revoked || bytes_eq key.name name }
 
 abbrev pub good_until : ℕ → List ℕ → OlderRoot
 good_until until root = record { root = root; until = until }
 
--- a key's row after a rotation of the key with this name: its former root becomes the older root; other rows don't change
+-- A key's row after a rotation. Only the row of the key with this name changes. The key's former
+-- root becomes its older root.
 abbrev pub rotated_key : List ℕ → List ℕ → ℕ → Key → Key
 rotated_key name root until key = record key {
   root = if bytes_eq key.name name then root else key.root;
   older = if bytes_eq key.name name then Some (good_until until key.root) else key.older;
 }
 
--- whether a cancellation under this key and number cancels the booking: it matches and isn't cancelled
+-- Whether the booking has this key and number and isn't cancelled.
 abbrev pub is_marked : List ℕ → ℕ → Booking → Bool
 is_marked key number booking = is_under key booking && booking.number == number && not booking.cancelled
 
--- a booking's row after a cancellation under this key and number; other rows don't change
+-- A booking's row after a cancellation. The row changes only if the booking has this key and number
+-- and isn't cancelled yet.
 abbrev pub cancelled_booking : List ℕ → ℕ → ℕ → Booking → Booking
 cancelled_booking key number refund booking = record booking {
   cancelled = booking.cancelled || is_marked key number booking;
   refund = if is_marked key number booking then refund else booking.refund;
 }
 
--- all closed slots except this one
+-- The closed slots without this slot.
 abbrev pub closed_but : Slot → List Slot → List Slot
 closed_but slot closed = filter (λ (other : Slot). not (same_slot other slot)) closed
 
--- the club after a change, which appends a row, removes a row, or edits the rows that it names
+-- The club after a change. Each change adds a row, edits rows, or removes a closed slot.
 abbrev pub after : Change → Club → Club
 after (InsertMember member) club = record club { members = club.members ++ member ∷ [] }
 after (AddCredit name points) club = record club { members = map (credited_member name points) club.members }

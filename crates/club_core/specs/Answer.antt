@@ -1,5 +1,5 @@
--- The answer to a request (ours): first the pass is accepted or refused, then the request is decided. The answer
--- depends only on the request and its pass, the moment, and the view, which is computed from the basis.
+-- Defines the answer to a request. The rules first accept or refuse the pass, and then decide the
+-- request. The answer depends only on the request, its pass, the moment and the view.
 use Rattle.std.specs.Prelude.{ℕ, not, Bool, false, [], ◌∷◌, Option, Some, None, Result, Ok, Err, is_some, option_map}
 use Rattle.pass_caveats.specs.{Fault.first_fault_of, declared.{ask.Ask.Ask, fault.CaveatFault.{CaveatFault, TheVariants.{NotUnderstood, Denied}}}}
 use Rattle.club_rows.specs.{Facility.charge_of, declared.facility.Facility.Facility}
@@ -11,12 +11,13 @@ use Rattle.club_core.specs.declared.{refusal.Refusal.TheVariants.{CaveatNotUnder
 use Rattle.club_core.specs.declared.view.View.{View}
 use Rattle.club_core.specs.declared.request.Request.TheVariants as asked
 
--- the points that the request would charge; only a booking under an unused number at a known facility charges any
+-- The points that the request would charge. Only a booking under an unused number at a known
+-- facility charges points.
 abbrev pub owed_at : Request → Bool → Option Facility → ℕ
 owed_at (asked.Book slot number guests) false (Some facility) = charge_of facility guests
 owed_at request recorded facility = 0
 
--- what caveats can test about a request
+-- The values of a request that caveats can test.
 abbrev pub ask_of : View → Request → ℕ → Ask
 ask_of view request moment = record {
   action = request_action request;
@@ -28,27 +29,31 @@ ask_of view request moment = record {
   spent = view.spent;
 }
 
--- the refusal for a text that isn't a pass
+-- The refusal for a text that isn't a pass.
 abbrev pub form_refusal : PassFault → Refusal
 form_refusal TooLong = PassTooLong
 form_refusal Malformed = PassMalformed
 form_refusal ThirdParty = ThirdPartyCaveat
 form_refusal TooMany = TooManyCaveats
 
--- the refusal for the first caveat that isn't understood or denies the request; the decision's verdict if there is no such caveat
+-- The answer after the rules tested the caveats. The answer is a refusal if a caveat isn't
+-- understood or denies the request. Otherwise, the answer is the given verdict.
 abbrev pub after_caveats : Option CaveatFault → Verdict → Verdict
 after_caveats None verdict = verdict
 after_caveats (Some (NotUnderstood n)) verdict = refusal_verdict (CaveatNotUnderstood n)
 after_caveats (Some (Denied n)) verdict = refusal_verdict (CaveatDenies n)
 
--- the answer to a parsed pass, from its key's view, whether the key signed it, and the first caveat that refuses
+-- The answer to a request with a decoded pass. The view is `None` if the club doesn't have the
+-- pass's key. `is_signed` is true if the key signed the pass. `fault` is the first fault of the
+-- pass's caveats.
 abbrev pub answer_by_view : Option View → Bool → Option CaveatFault → Request → ℕ → Verdict
 answer_by_view None is_signed fault request moment = refusal_verdict NotVerified
 answer_by_view (Some view) is_signed fault request moment =
     first_of (line_if (not is_signed) (refusal_verdict NotVerified) ∷ line_if view.key.revoked (refusal_verdict KeyRevoked) ∷ [])
     (after_caveats fault (verdict_of view request moment))
 
--- the answer to a pass's text and a request, from the basis; no basis means that the pass names no key of the club
+-- The answer to a request, computed from its decoded pass and its basis. The basis is `None` if the
+-- pass names no key of the club.
 abbrev pub answer_to : Result Pass PassFault → Request → ℕ → Option Basis → Verdict
 answer_to (Err fault) request moment basis = refusal_verdict (form_refusal fault)
 answer_to (Ok pass) request moment None = refusal_verdict NotVerified
@@ -56,10 +61,10 @@ answer_to (Ok pass) request moment (Some basis) =
     let view = view_of basis request moment in
     answer_by_view (Some view) (is_signed_under pass basis.key moment) (first_fault_of pass.caveats (ask_of view request moment)) request moment
 
--- the answer to a request, from the basis
+-- The answer to a request, computed from its basis.
 abbrev pub answer_by_basis : Words → ℕ → Option Basis → Verdict
 answer_by_basis words moment basis = answer_to words.pass words.request moment basis
 
--- a club's answer to a request at a moment: the reply, and the change if there is one
+-- A club's answer to a request at a moment.
 abbrev pub verdict_in : Club → Words → ℕ → Verdict
 verdict_in club words moment = answer_by_basis words moment (basis_of club words)

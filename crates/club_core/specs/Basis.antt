@@ -1,4 +1,5 @@
--- The rows that the answer to a request may depend on (the basis), and the figures computed from them that decide it (the view) (ours).
+-- Defines the basis and the view of a request. The basis contains the rows on which the answer may
+-- depend. The view contains rows of the basis, and sums of the basis's bookings.
 use Rattle.std.specs.Prelude.{ℕ, false, List, Option, Some, None, Result, Ok, Err, option_map, option_and_then}
 use Rattle.club_values.specs.declared.slot.Slot.{Slot}
 use Rattle.club_rows.specs.{Key.row_of_key, declared.{booking.Booking.Booking, facility.Facility.Facility, key.Key.Key, member.Member.Member}}
@@ -7,23 +8,24 @@ use Rattle.club_core.specs.{Request.{request_slot, request_number}, Sums.{taken_
 use Rattle.club_core.specs.declared.{account.MemberAccount.MemberAccount, pass_fault.PassFault.PassFault, request.Request.Request, slot_use.SlotUse.SlotUse}
 use Rattle.club_core.specs.declared.view.{KeyView.KeyView, View.View}
 
--- the number of persons in a slot by these bookings, and whether it is closed; without a slot, the number is 0 and it isn't closed
+-- The number of persons in a slot, counted over these bookings, and whether the slot is closed.
+-- Without a slot, the number of persons is 0 and `closed` is false.
 abbrev pub slot_use_by : List Booking → Club → Option Slot → SlotUse
 slot_use_by bookings club None = record { taken = 0; closed = false }
 slot_use_by bookings club (Some slot) = record { taken = taken_in slot bookings; closed = is_closed slot club }
 
--- the number of persons in a slot, and whether the slot is closed
+-- The number of persons in a slot, and whether the slot is closed.
 abbrev pub slot_use : Club → Slot → SlotUse
 slot_use club slot = slot_use_by club.bookings club (Some slot)
 
--- a member with its balance
+-- A member's row with its balance.
 abbrev pub club_account : Club → Member → MemberAccount
 club_account club member = record { member = member; balance = balance_of member (bookings_of member.name club) }
 
 abbrev pub account_named : List ℕ → Club → Option MemberAccount
 account_named name club = option_map (club_account club) (member_named name club)
 
--- the state of a slot: its facility if known, its number of persons, and whether it is closed
+-- The state of a slot: its facility, its number of persons, and whether it is closed.
 pub record SlotState : Type 0 where
   pub facility : Option Facility
   pub held : SlotUse
@@ -34,14 +36,16 @@ state_of club slot = record {
   held = slot_use_by club.bookings club slot;
 }
 
--- the key, its member's row, the bookings of all that member's keys, and the state of the slot
+-- The rows on which the answer to a request may depend. `bookings` are the bookings under all keys
+-- of the member.
 pub record Basis : Type 0 where
   pub key : Key
   pub member : Member
   pub bookings : List Booking
   pub state : SlotState
 
--- the basis of a request under a key; `None` if the club has no row for the key's member
+-- The basis of a request under a key. The basis is `None` if the club has no row for the key's
+-- member.
 abbrev pub basis_under : Club → Request → Key → Option Basis
 basis_under club request key =
     option_map (λ (member : Member). record {
@@ -52,18 +56,19 @@ basis_under club request key =
     })
     (member_named key.member club)
 
--- the name of the key in a pass's identifier; `None` if the text isn't a pass or its identifier names no key
+-- The name of the key in a pass's identifier. The name is `None` if the text isn't a pass, or if
+-- the identifier names no key.
 abbrev pub key_of : Result Pass PassFault → Option (List ℕ)
 key_of (Ok pass) = pass.key
 key_of (Err fault) = None
 
--- the basis of a request; `None` if its pass names no key of the club
+-- The basis of a request. The basis is `None` if the pass names no key of the club.
 abbrev pub basis_of : Club → Words → Option Basis
 basis_of club words =
     option_and_then (basis_under club words.request)
     (option_and_then (λ (name : List ℕ). key_named name club) (key_of words.pass))
 
--- the rows and sums that a decision reads
+-- The view of a request, computed from its basis.
 abbrev pub view_of : Basis → Request → ℕ → View
 view_of basis request moment = record {
   key = row_of_key basis.key;
@@ -77,16 +82,18 @@ view_of basis request moment = record {
   booking = option_and_then (λ (number : ℕ). booking_under basis.key.name number basis.bookings) (request_number request);
 }
 
--- a key's view for a request at a moment; `None` if the club has no such key
+-- The view of a request under the key with this name. The view is `None` if the club has no such
+-- key.
 abbrev pub view_in : Club → List ℕ → Request → ℕ → Option View
 view_in club key request moment =
     option_map (λ (basis : Basis). view_of basis request moment)
     (option_and_then (basis_under club request) (key_named key club))
 
--- a basis's key, with the key's view
+-- The basis's key, with its view of the request.
 abbrev pub seen_of : Request → ℕ → Basis → KeyView
 seen_of request moment basis = record { key = basis.key; view = view_of basis request moment }
 
--- the key with this name, and its view of a request at a moment; `None` if the club has no such key
+-- The key with this name, and the view of a request under that key. The result is `None` if the
+-- club has no such key.
 abbrev pub key_view_in : Club → List ℕ → Request → ℕ → Option KeyView
 key_view_in club key request moment = option_map (seen_of request moment) (option_and_then (basis_under club request) (key_named key club))

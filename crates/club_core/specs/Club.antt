@@ -1,11 +1,11 @@
--- The club: its rows and their invariants (ours). It stores no sums.
+-- Defines a club: its rows and its invariants. A club stores no sums.
 use Rattle.std.specs.{List.list_any, Prelude.{◌≡◌, ◌≢◌, ℕ, ◌≤◌, Bool, List, [], map, filter, find, sum_by, Option, All, AllPairs, Contains}, Str.bytes_eq}
 use Rattle.club_values.specs.declared.slot.Slot.{Slot}
 use Rattle.club_rows.specs.{Booking.same_slot, Rows.{IsMember, IsFacility, IsKey, IsSlot, IsBooking}, declared.booking.Booking.Booking}
 use Rattle.club_rows.specs.declared.{facility.Facility.Facility, key.Key.Key, member.Member.Member}
 use Rattle.club_core.specs.Sums.{cost_of, taken_in}
 
--- the rows, oldest first, and the slots that are closed
+-- The rows of a club, oldest first, and its closed slots.
 pub record Club : Type 0 where
   pub members : List Member
   pub facilities : List Facility
@@ -16,7 +16,7 @@ pub record Club : Type 0 where
 abbrev pub empty_club : Club
 empty_club = record { members = []; facilities = []; keys = []; bookings = []; closed = [] }
 
--- the first row with this name, which is the only one in a sound club
+-- The first member with this name. In a sound club, at most one member has the name.
 abbrev pub member_named : List ℕ → Club → Option Member
 member_named name club = find (λ (member : Member). bytes_eq member.name name) club.members
 
@@ -26,11 +26,11 @@ facility_named name club = find (λ (facility : Facility). bytes_eq facility.nam
 abbrev pub key_named : List ℕ → Club → Option Key
 key_named name club = find (λ (key : Key). bytes_eq key.name name) club.keys
 
--- whether the club closed the slot
+-- Whether the slot is closed.
 abbrev pub is_closed : Slot → Club → Bool
 is_closed slot club = list_any (λ other. same_slot other slot) club.closed
 
--- the keys of a member, and the bookings of all of them
+-- The keys of the member with this name.
 abbrev pub keys_of : List ℕ → Club → List Key
 keys_of member club = filter (λ (key : Key). bytes_eq key.member member) club.keys
 
@@ -40,7 +40,7 @@ is_key_of member club name = list_any (λ (key : Key). bytes_eq key.name name) (
 abbrev pub bookings_of : List ℕ → Club → List Booking
 bookings_of member club = filter (λ (booking : Booking). is_key_of member club booking.key) club.bookings
 
--- each row is within its limits
+-- Each row of the club is within its limits.
 pub record HasRows (club : Club) : Type 0 where
   pub members : All IsMember club.members
   pub facilities : All IsFacility club.facilities
@@ -48,7 +48,7 @@ pub record HasRows (club : Club) : Type 0 where
   pub bookings : All IsBooking club.bookings
   pub closed : All IsSlot club.closed
 
--- names are unique, where a booking's name is its key with its number
+-- Names are unique. A booking's name is its key together with its number.
 pub record HasUniqueNames (club : Club) : Type 0 where
   pub members : AllPairs (λ (a : Member) (b : Member). a.name ≢ b.name) club.members
   pub facilities : AllPairs (λ (a : Facility) (b : Facility). a.name ≢ b.name) club.facilities
@@ -56,19 +56,19 @@ pub record HasUniqueNames (club : Club) : Type 0 where
   pub bookings : AllPairs (λ (a : Booking) (b : Booking). ¬ ((a.key ≡ b.key) × (a.number ≡ b.number))) club.bookings
   pub closed : AllPairs (λ (a : Slot) (b : Slot). a ≢ b) club.closed
 
--- each name that a row refers to is the name of an existing row
+-- Each name that a row refers to is the name of an existing row.
 pub record HasReferences (club : Club) : Type 0 where
   pub keys : All (λ (key : Key). Contains (map (λ (m : Member). m.name) club.members) key.member) club.keys
   pub bookings : All (λ (booking : Booking). Contains (map (λ (k : Key). k.name) club.keys) booking.key) club.bookings
   pub facilities : All (λ (booking : Booking). Contains (map (λ (f : Facility). f.name) club.facilities) booking.slot.facility) club.bookings
   pub closed : All (λ (slot : Slot). Contains (map (λ (f : Facility). f.name) club.facilities) slot.facility) club.closed
 
--- the invariants of the club
+-- The invariants of a club.
 pub record IsSound (club : Club) : Type 0 where
   pub rows : HasRows club
   pub unique : HasUniqueNames club
   pub references : HasReferences club
-  -- no balance is below 0
+  -- No member's balance is below 0.
   pub balances : All (λ (member : Member). sum_by cost_of (bookings_of member.name club) ≤ member.credited) club.members
-  -- no slot has more persons than places
+  -- No slot has more persons than places.
   pub places : All (λ (facility : Facility). (slot : Slot) → slot.facility ≡ facility.name → taken_in slot club.bookings ≤ facility.places) club.facilities

@@ -1,4 +1,4 @@
--- The limits of an event's values (ours).
+-- Defines the limits of an event's values.
 use Rattle.club_values.specs.{Moment.IsMoment, Name.IsName}
 use Rattle.club_rows.specs.{Limits.{IsBookingNumber, IsGuests, IsRoot}, Rows.IsSlot}
 use Rattle.club_core.specs.{Run.{Event, Asked, Commanded}, declared.command.Command.{Command, TheVariants.{AddMember, Credit, Debit, AddFacility, SetFacility}}}
@@ -12,7 +12,8 @@ IsRequest (asked.Book slot number guests) = IsSlot slot × IsBookingNumber numbe
 IsRequest (asked.Cancel slot number) = IsSlot slot × IsBookingNumber number
 IsRequest asked.Account = Unit {0}
 
--- each name, slot, booking number, root and moment of a command is within its limits; `command_verdict` checks the other numbers
+-- Each name, slot, booking number, root and moment of the command is within its limits.
+-- `command_verdict` checks the other numbers.
 abbrev pub IsCommand : Command → Type 0
 IsCommand (AddMember name quota) = IsName name
 IsCommand (Credit member points) = IsName member
@@ -27,7 +28,7 @@ IsCommand (CancelBooking key number) = IsName key × IsBookingNumber number
 IsCommand (CloseSlot slot) = IsSlot slot
 IsCommand (OpenSlot slot) = IsSlot slot
 
--- each value of the event is within its limits; the moment of a request has no limit
+-- Each value of the event is within its limits. The moment of a request has no limit.
 abbrev pub IsEvent : Event → Type 0
 IsEvent (Asked words moment) = IsRequest words.request
 IsEvent (Commanded command) = IsCommand command

@@ -1,4 +1,4 @@
--- Worked runs from the empty club (ours).
+-- Example runs that start from an empty club.
 use Rattle.std.specs.Prelude.{◌≡◌, ℕ, true, false, List, [], ◌∷◌, Option, Some, Ok, replicate, codes}
 use Rattle.club_values.specs.declared.{kind.Kind.TheVariants.Court, slot.Slot.Slot}
 use Rattle.pass_caveats.specs.declared.caveat.Caveat.{Caveat, TheVariants.Spend}
@@ -13,7 +13,8 @@ use Rattle.club_core.specs.declared.request.Request.TheVariants as asked
 abbrev pub root : List ℕ
 root = replicate 16 7
 
--- Member amy has quota 5, 10,000 points and the key amy-1. Facility court-1 has 4 places for 200 points each, and is open from 8 to 22.
+-- The commands that set up the example club. Member amy has the quota 5, 10,000 points and the key
+-- amy-1. Facility court-1 has 4 places for 200 points each, and is open from 8 to 22.
 abbrev pub opening : List Event
 opening =
     Commanded (AddMember (codes "amy") 5)
@@ -25,11 +26,12 @@ opening =
 abbrev pub opened_club : Club
 opened_club = club_after empty_club opening
 
--- the slot of court-1 on 2026-05-01 at this hour
+-- The slot of court-1 on 2026-05-01 at this hour.
 abbrev pub slot_at : ℕ → Slot
 slot_at hour = record { facility = codes "court-1"; day = 20574; hour = hour }
 
--- 2026-04-20T12:00; `soon` is an hour before the slot at 18 begins, and `late` is a minute after that
+-- The moments of the example requests. `noon` is 2026-04-20T12:00. `soon` is an hour before the
+-- slot at 18 begins, and `late` is a minute after the slot begins.
 abbrev pub noon : ℕ
 noon = 29_611_440
 
@@ -39,7 +41,7 @@ soon = 29_627_580
 abbrev pub late : ℕ
 late = 29_627_641
 
--- a request under a pass of the key amy-1 that has these caveats
+-- A request with a pass of the key amy-1 that has these caveats.
 abbrev pub ask_with : List (Option Caveat) → Request → ℕ → Event
 ask_with caveats request moment =
     Asked (record { pass = Ok (record { key = Some (codes "amy-1"); caveats = caveats; is_signed = λ _. true }); request = request }) moment
@@ -56,14 +58,15 @@ served_cancellation number refund = ToMember (Cancelled (codes "amy-1") number r
 abbrev pub account : ℕ → ℕ → ℕ → EventReply
 account balance count spent = ToMember (AccountShown (codes "amy") balance 5 count spent)
 
--- a member books, views the account, and cancels
+-- A member books a slot, views the account, and cancels the booking.
 abbrev pub BooksAndCancels : Type 0
 BooksAndCancels =
     replies_of opened_club
     (ask (asked.Book (slot_at 18) 7 2) noon ∷ ask asked.Account noon ∷ ask (asked.Cancel (slot_at 18) 7) noon ∷ [])
     ≡ served_booking 7 600 1 ∷ account 9_400 1 600 ∷ served_cancellation 7 600 ∷ []
 
--- a repeated request gets the first reply and charges nothing, even after a cancellation and after the slot has begun
+-- A repeated booking gets the first reply and charges nothing, even after its cancellation and
+-- after the slot has begun.
 abbrev pub RepeatsAfterACancellation : Type 0
 RepeatsAfterACancellation =
     replies_of opened_club
@@ -75,7 +78,7 @@ RepeatsAfterACancellation =
     ∷ [])
     ≡ served_booking 7 600 1 ∷ served_cancellation 7 600 ∷ served_booking 7 600 1 ∷ ToMember (Refused refusals.NumberUsed) ∷ account 10_000 0 0 ∷ []
 
--- a slot can be closed only while nobody has booked it, and a closed slot can't be booked
+-- The office can close a slot only while nobody has booked it. A closed slot can't be booked.
 abbrev pub ClosesASlot : Type 0
 ClosesASlot =
     replies_of opened_club
@@ -94,7 +97,8 @@ ClosesASlot =
     ∷ ToMember (Refused refusals.SlotClosed)
     ∷ []
 
--- a closed slot can be opened and then booked again; opening an open slot changes nothing; a slot of an unknown facility can't be opened
+-- The office opens a closed slot, and a member then books it. Opening an open slot changes nothing.
+-- A slot of an unknown facility can't be opened.
 abbrev pub OpensASlot : Type 0
 OpensASlot =
     replies_of opened_club
@@ -117,7 +121,7 @@ OpensASlot =
     ∷ ToOffice (NotDone Unknown)
     ∷ []
 
--- a debit lowers the balance, and is refused if it is more than the balance
+-- A debit lowers the balance. The rules refuse a debit of more than the balance.
 abbrev pub DebitsAMember : Type 0
 DebitsAMember =
     replies_of opened_club
@@ -146,7 +150,8 @@ DebitsAMember =
     ∷ ToOffice (NotDone Unknown)
     ∷ []
 
--- a new quota applies from the next booking on; open bookings above it stay
+-- A new quota applies from the next booking on. Open bookings stay, even if they exceed the new
+-- quota.
 abbrev pub SetsAQuota : Type 0
 SetsAQuota =
     replies_of opened_club
@@ -171,7 +176,8 @@ SetsAQuota =
     ∷ ToOffice (NotDone Unknown)
     ∷ []
 
--- new numbers apply from the next booking on; earlier bookings keep their charge, places left and hour; new places must suffice for each slot
+-- A facility's new numbers apply from the next booking on. Earlier bookings keep their charge,
+-- places left and hour. The office can't set fewer places than a slot has persons.
 abbrev pub SetsAFacility : Type 0
 SetsAFacility =
     replies_of opened_club
@@ -204,7 +210,8 @@ SetsAFacility =
     ∷ ToOffice (NotDone Unknown)
     ∷ []
 
--- a cancellation by the office refunds the whole charge, even after the slot has begun; later repeats get the recorded replies
+-- A cancellation by the office refunds the whole charge, even after the slot has begun. Later
+-- repeats get the recorded replies.
 abbrev pub CancelsForAMember : Type 0
 CancelsForAMember =
     replies_of opened_club
@@ -233,7 +240,7 @@ CancelsForAMember =
     ∷ ToOffice (NotDone Unknown)
     ∷ []
 
--- if the office cancels a booking that its member cancelled before, the member's refund stays
+-- If the office cancels a booking that its member cancelled before, the member's refund stays.
 abbrev pub KeepsARefund : Type 0
 KeepsARefund =
     replies_of opened_club
@@ -244,7 +251,7 @@ KeepsARefund =
     ∷ [])
     ≡ served_booking 7 600 1 ∷ served_cancellation 7 300 ∷ ToOffice Done ∷ account 9_700 0 300 ∷ []
 
--- the office can cancel a booking of a revoked key, which frees its places
+-- The office can cancel a booking of a revoked key. The cancellation frees the booking's places.
 abbrev pub CancelsUnderARevokedKey : Type 0
 CancelsUnderARevokedKey =
     replies_of opened_club
@@ -256,7 +263,7 @@ CancelsUnderARevokedKey =
     ∷ [])
     ≡ served_booking 7 600 1 ∷ ToOffice Done ∷ ToOffice (NotDone SlotInUse) ∷ ToOffice Done ∷ ToOffice Done ∷ []
 
--- under a spend limit of 600 points, refunded points can be spent again
+-- Under a spend limit of 600 points, a key can spend refunded points again.
 abbrev pub KeepsASpendLimit : Type 0
 KeepsASpendLimit =
     let limited = ask_with (Some (Spend 600) ∷ []) in

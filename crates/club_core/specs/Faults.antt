@@ -1,4 +1,4 @@
--- The texts of the office's and a store's faults (ours).
+-- Defines the texts of the office's faults and of a store's faults.
 use Rattle.std.specs.Prelude.{ℕ, List, codes}
 use Rattle.club_core.specs.declared.{command.OfficeFault.{OfficeFault, TheVariants.{Exists, Unknown, OutOfRange, SlotInUse}}, store.StoreFault.StoreFault}
 use Rattle.club_core.specs.declared.store.StoreFault.TheVariants.{Memory, Storage}

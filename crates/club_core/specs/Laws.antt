@@ -1,4 +1,4 @@
--- Laws of the definitions.
+-- Laws about the definitions of a club, its requests and its day sheets.
 use Rattle.std.specs.Prelude.{◌≡◌, ◌↔◌, ◌⊎◌, ℕ, ◌≤◌, IsTrue, List, Contains, Option, Some, None, option_map}
 use Rattle.club_values.specs.declared.slot.Slot.{Slot}
 use Rattle.club_rows.specs.declared.{booking.Booking.Booking, key.Key.Key}
@@ -6,28 +6,29 @@ use Rattle.club_core.specs.{Answer.answer_by_basis, Basis.{Basis, basis_of, key_
 use Rattle.club_core.specs.{Pass.{Pass, IsSignedUnder, Words, is_signed_under}, Sheet.IsSheet, Sums.{booking_under, most_taken_in, spent_under, taken_in}}
 use Rattle.club_core.specs.declared.{refusal.Refusal.Refusal, reply.Reply.TheVariants.Refused, verdict.Verdict.Verdict}
 
--- a refusal changes nothing
+-- A refusal changes nothing.
 pub record KeepsWhereRefused (verdict : Verdict) : Type 0 where
   pub kept : (refusal : Refusal) → verdict.reply ≡ Refused refusal → verdict.change ≡ None
 
 abbrev pub RefusalsChangeNothing : Type 0
 RefusalsChangeNothing = (words : Words) (moment : ℕ) (basis : Option Basis) → KeepsWhereRefused (answer_by_basis words moment basis)
 
--- a club has at most one sheet for a day
+-- A club has at most one sheet for a day.
 abbrev pub OneSheet : Type 0
 OneSheet = (club : Club) (day : ℕ) (text other : List ℕ) → IsSheet club day text → IsSheet club day other → text ≡ other
 
--- the view of the key that a pass names is the view that decides the request
+-- The view of the key that a pass names decides the answer to the request.
 abbrev pub ViewsDecide : Type 0
 ViewsDecide = (club : Club) (words : Words) (moment : ℕ) (name : List ℕ) → key_of words.pass ≡ Some name →
     view_in club name words.request moment ≡ option_map (λ (basis : Basis). view_of basis words.request moment) (basis_of club words)
 
--- `is_signed_under` is true if and only if the pass is signed under a valid root of the key
+-- `is_signed_under` returns true if and only if a valid root of the key signs the pass.
 abbrev pub TestsTheSignature : Type 0
 TestsTheSignature = (pass : Pass) (key : Key) (moment : ℕ) →
     IsTrue (is_signed_under pass key moment) ↔ IsSignedUnder pass key moment
 
--- the bookings of a key's member suffice to compute what the key has spent, and to find its booking under each number
+-- The bookings of a key's member suffice to find the points that the key has spent, and the key's
+-- booking under each number.
 pub record HasOwnBookings (club : Club) (key : Key) : Type 0 where
   pub spent : spent_under key.name (bookings_of key.member club) ≡ spent_under key.name club.bookings
   pub booking : (number : ℕ) → booking_under key.name number (bookings_of key.member club) ≡ booking_under key.name number club.bookings
@@ -35,7 +36,8 @@ pub record HasOwnBookings (club : Club) (key : Key) : Type 0 where
 abbrev pub OwnBookings : Type 0
 OwnBookings = (club : Club) (key : Key) → Contains club.keys key → HasOwnBookings club key
 
--- no slot of the facility has more persons than `most`, and some slot has exactly `most` persons, unless `most` is 0
+-- No slot of the facility has more persons than `most`. If `most` isn't 0, some slot of the
+-- facility has exactly `most` persons.
 pub record IsMostTaken (facility : List ℕ) (bookings : List Booking) (most : ℕ) : Type 0 where
   pub bound : (slot : Slot) → slot.facility ≡ facility → taken_in slot bookings ≤ most
   pub reached : (most ≡ 0) ⊎ ((slot : Slot) × (slot.facility ≡ facility) × (taken_in slot bookings ≡ most))
@@ -43,6 +45,6 @@ pub record IsMostTaken (facility : List ℕ) (bookings : List Booking) (most : �
 abbrev pub MostTaken : Type 0
 MostTaken = (facility : List ℕ) (bookings : List Booking) → IsMostTaken facility bookings (most_taken_in facility bookings)
 
--- a sound club has a sheet for each day
+-- A sound club has a sheet for each day.
 abbrev pub SomeSheet : Type 0
 SomeSheet = (club : Club) → IsSound club → (day : ℕ) → (text : List ℕ) × IsSheet club day text

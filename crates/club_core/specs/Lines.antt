@@ -1,7 +1,7 @@
--- Decisions as lists of lines (ours): the first line whose condition holds gives the answer.
+-- Defines a decision as a list of lines. The first line whose condition is true gives the answer.
 use Rattle.std.specs.Prelude.{Bool, if◌then◌else◌, List, [], ◌∷◌}
 
--- an answer and its condition
+-- An answer and its condition.
 pub record Line (A : Type 0) : Type 0 where
   pub fits : Bool
   pub answer : A
@@ -9,7 +9,8 @@ pub record Line (A : Type 0) : Type 0 where
 abbrev pub line_if : {A : Type 0} → Bool → A → Line A
 line_if fits answer = record { fits = fits; answer = answer }
 
--- the answer of the first line whose condition holds, or the last argument if no condition holds
+-- The answer of the first line whose condition is true, or the last argument if no condition is
+-- true.
 abbrev pub first_of : {A : Type 0} → List (Line A) → A → A
 first_of [] last = last
 first_of (l ∷ lines) last = if l.fits then l.answer else first_of lines last

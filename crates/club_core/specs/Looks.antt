@@ -1,12 +1,13 @@
--- The parts of a view that an answer depends on (ours). Caveats depend on the recorded booking, the
--- facility and the points spent by the key. Each kind of request depends on a part of its own.
+-- Defines the parts of a view on which an answer depends. Caveats depend on the recorded booking,
+-- the facility and the points that the key has spent. Each kind of request depends on different
+-- parts of the view.
 use Rattle.std.specs.Prelude.{◌≡◌, ℕ, ◌&&◌, not, Bool, false, None, is_some, if◌then◌else◌}
 use Rattle.pass_caveats.specs.Spending.{after_spending}
 use Rattle.club_rows.specs.declared.key.KeyRow.{KeyRow}
 use Rattle.club_core.specs.{Answer.ask_of, Verdict.verdict_of, declared.{request.Request.Request, view.View.View}}
 use Rattle.club_core.specs.declared.request.Request.TheVariants as asked
 
--- a view that has only the key's row: no booking, no facility, and all sums 0
+-- A view with the key's row only. It has no booking and no facility, and all its sums are 0.
 abbrev pub bare_view : KeyRow → View
 bare_view key = record {
   key = key;
@@ -20,16 +21,21 @@ bare_view key = record {
   booking = None;
 }
 
--- the recorded booking and the facility; caveats depend on no other part of the view except what the key has spent
+-- A view with only the key's row, the recorded booking and the facility. Caveats depend on nothing
+-- else in a view, except on the points that the key has spent.
 abbrev pub seen_by_caveats : View → View
 seen_by_caveats view = record (bare_view view.key) { facility = view.facility; booking = view.booking }
 
--- whether the booking number is unused and the facility is known
+-- Whether the booking number is unused and the facility is known.
 abbrev pub books_anew : View → Bool
 books_anew view = not (is_some view.booking) && is_some view.facility
 
--- The part of a view that decides an accepted request. A slot's view needs the slot's state. A new booking needs everything except what the
--- key has spent. A repeat, a cancellation or an unknown facility needs no sums. The account needs the sums.
+-- The part of a view that decides an accepted request:
+--
+-- - A request to view a slot needs the slot's state.
+-- - A new booking needs everything except the points that the key has spent.
+-- - A repeated booking, a cancellation or a booking at an unknown facility needs no sums.
+-- - A request to view the account needs the sums.
 abbrev pub seen_by_decision : Request → View → View
 seen_by_decision (asked.View slot) view = record (seen_by_caveats view) { taken = view.taken; closed = view.closed }
 seen_by_decision (asked.Book slot number guests) view =
@@ -42,7 +48,8 @@ seen_by_decision asked.Account view = record (seen_by_caveats view) {
   open_count = view.open_count;
 }
 
--- caveats and decision give the same results for these parts as for the complete view
+-- The caveats and the decision have the same results for a part of the view as for the complete
+-- view.
 pub record RestsOnItsParts (view : View) (request : Request) (moment : ℕ) : Type 0 where
   pub caveats : ask_of (seen_by_caveats view) request moment ≡ after_spending 0 (ask_of view request moment)
   pub decision : verdict_of (seen_by_decision request view) request moment ≡ verdict_of view request moment

@@ -1,4 +1,5 @@
--- The commands of the office (ours). The first line whose condition holds refuses the command.
+-- Defines how the rules decide the office's commands. The first line whose condition is true
+-- refuses the command.
 use Rattle.std.specs.{Prelude.{ℕ, ◌+◌, ◌&&◌, not, Bool, false, List, [], ◌∷◌, nat_lt, nat_le, is_some, Option, Some, None, Result, Ok, Err}, Str.bytes_eq}
 use Rattle.club_values.specs.declared.slot.Slot.{Slot}
 use Rattle.club_rows.specs.{Facility.is_open_at, Limits.{credited_limit, quota_limit, places_limit, price_limit, shutting_limit}}
@@ -12,12 +13,12 @@ use Rattle.club_core.specs.declared.command.{Command.TheVariants.{CancelBooking,
 use Rattle.club_core.specs.declared.{command.OfficeFault.TheVariants.{Exists, Unknown, OutOfRange, SlotInUse}, command_view.CommandView.CommandView}
 use Rattle.club_core.specs.declared.slot_use.SlotUse.{SlotUse}
 
--- a command's view that has only these rows
+-- A command's view that has only these rows.
 abbrev pub rows_seen : Option Member → Option Key → Option Facility → CommandView
 rows_seen member key facility =
     record { member = member; account = None; key = key; facility = facility; slot = record { taken = 0; closed = false }; most_taken = 0; booking = None }
 
--- the rows that a command names, and the sums that it needs: a member's balance, a slot's use, or the most persons in a facility's slot
+-- The rows that a command names, and the sums that the command needs.
 abbrev pub command_view : Club → Command → CommandView
 command_view club (AddMember name quota) = rows_seen (member_named name club) None None
 command_view club (Credit name points) = rows_seen (member_named name club) None None
@@ -34,11 +35,11 @@ command_view club (CancelBooking key number) =
 command_view club (CloseSlot slot) = record (rows_seen None None (facility_named slot.facility club)) { slot = slot_use club slot }
 command_view club (OpenSlot slot) = rows_seen None None (facility_named slot.facility club)
 
--- the maximum number of points in one credit or debit
+-- The maximum number of points in one credit or debit.
 abbrev pub points_limit : ℕ
 points_limit = 1_000_000
 
--- the points are within the limits of a credit or a debit: 1 to 1,000,000
+-- The points are within the limits of a credit or a debit: 1 to 1,000,000.
 abbrev pub are_points : ℕ → Bool
 are_points points = nat_le 1 points && nat_le points points_limit
 
@@ -47,13 +48,14 @@ credit_verdict name points None = Err Unknown
 credit_verdict name points (Some member) =
     first_of (line_if (nat_lt credited_limit (member.credited + points)) (Err OutOfRange) ∷ []) (Ok (Some (AddCredit name points)))
 
--- the decision on a debit, which must be at most the member's balance
+-- The decision on a debit. A debit must not be more than the member's balance.
 abbrev pub debit_verdict : List ℕ → ℕ → Option MemberAccount → Result (Option Change) OfficeFault
 debit_verdict name points None = Err Unknown
 debit_verdict name points (Some account) =
     first_of (line_if (nat_lt account.balance points) (Err OutOfRange) ∷ []) (Ok (Some (TakeCredit name points)))
 
--- the numbers of a facility are within their limits: it has at least one place, and opens before it shuts
+-- The numbers of a facility are within their limits. A facility has at least one place, and opens
+-- before it shuts.
 abbrev pub are_limits : ℕ → ℕ → ℕ → ℕ → Bool
 are_limits places price opens shuts =
     nat_le 1 places && nat_le places places_limit && nat_le price price_limit && nat_lt opens shuts && nat_le shuts shutting_limit
@@ -63,7 +65,8 @@ rotate_verdict name root until None = Err Unknown
 rotate_verdict name root until (Some key) =
     first_of (line_if (bytes_eq key.root root) (Err Exists) ∷ []) (Ok (Some (ReplaceRoot name key.root root until)))
 
--- a cancellation by the office refunds the whole charge; a booking that is already cancelled doesn't change
+-- The decision on a cancellation by the office. The cancellation refunds the whole charge. A
+-- booking that is already cancelled doesn't change.
 abbrev pub office_cancel_verdict : Option Key → Option Booking → Result (Option Change) OfficeFault
 office_cancel_verdict (Some key) (Some booking) =
     first_of (line_if booking.cancelled (Ok None) ∷ []) (Ok (Some (MarkCancelled booking key.member booking.charge)))
@@ -79,7 +82,8 @@ close_verdict held slot (Some facility) =
     ∷ [])
     (Ok (Some (MarkClosed slot)))
 
--- the change that a command makes, `None` if it has nothing to change, or the fault if it is refused
+-- The decision on a command: its change, or the fault for which it is refused. The change is `None`
+-- if the command has nothing to change.
 abbrev pub command_verdict : CommandView → Command → Result (Option Change) OfficeFault
 command_verdict view (AddMember name quota) =
     first_of
@@ -118,6 +122,6 @@ command_verdict view (CancelBooking key number) = office_cancel_verdict view.key
 command_verdict view (CloseSlot slot) = close_verdict view.slot slot view.facility
 command_verdict view (OpenSlot slot) = first_of (line_if (not (is_some view.facility)) (Err Unknown) ∷ []) (Ok (Some (MarkOpen slot)))
 
--- a club's decision on a command
+-- A club's decision on a command.
 abbrev pub office_verdict : Club → Command → Result (Option Change) OfficeFault
 office_verdict club command = command_verdict (command_view club command) command

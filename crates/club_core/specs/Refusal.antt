@@ -1,11 +1,11 @@
--- A refusal's number and its text (ours).
+-- Defines the number and the text of each refusal.
 use Rattle.std.specs.Prelude.{ℕ, List, codes, Option, Some, None}
 use Rattle.club_core.specs.declared.refusal.Refusal.{Refusal, TheVariants.{BadRequest, NoSuchPath, MethodNotAllowed, NoPass, PassTooLong, PassMalformed}}
 use Rattle.club_core.specs.declared.refusal.Refusal.TheVariants.{ThirdPartyCaveat, TooManyCaveats, NotVerified, KeyRevoked, CaveatNotUnderstood, CaveatDenies}
 use Rattle.club_core.specs.declared.refusal.Refusal.TheVariants.{NumberUsed, NoSuchFacility, NoSuchBooking, NotBookable, SlotClosed, NoPlaces, QuotaReached}
 use Rattle.club_core.specs.declared.refusal.Refusal.TheVariants.{BalanceTooLow, SlotHasBegun, Unavailable}
 
--- a refusal's number and text in the reply
+-- A refusal's number and text in the reply.
 pub record RefusalDetails : Type 0 where
   pub number : ℕ
   pub text : List ℕ
@@ -37,7 +37,8 @@ details_of BalanceTooLow = details 20 (codes "balance too low")
 details_of SlotHasBegun = details 21 (codes "slot has begun")
 details_of Unavailable = details 22 (codes "unavailable")
 
--- the position of the refusing caveat, counted from 1; `None` for other refusals
+-- The position of the refusing caveat, counted from 1. The position is `None` for refusals that no
+-- caveat caused.
 abbrev pub caveat_of_refusal : Refusal → Option ℕ
 caveat_of_refusal (CaveatNotUnderstood n) = Some n
 caveat_of_refusal (CaveatDenies n) = Some n

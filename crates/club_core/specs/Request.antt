@@ -1,4 +1,4 @@
--- The parts of a request (ours).
+-- Defines the parts of a request.
 use Rattle.std.specs.Prelude.{ℕ, Option, Some, None}
 use Rattle.club_values.specs.declared.{action.Action.Action, slot.Slot.Slot}
 use Rattle.club_values.specs.declared.action.Action.TheVariants as actions
@@ -17,7 +17,7 @@ request_guests (asked.Book slot number guests) = guests
 request_guests (asked.Cancel slot number) = 0
 request_guests asked.Account = 0
 
--- the slot that the request names; `None` for the account
+-- The slot that the request names. A request for the account names no slot.
 abbrev pub request_slot : Request → Option Slot
 request_slot (asked.View slot) = Some slot
 request_slot (asked.Book slot number guests) = Some slot

@@ -1,4 +1,4 @@
--- The club as a state machine: its steps, and its runs over lists of events (ours).
+-- Defines the club as a state machine, with its steps and its runs.
 use Rattle.std.specs.Prelude.{ℕ, List, [], ◌∷◌, Option, Some, None, Result, Ok, Err}
 use Rattle.club_core.specs.{After.after, Answer.verdict_in, Club.Club, Office.office_verdict, Pass.Words, declared.change.Change.Change}
 use Rattle.club_core.specs.declared.command.Command.{Command, TheVariants.{AddMember, Credit, Debit, AddFacility, SetFacility, AddKey, RevokeKey, RotateKey}}
@@ -6,31 +6,33 @@ use Rattle.club_core.specs.declared.command.{Command.TheVariants.{CancelBooking,
 use Rattle.club_core.specs.declared.{command.{OfficeAnswer.TheVariants.{Done, NewKey, NotDone}, OfficeFault.OfficeFault}, reply.Reply.Reply}
 use Rattle.club_core.specs.declared.verdict.Verdict.{Verdict}
 
--- a request at a moment, or a command of the office
+-- A request at a moment, or a command of the office.
 pub data Event : Type 0 where
   Asked : (words : Words) (moment : ℕ) → Event
   Commanded : (command : Command) → Event
 
--- the response to an event: the reply to a request, or the answer to a command; the answer's type is the parameter `O`
+-- The response to an event: the reply to a request, or the answer to a command. `O` is the type of
+-- the answer.
 pub data Response (O : Type 0) : Type 0 where
   ToMember : (reply : Reply) → Response O
   ToOffice : (answer : O) → Response O
 
--- the response of the club's state machine
+-- The response of the club's state machine.
 abbrev pub EventReply : Type 0
 EventReply = Response OfficeAnswer
 
--- the reply to an event, and the club after it
+-- The response to an event, and the club after the event.
 pub record Outcome : Type 0 where
   pub reply : EventReply
   pub club : Club
 
--- the club after a change; unchanged if there is none
+-- The club after a change. Without a change, the club stays the same.
 abbrev pub after_change : Option Change → Club → Club
 after_change None club = club
 after_change (Some change) club = after change club
 
--- the answer to a command that succeeded; for a new key or root, it has name and root, which determine the signatures of passes
+-- The answer to a command that succeeded. If the command sets a key's root, the answer contains the
+-- key's name and root, which determine the signatures of passes.
 abbrev pub done_answer : Command → OfficeAnswer
 done_answer (AddMember name quota) = Done
 done_answer (Credit member points) = Done
@@ -45,7 +47,8 @@ done_answer (CancelBooking key number) = Done
 done_answer (CloseSlot slot) = Done
 done_answer (OpenSlot slot) = Done
 
--- a refused command leaves the club unchanged; a command with nothing to change succeeds, and also leaves it unchanged
+-- A command's answer, and the club after the command. A refused command leaves the club unchanged.
+-- A command without a change succeeds and leaves the club unchanged.
 abbrev pub command_outcome : Club → Command → Result (Option Change) OfficeFault → Outcome
 command_outcome club command (Err fault) = record { reply = ToOffice (NotDone fault); club = club }
 command_outcome club command (Ok change) = record { reply = ToOffice (done_answer command); club = after_change change club }
@@ -57,7 +60,7 @@ abbrev pub step : Club → Event → Outcome
 step club (Asked words moment) = verdict_outcome club (verdict_in club words moment)
 step club (Commanded command) = command_outcome club command (office_verdict club command)
 
--- the replies to a list of events, in order, and the club after them
+-- The responses to a list of events, in order.
 abbrev pub replies_of : Club → List Event → List EventReply
 replies_of club [] = []
 replies_of club (event ∷ events) = (step club event).reply ∷ replies_of (step club event).club events

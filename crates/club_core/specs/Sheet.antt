@@ -1,19 +1,19 @@
--- The day sheet (ours).
+-- Defines the day sheet and its order of rows.
 use Rattle.std.specs.{Cmp.Lexicographic.slice_cmp, Fmt.decimal, Ordering.nat_cmp, Prelude.{◌≡◌, ◌⊎◌, ℕ, ◌-◌, ◌<◌, ◌==◌, ◌&&◌, not, Bool, List, [], ◌∷◌, ◌++◌}}
 use Rattle.std.specs.{Prelude.{length, replicate, filter, sum_by, flat_map, AllPairs, IsPermutation, codes}, declared.cmp.Ordering.TheVariants.Less}
 use Rattle.club_values.specs.{Day.day_text, Digits.two_digits}
 use Rattle.club_rows.specs.{Booking.persons_of, declared.booking.Booking.Booking}
 use Rattle.club_core.specs.Club.{Club}
 
--- the bookings of the day that aren't cancelled
+-- Whether the booking is on this day and isn't cancelled.
 abbrev pub is_on : ℕ → Booking → Bool
 is_on day booking = not booking.cancelled && booking.slot.day == day
 
--- texts are ordered by their bytes
+-- The text `a` comes before the text `b`. Texts are compared byte by byte.
 abbrev pub IsBefore : List ℕ → List ℕ → Type 0
 IsBefore a b = slice_cmp nat_cmp a b ≡ Less
 
--- the order of bookings: by facility, hour, key and number
+-- The order of bookings: by facility, hour, key and number.
 abbrev pub Precedes : Booking → Booking → Type 0
 Precedes a b =
     IsBefore a.slot.facility b.slot.facility
@@ -21,12 +21,13 @@ Precedes a b =
     ⊎ ((a.slot.hour ≡ b.slot.hour) × (IsBefore a.key b.key
     ⊎ ((a.key ≡ b.key) × (a.number < b.number))))))
 
--- the rows of the sheet: the day's bookings that aren't cancelled, in order
+-- The rows of the sheet: the day's bookings that aren't cancelled, in order.
 pub record AreRowsOf (club : Club) (day : ℕ) (rows : List Booking) : Type 0 where
   pub same : IsPermutation (filter (is_on day) club.bookings) rows
   pub order : AllPairs Precedes rows
 
--- a text padded with spaces to a width: `left_in` aligns it to the left, `right_in` to the right
+-- A text padded with spaces to a width. `left_in` aligns the text to the left, and `right_in`
+-- aligns it to the right.
 abbrev pub left_in : ℕ → List ℕ → List ℕ
 left_in places text = text ++ replicate (places - length text) 32
 
@@ -55,11 +56,11 @@ totals_text (row ∷ rows) =
     ++ decimal (sum_by (λ (b : Booking). b.charge) (row ∷ rows))
     ++ 10 ∷ []
 
--- the sheet's text for these rows
+-- The text of a sheet with these rows.
 abbrev pub sheet_text : ℕ → List Booking → List ℕ
 sheet_text day rows = codes "Day sheet " ++ day_text day ++ 10 ∷ [] ++ flat_map row_text rows ++ totals_text rows
 
--- the text is the club's sheet for the day
+-- The text is the club's sheet for the day.
 pub record IsSheet (club : Club) (day : ℕ) (text : List ℕ) : Type 0 where
   pub rows : List Booking
   pub are : AreRowsOf club day rows

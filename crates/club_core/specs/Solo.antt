@@ -1,4 +1,6 @@
--- The rows and events that a member's replies depend on (ours): the member's own, and the persons of others in the requested slots.
+-- Defines the rows and events on which a member's replies depend. A member's replies depend on the
+-- member's own rows and events, on all facilities, and on other members' use of the requested
+-- slots.
 use Rattle.std.specs.Prelude.{ℕ, ◌+◌, not, Bool, true, false, List, [], ◌∷◌, ◌++◌, filter, Option, Some, None, Result, Ok, Err, option_map, if◌then◌else◌}
 use Rattle.std.specs.Str.{bytes_eq}
 use Rattle.club_values.specs.declared.slot.Slot.{Slot}
@@ -12,17 +14,18 @@ use Rattle.club_core.specs.declared.{command.OfficeFault.OfficeFault, reply.Repl
 abbrev pub bookings_of_others : List ℕ → Club → List Booking
 bookings_of_others member club = filter (λ (booking : Booking). not (is_key_of member club booking.key)) club.bookings
 
--- the number of other members' persons in a slot, and whether the slot is closed
+-- The number of other members' persons in a slot, and whether the slot is closed.
 abbrev pub outside : List ℕ → Club → Option Slot → SlotUse
 outside member club slot = slot_use_by (bookings_of_others member club) club slot
 
--- a request of the member, with others' persons in its slot and whether the slot is closed; or a change of the member's part
+-- An event that concerns a member: a request under a key of the member, or a change of the member's
+-- part. A request comes with the use of its slot by other members.
 pub data OwnEvent : Type 0 where
   OwnAsk : (words : Words) (moment : ℕ) (others : SlotUse) → OwnEvent
   OwnChange : (change : Change) → OwnEvent
 
--- Whether a command changes the member's part. Such commands add or change the member, its credit,
--- its quota and its keys, cancel its bookings, or add or change a facility.
+-- Whether a change by the office affects the member's part. The member's part contains the member's
+-- row, keys and bookings, and all facilities.
 abbrev pub is_own : List ℕ → Club → Change → Bool
 is_own name club (InsertMember member) = bytes_eq member.name name
 is_own name club (AddCredit member points) = bytes_eq member name
@@ -43,7 +46,8 @@ own_change name club (Err fault) = []
 own_change name club (Ok None) = []
 own_change name club (Ok (Some change)) = if is_own name club change then OwnChange change ∷ [] else []
 
--- the member's entry for a request: the request itself if its pass names one of the member's keys, else none
+-- The member's own event for a request. The list is empty if the request's pass names no key of the
+-- member.
 abbrev pub own_ask : List ℕ → Club → Words → ℕ → Option Basis → List OwnEvent
 own_ask name club words moment None = []
 own_ask name club words moment (Some basis) =
@@ -53,12 +57,12 @@ abbrev pub own_part : List ℕ → Club → Event → List OwnEvent
 own_part name club (Asked words moment) = own_ask name club words moment (basis_of club words)
 own_part name club (Commanded command) = own_change name club (office_verdict club command)
 
--- the member's own events in a run of the club, in order
+-- The member's own events in a run of the club, in order.
 abbrev pub own_events : List ℕ → Club → List Event → List OwnEvent
 own_events name club [] = []
 own_events name club (event ∷ events) = own_part name club event ++ own_events name (step club event).club events
 
--- the member's own rows, and all facilities
+-- The member's row, keys and bookings, and all facilities.
 abbrev pub part_of : List ℕ → Club → Club
 part_of name club = record {
   members = filter (λ (member : Member). bytes_eq member.name name) club.members;
@@ -68,7 +72,7 @@ part_of name club = record {
   closed = [];
 }
 
--- the basis from the member's part, with others' persons added to its slot
+-- The basis from the member's part, after adding other members' use of the slot.
 abbrev pub with_others : SlotUse → Basis → Basis
 with_others others basis = record basis {
   state = record basis.state {
@@ -79,7 +83,7 @@ with_others others basis = record basis {
 abbrev pub solo_verdict : Club → Words → ℕ → SlotUse → Verdict
 solo_verdict part words moment others = answer_by_basis words moment (option_map (with_others others) (basis_of part words))
 
--- the replies to the member's requests, computed from the member's part alone
+-- The replies to the member's requests, computed from the member's part and own events.
 abbrev pub solo_replies : Club → List OwnEvent → List Reply
 solo_replies part [] = []
 solo_replies part (OwnChange change ∷ events) = solo_replies (after change part) events

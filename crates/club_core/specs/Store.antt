@@ -1,41 +1,46 @@
--- The promises of a store of the club's rows: its results, its club, and the clubs that it may recover to (ours).
+-- Defines the promises of a store that keeps a club's rows.
 use Rattle.std.specs.Prelude.{◌≡◌, ℕ, ◌≤◌, false, List, [], ◌∷◌, Option, Some, None, Result, IfOk, MatchResult}
 use Rattle.club_rows.specs.declared.{booking.Booking.Booking, facility.Facility.Facility, key.Key.Key, member.Member.Member}
 use Rattle.club_core.specs.{After.after, Club.{Club, IsSound, key_named, member_named, facility_named}, Sums.booking_under, declared.change.Change.Change}
 use Rattle.club_core.specs.declared.change.Change.TheVariants.{AddCredit, TakeCredit, ReplaceNumbers, InsertKey, MarkRevoked, ReplaceRoot, MarkOpen}
 use Rattle.club_core.specs.declared.{change.Change.TheVariants.{ReplaceQuota, InsertBooking, MarkCancelled}, store.StoreFault.StoreFault}
 
--- a member has this name
+-- The club has a member with this name.
 abbrev pub HasMember : List ℕ → Club → Type 0
 HasMember name club = (row : Member) × (member_named name club ≡ Some row)
 
--- a member has this name, and was credited at least these points
+-- The club has a member with this name, and has credited at least these points to the member.
 abbrev pub HasCredited : List ℕ → ℕ → Club → Type 0
 HasCredited name points club = (row : Member) × (member_named name club ≡ Some row) × (points ≤ row.credited)
 
--- a facility has this name
+-- The club has a facility with this name.
 abbrev pub HasFacility : List ℕ → Club → Type 0
 HasFacility name club = (row : Facility) × (facility_named name club ≡ Some row)
 
--- a key has this name
+-- The club has a key with this name.
 abbrev pub HasKey : List ℕ → Club → Type 0
 HasKey name club = (row : Key) × (key_named name club ≡ Some row)
 
--- the key with this name belongs to the member
+-- The key with this name belongs to the member.
 abbrev pub IsOwnedBy : List ℕ → List ℕ → Club → Type 0
 IsOwnedBy member key club = (row : Key) × (key_named key club ≡ Some row) × (row.member ≡ member)
 
--- the key with this name has this root
+-- The key with this name has this root.
 abbrev pub HasRoot : List ℕ → List ℕ → Club → Type 0
 HasRoot key root club = (row : Key) × (key_named key club ≡ Some row) × (row.root ≡ root)
 
--- the booking is on record and isn't cancelled
+-- The booking is on record with the same values, and isn't cancelled.
 abbrev pub IsToCancel : Booking → Club → Type 0
 IsToCancel booking club = (booking_under booking.key booking.number club.bookings ≡ Some booking) × (booking.cancelled ≡ false)
 
--- A change is true of a club's rows if it matches them. The member, key or facility that it edits exists. A debit is at
--- most the points credited. A new key has no older root, and a rotated key has the former root. A booking's key belongs
--- to the member. A booking to cancel is on record with these values.
+-- The change matches the club's rows:
+--
+-- - The member, key or facility that the change edits exists.
+-- - A debit is at most the points credited.
+-- - A new key has no older root.
+-- - A rotated key has the former root.
+-- - A booking's key belongs to the member.
+-- - A booking to cancel is on record with the same values.
 abbrev pub IsTrueOf : Change → Club → Type 0
 IsTrueOf (AddCredit name points) club = HasMember name club
 IsTrueOf (TakeCredit name points) club = HasCredited name points club
@@ -49,33 +54,41 @@ IsTrueOf (InsertBooking booking member) club = IsOwnedBy member booking.key club
 IsTrueOf (MarkCancelled booking member refund) club = IsToCancel booking club × IsOwnedBy member booking.key club
 IsTrueOf change club = Unit {0}
 
--- a change fits a club if it is true of the club's rows, and the changed club is sound
+-- The change matches the club's rows, and the club after the change is sound.
 pub record FitsClub (change : Change) (club : Club) : Type 0 where
   pub carries : IsTrueOf change club
   pub sound : IsSound (after change club)
 
--- A call applies a change, or fails. An applied change fits the club. A failed call leaves the club unchanged. If the change fits, a crash
--- after the failure may leave the changed club. If it doesn't fit, the failure has no effect at all.
+-- A call applies a change, or fails. An applied change matches the club's rows and leaves a sound
+-- club. A failed call leaves the club unchanged. If the change doesn't fit the club, the failed
+-- call has no effect. If the change fits the club, a crash after the failed call may leave the
+-- changed club.
 abbrev pub Changes : {S E : Type 0} → (S → Club → List Club → Type 0) → Change → S → S → Result (Unit {0}) E → Type 0
 Changes Represents change old new result =
     (club : Club) (others : List Club) → Represents old club others
     → MatchResult result (λ _. FitsClub change club × Represents new (after change club) [])
     (λ _. (IsSound (after change club) → Represents new club (after change club ∷ others)) × (¬ FitsClub change club → Represents new club others))
 
--- the store represents the same club before and after, with the same possible crash states
+-- The call changes neither the store's club nor its possible crash states.
 abbrev pub KeepsClub : {S : Type 0} → (S → Club → List Club → Type 0) → S → S → Type 0
 KeepsClub Represents old new = (club : Club) (others : List Club) → Represents old club others → Represents new club others
 
--- if the call succeeds, its result is true of the current club
+-- If the call succeeds, its result matches the current club.
 abbrev pub Returns : {S A E : Type 0} → (S → Club → List Club → Type 0) → S → Result A E → (Club → A → Type 0) → Type 0
 Returns Represents old answer IsReturned = (club : Club) (others : List Club) → Represents old club others → IfOk answer (IsReturned club)
 
--- after a successful read, each later failure of a read (`None`) or a change also counts as a failure from the state before that read
+-- A successful read doesn't affect later failures. Each failure from the state after the read is
+-- also a failure from the state before the read. In a failure, `None` means a read and `Some` means
+-- a change.
 abbrev pub IsRead : {S : Type 0} → (Option Change → S → StoreFault → S → Type 0) → S → S → Type 0
 IsRead {S} Fails old new = (wish : Option Change) (fault : StoreFault) (later : S) → Fails wish new fault later → Fails wish old fault later
 
--- The promises of a read, if the disk is clean after it. The disk was clean before. The store represents the same club with the same
--- possible crash states. A result is true of that club. If the read fails, `Fails` is true of it and its fault.
+-- The promises of a read if the disk is clean after the read:
+--
+-- - The disk was clean before the read.
+-- - The read changes neither the store's club nor its possible crash states.
+-- - If the read succeeds, its result matches the club.
+-- - If the read fails, the failure satisfies `Fails`.
 pub record ReadsStore {S A : Type 0} (IsClean : S → Type 0) (Represents : S → Club → List Club → Type 0)
     (Fails : Option Change → S → StoreFault → S → Type 0) (old new : S) (result : Result A StoreFault) (IsReturned : Club → A → Type 0) : Type 0 where
   pub was_clean : IsClean new → IsClean old

@@ -1,4 +1,5 @@
--- The answer to an accepted request, from its view (ours). The first line whose condition holds decides.
+-- Defines the answer to an accepted request. The first line whose condition is true decides the
+-- answer.
 use Rattle.std.specs.Prelude.{ℕ, ◌+◌, ◌-◌, ◌==◌, ◌&&◌, not, false, List, [], ◌∷◌, nat_lt, nat_le, if◌then◌else◌, Option, Some, None}
 use Rattle.club_values.specs.{Slot.start_of, declared.slot.Slot.Slot}
 use Rattle.club_core.specs.{Lines.{Line, line_if, first_of}, declared.{change.Change.TheVariants.{InsertBooking, MarkCancelled}, refusal.Refusal.Refusal}}
@@ -9,19 +10,20 @@ use Rattle.club_core.specs.declared.{verdict.Verdict.Verdict, view.View.View}
 use Rattle.club_rows.specs.{Booking.{same_slot, refund_at}, Facility.{charge_of, is_bookable}, declared.{booking.Booking.Booking, facility.Facility.Facility}}
 use Rattle.club_core.specs.declared.request.Request.TheVariants as asked
 
--- a reply that changes nothing
+-- A reply that changes nothing.
 abbrev pub reply_only : Reply → Verdict
 reply_only reply = record { reply = reply; change = None }
 
--- a refusal, which changes nothing
+-- A refusal, which changes nothing.
 abbrev pub refusal_verdict : Refusal → Verdict
 refusal_verdict refusal = reply_only (Refused refusal)
 
--- the first reply to a recorded booking, returned again for a repeated request
+-- The reply to a repeated booking, which is the booking's first reply.
 abbrev pub booked_before : Booking → Verdict
 booked_before booking = reply_only (Booked booking.key booking.number booking.charge booking.left)
 
--- the row of a new booking, with the places that are then left in the slot
+-- The row of a new booking. The field `left` is the number of free places in the slot after the
+-- booking.
 abbrev pub new_booking : View → Slot → ℕ → ℕ → Facility → Booking
 new_booking view slot number guests facility = record {
   key = view.key.name;
@@ -34,30 +36,31 @@ new_booking view slot number guests facility = record {
   refund = 0;
 }
 
--- the reply to a new booking, and the change that inserts it; its key belongs to the member
+-- The reply to a new booking, and the change that inserts its row.
 abbrev pub booked_now : Booking → List ℕ → Verdict
 booked_now booking member = record {
   reply = Booked booking.key booking.number booking.charge booking.left;
   change = Some (InsertBooking booking member);
 }
 
--- the reply to a cancellation, and the change that records it with its refund; the booking's key belongs to the member
+-- The reply to a cancellation, and the change that records the refund.
 abbrev pub cancelled_now : Booking → List ℕ → ℕ → Verdict
 cancelled_now booking member refund = record {
   reply = Cancelled booking.key booking.number refund;
   change = Some (MarkCancelled booking member refund);
 }
 
--- the first reply to a cancellation, returned again for a repeated request
+-- The reply to the cancellation of a booking that is already cancelled.
 abbrev pub cancelled_before : Booking → Verdict
 cancelled_before booking = reply_only (Cancelled booking.key booking.number booking.refund)
 
--- the answer to a booking under a used number: the first reply if slot and guests are the same, else `NumberUsed`
+-- The answer to a booking under a used number. If the slot and the number of guests are the same,
+-- the answer is the booking's first reply. Otherwise, the answer is the refusal `NumberUsed`.
 abbrev pub repeat_booking_verdict : Booking → Slot → ℕ → Verdict
 repeat_booking_verdict booking slot guests =
     if same_slot booking.slot slot && booking.guests == guests then booked_before booking else refusal_verdict NumberUsed
 
--- the conditions that refuse a booking under an unused number
+-- The conditions that refuse a booking under an unused number.
 abbrev pub book_lines : View → Slot → ℕ → ℕ → Facility → List (Line Verdict)
 book_lines view slot guests moment facility =
     line_if (not (is_bookable facility slot moment)) (refusal_verdict NotBookable)
@@ -67,24 +70,25 @@ book_lines view slot guests moment facility =
     ∷ line_if (nat_lt view.balance (charge_of facility guests)) (refusal_verdict BalanceTooLow)
     ∷ []
 
--- the answer to a booking under an unused number
+-- The answer to a booking under an unused number.
 abbrev pub new_verdict : View → Slot → ℕ → ℕ → ℕ → Option Facility → Verdict
 new_verdict view slot number guests moment None = refusal_verdict NoSuchFacility
 new_verdict view slot number guests moment (Some facility) =
     first_of (book_lines view slot guests moment facility) (booked_now (new_booking view slot number guests facility) view.key.member)
 
--- `recorded` of the booking on record, or `other` if there is no booking
+-- The verdict `recorded` for the booking on record, or the verdict `other` if no booking is on
+-- record.
 abbrev pub recorded_or : Option Booking → (Booking → Verdict) → Verdict → Verdict
 recorded_or None recorded other = other
 recorded_or (Some booking) recorded other = recorded booking
 
--- the answer to a booking, which is a repeat if the number is used
+-- The answer to a booking. If the number is used, the booking is a repeat.
 abbrev pub book_verdict : View → Slot → ℕ → ℕ → ℕ → Verdict
 book_verdict view slot number guests moment =
     recorded_or view.booking (λ booking. repeat_booking_verdict booking slot guests)
     (new_verdict view slot number guests moment view.facility)
 
--- the answers to a cancellation of a recorded booking that change nothing
+-- The answers that change nothing, for the cancellation of a recorded booking.
 abbrev pub cancel_lines : Booking → Slot → ℕ → List (Line Verdict)
 cancel_lines booking slot moment =
     line_if (not (same_slot booking.slot slot)) (refusal_verdict NumberUsed)
@@ -92,32 +96,32 @@ cancel_lines booking slot moment =
     ∷ line_if (nat_le (start_of booking.slot) moment) (refusal_verdict SlotHasBegun)
     ∷ []
 
--- the answer to a cancellation of a recorded booking, whose key belongs to the member
+-- The answer to a cancellation of a recorded booking. The booking's key belongs to the member.
 abbrev pub cancel_recorded_verdict : Booking → List ℕ → Slot → ℕ → Verdict
 cancel_recorded_verdict booking member slot moment =
     first_of (cancel_lines booking slot moment) (cancelled_now booking member (refund_at booking moment))
 
--- the answer to a cancellation under an unused number
+-- The answer to a cancellation under an unused number.
 abbrev pub unknown_verdict : Option Facility → Verdict
 unknown_verdict None = refusal_verdict NoSuchFacility
 unknown_verdict (Some facility) = refusal_verdict NoSuchBooking
 
--- the answer to a cancellation
+-- The answer to a cancellation.
 abbrev pub cancel_verdict : View → Slot → ℕ → Verdict
 cancel_verdict view slot moment =
     recorded_or view.booking (λ booking. cancel_recorded_verdict booking view.key.member slot moment) (unknown_verdict view.facility)
 
--- the answer to a view of a slot at this facility
+-- The answer to a request for the state of a slot at this facility.
 abbrev pub shown_at : View → Slot → Option Facility → Verdict
 shown_at view slot None = refusal_verdict NoSuchFacility
 shown_at view slot (Some facility) =
     reply_only (SlotShown slot facility.kind facility.price facility.places view.taken view.closed)
 
--- the answer to a view of the member's account, with what the key has spent
+-- The answer to a request for the member's account.
 abbrev pub account_verdict : View → Verdict
 account_verdict view = reply_only (AccountShown view.member.name view.balance view.member.quota view.open_count view.spent)
 
--- the answer to an accepted request
+-- The answer to an accepted request.
 abbrev pub verdict_of : View → Request → ℕ → Verdict
 verdict_of view (asked.View slot) moment = shown_at view slot view.facility
 verdict_of view (asked.Book slot number guests) moment = book_verdict view slot number guests moment

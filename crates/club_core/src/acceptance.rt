@@ -11,11 +11,10 @@ use crate::view::View;
 use club_values::Moment;
 use pass_caveats::CaveatFault;
 
-/// Returns the reply to a request with a parsed pass, and the change to apply. `view` is the view
-/// of the pass's key; it is `None` if the club has no such key. `is_signed` says whether the pass
-/// is signed under a root of that key that is valid at the moment. `fault` is the pass's first
-/// caveat that isn't understood or denies the request. An unknown key and a wrong signature are
-/// tested first, and get the same refusal.
+/// Returns the reply to a request with a decoded pass, and the change to apply. `view` is the view
+/// of the pass's key, or `None` if the club has no such key. `is_signed` is true if a root of the
+/// key signs the pass and is valid at the moment. `fault` is the first fault of the pass's caveats.
+/// An unknown key and a wrong signature get the same refusal, before any caveat is tested.
 pub fn answer(
     view: Option<&View>,
     is_signed: bool,

@@ -1,10 +1,11 @@
-//! The changes that a request or a command makes to the club's rows.
+//! Defines the changes that requests and commands make to the club's rows.
 
 use club_rows::{Booking, Facility, Key, Member, Root};
 use club_values::{Moment, Name, Slot};
 
-/// A change of the club's rows, with the row values that its decision was based on. A store applies
-/// the change without reading first, and refuses it if the rows have other values.
+/// A change of the club's rows. The change contains the row values on which its decision was based.
+/// A store applies the change without reading the rows first, and refuses the change if the rows
+/// have other values.
 #[derive(Clone, Copy, Debug, PartialEq, Eq)]
 pub enum Change {
     InsertMember(Member),
@@ -12,7 +13,8 @@ pub enum Change {
         member: Name,
         points: u32,
     },
-    /// Subtracts points from a member's credit, which must be at least that high.
+    /// Subtracts points from the points credited to a member. The member must have been credited at
+    /// least these points.
     TakeCredit {
         member: Name,
         points: u32,
@@ -35,8 +37,8 @@ pub enum Change {
     MarkRevoked {
         key: Name,
     },
-    /// Replaces the root of a key whose current root is `former`. `former` becomes the older root,
-    /// valid before the moment `until`. A previous older root is dropped.
+    /// Replaces the root of a key whose current root is `former`. The former root becomes the older
+    /// root, and expires at the moment `until`. The store drops the previous older root.
     ReplaceRoot {
         key: Name,
         former: Root,
@@ -46,13 +48,13 @@ pub enum Change {
     MarkClosed(Slot),
     /// Opens a slot of an existing facility. An open slot stays open.
     MarkOpen(Slot),
-    /// Inserts a booking, whose key belongs to `member`.
+    /// Inserts a booking. The booking's key belongs to `member`.
     InsertBooking {
         booking: Booking,
         member: Name,
     },
-    /// Marks a booking cancelled, and records its refund. `booking` is the stored row, which isn't
-    /// cancelled yet. Its key belongs to `member`.
+    /// Marks a booking as cancelled, and records its refund. `booking` is the stored row of a
+    /// booking that isn't cancelled yet. The booking's key belongs to `member`.
     MarkCancelled {
         booking: Booking,
         member: Name,

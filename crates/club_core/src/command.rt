@@ -1,4 +1,4 @@
-//! The commands of the office, the answers to them, and their faults.
+//! Defines the commands of the office, the answers to the commands, and their faults.
 
 ghost use Rattle.std.specs.Prelude.{◌≡◌};
 
@@ -40,8 +40,8 @@ pub enum Command {
         opens: u32,
         shuts: u32,
     },
-    /// Sets the places, price and opening hours of a facility. Its kind doesn't change. Existing
-    /// bookings keep their slot, charge and places left.
+    /// Sets the places, price and opening hours of a facility. The facility's kind doesn't change.
+    /// Existing bookings keep their slot, charge and places left.
     SetFacility {
         name: Name,
         places: u32,
@@ -57,14 +57,14 @@ pub enum Command {
     RevokeKey {
         name: Name,
     },
-    /// Replaces a key's root. Passes signed under the former root are accepted before the moment
-    /// `until`, and refused from then on.
+    /// Replaces a key's root. The desk accepts passes signed under the former root until the moment
+    /// `until`, and refuses them from that moment on.
     RotateKey {
         name: Name,
         root: Root,
         until: Moment,
     },
-    /// Cancels a key's booking, even after its slot has begun, and refunds its whole charge. A
+    /// Cancels a key's booking, even after its slot has begun, and refunds the whole charge. A
     /// booking that is already cancelled doesn't change. The key may be revoked.
     CancelBooking {
         key: Name,
@@ -75,7 +75,7 @@ pub enum Command {
     OpenSlot(Slot),
 }
 
-/// Why a command of the office is refused.
+/// The reason why a command of the office is refused.
 #[derive(Clone, Copy, Debug, PartialEq, Eq)]
 pub enum OfficeFault {
     /// The new name is taken, the key already has the root, or the slot is already closed.
@@ -146,8 +146,8 @@ impl Command {
 #[derive(Clone, Copy, Debug, PartialEq, Eq)]
 pub enum OfficeAnswer {
     Done,
-    /// A key was added, or its root was replaced. The name and the root determine the signatures of
-    /// the key's passes.
+    /// The office added a key, or replaced its root. The name and the root determine the signatures
+    /// of the key's passes.
     NewKey { name: Name, root: Root },
     NotDone(OfficeFault),
 }

@@ -15,7 +15,7 @@ use club_rows::{
 };
 use club_values::{Kind, Moment, Name, Slot};
 
-/// Returns whether the number is within the limit for quotas.
+/// Returns whether the number is at most the limit for quotas.
 fn is_quota(quota: u32) -> bool
     ensures { result ≡ not (nat_lt quota_limit quota) }
 {
@@ -96,7 +96,7 @@ fn set_quota(view: &CommandView, name: &Name, quota: u32) -> Result<Option<Chang
     }))
 }
 
-/// Returns whether the numbers are within the limits of a facility.
+/// Returns whether these numbers are within the limits for a facility.
 fn are_limits(places: u32, price: u32, opens: u32, shuts: u32) -> bool
     ensures { result ≡ are_limits places price opens shuts }
 {

@@ -1,4 +1,4 @@
-//! The rows that decide a command of the office.
+//! Defines the rows and sums that decide a command of the office.
 
 use crate::account::MemberAccount;
 use crate::slot_use::SlotUse;
@@ -9,12 +9,13 @@ use club_rows::{Booking, Facility, Key, Member};
 #[derive(Clone, Copy, Debug, PartialEq, Eq)]
 pub struct CommandView {
     pub member: Option<Member>,
-    /// The member whose points a debit subtracts, with its balance.
+    /// The member with its balance, for a debit.
     pub account: Option<MemberAccount>,
     pub key: Option<Key>,
     pub facility: Option<Facility>,
     pub slot: SlotUse,
-    /// The highest number of persons in any slot of the facility, for a command with new places.
+    /// The highest number of persons in any slot of the facility, for a command that sets the
+    /// places.
     pub most_taken: u32,
     /// The booking that the command cancels.
     pub booking: Option<Booking>,

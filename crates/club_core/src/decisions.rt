@@ -1,5 +1,5 @@
 //! Decides the four kinds of requests, after the pass was accepted. Each decision is a list of
-//! conditions. The first one that holds determines the reply.
+//! conditions. The first condition that is true determines the reply.
 
 ghost use Rattle.std.specs.Prelude.{◌≡◌, Some};
 ghost use Rattle.club_rows.specs.Facility as facilities;
@@ -28,7 +28,7 @@ fn is_bookable(facility: &Facility, slot: &Slot, moment: Moment) -> bool
     facility.is_open_at(slot.hour) && now < start && start <= now + BOOKING_WINDOW
 }
 
-/// Returns a slot's facility and state, or refuses with `NoSuchFacility`.
+/// Returns the state of a slot and its facility, or refuses with `NoSuchFacility`.
 pub fn decide_view(view: &View, slot: &Slot) -> Verdict
     ensures { result ≡ shown_at view.now slot.now view.now.facility }
 {
@@ -45,8 +45,8 @@ pub fn decide_view(view: &View, slot: &Slot) -> Verdict
     }
 }
 
-/// Answers a booking under a number that the key has used. Returns the first reply if slot and
-/// guests are the same, else refuses with `NumberUsed`.
+/// Answers a booking under a number that the key has used. Returns the first reply if the slot and
+/// the number of guests are the same, and otherwise refuses with `NumberUsed`.
 fn repeat_booking(booking: &Booking, slot: &Slot, guests: Guests) -> Verdict
     ensures { result ≡ repeat_booking_verdict booking.now slot.now guests }
 {
@@ -102,7 +102,8 @@ fn book_at(
     Verdict::new_booking(booking, &view.key.member)
 }
 
-/// Decides a booking. The verdict has the reply and, for a new booking, the row to insert.
+/// Decides a booking. The verdict contains the reply. For a new booking, the verdict also contains
+/// the row to insert.
 pub fn decide_book(
     view: &View,
     slot: &Slot,
@@ -119,7 +120,7 @@ pub fn decide_book(
     }
 }
 
-/// Decides the cancellation of a recorded booking, whose key belongs to `member`.
+/// Decides the cancellation of a recorded booking. The booking's key belongs to `member`.
 fn cancel_recorded(booking: &Booking, member: &Name, slot: &Slot, moment: Moment) -> Verdict
     ensures { result ≡ cancel_recorded_verdict booking.now member.now slot.now moment }
 {
@@ -139,8 +140,8 @@ fn cancel_recorded(booking: &Booking, member: &Name, slot: &Slot, moment: Moment
     Verdict::new_cancellation(booking, member, booking.refund_at(moment))
 }
 
-/// Decides a cancellation. The verdict has the reply and, if the booking wasn't cancelled before,
-/// the refund to record.
+/// Decides a cancellation. The verdict contains the reply. If the booking wasn't cancelled before,
+/// the verdict also contains the refund to record.
 pub fn decide_cancel(view: &View, slot: &Slot, moment: Moment) -> Verdict
     ensures { result ≡ cancel_verdict view.now slot.now moment }
 {

@@ -1,4 +1,4 @@
-//! Laws of the definitions. Each law is the contract of a function with an empty body.
+//! Laws about the club's rules. Each law is the contract of a function with an empty body.
 
 ghost use Rattle.club_core.specs.Examples.{BooksAndCancels, RepeatsAfterACancellation, ClosesASlot};
 ghost use Rattle.club_core.specs.Examples.{OpensASlot, DebitsAMember, SetsAQuota, SetsAFacility};
@@ -7,7 +7,7 @@ ghost use Rattle.club_core.specs.{Examples.CancelsUnderARevokedKey, Laws.Refusal
 ghost use Rattle.club_core.specs.Laws.{ViewsDecide, TestsTheSignature, OwnBookings, MostTaken};
 ghost use Rattle.club_core.specs.{Laws.{OneSheet, SomeSheet}, Looks.LooksNoFurther};
 
-/// An example: a member books, views the account, and cancels.
+/// A member books a slot, views the account, and cancels the booking.
 pub fn books_and_cancels()
     ensures { BooksAndCancels }
 {}
@@ -27,17 +27,18 @@ pub fn opens_a_slot()
     ensures { OpensASlot }
 {}
 
-/// A debit lowers the balance. A debit of more than the balance is refused.
+/// A debit lowers the balance. The rules refuse a debit of more than the balance.
 pub fn debits_a_member()
     ensures { DebitsAMember }
 {}
 
-/// A new quota applies from the next booking on. Open bookings above it stay.
+/// A new quota applies from the next booking on. Open bookings stay, even if they exceed the new
+/// quota.
 pub fn sets_a_quota()
     ensures { SetsAQuota }
 {}
 
-/// New numbers of a facility apply from the next booking on. Earlier bookings don't change.
+/// A facility's new numbers apply from the next booking on. Earlier bookings don't change.
 pub fn sets_a_facility()
     ensures { SetsAFacility }
 {}
@@ -52,12 +53,12 @@ pub fn keeps_a_refund()
     ensures { KeepsARefund }
 {}
 
-/// The office can cancel a booking of a revoked key, which frees its places.
+/// The office can cancel a booking of a revoked key. The cancellation frees the booking's places.
 pub fn cancels_under_a_revoked_key()
     ensures { CancelsUnderARevokedKey }
 {}
 
-/// Under a spend limit, refunded points can be spent again.
+/// Under a spend limit, a key can spend refunded points again.
 #[tactic(auto, unfolding(pass_caveats::specs::Tests::permits))]
 pub fn keeps_a_spend_limit()
     ensures { KeepsASpendLimit }
@@ -75,18 +76,18 @@ pub fn views_decide()
 {}
 
 /// An answer depends only on parts of the view. Caveats depend on the recorded booking, the
-/// facility and the points spent by the key. Each kind of request depends on a part of its own.
+/// facility and the points that the key has spent. Each kind of request depends on different parts
+/// of the view.
 pub fn looks_no_further()
     ensures { LooksNoFurther }
 {}
 
-/// `is_signed_under` is true if and only if the pass is signed under a root of the key that is
-/// valid at the moment.
+/// `is_signed_under` returns true if and only if a valid root of the key signs the pass.
 pub fn tests_the_signature()
     ensures { TestsTheSignature }
 {}
 
-/// The bookings of a key's member suffice to compute what the key has spent, and to find the key's
+/// The bookings of a key's member suffice to find the points that the key has spent, and the key's
 /// booking under each number.
 pub fn own_bookings_suffice()
     ensures { OwnBookings }
@@ -98,7 +99,7 @@ pub fn most_taken_is_reached()
     ensures { MostTaken }
 {}
 
-/// A club that satisfies its invariants has exactly one sheet for each day.
+/// A sound club has exactly one sheet for each day.
 pub fn one_sheet_a_day()
     ensures one { OneSheet }
     ensures some { SomeSheet }

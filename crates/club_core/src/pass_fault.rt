@@ -1,10 +1,10 @@
-//! Why a text isn't a pass.
+//! Defines the faults of a text that isn't a valid pass.
 
 ghost use Rattle.std.specs.Prelude.{◌≡◌};
 
 use crate::refusal::Refusal;
 
-/// Why a text isn't a pass.
+/// The reason why a text isn't a valid pass.
 #[derive(Clone, Copy, Debug, PartialEq, Eq)]
 pub enum PassFault {
     /// The text has too many bytes.

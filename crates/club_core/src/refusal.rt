@@ -1,21 +1,21 @@
-//! The refusals of a request, with their numbers and texts.
+//! Defines the refusals of a request, with their numbers and texts.
 
 ghost use Rattle.std.specs.Prelude.{◌≡◌, Some};
 
 use std::fmt;
 
-/// The resource that a path names.
+/// The kind of resource that a path names.
 #[derive(Clone, Copy, Debug, PartialEq, Eq)]
 pub enum Resource {
     Slot,
-    /// A booking of a slot under a number.
+    /// The booking of a slot under a number.
     Booking,
     /// The account of the key's member.
     Account,
 }
 
-/// Why a request is refused. The causes are tested in this order, except that caveats are tested
-/// one by one, in the order of the pass. `Unavailable` can occur at any time.
+/// The reason why a request is refused. The desk tests the reasons in this order, but tests the
+/// caveats one by one, in the order of the pass. `Unavailable` can occur at any time.
 #[derive(Clone, Copy, Debug, PartialEq, Eq)]
 pub enum Refusal {
     BadRequest,
@@ -27,18 +27,18 @@ pub enum Refusal {
     PassMalformed,
     ThirdPartyCaveat,
     TooManyCaveats,
-    /// The identifier names no key, or the signature is wrong.
+    /// The identifier names no key of the club, or the signature is wrong.
     NotVerified,
     KeyRevoked,
-    /// The position of the caveat in the pass, counted from 1.
+    /// A caveat isn't understood. The number is the caveat's position, counted from 1.
     CaveatNotUnderstood(usize),
-    /// The position of the caveat in the pass, counted from 1.
+    /// A caveat denies the request. The number is the caveat's position, counted from 1.
     CaveatDenies(usize),
-    /// The key used the number before, for another booking.
+    /// The key has used the number for another booking.
     NumberUsed,
     NoSuchFacility,
     NoSuchBooking,
-    /// The hour is outside the opening hours, in the past, or too far ahead.
+    /// The hour is outside the opening hours, in the past, or more than 60 days ahead.
     NotBookable,
     SlotClosed,
     NoPlaces,
@@ -52,7 +52,7 @@ pub enum Refusal {
 impl Refusal {
     ghost use Rattle.club_core.specs.Refusal.{details_of, caveat_of_refusal};
 
-    /// Returns the refusal's number in the reply, 1 to 22.
+    /// Returns the refusal's number in the reply, from 1 to 22.
     pub fn number(self) -> u8
         ensures { result ≡ (details_of self).number }
     {
@@ -112,7 +112,7 @@ impl Refusal {
         }
     }
 
-    /// Returns the position of the refusing caveat, counted from 1; `None` for other refusals.
+    /// Returns the position of the refusing caveat, counted from 1, or `None` for other refusals.
     pub fn caveat(self) -> Option<usize>
         ensures { result ≡ caveat_of_refusal self }
     {

@@ -1,4 +1,4 @@
-//! The replies that a request can get.
+//! Defines the replies to requests.
 
 use crate::refusal::Refusal;
 use club_rows::BookingNumber;
@@ -12,7 +12,7 @@ pub enum Reply {
         kind: Kind,
         price: u16,
         places: u8,
-        /// The number of persons who booked the slot.
+        /// The number of persons in the slot.
         taken: u64,
         closed: bool,
     },

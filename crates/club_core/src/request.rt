@@ -1,4 +1,4 @@
-//! The requests to the desk, and their parts.
+//! Defines the requests to the desk, and their parts.
 
 ghost use Rattle.std.specs.Prelude.{◌≡◌};
 ghost use Rattle.club_rows.specs.Rows.{IsSlot};
@@ -41,7 +41,8 @@ impl Request {
     ghost use Rattle.club_core.specs.{Events.IsRequest, Request.{request_action, request_slot}};
     ghost use Rattle.club_core.specs.Request.{request_number, request_guests};
 
-    /// Proves, by its contract, that slot, number and guests of a request are within their limits.
+    /// Proves, by its contract, that the slot, number and guests of a request are within their
+    /// limits.
     pub fn within(&self)
         ensures { IsRequest self.now }
     {
@@ -76,7 +77,7 @@ impl Request {
         }
     }
 
-    /// Returns the slot that the request names; `None` for the account.
+    /// Returns the slot that the request names, or `None` if the request is for the account.
     pub fn slot(&self) -> Option<Slot>
         ensures { result ≡ request_slot self.now }
     {
@@ -87,7 +88,7 @@ impl Request {
         }
     }
 
-    /// Returns the booking number; `None` if the request has none.
+    /// Returns the booking number, or `None` if the request has no number.
     pub fn number(&self) -> Option<BookingNumber>
         ensures { result ≡ request_number self.now }
     {
@@ -97,7 +98,7 @@ impl Request {
         }
     }
 
-    /// Returns the number of guests of a booking; 0 for other requests.
+    /// Returns the number of guests of a booking, or 0 for a request that books nothing.
     pub fn guests(&self) -> u8
         ensures { result ≡ request_guests self.now }
     {

@@ -1,8 +1,8 @@
-//! A request and the text of its pass, before the pass is decoded.
+//! Defines a request with the text of its pass, before the pass is decoded.
 
 use crate::request::Request;
 
-/// A request as it was sent: the text of its pass, and what it asks for.
+/// A request with the text of its pass.
 #[derive(Clone, Copy)]
 pub struct SentWords<'a> {
     pub pass: &'a [u8],

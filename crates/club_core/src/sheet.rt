@@ -1,4 +1,4 @@
-//! The text of the day sheet.
+//! Writes the text of the day sheet.
 
 ghost use Rattle.std.specs.{Prelude.{◌≡◌, ◌++◌, IfOk, OnOk, flat_map, sum_by}, String.string_bytes};
 ghost use Rattle.club_rows.specs.Booking.{persons_of};
@@ -9,10 +9,11 @@ use club_rows::Booking;
 use club_values::Day;
 use std::alloc::{AllocError, Global};
 
-/// Returns the text of the day sheet: a line with the day, a line for each row, and a line with the
-/// totals, or `No bookings.` if there are no rows. `rows` are the day's bookings that aren't
-/// cancelled, ordered by facility, hour, key and number. The line of a row has facility, hour, key,
-/// number, persons and points, in columns 24, 5, 24, 9, 2 and 6 characters wide.
+/// Returns the text of the day sheet. The sheet has a line with the day, a line for each row, and a
+/// line with the totals. A sheet without rows ends with `No bookings.` instead of the totals.
+/// `rows` are the day's bookings that aren't cancelled, ordered by facility, hour, key and number.
+/// The line of a row has facility, hour, key, number, persons and points, in columns 24, 5, 24, 9,
+/// 2 and 6 characters wide.
 ///
 /// # Errors
 ///

@@ -1,9 +1,9 @@
-//! The use of a slot.
+//! Defines the use of a slot.
 
 /// The use of a slot: its number of persons, and whether it is closed.
 #[derive(Clone, Copy, Debug, PartialEq, Eq)]
 pub struct SlotUse {
-    /// The number of persons booked into the slot.
+    /// The number of persons in the slot.
     pub taken: u32,
     /// Whether the slot is closed.
     pub closed: bool,

@@ -1,4 +1,4 @@
-//! The trait of a store of the club's rows, and its faults.
+//! Defines the trait of a store of the club's rows, and the store's faults.
 
 use crate::account::MemberAccount;
 use crate::change::Change;
@@ -8,7 +8,7 @@ use club_values::{Day, Moment, Name, Slot};
 use std::error::Error;
 use std::fmt;
 
-/// Why a call of a store failed.
+/// The reason why a call of a store failed.
 #[derive(Clone, Copy, Debug, PartialEq, Eq)]
 pub enum StoreFault {
     /// An allocation failed.
@@ -33,8 +33,8 @@ impl fmt::Display for StoreFault {
 
 impl Error for StoreFault {}
 
-/// A store of a club's rows. Its promises hold while its disk is clean. A disk is clean if it
-/// returns what was written, and nobody else writes to it.
+/// A store of a club's rows. The store keeps its promises while its disk is clean. A disk is clean
+/// if it returns what was written, and nobody else writes to it.
 pub trait ClubStore {
     ghost use Rattle.std.specs.Prelude.{◌≡◌, ◌∷◌, All, IfErr, List, Option, Some, option_map};
     ghost use Rattle.club_core.specs.Basis.{account_named, slot_use};
@@ -45,27 +45,28 @@ pub trait ClubStore {
     ghost use Rattle.club_core.specs.declared.{change.Change.Change, store.StoreFault.StoreFault};
     ghost use Rattle.club_rows.specs.Key.{row_of_key};
 
-    // the store has the current club; after a crash, it recovers to that club or to one in the list
-    // (the possible crash states)
+    // The relation of a store to its current club and its possible crash states. After a crash, the
+    // store has the current club or one of the possible crash states.
     ghost represents: { Self → Club → List Club → Type 0 };
 
-    // whether the disk has been clean so far
+    // Whether the disk has been clean so far.
     ghost disk_is_clean: { Self → Type 0 };
 
-    // a call that reads (`None`) or makes this change failed with this fault between the two states
+    // A call failed with this fault between the two states. `None` is a call that reads, and `Some`
+    // is a call that applies this change.
     ghost fails: { Option Change → Self → StoreFault → Self → Type 0 };
 
-    /// Returns the row of the key with this name; `None` if there is no such key.
+    /// Returns the row of the key with this name, or `None` if the club has no such key.
     fn key_row(&mut self, name: &Name) -> Result<Option<KeyRow>, StoreFault>
         ensures { ReadsStore disk_is_clean represents fails self.old self.new result
             (λ club row. row ≡ option_map row_of_key (key_named name.now club)) };
 
-    /// Returns the older root of the key with this name; `None` if the key was never rotated.
+    /// Returns the older root of the key with this name, or `None` if the key was never rotated.
     fn older_root(&mut self, name: &Name) -> Result<Option<OlderRoot>, StoreFault>
         ensures { ReadsStore disk_is_clean represents fails self.old self.new result
             (λ club older. older ≡ older_root_of name.now club) };
 
-    /// Returns the facility with this name; `None` if there is no such facility.
+    /// Returns the facility with this name, or `None` if the club has no such facility.
     fn facility(&mut self, name: &Name) -> Result<Option<Facility>, StoreFault>
         ensures { ReadsStore disk_is_clean represents fails self.old self.new result
             (λ club facility. facility ≡ facility_named name.now club) };
@@ -76,17 +77,17 @@ pub trait ClubStore {
             (λ club found. found ≡ slot_use club slot.now) };
 
     /// Returns the highest number of persons in any slot of the facility with this name, on any
-    /// day; 0 if it has no bookings.
+    /// day. Returns 0 if the facility has no bookings.
     fn most_taken(&mut self, facility: &Name) -> Result<u32, StoreFault>
         ensures { ReadsStore disk_is_clean represents fails self.old self.new result
             (λ club most. most ≡ most_taken_in facility.now club.bookings) };
 
-    /// Returns the key's booking under a number; `None` if there is no such booking.
+    /// Returns the key's booking under a number, or `None` if the key has no such booking.
     fn booking(&mut self, key: &Name, number: BookingNumber) -> Result<Option<Booking>, StoreFault>
         ensures { ReadsStore disk_is_clean represents fails self.old self.new result
             (λ club booking. booking ≡ booking_under key.now number club.bookings) };
 
-    /// Returns the member with this name and its balance; `None` if there is no such member.
+    /// Returns the member with this name and its balance, or `None` if the club has no such member.
     fn account(&mut self, member: &Name) -> Result<Option<MemberAccount>, StoreFault>
         ensures { ReadsStore disk_is_clean represents fails self.old self.new result
             (λ club account. account ≡ account_named member.now club) };
@@ -107,9 +108,11 @@ pub trait ClubStore {
         ensures { ReadsStore disk_is_clean represents fails self.old self.new result
             (λ club rows. AreRowsOf club day rows.items) };
 
-    /// Applies a change. The change must match the values of the club's rows, and the changed club
-    /// must satisfy its invariants, or else the call fails without effect. If the call fails for
-    /// another reason, the club is unchanged, but a crash may then leave the changed club.
+    /// Applies a change.
+    ///
+    /// The call fails without effect if the change doesn't match the club's rows, or if the changed
+    /// club would violate its invariants. The call can also fail because of memory or storage. The
+    /// club is then unchanged, but a crash may leave the changed club.
     fn apply(&mut self, change: &Change) -> Result<(), StoreFault>
         ensures was_clean { disk_is_clean self.new → disk_is_clean self.old }
         ensures changed { disk_is_clean self.new →
@@ -117,7 +120,7 @@ pub trait ClubStore {
         ensures failed { disk_is_clean self.new → IfErr result
             (λ fault. fails (Some change.now) self.old fault self.new) };
 
-    // the current club and each possible crash state satisfy the club's invariants
+    // The current club and each possible crash state satisfy the club's invariants.
     ghost sound: { (store : Self) (club : Club) (others : List Club)
         → represents store club others
         → All IsSound (club ∷ others) };

@@ -1,4 +1,4 @@
-//! The reply to a request, with its change.
+//! Defines the verdict on a request: its reply and its change.
 
 ghost use Rattle.std.specs.Prelude.{◌≡◌};
 
@@ -35,7 +35,8 @@ impl Verdict {
         Verdict::reply_only(Reply::Refused(refusal))
     }
 
-    /// Returns the reply to a new booking, and the change that inserts it. Its key is `member`'s.
+    /// Returns the reply to a new booking, and the change that inserts its row. The booking's key
+    /// belongs to `member`.
     pub(crate) fn new_booking(booking: Booking, member: &Name) -> Verdict
         ensures { result ≡ verdicts.booked_now booking member.now }
     {
@@ -53,8 +54,8 @@ impl Verdict {
         }
     }
 
-    /// Returns the reply to a cancellation, and the change that records it with this refund. The
-    /// booking's key belongs to `member`.
+    /// Returns the reply to a cancellation, and the change that records this refund. The booking's
+    /// key belongs to `member`.
     pub(crate) fn new_cancellation(booking: &Booking, member: &Name, refund: u32) -> Verdict
         ensures { result ≡ verdicts.cancelled_now booking.now member.now refund }
     {

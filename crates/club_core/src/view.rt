@@ -1,4 +1,4 @@
-//! The view of a request: the rows and sums that decide it.
+//! Defines the view of a request: the rows and sums that decide the request.
 
 ghost use Rattle.std.specs.Prelude.{◌≡◌, is_some};
 ghost use Rattle.club_core.specs.Looks.{bare_view, books_anew as is_new};
@@ -8,8 +8,8 @@ use club_rows::{Booking, Facility, Key, KeyRow, Member};
 use club_values::Moment;
 use pass_caveats::Ask;
 
-/// The rows and sums that decide a request: its key and member with their sums, and the state of
-/// the requested slot.
+/// The rows and sums that decide a request. A view contains the request's key, the key's member,
+/// and the state of the requested slot.
 #[derive(Clone, Copy, Debug, PartialEq, Eq)]
 pub struct View {
     pub key: KeyRow,
@@ -18,19 +18,19 @@ pub struct View {
     pub member: Member,
     /// The member's balance in points.
     pub balance: u32,
-    /// The number of the member's open bookings, whose slots begin after the moment.
+    /// The number of the member's open bookings at the moment.
     pub open_count: u64,
-    /// The slot's facility; `None` if it is unknown or the request names no slot.
+    /// The slot's facility, or `None` if the request names no slot or the facility is unknown.
     pub facility: Option<Facility>,
-    /// The number of persons who booked the slot.
+    /// The number of persons in the slot.
     pub taken: u64,
     /// Whether the slot is closed.
     pub closed: bool,
-    /// The key's booking under the request's number; `None` if there is none.
+    /// The key's booking under the request's number, or `None` if the key has no such booking.
     pub booking: Option<Booking>,
 }
 
-/// A key with its older root, and the view of a request under that key.
+/// A key with its older root, and the view of a request under the key.
 #[derive(Clone, Copy, Debug, PartialEq, Eq)]
 pub struct KeyView {
     pub key: Key,
@@ -40,7 +40,8 @@ pub struct KeyView {
 impl View {
     ghost use Rattle.club_core.specs.Answer.{ask_of, owed_at};
 
-    /// Returns a view that has only the key's row: no booking, no facility, and all sums 0.
+    /// Returns a view with the key's row only. The view has no booking and no facility, and all its
+    /// sums are 0.
     pub fn of_key(key: &KeyRow) -> View
         ensures { result ≡ bare_view key.now }
     {
@@ -79,7 +80,7 @@ impl View {
         }
     }
 
-    /// Returns what caveats can test about the request at a moment.
+    /// Returns the values of the request that caveats can test at the moment.
     pub fn ask(&self, request: &Request, moment: Moment) -> Ask
         ensures { result ≡ ask_of self.now request.now moment }
     {
