@@ -1,4 +1,4 @@
--- The cases in which a request is answered or a command is decided, with the facts that hold in each case.
+-- Lemmas about the cases in which the rules answer a request or decide a command.
 use Rattle.club_laws.proofs.Common.{CancelBooking, MarkCancelled, SetFacility, ReplaceNumbers, Debit, TakeCredit, ◌≡◌, ℕ, ◌+◌, ◌-◌, true, false, Option, Some}
 use Rattle.club_laws.proofs.Common.{None, Ok, refl, ◌∙◌, arith, List, ◌≤◌, Err, bytes_eq-Decides, Result, ◌&&◌, ◌==◌, nat_lt, bytes_eq, Slot, Member, Facility}
 use Rattle.club_laws.proofs.Common.{Key, Booking, Verdict, Reply, Booked, Cancelled, Refused, Request, same_slot, refund_at, Pass, Words, Club, facility_named}
@@ -18,7 +18,7 @@ abbrev pub basis_with : Club → Request → Key → Member → Basis
 basis_with club request key member =
     record { key = key; member = member; bookings = bookings_of member.name club; state = state_of club (request_slot request) }
 
--- the words name this key, and the key belongs to this member
+-- The pass names this key, and the key belongs to this member.
 pub record Knows (club : Club) (words : Words) (key : Key) (member : Member) : Type 0 where
   pub key_name : key_of words.pass ≡ Some key.name
   pub known : key_named key.name club ≡ Some key
@@ -27,7 +27,6 @@ pub record Knows (club : Club) (words : Words) (key : Key) (member : Member) : T
 key_is_named : (club : Club) (name : List ℕ) (key : Key) → key_named name club ≡ Some key → key.name ≡ name
 key_is_named club name key = named (λ (k : Key). k.name) name club.keys key
 
--- the key and the member of a basis are rows of the club
 pub known_rows : (club : Club) (words : Words) (basis : Basis) → basis_of club words ≡ Some basis → Knows club words basis.key basis.member
 known_rows club words basis e =
     record { key_name = grind (arith, key_is_named club); known = grind (arith, key_is_named club); owned = grind arith }
@@ -36,14 +35,14 @@ pub whole_basis : (club : Club) (words : Words) (basis : Basis) → basis_of clu
     → basis ≡ basis_with club words.request basis.key basis.member
 whole_basis club words basis e = grind arith
 
--- a reply that names no booking, and doesn't report a failure of memory or storage
+-- The reply names no booking, and reports no failure of memory or storage.
 abbrev pub IsSilent : Reply → Type 0
 IsSilent (Booked key number charge left) = ⊥
 IsSilent (Cancelled key number refund) = ⊥
 IsSilent (Refused refusals.Unavailable) = ⊥
 IsSilent reply = Unit {0}
 
--- the row that a new booking inserts
+-- The row that a new booking inserts.
 abbrev pub written : Club → Key → Slot → ℕ → ℕ → Facility → Booking
 written club key slot number guests facility = record {
   key = key.name;
@@ -68,7 +67,7 @@ pub record Cancels (club : Club) (key : Key) (slot : Slot) (number : ℕ) (booki
   pub same : same_slot booking.slot slot ≡ true
   pub still_booked : booking.cancelled ≡ false
 
--- what must be proved of the verdict in each case
+-- A proof of the property `P` for the verdict in each case.
 pub record Ways (P : Verdict → Type 0) (club : Club) (words : Words) (moment : ℕ) : Type 0 where
   pub silent : (reply : Reply) → IsSilent reply → P (verdicts.reply_only reply)
   pub repeats_booking : (key : Key) (member : Member) (slot : Slot) (number guests : ℕ) (booking : Booking) → Knows club words key member
@@ -84,7 +83,6 @@ pub record Ways (P : Verdict → Type 0) (club : Club) (words : Words) (moment :
       → words.request ≡ asked.Cancel slot number → Cancels club key slot number booking
       → P (verdicts.cancelled_now booking key.member (refund_at booking moment))
 
--- the key belongs to the member
 pub is_own_key : (club : Club) (words : Words) (key : Key) (member : Member) → Knows club words key member → is_key_of member.name club key.name ≡ true
 is_own_key club words key member k =
     let own = found_passes (λ (m : Member). bytes_eq m.name key.member) club.members member k.owned in
@@ -93,7 +91,6 @@ is_own_key club words key member k =
     ∙ any_passes (λ (other : Key). bytes_eq other.member member.name && bytes_eq other.name key.name) club.keys key there
     (grind (arith, bytes_eq-Decides member.name key.member, bytes_eq-Decides key.member member.name, bytes_eq-Decides key.name key.name))
 
--- the key's booking under a number is found among its member's bookings
 pub own_booking : (club : Club) (words : Words) (key : Key) (member : Member) (number : ℕ) → Knows club words key member
     → booking_under key.name number (bookings_of member.name club) ≡ booking_under key.name number club.bookings
 own_booking club words key member number k =
@@ -121,9 +118,7 @@ module _ (P : Verdict → Type 0) (club : Club) (words : Words) (moment : ℕ) (
   pub answer_cases : P (verdict_in club words moment)
   answer_cases = text_cases words.pass (basis_of club words) refl
 
--- ---- a command of the office is refused, or makes the change that it asks for
-
--- the facts that hold if a command makes a change
+-- The conditions under which a command changes the club.
 abbrev pub CommandRestsOn : Club → Command → Type 0
 CommandRestsOn club (AddMember name quota) = (quota ≤ 99) × (member_named name club ≡ None)
 CommandRestsOn club (Credit name points) = (member : Member) × (member_named name club ≡ Some member) × (member.credited + points ≤ 999_999_999)
@@ -143,12 +138,12 @@ CommandRestsOn club (CancelBooking key number) =
 CommandRestsOn club (CloseSlot slot) = (facility : Facility) × (facility_named slot.facility club ≡ Some facility) × (is_closed slot club ≡ false)
 CommandRestsOn club (OpenSlot slot) = (facility : Facility) × (facility_named slot.facility club ≡ Some facility)
 
--- a command succeeds and changes nothing only if it cancels a booking that is already cancelled
+-- The command cancels a booking that is already cancelled.
 abbrev pub FindsNothing : Club → Command → Type 0
 FindsNothing club (CancelBooking key number) = (booking : Booking) × (booking_under key number club.bookings ≡ Some booking) × (booking.cancelled ≡ true)
 FindsNothing club command = ⊥
 
--- the change that an accepted command makes
+-- The change that an accepted command makes.
 abbrev pub change_of : (club : Club) (command : Command) → CommandRestsOn club command → Change
 change_of club (AddMember name quota) r = InsertMember (record { name = name; credited = 0; quota = quota })
 change_of club (Credit name points) r = AddCredit name points

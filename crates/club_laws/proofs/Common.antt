@@ -1,4 +1,4 @@
--- Re-exports the names that most proofs here cite. Declares nothing.
+-- Re-exports the names that most proofs in this crate need.
 pub use Rattle.std.proofs.Common.{◌≡◌, Some, List, [], ◌∷◌, ℕ, true, false, refl, arith, None, ◌++◌, Option, Result, All, ◌∙◌, ap, ◌+◌, ◌&&◌, Bool, map, sym}
 pub use Rattle.std.proofs.Common.{cond, Ok, filter, ◌||◌, option_map, find, ◌≤◌, Err, ◌==◌, ◌≢◌, get_or, subst, AllPairs, Contains, not, sum_by, ◌-◌, inl}
 pub use Rattle.std.proofs.Common.{nat_lt, length, append_assoc, suc, is_some, append-nil, MatchOption, IfSome, codes}

@@ -1,4 +1,5 @@
--- Runs in which events failed. Leaving these events out one by one proves the laws for such runs. The machine itself never fails.
+-- Lemmas for the laws about runs in which some events failed. The proofs remove the failed events
+-- from the run, and then use the laws for runs without failures.
 use Rattle.club_laws.proofs.{AnswerCases.answer_cases, Common.{Cancelled, ◌≡◌, ◌≢◌, ℕ, false, arith, inl, [], ◌∷◌, refl, List, ◌++◌, length, append_assoc}}
 use Rattle.club_laws.proofs.Common.{Refused, Verdict, verdict_in, Club, empty_club, Words, Event, Asked, Commanded, step, ToMember, Response, All-nil, All-cons}
 use Rattle.club_laws.proofs.{Common.{All-head, All-tail, IsEvent, TestsTheSet, Reply, TestsTheSignature}, KeptByRuns.club_after-append}
@@ -16,9 +17,6 @@ pub never_unavailable : (club : Club) (event : Event) → (step club event).repl
 never_unavailable club (Asked words moment) e = let answers = answers_requests club words moment in grind arith
 never_unavailable club (Commanded command) e = grind arith
 
--- ---- failed events are left out of a run one by one; runs are split and joined
-
--- a run has the same other responses and the same last club as the run of the answered events alone
 pub run_of_answered : {O : Type 0} → LeavesOutFailed O
 run_of_answered presentation club last [] [] h = record { responses = refl; left = h }
 run_of_answered presentation club last (event ∷ events) (returned ∷ replies) h =
@@ -33,7 +31,6 @@ events_left presentation (event ∷ events) (returned ∷ replies) h =
     grind (arith, All-cons IsEvent event (answered_events presentation events replies) (All-head IsEvent event events h) rest)
 events_left presentation events replies h = All-nil IsEvent
 
--- a run can be split in two at any place, and the parts can be joined again
 pub cut : {O : Type 0} → CutsRuns O
 cut presentation club last [] rest [] since e h = record { now = club; first = refl; second = h }
 cut presentation club last (event ∷ front) rest (returned ∷ before) since e h =
@@ -49,7 +46,6 @@ join presentation club last (event ∷ front) rest (returned ∷ before) since r
     (first.0, first.1, later)
 join presentation club last front rest before since runs = absurd runs.first
 
--- no event of the machine's own run fails
 not_failed : {O : Type 0} (presentation : Presentation O) → ((answer : OfficeAnswer) → presentation.is_fault (presentation.shown answer) ≡ false)
     → (club : Club) (event : Event) → has_failed presentation event (present_reply presentation (step club event).reply) ≡ false
 not_failed presentation faultless club (Asked words moment) = answers_requests club words moment
@@ -63,8 +59,6 @@ run_without_failures presentation club (event ∷ events) faultless =
       inl (record { success = not_failed presentation faultless club event; reply = refl; steps_club = refl }),
       run_without_failures presentation outcome.club events faultless,
     )
-
--- ---- the laws for runs in which some events failed: the laws for runs, applied to the answered events
 
 pub sound_with_failures : {O : Type 0} → SoundWithFailures O
 sound_with_failures presentation club last events replies s h run =
@@ -88,13 +82,11 @@ module _ {O : Type 0} (presentation : Presentation O) where
   answered-append (event ∷ front) rest (returned ∷ before) since e = grind (arith, answered-append front rest before since (omega arith))
   answered-append front rest before since e = absurd (omega arith)
 
-  -- a booking or a cancellation that was served has not failed
   served_by_machine : (club next : Club) (words : Words) (moment : ℕ) (reply : Reply) → IsBookedOrCancelled reply
       → IsStep presentation club (Asked words moment) (ToMember reply) next
       → (is_unavailable reply ≡ false) × ((step club (Asked words moment)).reply ≡ ToMember reply)
   served_by_machine club next words moment reply h step = grind arith
 
-  -- a request that was served was also served in the machine's run of the answered events alone
   served_in_machine_run : (club now : Club) (history : List Event) (before : List (Response O)) (words : Words) (reply : Reply)
       → IsRun presentation club history before now
       → WasReturned history before words reply → WasServed club (answered_events presentation history before) words reply
@@ -139,7 +131,6 @@ cancelled_with_failures set signature presentation club last history rest before
     let one = repeat_of_step presentation parts.now parts.second.0 words moment returned reply (rw (← left) at again) parts.second.1 in
     (one.0, join presentation club last history rest before since (record { now = parts.now; first = parts.first; second = rw one.1 at parts.second.2 }))
 
--- one more event keeps a served request on record
 served_and_more : (club : Club) (history : List Event) (event : Event) (words : Words) (reply : Reply) → WasServed club history words reply
     → WasServed club (history ++ event ∷ []) words reply
 served_and_more club history event words reply w = record {

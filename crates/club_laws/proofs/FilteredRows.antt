@@ -1,19 +1,16 @@
--- Filters of lists that are extended, mapped or already filtered.
+-- Lemmas about filtered lists, and about sums over filtered lists.
 use Rattle.club_laws.proofs.Common.{◌≡◌, Bool, true, false, ◌&&◌, List, [], ◌∷◌, map, filter, All, refl, sym, ◌∙◌, arith, ℕ, ◌+◌, ◌≤◌, cond, ◌++◌, ap, list_any}
 use Rattle.club_laws.proofs.Common.{filter_agree, All-head, All-tail, filter-append, not, sum_by}
 use Rattle.std.proofs.lemmas.List.{Filters.sum_by-filter_both, Sums.{sum_by-cons, sum_by-append}}
 
--- a map that doesn't change the elements that pass the test doesn't change the filtered list
 pub filter_fixed : {X : Type 0} (p : X → Bool) (f : X → X) → ((x : X) → p x ≡ true → f x ≡ x) → (xs : List X) → map f (filter p xs) ≡ filter p xs
 filter_fixed p f fixed [] = refl
 filter_fixed p f fixed (x ∷ xs) = grind (arith, fixed x, filter_fixed p f fixed xs)
 
--- if no element passes a test, a map that changes only passing elements doesn't change the list
 pub fixed_where_none : {X : Type 0} (q : X → Bool) (f : X → X) → ((x : X) → q x ≡ false → f x ≡ x) → (xs : List X) → list_any q xs ≡ false → map f xs ≡ xs
 fixed_where_none q f fixed [] e = refl
 fixed_where_none q f fixed (x ∷ xs) e = grind (arith, fixed x, fixed_where_none q f fixed xs)
 
--- two tests that agree on all elements of a list give the same filtered list
 pub filter_same : {X : Type 0} (p q : X → Bool) (xs : List X) → All (λ x. p x ≡ q x) xs → filter p xs ≡ filter q xs
 filter_same p q [] h = refl
 filter_same p q (x ∷ xs) h = grind (arith, filter_same p q xs (All-tail (λ y. p y ≡ q y) x xs h), All-head (λ y. p y ≡ q y) x xs h)
@@ -26,7 +23,6 @@ pub filter-map : {X Y : Type 0} (f : X → Y) (p : Y → Bool) (xs : List X) →
 filter-map f p [] = refl
 filter-map f p (x ∷ xs) = grind (arith, filter-map f p xs)
 
--- filtering by one test and then by another is filtering by both
 pub filter-filter : {X : Type 0} (p q : X → Bool) (xs : List X) → filter p (filter q xs) ≡ filter (λ x. q x && p x) xs
 filter-filter p q [] = refl
 filter-filter p q (x ∷ xs) = grind (arith, filter-filter p q xs)
@@ -36,8 +32,6 @@ filter_twice p xs = filter-filter p p xs ∙ filter_agree (λ x. p x && p x) p (
 
 pub filters_swap : {X : Type 0} (p q : X → Bool) (xs : List X) → filter p (filter q xs) ≡ filter q (filter p xs)
 filters_swap p q xs = filter-filter p q xs ∙ (filter_agree (λ x. q x && p x) (λ x. p x && q x) (λ x. grind arith) xs ∙ sym (filter-filter q p xs))
-
--- ---- sums over the elements that pass a test
 
 pub sum-filter : {X : Type 0} (f : X → ℕ) (p : X → Bool) (xs : List X) → sum_by f (filter p xs) ≡ sum_by (λ x. cond (p x) (f x) 0) xs
 sum-filter f p [] = refl
@@ -62,14 +56,12 @@ sum_less f g (x ∷ xs) h =
     let here = All-head (λ y. f y ≤ g y) x xs h in
     rw (sum_by-cons f x xs, sum_by-cons g x xs) (omega arith)
 
--- if an edit increases no element's amount, it doesn't increase the sum
 pub sum_no_more : {X : Type 0} (f : X → ℕ) (p : X → Bool) (edit : X → X) (xs : List X)
     → All (λ x. cond (p (edit x)) (f (edit x)) 0 ≤ cond (p x) (f x) 0) xs → sum_by f (filter p (map edit xs)) ≤ sum_by f (filter p xs)
 sum_no_more {X} f p edit xs h =
     let part : X → ℕ = λ x. cond (p x) (f x) 0 in
     omega (arith, sum-filter f p (map edit xs), sum-map edit part xs, sum-filter f p xs, sum_less (λ x. part (edit x)) part xs h)
 
--- the sum over passing elements splits into the elements that also pass a second test and those that fail it
 pub sum_in_parts : {X : Type 0} (f : X → ℕ) (q p : X → Bool) (xs : List X)
     → sum_by f (filter q xs) ≡ sum_by f (filter q (filter p xs)) + sum_by f (filter q (filter (λ x. not (p x)) xs))
 sum_in_parts {X} f q p xs =
@@ -79,7 +71,6 @@ sum_in_parts {X} f q p xs =
     let second = ap (sum_by f) (filters_swap other q xs) in
     omega arith
 
--- the sum over a list with one element in the middle is that element's amount plus the sum over the rest
 pub sum_middle : {X : Type 0} (f : X → ℕ) (p : X → Bool) (xs : List X) (x : X) (ys : List X)
     → sum_by f (filter p (xs ++ x ∷ ys)) ≡ sum_by f (filter p xs) + cond (p x) (f x) 0 + sum_by f (filter p ys)
 sum_middle f p xs x ys =

@@ -1,28 +1,28 @@
--- The first charge that a run's replies state for a booking is the booking's charge on record.
+-- Lemmas for the proof that the first reply to a booking states the charge on record.
 use Rattle.club_laws.proofs.{AnswerCases.{answer_cases, written, change_of, command_cases, CommandRestsOn}, Common.{Command, CancelBooking, ◌≡◌, ℕ, true, List}}
 use Rattle.club_laws.proofs.Common.{[], ◌∷◌, ◌++◌, map, Option, Some, None, refl, sym, ap, ◌∙◌, arith, find, find-append, Booking, Verdict, Words, Club}
 use Rattle.club_laws.proofs.Common.{booking_under, verdict_in, cancelled_booking, after, after_change, Booked, Event, Asked, Commanded, step, command_outcome}
 use Rattle.club_laws.proofs.{Common.{ToMember, Result, Change, OfficeFault, refund_at}, FoundRows.{is_numbered, numbered, found_by_own, find-map}}
 use Rattle.club_laws.specs.Points.{Entry, charge_told, charge_of_reply}
 
--- the charge of the booking, or the given default if there is no booking
+-- The charge of the booking, or the given default if there is no booking.
 abbrev pub charge_or : Option Booking → ℕ → ℕ
 charge_or None other = other
 charge_or (Some booking) other = booking.charge
 
--- the first charge stated for each key and number is the charge on record, or else the first charge that later entries state
+-- For each key and number, the first charge in the list `told` is the charge on record. If no
+-- booking is on record, the first charge comes from the later entries.
 abbrev pub Tells : List Entry → List Booking → List Entry → Type 0
 Tells told bookings later =
     (key : List ℕ) (number : ℕ) → charge_told key number told ≡ charge_or (booking_under key number bookings) (charge_told key number later)
 
--- the entries state the charges of the bookings that were added to the record
+-- The entries state the charges of the bookings that are new on the record.
 abbrev pub TellsNew : List Booking → List Booking → List Entry → Type 0
 TellsNew bookings new_bookings entries =
     (later : List Entry) (key : List ℕ) (number : ℕ)
     → charge_or (booking_under key number bookings) (charge_told key number (entries ++ later))
     ≡ charge_or (booking_under key number new_bookings) (charge_told key number later)
 
--- a search by the booking's own key and number finds the same booking as a search by an equal key and number
 found_alike : (booking : Booking) (bookings : List Booking) (key : List ℕ) (number : ℕ) → is_numbered key number booking ≡ true
     → find (is_numbered key number) bookings ≡ find (is_numbered booking.key booking.number) bookings
 found_alike booking bookings key number is =

@@ -1,4 +1,4 @@
--- Lemmas on `find`, and on lists in which a test tells elements apart.
+-- Lemmas about `find` and about rows with unique names.
 use Rattle.club_laws.proofs.Common.{◌≡◌, ℕ, suc, Bool, true, false, ◌&&◌, ◌||◌, List, [], ◌∷◌, ◌++◌, get_or, map, Some, None, refl, ap, ◌∙◌, arith, option_map}
 use Rattle.club_laws.proofs.Common.{◌≢◌, sym, subst, All, AllPairs, Contains, find, filter, ◌==◌, list_any, All-cons, All-nil, All-contains}
 use Rattle.club_laws.proofs.Common.{Contains-append_left, Contains-append_right, Contains-push, All-map, All-weaker, bytes_eq, list_any_at, find-append}
@@ -40,7 +40,6 @@ AllPairs-map f R S step (x ∷ xs) h =
     AllPairs-cons S (f x) (map f xs) (All-map (S (f x)) f xs (All-weaker (R x) (λ y. S (f x) (f y)) (step x) xs (AllPairs-head R x xs h)))
     (AllPairs-map f R S step xs (AllPairs-tail R x xs h))
 
--- if at most one element passes a test, `find` returns the element that passes
 pub only_found : {X : Type 0} (R : X → X → Type 0) (p : X → Bool) → ((a b : X) → p a ≡ true → p b ≡ true → R a b → ⊥) → (xs : List X) (x : X) → AllPairs R xs
     → find p xs ≡ Some x → All (λ y. p y ≡ true → y ≡ x) xs
 only_found R p apart [] x h e = λ k d short. absurd (omega arith)
@@ -50,12 +49,10 @@ only_found R p apart (y ∷ ys) x h e =
     let rest : find p ys ≡ Some x → get_or ys k d ≡ x = λ f. only_found R p apart ys x (AllPairs-tail R y ys h) f k d short t in
     grind (arith, apart y (get_or ys k d), AllPairs-head R y ys h k d short))
 
--- `find` with a stronger test returns the same element after filtering by a weaker test
 pub find-filter : {X : Type 0} (p q : X → Bool) (xs : List X) → ((x : X) → p x ≡ true → q x ≡ true) → find p (filter q xs) ≡ find p xs
 find-filter p q [] h = refl
 find-filter p q (y ∷ ys) h = grind (arith, find-filter p q ys h, h y)
 
--- `find` returns the same element after filtering by another test that the element passes
 pub find_filtered : {X : Type 0} (p q : X → Bool) (xs : List X) (x : X) → find p xs ≡ Some x → q x ≡ true → find p (filter q xs) ≡ Some x
 find_filtered p q [] x e h = absurd (cc)
 find_filtered p q (y ∷ ys) x e h = grind (arith, find_filtered p q ys x)
@@ -80,21 +77,16 @@ pub any-map : {X Y : Type 0} (f : X → Y) (p : Y → Bool) (xs : List X) → li
 any-map f p [] = refl
 any-map f p (x ∷ xs) = ap (λ b. p (f x) || b) (any-map f p xs)
 
--- `find` returns the same element after more elements are appended
 pub found_before : {X : Type 0} (p : X → Bool) (xs ys : List X) (x : X) → find p xs ≡ Some x → find p (xs ++ ys) ≡ Some x
 found_before p xs ys x e = find-append p xs ys ∙ rw e
 
 pub found_last : {X : Type 0} (p : X → Bool) (xs : List X) (x : X) → find p xs ≡ None → p x ≡ true → find p (xs ++ x ∷ []) ≡ Some x
 found_last p xs x none e = find-append p xs (x ∷ []) ∙ rw (none, e)
 
--- if an edit doesn't change the result of the test, `find` returns the edited element
 pub find-map : {X : Type 0} (p : X → Bool) (f : X → X) → ((x : X) → p (f x) ≡ p x) → (xs : List X) → find p (map f xs) ≡ option_map f (find p xs)
 find-map p f blind [] = refl
 find-map p f blind (x ∷ xs) = grind (arith, find-map p f blind xs, blind x)
 
--- ---- rows found by their names, and slots that differ
-
--- if no row with this name is found, no row has this name
 pub none_named : {X : Type 0} (name : X → List ℕ) (n : List ℕ) (xs : List X) → find (λ x. bytes_eq (name x) n) xs ≡ None → All (λ x. name x ≢ n) xs
 none_named name n xs e =
     All-each (λ x. bytes_eq (name x) n ≡ false) (λ x. name x ≢ n) xs (λ x f h. both_ways (bytes_eq (name x) n) f (same_bytes_of (name x) n h))
@@ -108,24 +100,20 @@ named_there name n xs x e =
     subst (λ (m : List ℕ). Contains (map name xs) m) (named name n xs x e)
     (Contains-map name xs x (found_is_there (λ y. bytes_eq (name y) n) xs x e))
 
--- a name that no row has differs from every name in the list
 pub fresh_differs : {X : Type 0} (name : X → List ℕ) (n m : List ℕ) (xs : List X) → All (λ x. name x ≢ n) xs → Contains (map name xs) m
     → bytes_eq m n ≡ false
 fresh_differs name n m xs fresh there = other_bytes m n (All-contains (λ k. k ≢ n) (map name xs) m (All-map (λ k. k ≢ n) name xs fresh) there)
 
--- a name in the list is still in the list after one row is added
 pub still_there : {X : Type 0} (name : X → List ℕ) (rows : List X) (row : X) (n : List ℕ) → Contains (map name rows) n
     → Contains (map name (rows ++ row ∷ [])) n
 still_there name rows row n h = rw (map-append name rows (row ∷ [])) (Contains-append_left (map name rows) (name row ∷ []) n h)
 
--- names that other rows refer to stay in the list after rows are added
 pub still_all : {X Y : Type 0} (name : X → List ℕ) (rows new : List X) (refers : Y → List ℕ) (ys : List Y)
     → ((n : List ℕ) → Contains (map name rows) n → Contains (map name new) n) → All (λ y. Contains (map name rows) (refers y)) ys
     → All (λ y. Contains (map name new) (refers y)) ys
 still_all name rows new refers ys still h =
     All-each (λ y. Contains (map name rows) (refers y)) (λ y. Contains (map name new) (refers y)) ys (λ y. still (refers y)) h
 
--- if names are unique, the row that is found is the only row with its name
 pub only_named : {X : Type 0} (name : X → List ℕ) (n : List ℕ) (xs : List X) (x : X) → AllPairs (λ a b. name a ≢ name b) xs
     → find (λ y. bytes_eq (name y) n) xs ≡ Some x → All (λ y. bytes_eq (name y) n ≡ true → y ≡ x) xs
 only_named name n xs x unique e =
@@ -146,14 +134,14 @@ slots_same a b e =
 pub same_slots : (a : Slot) → same_slot a a ≡ true
 same_slots a = grind (arith, bytes_eq-Decides a.facility a.facility)
 
--- whether the booking was made under this key and number
+-- Whether the booking was made under this key and number.
 abbrev pub is_numbered : List ℕ → ℕ → Booking → Bool
 is_numbered key number booking = is_under key booking && booking.number == number
 
 pub numbered : (key : List ℕ) (number : ℕ) (booking : Booking) → is_numbered key number booking ≡ true → (booking.key ≡ key) × (booking.number ≡ number)
 numbered key number booking e = grind (arith, bytes_eq-Decides booking.key key)
 
--- two bookings that differ in key or number
+-- The two bookings have different keys or different numbers.
 abbrev pub AreApart : Booking → Booking → Type 0
 AreApart a b = ¬ ((a.key ≡ b.key) × (a.number ≡ b.number))
 
@@ -163,14 +151,12 @@ only_numbered key number bookings booking unique e =
     only_found AreApart (is_numbered key number)
     (λ a b h k other. let l = numbered key number a h in let r = numbered key number b k in other (l.0 ∙ sym r.0, l.1 ∙ sym r.1)) bookings booking unique e
 
--- the test for a booking's key and number is symmetric
 pub numbered_back : (key : List ℕ) (number : ℕ) (booking : Booking) → is_numbered key number booking ≡ (bytes_eq key booking.key && number == booking.number)
 numbered_back key number booking = grind (arith, bytes_eq-Decides booking.key key, bytes_eq-Decides key booking.key)
 
 pub self_numbered : (booking : Booking) → is_numbered booking.key booking.number booking ≡ true
 self_numbered booking = grind (arith, bytes_eq-Decides booking.key booking.key)
 
--- a booking found under a key and number is also found under its own key and number
 pub found_by_own : (key : List ℕ) (number : ℕ) (booking : Booking) (bookings : List Booking) → find (is_numbered key number) bookings ≡ Some booking
     → find (is_numbered booking.key booking.number) bookings ≡ Some booking
 found_by_own key number booking bookings found =

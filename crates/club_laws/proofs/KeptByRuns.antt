@@ -1,4 +1,4 @@
--- A property that each change preserves is preserved by each run. Also lemmas on runs over two consecutive lists.
+-- A run keeps a property of the club if every change keeps the property.
 use Rattle.club_laws.proofs.Common.{List, [], ◌∷◌, ◌++◌, Option, Some, None, Ok, Err, refl, ap, ◌≡◌, Result, Change, OfficeFault, Club, verdict_in, after}
 use Rattle.club_laws.proofs.Common.{office_verdict, Event, Asked, Commanded, step, after_change, command_outcome, replies_of, club_after, EventReply}
 

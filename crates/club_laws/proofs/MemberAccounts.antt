@@ -1,4 +1,4 @@
--- A member's keys and credit, computed from a run's events and replies.
+-- Lemmas about a member's keys and credit after a run.
 use Rattle.club_laws.proofs.{AnswerCases.{FindsNothing, answer_cases, command_cases, CommandRestsOn, change_of}, Common.{CancelBooking, debited_member, Debit}}
 use Rattle.club_laws.proofs.Common.{◌≤◌, ◌≡◌, ℕ, ◌+◌, Bool, true, false, cond, List, [], ◌∷◌, map, Option, Some, None, arith, bytes_eq-Decides, Result, ◌||◌}
 use Rattle.club_laws.proofs.Common.{find, is_some, bytes_eq, list_any, list_any-append, find-append, Member, after, ToOffice, done_answer, Verdict, Change}
@@ -7,7 +7,7 @@ use Rattle.club_laws.proofs.Common.{verdict_in, credited_member, revoked_key, ro
 use Rattle.club_laws.proofs.{Common.{replies_of, club_after, member_with_quota}, MemberParts.{is_key_of-added, is_key_of-edited}}
 use Rattle.club_laws.specs.Points.{key_given, keys_given, credit_accepted, credits_accepted, debit_accepted, debits_accepted}
 
--- a request changes nothing but bookings
+-- The two clubs differ at most in their bookings.
 pub record KeepsPeople (club new : Club) : Type 0 where
   pub keys : new.keys ≡ club.keys
   pub members : new.members ≡ club.members
@@ -43,7 +43,6 @@ module _ (member : List ℕ) where
           grind (arith, is_key_of-edited (λ row. (edit row).root) (λ row. (edit row).older) (λ row. row.revoked) member club key)
       given c r = grind arith
 
-  -- a member's keys after a run are its keys before the run and those that the run added
   pub keys_of_run : (club : Club) (key : List ℕ) (events : List Event) → is_key_of member (club_after club events) key
       ≡ (is_key_of member club key || is_among (keys_given member events (replies_of club events)) key)
   keys_of_run club key [] = grind arith
@@ -53,7 +52,7 @@ module _ (member : List ℕ) where
       let later = keys_given member events (replies_of next.club events) in
       grind (arith, keys_of_run next.club key events, keys_of_step club key event, list_any-append (λ (k : List ℕ). bytes_eq k key) given later)
 
--- the points that a member was credited, or 0 if there is no such member
+-- The points credited to a member, or 0 if there is no such member.
 abbrev pub credit_of : Option Member → ℕ
 credit_of None = 0
 credit_of (Some member) = member.credited
@@ -69,7 +68,6 @@ credit_grown name other points (m ∷ members) known =
     let both = bytes_eq-Decides other name in
     grind (arith, credit_grown name other points members)
 
--- a debit of at most the credit lowers the credit of the member that it names
 credit_taken : (name other : List ℕ) (points : ℕ) (members : List Member)
     → (bytes_eq other name ≡ true → points ≤ credit_of (find (λ (m : Member). bytes_eq m.name name) members))
     → credit_of (find (λ (m : Member). bytes_eq m.name name) (map (debited_member other points) members)) + cond (bytes_eq other name) points 0
@@ -81,7 +79,6 @@ credit_taken name other points (m ∷ members) enough =
     let both = bytes_eq-Decides other name in
     grind (arith, credit_taken name other points members)
 
--- a new quota changes no credit
 credit_kept : (name other : List ℕ) (quota : ℕ) (members : List Member)
     → credit_of (find (λ (m : Member). bytes_eq m.name name) (map (member_with_quota other quota) members))
     ≡ credit_of (find (λ (m : Member). bytes_eq m.name name) members)
@@ -119,7 +116,6 @@ module _ (name : List ℕ) where
       credited (SetQuota other quota) r = grind (arith, credit_kept name other quota club.members)
       credited c r = grind arith
 
-  -- a member's credit after a run plus the run's debits is the credit before the run plus the run's credits
   pub credit_of_run : (club : Club) (events : List Event) → credit_of (member_named name (club_after club events))
       + debits_accepted name events (replies_of club events) ≡ credit_of (member_named name club) + credits_accepted name events (replies_of club events)
   credit_of_run club [] = omega arith

@@ -1,4 +1,4 @@
--- The owners of keys, a member's part, and how each kind of change affects them.
+-- Lemmas about the effect of each kind of change on a member's part.
 use Rattle.club_laws.proofs.{AnswerCases.{answer_cases, written, CommandRestsOn, change_of, command_cases}, Common.{CancelBooking, ReplaceNumbers}}
 use Rattle.club_laws.proofs.Common.{debited_member, TakeCredit, ◌≡◌, ◌≢◌, ℕ, Bool, true, List, [], ◌∷◌, ◌++◌, get_or, map, Option, Some, sym, ◌∙◌, arith, false}
 use Rattle.club_laws.proofs.Common.{cond, filter, None, All, Contains, append-nil, refl, find, AllPairs, Result, bytes_eq-Decides, ◌&&◌, ◌||◌, bytes_eq}
@@ -14,7 +14,7 @@ use Rattle.club_rows.specs.declared.key.OlderRoot.{OlderRoot}
 use Rattle.club_core.specs.Solo.{part_of}
 use Rattle.club_laws.specs.Frame.{ChangesThePartAlike, part_after}
 
--- whether a key has this name and belongs to this member
+-- Whether a key has this name and belongs to this member.
 abbrev pub is_own : List ℕ → List ℕ → Key → Bool
 is_own member name key = bytes_eq key.member member && bytes_eq key.name name
 
@@ -31,7 +31,7 @@ is_key_of-added member club key name =
       list_any-append (is_own member name) club.keys (key ∷ []),
     )
 
--- an edit of a key's row that changes neither its name nor its member
+-- A key's row after an edit of its root, its older root and its revocation.
 abbrev pub edited : (Key → List ℕ) → (Key → Option OlderRoot) → (Key → Bool) → Key → Key
 edited root older is_revoked key = record key { root = root key; older = older key; revoked = is_revoked key }
 
@@ -41,7 +41,6 @@ is_key_of-edited root older is_revoked member club name =
     is_key_of-any member (record club { keys = map (edited root older is_revoked) club.keys }) name
     ∙ (any-map (edited root older is_revoked) (is_own member name) club.keys ∙ sym (is_key_of-any member club name))
 
--- a new key under which no booking was made changes no member's bookings
 pub bookings_of-added : (member : List ℕ) (club : Club) (key : Key) → All (λ (other : Key). other.name ≢ key.name) club.keys
     → All (λ (booking : Booking). Contains (map (λ (k : Key). k.name) club.keys) booking.key) club.bookings
     → bookings_of member (record club { keys = club.keys ++ key ∷ [] }) ≡ bookings_of member club
@@ -60,15 +59,12 @@ bookings_of-edited root older is_revoked member club =
     (λ (booking : Booking). is_key_of member club booking.key) club.bookings
     (λ k d short. is_key_of-edited root older is_revoked member club (get_or club.bookings k d).key)
 
--- if names are unique, the owner of a key is the member in the key's row
 pub owner : (club : Club) → AllPairs (λ (a : Key) (b : Key). a.name ≢ b.name) club.keys → (key : Key) → key_named key.name club ≡ Some key → (name : List ℕ)
     → is_key_of name club key.name ≡ true → name ≡ key.member
 owner club unique key known name e =
     let any = Any-from_list_any (is_own name key.name) club.keys (sym (is_key_of-any name club key.name) ∙ e) in
     let only = only_named (λ (x : Key). x.name) key.name club.keys key unique known any.0 any.1 any.2 in
     grind (arith, bytes_eq-Decides any.1.member name, any.3, any.4)
-
--- ---- how each kind of change affects a member's part
 
 abbrev pub is_named : List ℕ → Member → Bool
 is_named name member = bytes_eq member.name name
@@ -79,15 +75,14 @@ is_owned name key = bytes_eq key.member name
 abbrev pub has_name : List ℕ → Key → Bool
 has_name name key = bytes_eq key.name name
 
--- whether a booking was made under one of these keys
+-- Whether a booking was made under a key in this list.
 abbrev pub is_under_one : List Key → Booking → Bool
 is_under_one keys booking = list_any (has_name booking.key) keys
 
--- each booking was made under a key of the club
+-- Each booking was made under a key of the club.
 abbrev pub HasKnownKeys : Club → Type 0
 HasKnownKeys club = All (λ (booking : Booking). Contains (map (λ (key : Key). key.name) club.keys) booking.key) club.bookings
 
--- an edit that changes only the key with one name is made in the part of that key's member, and in no other part
 key_edited : (root : Key → List ℕ) (older : Key → Option OlderRoot) (is_revoked : Key → Bool) (name : List ℕ) (club : Club) (other : List ℕ)
     → ((key : Key) → bytes_eq key.name other ≡ false → edited root older is_revoked key ≡ key)
     → part_of name (record club { keys = map (edited root older is_revoked) club.keys })
@@ -98,11 +93,10 @@ key_edited root older is_revoked name club other same =
     let fixed = fixed_where_none (has_name other) edit same (keys_of name club) in
     grind (arith, filter-map edit (is_owned name) club.keys)
 
--- an edit of a member's row that doesn't change its name
+-- A member's row after an edit of its credit and its quota.
 abbrev pub edited_member : (Member → ℕ) → (Member → ℕ) → Member → Member
 edited_member credited quota member = record member { credited = credited member; quota = quota member }
 
--- an edit that changes only the member with one name is made in that member's part, and in no other part
 member_edited : (credited quota : Member → ℕ) (name : List ℕ) (club : Club) (other : List ℕ)
     → ((member : Member) → bytes_eq member.name other ≡ false → edited_member credited quota member ≡ member)
     → part_of name (record club { members = map (edited_member credited quota) club.members })
@@ -116,12 +110,11 @@ member_edited credited quota name club other same =
     same member (grind (arith, bytes_eq-Decides member.name name, bytes_eq-Decides member.name other))) club.members in
     grind (arith, filter-map edit (is_named name) club.members)
 
--- if the change adds a key, its name is new
+-- A key that the change adds has a new name.
 abbrev pub IsFresh : Club → Change → Type 0
 IsFresh club (InsertKey key) = key_named key.name club ≡ None
 IsFresh club change = Unit {0}
 
--- how each kind of change affects a member's part
 pub part_changed : (name : List ℕ) (club : Club) (change : Change) → HasKnownKeys club → IsFresh club change
     → part_of name (after change club) ≡ part_after name club change
 part_changed name club (InsertMember member) known fresh =
@@ -153,9 +146,7 @@ part_changed name club (MarkCancelled booking member refund) known fresh =
     λ e. filter_fixed own edit (λ other f. grind (arith, bytes_eq-Decides other.key booking.key)) club.bookings in
     grind (arith, filter-map edit own club.bookings)
 
--- ---- key names are unique and each booking has a known key, before and after each change
-
--- the properties of a club that the laws of a member's part require
+-- The properties of a club that the lemmas about a member's part need.
 pub record IsKeyed (club : Club) : Type 0 where
   pub unique : AllPairs (λ (a : Key) (b : Key). a.name ≢ b.name) club.keys
   pub known : HasKnownKeys club
@@ -203,7 +194,6 @@ keyed_step club (Commanded command) keyed =
         record { unique = keyed.unique; known = All-map Known (cancelled_booking r.2.key r.2.number r.2.charge) club.bookings keyed.known }
     given c r = assumption
 
--- a key that was added to a club with unique key names had a new name
 pub pushed_fresh : (keys : List Key) (new : Key) → AllPairs (λ (a : Key) (b : Key). a.name ≢ b.name) (keys ++ new ∷ []) → find (has_name new.name) keys ≡ None
 pushed_fresh [] new unique = refl
 pushed_fresh (key ∷ keys) new unique =

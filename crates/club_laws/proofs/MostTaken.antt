@@ -1,4 +1,4 @@
--- `most_taken_in` is an upper bound for the number of persons in each slot of a facility.
+-- Lemmas about the highest number of persons in any slot of a facility.
 use Rattle.club_laws.proofs.Common.{◌≡◌, ℕ, ◌≤◌, Bool, false, List, [], ◌∷◌, All, All-nil, All-cons, All-contains, filter, find, sum_by, ap, arith, Option}
 use Rattle.club_laws.proofs.{Common.{Some, None, refl, ◌∙◌, Slot, Booking, same_slot, persons_of, is_in, taken_in, subst}, FilteredRows.filter_none}
 use Rattle.club_laws.proofs.FoundRows.{found_passes, none_found, found_is_there, find_filtered, slots_same, same_bytes_of, All-each}
@@ -6,7 +6,7 @@ use Rattle.std.proofs.Math.Nat.{le-max_left, le-max_right}
 use Rattle.std.specs.{List.fold, Prelude.max}
 use Rattle.club_core.specs.Sums.{is_at, most_taken_in}
 
--- the maximum of a start value and the numbers of the elements
+-- The highest number of any element, or the start value if it is higher.
 abbrev most_of : {X : Type 0} → (X → ℕ) → ℕ → List X → ℕ
 most_of f first xs = fold (λ most x. max most (f x)) first xs
 

@@ -1,4 +1,4 @@
--- A total over bookings grows by the entries of each reply: charges by replies to bookings, refunds by replies to cancellations.
+-- Lemmas about the totals of charges and refunds after each reply.
 use Rattle.club_laws.proofs.{AnswerCases.{written, answer_cases}, Common.{true, get_or, ◌≡◌, ℕ, ◌+◌, Bool, false, cond, List, [], ◌∷◌, ◌++◌, ap, ◌∙◌, arith}}
 use Rattle.club_laws.proofs.Common.{map, Some, None, refl, not, ◌&&◌, ◌||◌, ◌==◌, filter, sum_by, find, AllPairs, bytes_eq, filter_agree, false_from_ne_true}
 use Rattle.club_laws.proofs.Common.{list_any, list_any-append, list_any_none, Booking, Verdict, Booked, Cancelled, Words, refund_at, Club, IsSound, verdict_in}
@@ -10,26 +10,26 @@ use Rattle.club_laws.specs.Points.{Entry, is_entry_of, firsts, charge_of_reply, 
 use Rattle.std.proofs.lemmas.List.Sums.{sum_by-cons}
 use Rattle.club_rows.specs.Rows.{IsBooking}
 
--- a record of keys and numbers: whether each is on it
+-- A record of bookings that were seen, by key and number.
 abbrev pub Seen : Type 0
 Seen = List ℕ → ℕ → Bool
 
--- the record with one more key and number
+-- The record after an entry's key and number were added.
 abbrev pub with_entry : Entry → Seen → Seen
 with_entry entry seen key number = seen key number || (bytes_eq key entry.key && number == entry.number)
 
--- whether an entry counts: its key passes the test, and its key and number aren't on the record
+-- Whether an entry adds points to a total. Its key must pass the test, and its key and number must
+-- be new to the record.
 abbrev pub counts : (List ℕ → Bool) → Seen → Entry → Bool
 counts p seen entry = p entry.key && not (seen entry.key entry.number)
 
 abbrev pub points_of : Entry → ℕ
 points_of entry = entry.points
 
--- the points of the first entries that count
+-- The sum of the points of the first entries that add points to the total.
 abbrev pub unseen_total : (List ℕ → Bool) → Seen → List Entry → ℕ
 unseen_total p seen entries = sum_by points_of (filter (counts p seen) (firsts entries))
 
--- an entry adds its points if it counts, and then its key and number are on the record
 next_entry : (p : List ℕ → Bool) (seen : Seen) (entry : Entry) (entries : List Entry)
     → unseen_total p seen (entry ∷ entries) ≡ cond (counts p seen entry) entry.points 0 + unseen_total p (with_entry entry seen) entries
 next_entry p seen entry entries =
@@ -45,7 +45,7 @@ same_unseen : (p : List ℕ → Bool) (seen new_seen : Seen) (entries : List Ent
 same_unseen p seen new_seen entries h =
     ap (sum_by points_of) (filter_agree (counts p new_seen) (counts p seen) (λ entry. rw (h entry.key entry.number)) (firsts entries))
 
--- a total and a record grow by the entries of a reply: with any later entries, the final total is the same before and after
+-- The entries of a reply raise the total from `total` to `new_total`, and update the record.
 abbrev pub Moves : (List ℕ → Bool) → ℕ → ℕ → Seen → Seen → List Entry → Type 0
 Moves p total new_total seen new_seen entries =
     (rest : List Entry) → new_total + unseen_total p new_seen rest ≡ total + unseen_total p seen (entries ++ rest)
@@ -59,11 +59,11 @@ adds : (p : List ℕ → Bool) (total new_total : ℕ) (seen new_seen : Seen) (e
 adds p total new_total seen new_seen entry more kept rest =
     let later = same_unseen p (with_entry entry seen) new_seen rest kept in omega (arith, next_entry p seen entry rest)
 
--- the charges of the bookings under these keys
+-- The sum of the charges of the bookings under these keys.
 abbrev pub charged : (List ℕ → Bool) → List Booking → ℕ
 charged p bookings = sum_by (λ (b : Booking). b.charge) (filter (λ (b : Booking). p b.key) bookings)
 
--- whether a booking with this key and number exists
+-- Whether a booking has this key and number.
 abbrev pub has_number : List Booking → Seen
 has_number bookings key number = list_any (is_numbered key number) bookings
 
@@ -109,11 +109,11 @@ charge_moves p club words moment =
       cancels = λ key member slot number booking k e c. charge_cancelled p club.bookings booking.key booking.number (refund_at booking moment);
     })
 
--- the refunds of the bookings under these keys
+-- The sum of the refunds of the bookings under these keys.
 abbrev pub refunded : (List ℕ → Bool) → List Booking → ℕ
 refunded p bookings = sum_by (λ (b : Booking). b.refund) (filter (λ (b : Booking). p b.key) bookings)
 
--- whether a cancelled booking with this key and number exists
+-- Whether a cancelled booking has this key and number.
 abbrev pub has_cancelled : List Booking → Seen
 has_cancelled bookings key number = list_any (λ (b : Booking). is_numbered key number b && b.cancelled) bookings
 
@@ -138,7 +138,7 @@ refund_again p bookings key number points booking e before =
     (grind (arith, there booking.key booking.number, self_numbered booking))
     (λ k n. grind (arith, there k n, numbered_back k n booking))
 
--- a cancellation edits one booking: no other booking has its key and number
+-- The function `mark` edits this booking only, because no other booking has its key and number.
 record IsMarkedAlone (mark : Booking → Booking) (bookings : List Booking) (booking : Booking) : Type 0 where
   front : List Booking
   back : List Booking

@@ -1,4 +1,4 @@
--- Points and places over runs: charges, debits, refunds and the office's cancellations.
+-- Lemmas about the points and the places of a club after a run.
 use Rattle.club_laws.proofs.{AnswerCases.{CommandRestsOn, FindsNothing, change_of, command_cases}, Common.{Command, CancelBooking, subst, ◌≡◌, ℕ, ◌+◌, Bool}}
 use Rattle.club_laws.proofs.Common.{false, List, [], ◌∷◌, ◌++◌, ap, ◌∙◌, arith, map, Some, None, refl, ◌≤◌, Option, sym, ◌-◌, not, filter, sum_by, find, Result}
 use Rattle.club_laws.proofs.Common.{All, MatchOption, option_map, bytes_eq, filter_agree, All-head, All-tail, All-filter, Booking, Club, IsSound, empty_club}
@@ -17,16 +17,13 @@ use Rattle.std.proofs.lemmas.List.{Filters.sum_by-filter_both, Sums.sum_by-cons}
 use Rattle.club_rows.specs.Rows.{IsBooking}
 use Rattle.club_core.specs.declared.command.OfficeAnswer.TheVariants.{NotDone}
 
--- ---- the office's cancellation: its entry has the first charge that replies state for the booking, which is the charge on record
-
--- an entry with the found booking's key and number equals the entry with the key and number of the search
 entry_alike : (bookings : List Booking) (key : List ℕ) (number points told : ℕ) (booking : Booking) → find (is_numbered key number) bookings ≡ Some booking
     → points ≡ told → Path Entry (record { key = booking.key; number = booking.number; points = points }) (record { key = key; number = number; points = told })
 entry_alike bookings key number points told booking found same =
     let it = numbered key number booking (found_passes (is_numbered key number) bookings booking found) in
     λ i. record { key = it.0 i; number = it.1 i; points = same i }
 
--- an event increases the total of the refunds by the refund that it gives
+-- An event increases the total of the refunds by the refund that the event gives.
 abbrev MovesRefunds : (List ℕ → Bool) → List Entry → Club → Event → Outcome → Type 0
 MovesRefunds p told club event next =
     Moves p (refunded p club.bookings) (refunded p next.club.bookings) (has_cancelled club.bookings) (has_cancelled next.club.bookings)
@@ -52,8 +49,6 @@ module _ (p : List ℕ → Bool) (told : List Entry) (club : Club) (s : IsSound 
       (refund_new p club.bookings key number booking.charge booking s.unique.bookings r.3 r.4 (row.kept r.4))
   refund_done c r = λ rest. let kept : (after (change_of club c r) club).bookings ≡ club.bookings = grind arith in rw kept refl
 
--- ---- charges, refunds and places over a run from the empty club
-
 charge_step : (p : List ℕ → Bool) (club : Club) (event : Event) → MovesCharge p club.bookings (step club event).club.bookings (step club event).reply
 charge_step p club (Asked words moment) = charge_moves p club words moment
 charge_step p club (Commanded command) =
@@ -72,7 +67,6 @@ refund_step p told club (Commanded command) later s tells =
     (λ fault rest. let none : refund_given told (Commanded command) (ToOffice (NotDone fault)) ≡ [] = grind arith in rw none refl) command
     (refund_kept p told club s later tells command) (refund_done p told club s later tells command)
 
--- over a run, the total of the charges grows by the first charge of each booking that is new on record
 charges_of_run : (p : List ℕ → Bool) (club : Club) (events : List Event) → charged p (club_after club events).bookings
     ≡ charged p club.bookings + unseen_total p (has_number club.bookings) (charges_of_replies (replies_of club events))
 charges_of_run p club [] = omega arith
@@ -80,7 +74,6 @@ charges_of_run p club (event ∷ events) =
     let next = (step club event).club in
     charges_of_run p next events ∙ charge_step p club event (charges_of_replies (replies_of next events))
 
--- over a run with these charges in its replies, the total of the refunds grows by the first refund of each booking
 refunds_of_run : (p : List ℕ → Bool) (told : List Entry) (club : Club) (events : List Event) → IsSound club → All IsEvent events
     → Tells told club.bookings (charges_of_replies (replies_of club events)) → refunded p (club_after club events).bookings
     ≡ refunded p club.bookings + unseen_total p (has_cancelled club.bookings) (refunds_by told events (replies_of club events))
@@ -92,7 +85,6 @@ refunds_of_run p told club (event ∷ events) s h tells =
     (λ key number. tells key number ∙ told_by_step club event later key number)
     ∙ refund_step p told club event (charge_of_reply (step club event).reply ++ later) s tells (refunds_by told events (replies_of next events))
 
--- if nothing is on record, each first entry counts
 all_count : (keys : List (List ℕ)) (seen : Seen) (entries : List Entry) → ((key : List ℕ) (number : ℕ) → seen key number ≡ false)
     → unseen_total (is_among keys) seen entries ≡ total_under keys entries
 all_count keys seen entries none =
@@ -100,7 +92,6 @@ all_count keys seen entries none =
     (filter_agree (counts (is_among keys) seen) (λ (entry : Entry). is_among keys entry.key)
     (λ entry. let new = none entry.key entry.number in grind arith) (firsts entries))
 
--- the total charge of bookings is their total cost plus their total refund
 cost_and_refund : (bookings : List Booking) → All IsBooking bookings → sum_by (λ (b : Booking). b.charge) bookings
     ≡ sum_by cost_of bookings + sum_by (λ (b : Booking). b.refund) bookings
 cost_and_refund [] h = refl
@@ -145,7 +136,6 @@ conserved events name member h e =
     at_found (λ (m : Member). sum_by cost_of (bookings_of m.name club) ≤ m.credited) (λ (m : Member). bytes_eq m.name name) club.members member s.balances e in
     record { balance_adds_up = omega arith; coverage = covered }
 
--- without debits by the office, no debit counts; without cancellations by the office, all refunds are those in the replies
 no_debits : (name : List ℕ) (events : List Event) (replies : List EventReply) → All IsNoCorrection events → debits_accepted name events replies ≡ 0
 no_debits name [] replies h = grind arith
 no_debits name (event ∷ events) [] h = grind arith
@@ -174,7 +164,6 @@ conserved_without_corrections events name member h without e =
     let all = rw (refunds_told (charges_of_replies replies) empty_club events without) at ((conserved events name member h e).balance_adds_up) in
     omega arith
 
--- in a sound club, a slot has a place for each person who booked it
 pub has_places : SoundClubsHavePlaces
 has_places club slot sound = go (facility_named slot.facility club) refl
   where
@@ -188,8 +177,6 @@ has_places club slot sound = go (facility_named slot.facility club) refl
 
 pub has_room : NeverOverbooks
 has_room events slot h = has_places (club_after empty_club events) slot (sound_run empty_club events sound_empty h)
-
--- ---- the points that a member has used, computed from its keys' bookings and from its account
 
 pub spent_within : OwnBookings → SpendsWithinItsMember
 spent_within own club key here =

@@ -1,4 +1,4 @@
--- A served request is on record, stays on record, and determines the answer to each repeat.
+-- Lemmas for the proof that a repeated request gets its first reply.
 use Rattle.club_laws.proofs.{AnswerCases.{command_cases, written, answer_cases, Knows, own_booking, known_rows, whole_basis}, Common.{Option, Commanded}}
 use Rattle.club_laws.proofs.Common.{CancelBooking, ToOffice, Result, OfficeFault, command_outcome, map, true, ◌≡◌, ℕ, List, [], ◌∷◌, Some, refl, arith, find}
 use Rattle.club_laws.proofs.Common.{ap, option_map, ◌∙◌, ◌++◌, sym, Member, ◌&&◌, ◌==◌, Key, Booking, Verdict, Change, InsertBooking, MarkCancelled, Reply}
@@ -12,7 +12,7 @@ use Rattle.club_laws.specs.Repeats.{CancellationsReturnTheRecord, refund_by_offi
 use Rattle.club_core.specs.declared.request.Request.TheVariants as asked
 use Rattle.club_core.specs.Verdict as verdicts
 
--- the booking is the one that the request asks for, and has the values of the reply
+-- The request asks for this booking, and the reply has the booking's values.
 abbrev pub IsAgain : Booking → Request → Reply → Type 0
 IsAgain booking (asked.Book slot number guests) reply =
     ((same_slot booking.slot slot && booking.guests == guests) ≡ true) × (reply ≡ Booked booking.key booking.number booking.charge booking.left)
@@ -20,7 +20,7 @@ IsAgain booking (asked.Cancel slot number) reply =
     (same_slot booking.slot slot ≡ true) × (booking.cancelled ≡ true) × (reply ≡ Cancelled booking.key booking.number booking.refund)
 IsAgain booking request reply = ⊥
 
--- the served request is on record, under the key that the words name
+-- The served request is on record, under the key that its pass names.
 pub record IsRecorded (bookings : List Booking) (words : Words) (reply : Reply) : Type 0 where
   pub key : List ℕ
   pub key_name : key_of words.pass ≡ Some key
@@ -30,14 +30,12 @@ pub record IsRecorded (bookings : List Booking) (words : Words) (reply : Reply) 
   pub found : booking_under key number bookings ≡ Some booking
   pub again : IsAgain booking words.request reply
 
--- a cancellation doesn't change a booking that was cancelled before
 still_again : (booking : Booking) (name : List ℕ) (n refund : ℕ) (request : Request) (reply : Reply) → IsAgain booking request reply
     → IsAgain (cancelled_booking name n refund booking) request reply
 still_again booking name n refund (asked.Book slot number guests) reply h = h
 still_again booking name n refund (asked.Cancel slot number) reply h = grind arith
 still_again booking name n refund request reply h = absurd h
 
--- neither a new booking nor a cancellation removes a served request from the record
 stays_after : (club : Club) (change : Change) (words : Words) (reply : Reply) → IsRecorded club.bookings words reply
     → IsRecorded (after change club).bookings words reply
 stays_after club (InsertBooking booking member) words reply h = record {
@@ -67,7 +65,6 @@ pub stays_on_record : (club : Club) (events : List Event) (words : Words) (reply
 stays_on_record club events words reply =
     kept_by_run (λ (c : Club). IsRecorded c.bookings words reply) (λ c change. stays_after c change words reply) club events
 
--- a request is recorded under the key that its words name
 recorded : (club : Club) (words : Words) (bookings : List Booking) (reply : Reply) (key : Key) (member : Member) (number : ℕ) (booking : Booking)
     → Knows club words key member → request_number words.request ≡ Some number → find (is_numbered key.name number) bookings ≡ Some booking
     → IsAgain booking words.request reply → IsRecorded bookings words reply
@@ -96,9 +93,6 @@ recorded_when_served club words moment =
           (rw e (grind (arith, self_numbered booking)));
     })
 
--- ---- the record determines the answer to a repeated request
-
--- the view of an accepted request includes the booking on record
 seen_on_record : (club : Club) (words : Words) (moment : ℕ) (basis : Basis) (reply : Reply) (r : IsRecorded club.bookings words reply)
     → basis_of club words ≡ Some basis → (view_of basis words.request moment).booking ≡ Some r.booking
 seen_on_record club words moment basis reply r is =
@@ -123,7 +117,6 @@ step_by_record set signature club words moment reply r a =
     let decided = decides_by_record r.booking words.request reply (view_of a.basis words.request moment) moment seen r.again in
     rw (a.known, a.read) (ap (verdict_outcome club) (accepted ∙ decided))
 
--- a request that was served within a history is on record at its end
 pub recorded_since : (club : Club) (history : List Event) (words : Words) (reply : Reply) → WasServed club history words reply
     → IsRecorded (club_after club history).bookings words reply
 recorded_since club history words reply w =
@@ -160,9 +153,6 @@ left_out set signature club history words moment reply rest w a =
           ∙ (ap (λ (outcome : Outcome). club_after outcome.club rest) again ∙ sym (club_after-append club history rest));
     }
 
--- ---- a cancellation after the office's cancellation gets the recorded refund
-
--- after the office's cancellation, the booking is cancelled, with its whole charge or its earlier refund
 recorded_by_office : (club : Club) (words : Words) (key : List ℕ) (number : ℕ) (booking : Booking) → key_of words.pass ≡ Some key
     → words.request ≡ asked.Cancel booking.slot number → booking_under key number club.bookings ≡ Some booking
     → (step club (Commanded (CancelBooking key number))).reply ≡ ToOffice Done

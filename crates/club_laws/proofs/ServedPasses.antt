@@ -1,4 +1,4 @@
--- The properties of a served request's pass. Also: a revoked key stays revoked.
+-- Lemmas about the passes of served requests, and about revoked keys.
 use Rattle.club_laws.proofs.{AnswerCases.{known_rows, command_cases}, Common.{◌≡◌, ℕ, ◌+◌, true, false, List, [], ◌∷◌, ◌++◌, Option, Some, None, Result, Ok}}
 use Rattle.club_laws.proofs.Common.{Err, arith, All, refl, sym, ap, ◌∙◌, subst, option_map, false_from_ne_true, All-nil, All-cons, All-head, All-tail}
 use Rattle.club_laws.proofs.Common.{TestsTheSet, TestsTheSignature, Key, Request, Pass, Words, is_signed_under, Club, key_named, Basis, basis_of, key_of}
@@ -12,13 +12,12 @@ use Rattle.club_core.specs.{Verdict.{refusal_verdict, verdict_of}, declared.{com
 use Rattle.club_core.specs.declared.refusal.Refusal.TheVariants.{NotVerified, KeyRevoked, CaveatNotUnderstood, CaveatDenies}
 use Rattle.club_laws.specs.{Revoked.{ServesNoRevokedKey, WasRevoked}, SingleRequest.{RefusesTheUnsigned, MoreCaveatsNeverOpenMore, blind_refusal, words_with}}
 
--- the pass passes each test that an answer makes
+-- The pass passes each test that the rules make before they decide the request.
 pub record PassesTests (pass : Pass) (request : Request) (moment : ℕ) (basis : Basis) : Type 0 where
   pub signed : is_signed_under pass basis.key moment ≡ true
   pub not_revoked : basis.key.revoked ≡ false
   pub faultless : first_fault_of pass.caveats (ask_of (view_of basis request moment) request moment) ≡ None
 
--- the pass of a served request passes each test
 served_under : (pass : Pass) (request : Request) (moment : ℕ) (basis : Basis) → IsServed (answer_to (Ok pass) request moment (Some basis)).reply
     → PassesTests pass request moment basis
 served_under pass request moment basis h =
@@ -34,7 +33,6 @@ all_allowed tests n (None ∷ caveats) ask e = absurd (cc)
 all_allowed tests n (Some caveat ∷ caveats) ask e =
     All-cons (IsAllowedBy ask) (Some caveat) caveats ((tests caveat ask).1 (grind arith)) (all_allowed tests (n + 1) caveats ask (grind arith))
 
--- a list of caveats that all allow the request has no fault
 none_at_fault : TestsTheSet → (n : ℕ) (caveats : List (Option Caveat)) (ask : Ask) → All (IsAllowedBy ask) caveats → first_fault_from n caveats ask ≡ None
 none_at_fault tests n [] ask h = refl
 none_at_fault tests n (None ∷ caveats) ask h = absurd (All-head (IsAllowedBy ask) None caveats h)
@@ -42,7 +40,6 @@ none_at_fault tests n (Some caveat ∷ caveats) ask h =
     let permitted = (tests caveat ask).0 (All-head (IsAllowedBy ask) (Some caveat) caveats h) in
     rw permitted (none_at_fault tests (n + 1) caveats ask (All-tail (IsAllowedBy ask) (Some caveat) caveats h))
 
--- an accepted request gets the decision's verdict
 pub accepted_under : TestsTheSet → TestsTheSignature → (pass : Pass) (request : Request) (moment : ℕ) (basis : Basis)
     → IsAcceptedPass pass request moment basis → answer_to (Ok pass) request moment (Some basis) ≡ verdict_of (view_of basis request moment) request moment
 accepted_under set signature pass request moment basis h =
@@ -51,14 +48,12 @@ accepted_under set signature pass request moment basis h =
     let faultless = none_at_fault set 1 pass.caveats (ask_of (view_of basis request moment) request moment) h.permission in
     grind arith
 
--- a prefix of a list of caveats without a fault has no fault
 pub faultless_front : (n : ℕ) (caveats more : List (Option Caveat)) (ask : Ask) → first_fault_from n (caveats ++ more) ask ≡ None
     → first_fault_from n caveats ask ≡ None
 faultless_front n [] more ask e = refl
 faultless_front n (None ∷ caveats) more ask e = absurd (cc)
 faultless_front n (Some caveat ∷ caveats) more ask e = grind (arith, faultless_front (n + 1) caveats more ask)
 
--- the pass of a served request entitles its holder to the request
 pub served_entitled : TestsTheSet → TestsTheSignature → (words : Words) (moment : ℕ) (club : Club) (pass : Result Pass PassFault) (basis : Option Basis)
     → words.pass ≡ pass → basis_of club words ≡ basis → IsServed (answer_to pass words.request moment basis).reply → IsEntitled club words moment
 served_entitled set signature words moment club (Err fault) basis e f h = absurd (h (form_refusal fault) refl)
@@ -78,11 +73,9 @@ served_entitled set signature words moment club (Ok pass) (Some basis) e f h =
       permission = all_allowed set 1 pass.caveats (ask_of (view_of basis words.request moment) words.request moment) accepted.faultless;
     }
 
--- without a basis, a request gets this refusal
 pub refused_blind : (pass : Result Pass PassFault) (request : Request) (moment : ℕ) → answer_to pass request moment None ≡ refusal_verdict (blind_refusal pass)
 refused_blind pass request moment = grind arith
 
--- the key of a basis is the key that the pass names
 seen_key : (club : Club) (words : Words) (key : Key) → key_of words.pass ≡ Some key.name → key_named key.name club ≡ Some key
     → (basis : Basis) → basis_of club words ≡ Some basis → key ≡ basis.key
 seen_key club words key n row basis e =
@@ -97,7 +90,6 @@ unsigned_in signature words moment club pass key e n row unsigned =
     let seen = seen_key club words key (ap key_of e ∙ n) row in
     grind arith
 
--- if a pass with more caveats is served, the pass without them gets the same answer under the same basis
 wide_under : (wide narrow : Pass) (more : List (Option Caveat)) (request : Request) (moment : ℕ) (basis : Option Basis)
     → narrow.caveats ≡ wide.caveats ++ more → ((b : Basis) → basis ≡ Some b → is_signed_under wide b.key moment ≡ true)
     → IsServed (answer_to (Ok narrow) request moment basis).reply → answer_to (Ok wide) request moment basis ≡ answer_to (Ok narrow) request moment basis
@@ -109,7 +101,6 @@ wide_under wide narrow more request moment (Some basis) e signed h =
     let is_signed = signed basis refl in
     grind arith
 
--- in one club, both passes have the same basis, since they name the same key
 pub wide_in : TestsTheSignature → MoreCaveatsNeverOpenMore
 wide_in signature wide narrow more key request moment club w n e row signed h =
     let words = words_with narrow request in
@@ -118,8 +109,6 @@ wide_in signature wide narrow more key request moment club w n e row signed h =
     λ b is. rw (← seen_key club words key n row b is) ((signature wide key moment).1 signed) in
     ap (λ (b : Option Basis). answer_to (Ok wide) request moment b) same
     ∙ wide_under wide narrow more request moment (basis_of club words) e of_row h
-
--- ---- a revoked key stays revoked
 
 abbrev IsRevoked : List ℕ → Club → Type 0
 IsRevoked name club = option_map (λ (key : Key). key.revoked) (key_named name club) ≡ Some true
@@ -131,7 +120,6 @@ stays_revoked name club (ReplaceRoot other former root until) h =
     grind (arith, find-map (has_name name) (rotated_key other root until) (λ k. refl) club.keys)
 stays_revoked name club change h = h
 
--- if the office revokes a key, the key is known and is revoked afterwards
 now_revoked : (club : Club) (name : List ℕ) → (step club (Commanded (RevokeKey name))).reply ≡ ToOffice Done
     → IsRevoked name (step club (Commanded (RevokeKey name))).club
 now_revoked club name =
@@ -141,7 +129,6 @@ now_revoked club name =
     (λ r returned.
     let known = r.1 in grind (arith, find-map (has_name name) (revoked_key name) (λ k. refl) club.keys, found_passes (has_name name) club.keys r.0))
 
--- a key that was revoked within a history is revoked at its end
 revoked_since : (club : Club) (history : List Event) (name : List ℕ) → WasRevoked club history name → IsRevoked name (club_after club history)
 revoked_since club history name was =
     let start = club_after club was.front in
@@ -151,7 +138,6 @@ revoked_since club history name was =
     in
     subst (IsRevoked name) (sym end) (kept_by_run (IsRevoked name) (stays_revoked name) then was.rest (now_revoked start name was.reply_is))
 
--- the key of a served request isn't revoked
 pub serves_nothing : TestsTheSet → TestsTheSignature → ServesNoRevokedKey
 serves_nothing set signature club history name words moment was named served =
     let end = club_after club history in

@@ -1,4 +1,5 @@
--- The solo law: after each event of the club, the member's own entry for the event gives the member's new part.
+-- Lemmas for the proof that a member's part and own events determine the replies to the member's
+-- requests.
 use Rattle.club_laws.proofs.{AnswerCases.{known_rows, whole_basis, is_own_key, answer_cases, written, change_of, command_cases}, Common.{subst, ◌≡◌, ℕ, ◌+◌}}
 use Rattle.club_laws.proofs.Common.{Bool, List, Option, Some, None, option_map, refl, sym, ap, true, false, cond, [], ◌∷◌, Result, ◌∙◌, arith, ◌++◌, map, Slot}
 use Rattle.club_laws.proofs.Common.{Facility, Booking, persons_of, refund_at, is_in, request_slot, Words, Club, key_named, member_named, keys_of, is_key_of}
@@ -20,16 +21,13 @@ state_with facility taken closed = record { facility = facility; held = record {
 abbrev with_outside : SlotUse → SlotState → SlotState
 with_outside others state = state_with state.facility (state.held.taken + others.taken) others.closed
 
--- the bookings in a member's part are the bookings of the member
 own_bookings : (name : List ℕ) (club : Club) → bookings_of name (part_of name club) ≡ bookings_of name club
 own_bookings name club = rw (filter_twice (is_owned name) club.keys) (filter_twice (is_under_one (keys_of name club)) club.bookings)
 
--- the state of a slot is its state in the part plus the persons of others
 own_state : (name : List ℕ) (club : Club) (slot : Option Slot) → with_outside (outside name club slot) (state_of (part_of name club) slot) ≡ state_of club slot
 own_state name club None = refl
 own_state name club (Some slot) = rw (sum_in_parts persons_of (is_in slot) (λ (booking : Booking). is_key_of name club booking.key) club.bookings)
 
--- the member's part has the rows of the member's keys; with others' persons in the slot, it gives the basis of the member's request
 pub own_basis : (name : List ℕ) (club : Club) (words : Words) (basis : Basis) → basis_of club words ≡ Some basis → basis.member.name ≡ name
     → option_map (with_others (outside name club (request_slot words.request))) (basis_of (part_of name club) words) ≡ Some basis
 own_basis name club words basis e same =
@@ -45,9 +43,7 @@ own_basis name club words basis e same =
     (rw (rests.key_name, key_in, member_in, own_bookings own club, own_state own club (request_slot words.request))
     (ap Some (sym (whole_basis club words basis e))))
 
--- ---- the member's own entry for an event changes the member's part as the event does
-
--- the part after the member's own entry for an event is this club, and the reply is this reply
+-- The member's own event for an event of the club leads to this part and this reply.
 abbrev pub Follows : Club → List OwnEvent → EventReply → Club → Type 0
 Follows part [] reply next = next ≡ part
 Follows part (OwnChange change ∷ []) reply next = next ≡ after change part
@@ -57,7 +53,6 @@ Follows part (OwnAsk words moment others ∷ []) reply next =
 Follows part own reply next = ⊥
 
 module _ (name : List ℕ) (club : Club) (keyed : IsKeyed club) where
-  -- a request under one of the member's keys makes the same change in the part, and a request under another member's key makes none
   asked_in_part : (words : Words) (moment : ℕ) (key : List ℕ) → key_of words.pass ≡ Some key
       → part_of name (after_change (verdict_in club words moment).change club)
       ≡ cond (is_key_of name club key) (after_change (verdict_in club words moment).change (part_of name club)) (part_of name club)
@@ -84,7 +79,7 @@ module _ (name : List ℕ) (club : Club) (keyed : IsKeyed club) where
       let theirs = owner club keyed.unique basis.key k.known name in
       grind (arith, bytes_eq-Decides basis.member.name name, bytes_eq-Decides basis.member.name basis.key.member)
 
-  -- an answer changes the part as the member's own entry does
+  -- The answer changes the part in the same way as the member's own event.
   abbrev FollowsAnswer : Verdict → List OwnEvent → Type 0
   FollowsAnswer verdict own = Follows (part_of name club) own (ToMember verdict.reply) (part_of name (after_change verdict.change club))
 
@@ -117,7 +112,6 @@ module _ (name : List ℕ) (club : Club) (keyed : IsKeyed club) where
       let changed = part_changed name club (change_of club command r) keyed.known fresh in
       grind arith)
 
--- an event changes the member's part as the member's own entry does
 pub follows : (name : List ℕ) (club : Club) (event : Event) → IsKeyed club
     → Follows (part_of name club) (own_part name club event) (step club event).reply (part_of name (step club event).club)
 follows name club (Asked words moment) keyed = ask_follows name club keyed words moment (basis_of club words) refl
@@ -126,9 +120,6 @@ follows name club (Commanded command) keyed = command_follows name club keyed co
 pub leaves_the_part : LeavesThePart
 leaves_the_part name club event sound none = rw none at (follows name club event (keyed_from_sound club sound))
 
--- ---- the solo law, by induction over the events
-
--- an event of the run and the member's own entry for it extend both runs alike
 one_more : (own : List OwnEvent) (part next last : Club) (reply : EventReply) (rest : List OwnEvent) (returned : List EventReply)
     → Follows part own reply next → (returned ≡ map ToMember (solo_replies next rest)) × (solo_part next rest ≡ last)
     → (cond (is_ask own) (reply ∷ returned) returned ≡ map ToMember (solo_replies part (own ++ rest))) × (solo_part part (own ++ rest) ≡ last)
@@ -153,7 +144,6 @@ solo_law name club events sound = (solo name club events (keyed_from_sound club 
 pub ends_with_the_part : EndsWithThePart
 ends_with_the_part name club events sound = (solo name club events (keyed_from_sound club sound)).1
 
--- converting replies to another presentation doesn't change which replies are the member's
 replies_mapped : {A B : Type 0} (f : A → B) (name : List ℕ) (club : Club) (events : List Event) (replies : List A)
     → replies_to name club events (map f replies) ≡ map f (replies_to name club events replies)
 replies_mapped f name club [] replies = refl

@@ -1,4 +1,4 @@
--- A change whose values are within their limits and match the club's rows keeps the club sound.
+-- Lemmas for the proof that a change which meets the conditions of `Suits` keeps the club sound.
 use Rattle.club_laws.proofs.Common.{ReplaceNumbers, TakeCredit, ◌≡◌, ◌≢◌, ℕ, ◌≤◌, false, true, List, [], ◌∷◌, ◌++◌, get_or, map, arith, All, Contains, sum_by}
 use Rattle.club_laws.proofs.Common.{All-push, All-map, both_ways, Slot, Member, Facility, Key, Booking, persons_of, same_slot, cost_of, is_in, taken_in}
 use Rattle.club_laws.proofs.Common.{revoked_key, rotated_key, after, Club, is_key_of, bookings_of, IsSound, bytes_eq-Decides, InsertMember, AddCredit}
@@ -11,7 +11,6 @@ use Rattle.std.proofs.lemmas.{Bool.Decides.nat_tests, List.Quantifiers.all_pairs
 use Rattle.club_rows.specs.Rows.{IsMember, IsFacility, IsKey, IsSlot, IsBooking}
 use Rattle.club_laws.specs.SoundRuns.{Suits, SuitingChangesKeepSound}
 
--- a sound club stays sound after a booking that suits it
 booked_sound : (club : Club) → IsSound club → (booking : Booking) (member : List ℕ) → Suits (InsertBooking booking member) club
     → IsSound (after (InsertBooking booking member) club)
 booked_sound club s booking member h =

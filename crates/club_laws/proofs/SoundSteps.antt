@@ -1,4 +1,4 @@
--- Steps and runs keep a sound club, and each change fits.
+-- Lemmas for the proof that each step of a run keeps the club sound.
 use Rattle.club_laws.proofs.{AnswerCases.{CommandRestsOn, change_of, Knows, Books, Cancels, written, answer_cases, command_cases}, Common.CancelBooking}
 use Rattle.club_laws.proofs.Common.{MarkCancelled, booking_under, SetFacility, ReplaceNumbers, facility_with_numbers, are_limits, AddCredit, Debit, TakeCredit}
 use Rattle.club_laws.proofs.Common.{debited_member, member_named, None, ◌≡◌, ◌≢◌, ℕ, ◌≤◌, Bool, false, List, [], ◌∷◌, ◌++◌, get_or, map, ap, arith, ◌+◌, true}
@@ -19,7 +19,6 @@ use Rattle.club_core.specs.Store.{IsTrueOf}
 use Rattle.club_laws.specs.SoundRuns.{ChangesFit, RunsKeepSound, StepsKeepSound}
 use Rattle.club_core.specs.declared.request.Request.TheVariants as asked
 
--- a member who isn't in the club has no bookings
 pub nothing_booked : (club : Club) (member : Member) → HasReferences club → All (λ (other : Member). other.name ≢ member.name) club.members
     → sum_by cost_of (bookings_of member.name club) ≤ member.credited
 nothing_booked club member refs fresh =
@@ -30,7 +29,6 @@ nothing_booked club member refs fresh =
     filter_none (λ (booking : Booking). is_key_of member.name club booking.key) club.bookings (λ k d short. rw no_keys) in
     rw none (omega arith)
 
--- nobody has booked a slot of a facility that isn't in the club
 pub nobody_in : (club : Club) (slot : Slot) → HasReferences club → All (λ (other : Facility). other.name ≢ slot.facility) club.facilities
     → taken_in slot club.bookings ≡ 0
 nobody_in club slot refs fresh =
@@ -38,7 +36,6 @@ nobody_in club slot refs fresh =
     (filter_none (is_in slot) club.bookings (λ k d short.
     let differs = fresh_differs (λ (f : Facility). f.name) slot.facility _ club.facilities fresh (refs.facilities k d short) in grind arith))
 
--- a sound club stays sound if an edit of its keys respects the limits, and keeps names and members
 pub sound_edited : (root : Key → List ℕ) (older : Key → Option OlderRoot) (is_revoked : Key → Bool) (club : Club) → IsSound club
     → All IsKey (map (edited root older is_revoked) club.keys) → IsSound (record club { keys = map (edited root older is_revoked) club.keys })
 sound_edited root older is_revoked club s limits =
@@ -60,7 +57,6 @@ rotated_row name root until key new moment row =
     (λ _. record { root = row.root; until = moment }) (λ _. row.older) in
     assumption
 
--- a sound club stays sound if an edit of its members respects the limits, and keeps names and enough credit for the bookings
 pub sound_members : (credited quota : Member → ℕ) (club : Club) → IsSound club → All IsMember (map (edited_member credited quota) club.members)
     → All (λ (m : Member). sum_by cost_of (bookings_of m.name club) ≤ credited m) club.members
     → IsSound (record club { members = map (edited_member credited quota) club.members })
@@ -73,7 +69,6 @@ sound_members credited quota club s limits enough =
     let balances = All-map (λ (m : Member). sum_by cost_of (bookings_of m.name club) ≤ m.credited) edit club.members enough in
     assumption
 
--- a sound club stays sound after a credit up to the maximum
 pub sound_credit : (club : Club) (name : List ℕ) (points : ℕ) (member : Member) → member_named name club ≡ Some member
     → member.credited + points ≤ 999_999_999 → IsSound club → IsSound (after (AddCredit name points) club)
 sound_credit club name points member found few s =
@@ -86,7 +81,6 @@ sound_credit club name points member found few s =
     record { name = row.name; credited = grind arith; quota = row.quota }))
     (λ k d short. let before = s.balances k d short in grind arith)
 
--- a sound club stays sound after a debit of at most the balance
 pub sound_debit : (club : Club) (name : List ℕ) (points : ℕ) (member : Member) → member_named name club ≡ Some member
     → sum_by cost_of (bookings_of member.name club) + points ≤ member.credited → IsSound club → IsSound (after (TakeCredit name points) club)
 sound_debit club name points member found enough s =
@@ -101,7 +95,6 @@ sound_debit club name points member found enough s =
     let is = only_named (λ (m : Member). m.name) name club.members member s.unique.members found k d short in
     grind arith)
 
--- a sound club stays sound after a new quota
 pub sound_quota : (club : Club) (name : List ℕ) (quota : ℕ) → quota ≤ 99 → IsSound club → IsSound (after (ReplaceQuota name quota) club)
 sound_quota club name quota few s =
     let edit = member_with_quota name quota in
@@ -112,7 +105,6 @@ sound_quota club name quota few s =
     record { name = row.name; credited = row.credited; quota = grind arith }))
     (λ k d short. s.balances k d short)
 
--- a sound club stays sound after new numbers of a facility that leave a place for each person in each slot
 pub sound_numbers : (club : Club) (name : List ℕ) (places price opens shuts : ℕ) → are_limits places price opens shuts ≡ true
     → ((slot : Slot) → slot.facility ≡ name → taken_in slot club.bookings ≤ places) → IsSound club
     → IsSound (after (ReplaceNumbers name places price opens shuts) club)
@@ -136,7 +128,6 @@ sound_numbers club name places price opens shuts fit room s =
     grind (arith, bytes_eq-Decides (get_or club.facilities k d).name name)) in
     assumption
 
--- a sound club stays sound after a slot is opened
 pub sound_opened : (club : Club) (slot : Slot) → IsSound club → IsSound (after (MarkOpen slot) club)
 sound_opened club slot s =
     let stays : Slot → Bool = λ other. not (same_slot other slot) in
@@ -146,7 +137,6 @@ sound_opened club slot s =
     s.references.closed in
     assumption
 
--- a booking's row after a cancellation is within its limits, and costs no more than before
 module _ (key : List ℕ) (number refund : ℕ) (booking : Booking) (row : IsBooking booking) (small : is_marked key number booking ≡ true
     → refund ≤ booking.charge) where
   pub cancelled_row : IsBooking (cancelled_booking key number refund booking)
@@ -160,7 +150,6 @@ module _ (key : List ℕ) (number refund : ℕ) (booking : Booking) (row : IsBoo
   pub costs_no_more : cost_of (cancelled_booking key number refund booking) ≤ cost_of booking
   costs_no_more = let none = row.kept in grind arith
 
--- a sound club stays sound after a cancellation with a refund of at most the charge
 pub sound_marked : (club : Club) (booking : Booking) (member : List ℕ) (refund : ℕ)
     → booking_under booking.key booking.number club.bookings ≡ Some booking → refund ≤ booking.charge → IsSound club
     → IsSound (after (MarkCancelled booking member refund) club)
@@ -193,7 +182,6 @@ sound_marked club booking member refund found few s =
     in
     assumption
 
--- a sound club stays sound after an accepted command
 pub sound_command : (club : Club) → IsSound club → (c : Command) → IsCommand c → (r : CommandRestsOn club c) → IsSound (after (change_of club c r) club)
 sound_command club s (AddMember name quota) c r =
     let member : Member = record { name = name; credited = 0; quota = quota } in
@@ -261,8 +249,6 @@ sound_command club s (CloseSlot slot) c r =
     assumption
 sound_command club s (OpenSlot slot) c r = sound_opened club slot s
 
--- ---- a sound club stays sound after bookings and cancellations
-
 module _ (club : Club) (s : IsSound club) (words : Words) (key : Key) (member : Member) (k : Knows club words key member) where
   row_of_booking : (slot : Slot) (number guests : ℕ) (facility : Facility) → IsRequest (asked.Book slot number guests)
       → Books club key member slot number guests facility → IsBooking (written club key slot number guests facility)
@@ -323,8 +309,6 @@ sound_answer club words moment s r =
       cancels_recorded = λ key member slot number booking k e found same before. s;
       cancels = λ key member slot number booking k e c. sound_cancellation club s words key member k slot number moment booking c;
     })
-
--- ---- steps and runs keep a sound club sound, and each change fits the club
 
 pub sound_step : StepsKeepSound
 sound_step club (Asked words moment) s e = sound_answer club words moment s e

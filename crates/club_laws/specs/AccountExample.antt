@@ -1,16 +1,18 @@
--- An example of an account, evaluated by computation (ours). It counts the open bookings of all the member's keys, but no booking whose slot has begun.
+-- An example of a member's account. The account counts the open bookings under all keys of the
+-- member, but no booking whose slot has begun.
 use Rattle.std.specs.Prelude.{◌≡◌, true, List, [], ◌∷◌, Some, Ok, codes}
 use Rattle.club_core.specs.Examples.{opened_club, root, slot_at, noon, late, ask, served_booking, account}
 use Rattle.club_core.specs.{Run.{Event, Asked, Commanded, replies_of, ToMember, ToOffice}, declared.command.Command.TheVariants.AddKey}
 use Rattle.club_core.specs.declared.{command.OfficeAnswer.TheVariants.NewKey, reply.Reply.TheVariants.{Booked, Cancelled}, request.Request.Request}
 use Rattle.club_core.specs.declared.request.Request.TheVariants as asked
 
--- a request under amy's other key, at noon
+-- A request under amy's second key, at noon.
 abbrev pub ask_of_other_key : Request → Event
 ask_of_other_key request =
     Asked (record { pass = Ok (record { key = Some (codes "amy-2"); caveats = []; is_signed = λ _. true }); request = request }) noon
 
--- two bookings under each key; one slot has begun when the account is shown, and one booking was cancelled
+-- Amy makes two bookings under each of her keys, and cancels one of the four bookings. Another
+-- booking's slot has begun when she views the account.
 abbrev pub some_bookings : List Event
 some_bookings =
     Commanded (AddKey (codes "amy-2") (codes "amy") root)
@@ -22,7 +24,7 @@ some_bookings =
     ∷ ask asked.Account late
     ∷ []
 
--- two bookings are open
+-- The account has two open bookings.
 abbrev pub CountsOverAllKeys : Type 0
 CountsOverAllKeys =
     replies_of opened_club some_bookings

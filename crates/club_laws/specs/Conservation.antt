@@ -1,4 +1,4 @@
--- Points are neither created nor lost, and no slot is overbooked (ours).
+-- Laws about points and places. Points are neither created nor lost, and no slot is overbooked.
 use Rattle.std.specs.Prelude.{◌≡◌, ℕ, ◌+◌, ◌≤◌, List, All, sum_by, Some, MatchOption}
 use Rattle.club_values.specs.declared.slot.Slot.{Slot}
 use Rattle.club_rows.specs.declared.{facility.Facility.Facility, member.Member.Member}
@@ -7,9 +7,10 @@ use Rattle.club_core.specs.{Run.{Event, Commanded, replies_of, club_after, Event
 use Rattle.club_core.specs.declared.command.Command.TheVariants.{Debit, CancelBooking}
 use Rattle.club_laws.specs.Points.{keys_given, credits_accepted, debits_accepted, charges_of_replies, refunds_given, refunds_of_replies, total_under}
 
--- The member's balance, debits and first charge of each booking add up to its credits and the first refund of each booking. That refund is
--- the one in a cancellation's reply, or the whole charge if the office cancelled first. Without debits and cancellations by the office, the
--- debits are 0 and the refunds are those in the replies. The bookings never cost more than the credit, so the balance is never below 0.
+-- The sum of the member's balance, debits and charges equals the sum of the member's credits and
+-- refunds. For each booking, only the first charge and the first refund count. If the office
+-- cancelled a booking first, the booking's refund is its whole charge. The member's bookings never
+-- cost more than the points credited to the member, so the balance is never below 0.
 pub record IsConserved (club : Club) (events : List Event) (replies : List EventReply) (member : Member) : Type 0 where
   pub balance_adds_up :
       balance_of member (bookings_of member.name club) + debits_accepted member.name events replies
@@ -23,13 +24,14 @@ ConservesPoints =
     → member_named name (club_after empty_club events) ≡ Some member
     → IsConserved (club_after empty_club events) events (replies_of empty_club events) member
 
--- the event is neither a debit nor a cancellation by the office
+-- The event is neither a debit nor a cancellation by the office.
 abbrev pub IsNoCorrection : Event → Type 0
 IsNoCorrection (Commanded (Debit name points)) = ⊥
 IsNoCorrection (Commanded (CancelBooking key number)) = ⊥
 IsNoCorrection event = Unit {0}
 
--- without debits and cancellations by the office, the balance and the charges add up to the credits and the first refund of each booking
+-- If the office neither debits nor cancels, the sum of the member's balance and charges equals the
+-- sum of the member's credits and refunds.
 abbrev pub ConservesWithoutCorrections : Type 0
 ConservesWithoutCorrections =
     (events : List Event) (name : List ℕ) (member : Member) → All IsEvent events → All IsNoCorrection events
@@ -39,7 +41,7 @@ ConservesWithoutCorrections =
     balance_of member (bookings_of member.name (club_after empty_club events)) + total_under keys (charges_of_replies replies)
     ≡ credits_accepted member.name events replies + total_under keys (refunds_of_replies replies)
 
--- a slot has a place for each person who booked it, and a slot of an unknown facility has no bookings
+-- A slot has at least as many places as persons. A slot of an unknown facility has no persons.
 abbrev pub HasPlaces : Slot → Club → Type 0
 HasPlaces slot club =
     MatchOption (facility_named slot.facility club) (taken_in slot club.bookings ≡ 0) (λ (facility : Facility). taken_in slot club.bookings ≤ facility.places)

@@ -1,4 +1,4 @@
--- Example runs for the definitions of points and repeats, evaluated by computation (ours).
+-- Example runs for the definitions of points and repeats.
 use Rattle.club_core.specs.{Acceptance.IsAcceptedIn, Club.empty_club}
 use Rattle.club_core.specs.{Examples.{served_cancellation, served_booking, opening, opened_club, slot_at, noon, late, ask}, Pass.Words}
 use Rattle.club_core.specs.{Run.{ToOffice, Event, Commanded, replies_of, club_after, EventReply}, declared.command.Command.TheVariants.{Debit, CancelBooking}}
@@ -8,11 +8,12 @@ use Rattle.pass_caveats.specs.declared.caveat.Caveat.TheVariants.{Spend}
 use Rattle.club_core.specs.declared.request.Request.TheVariants as asked
 use Rattle.club_laws.specs.{Points.{keys_given, credits_accepted, debits_accepted, charges_of_replies, refunds_given, total_under}, Repeats.WasServed}
 
--- twelve hours before the slot at 18 o'clock begins
+-- Twelve hours before the slot at 18 o'clock begins.
 abbrev pub at_six : ℕ
 at_six = 29_626_920
 
--- a member's requests: two bookings, a repeat of the first, its cancellation, and repeats of the cancellation and the booking
+-- A member makes two bookings, and repeats the request for the booking at 18. The member then
+-- cancels this booking, and repeats the cancellation and the request for the booking.
 abbrev pub some_events : List Event
 some_events =
     opening
@@ -24,26 +25,29 @@ some_events =
     ∷ ask (asked.Book (slot_at 18) 7 2) noon
     ∷ []
 
--- the member's charges, credits and refunds, computed from these events and replies
+-- The member's charges, credits and refunds, computed from these events and replies.
 pub record AreFigures (events : List Event) (replies : List EventReply) (charged credited refunded : ℕ) : Type 0 where
   pub charges : total_under (keys_given (codes "amy") events replies) (charges_of_replies replies) ≡ charged
   pub credits : credits_accepted (codes "amy") events replies ≡ credited
   pub refunds : total_under (keys_given (codes "amy") events replies) (refunds_given events replies) ≡ refunded
 
--- 600 and 200 points are charged, 10,000 are credited, and half of the 600 is refunded
+-- The bookings cost 600 and 200 points. The member is credited 10,000 points, and the refund is
+-- half of the 600 points.
 abbrev pub CountsEachOnce : Type 0
 CountsEachOnce = AreFigures some_events (replies_of empty_club some_events) 800 10_000 300
 
--- two more debits, of 400 and of 9,101 points; the second is more than the balance
+-- The office also debits 400 points, and then tries to debit 9,101 points, which are more than the
+-- balance.
 abbrev pub debited_events : List Event
 debited_events = some_events ++ Commanded (Debit (codes "amy") 400) ∷ Commanded (Debit (codes "amy") 9_101) ∷ []
 
--- 400 points are debited; the charges, credits and refunds are those without the debits
+-- The debits are 400 points. The debits don't change the charges, credits and refunds.
 pub record CountsADebit : Type 0 where
   pub figures : AreFigures debited_events (replies_of empty_club debited_events) 800 10_000 300
   pub debits : debits_accepted (codes "amy") debited_events (replies_of empty_club debited_events) ≡ 400
 
--- the office cancels the booking at 19 and the already cancelled one at 18, which refunds nothing more; then the member cancels and repeats the one at 19
+-- The office cancels both bookings, but the booking at 18 is already cancelled. Then the member
+-- cancels the booking at 19, and repeats the request for this booking.
 abbrev pub cancelled_events : List Event
 cancelled_events =
     some_events
@@ -53,29 +57,33 @@ cancelled_events =
     ∷ ask (asked.Book (slot_at 19) 8 0) late
     ∷ []
 
--- all 200 points of that booking are refunded, in addition to half of the 600
+-- The refunds are the whole 200 points of the booking at 19, and half of the 600 points of the
+-- booking at 18.
 abbrev pub CountsACancellationOnce : Type 0
 CountsACancellationOnce = AreFigures cancelled_events (replies_of empty_club cancelled_events) 800 10_000 500
 
--- after the office's cancellation, a repeated cancellation gets the recorded refund, and a repeated booking gets the first reply
+-- The office cancels a booking. If the member then cancels the booking, the reply states the
+-- recorded refund. If the member then repeats the request for the booking, the reply is the first
+-- reply.
 abbrev pub RepeatsAfterTheOffice : Type 0
 RepeatsAfterTheOffice =
     replies_of (club_after empty_club some_events)
     (Commanded (CancelBooking (codes "amy-1") 8) ∷ ask (asked.Cancel (slot_at 19) 8) late ∷ ask (asked.Book (slot_at 19) 8 0) late ∷ [])
     ≡ ToOffice Done ∷ served_cancellation 8 200 ∷ served_booking 8 200 3 ∷ []
 
--- a booking, then its cancellation
+-- A member makes a booking and cancels it.
 abbrev pub booked_then_cancelled : List Event
 booked_then_cancelled = ask (asked.Book (slot_at 18) 7 2) noon ∷ ask (asked.Cancel (slot_at 18) 7) noon ∷ []
 
--- the request for the booking, under a pass of its key that may spend nothing
+-- A repeat of the request for the booking. Its pass has the same key, and a caveat that allows no
+-- spending.
 abbrev pub words_again : Words
 words_again = record {
   pass = Ok (record { key = Some (codes "amy-1"); caveats = Some (Spend 0) ∷ []; is_signed = λ _. true });
   request = asked.Book (slot_at 18) 7 2;
 }
 
--- the words repeat a served booking, and are accepted even after its slot has begun
+-- The request repeats a served booking, and its pass is accepted.
 pub record IsAcceptedRepeat (words : Words) (moment : ℕ) : Type 0 where
   pub was_served : WasServed opened_club booked_then_cancelled words (Booked (codes "amy-1") 7 600 1)
   pub acceptance : IsAcceptedIn (club_after opened_club booked_then_cancelled) words moment

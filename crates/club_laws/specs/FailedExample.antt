@@ -1,4 +1,4 @@
--- An example run with a failed credit and a failed booking, evaluated by computation (ours).
+-- An example run in which a credit and a booking fail.
 use Rattle.std.specs.Prelude.{◌≡◌, List, [], ◌∷◌, ◌++◌, Option, Some, None, is_none, map, codes}
 use Rattle.club_core.specs.{Club.empty_club, Examples.{opening, root, slot_at, noon, ask}, Run.{Event, Commanded, replies_of, Response, ToMember, ToOffice}}
 use Rattle.club_core.specs.declared.command.{Command.TheVariants.Credit, OfficeAnswer.{OfficeAnswer, TheVariants.{Done, NewKey}}}
@@ -6,11 +6,11 @@ use Rattle.club_core.specs.declared.{refusal.Refusal.TheVariants.Unavailable, re
 use Rattle.club_core.specs.declared.request.Request.TheVariants as asked
 use Rattle.club_laws.specs.Failed.{Presentation, present_reply, answered_events, answers}
 
--- a desk that returns its answer to the office, or `None` if an allocation or the storage failed
+-- The desk shows the machine's answer to the office, or `None` if memory or storage failed.
 abbrev pub presentation : Presentation (Option OfficeAnswer)
 presentation = record { shown = λ answer. Some answer; is_fault = λ returned. is_none returned }
 
--- amy joins; her second credit and a booking fail; then she views her account
+-- Amy becomes a member. Her second credit fails, and her booking fails. Then she views her account.
 abbrev pub events : List Event
 events = opening ++ Commanded (Credit (codes "amy") 5) ∷ ask (asked.Book (slot_at 18) 7 2) noon ∷ ask asked.Account noon ∷ []
 
@@ -25,7 +25,7 @@ replies =
     ∷ ToMember (AccountShown (codes "amy") 10_000 5 0 0)
     ∷ []
 
--- the other responses are those of the run without the two failed events
+-- The run without the two failed events has the same other responses.
 abbrev pub LeavesOutFailedEvents : Type 0
 LeavesOutFailedEvents =
     answers presentation events replies

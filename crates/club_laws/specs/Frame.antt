@@ -1,19 +1,21 @@
--- The changes and events that leave a member's part unchanged (ours).
+-- Laws about the changes and events that leave a member's part unchanged.
 use Rattle.std.specs.Prelude.{◌≡◌, ℕ, ◌+◌, Bool, List, [], if◌then◌else◌, Some}
 use Rattle.club_values.specs.declared.slot.Slot.{Slot}
 use Rattle.club_core.specs.{After.after, Club.{Club, IsSound, is_key_of}, Run.{Event, step}, Solo.{outside, is_own, own_part, part_of}, Sums.taken_in}
 use Rattle.club_core.specs.declared.change.Change.{Change, TheVariants.InsertBooking}
 
--- whether a change affects a member's part: it is one of the member's own changes, or changes a booking under one of its keys
+-- Whether a change affects the member's part.
 abbrev pub is_of_part : List ℕ → Club → Change → Bool
 is_of_part name club (InsertBooking booking member) = is_key_of name club booking.key
 is_of_part name club change = is_own name club change
 
--- the member's part after a change of the club: with that change if it affects the part, else unchanged
+-- The member's part after a change of the club. A change that doesn't affect the part leaves the
+-- part unchanged.
 abbrev pub part_after : List ℕ → Club → Change → Club
 part_after name club change = if is_of_part name club change then after change (part_of name club) else part_of name club
 
--- the effect of each kind of change on a member's part, if the changed club is sound
+-- Each change that leads from a sound club to a sound club has the effect of `part_after` on a
+-- member's part.
 abbrev pub ChangesThePartAlike : Type 0
 ChangesThePartAlike =
     (name : List ℕ) (club : Club) (change : Change)
@@ -21,7 +23,7 @@ ChangesThePartAlike =
     → IsSound (after change club)
     → part_of name (after change club) ≡ part_after name club change
 
--- an event that adds nothing to the member's own events leaves the member's part unchanged
+-- An event that adds nothing to the member's own events leaves the member's part unchanged.
 abbrev pub LeavesThePart : Type 0
 LeavesThePart =
     (name : List ℕ) (club : Club) (event : Event)
@@ -29,7 +31,8 @@ LeavesThePart =
     → own_part name club event ≡ []
     → part_of name (step club event).club ≡ part_of name club
 
--- in every club, the persons in a slot are those whom the member booked plus those whom others booked
+-- In every club, the number of persons in a slot is the sum of the member's own persons and other
+-- members' persons.
 abbrev pub TakenIsOwnAndOthers : Type 0
 TakenIsOwnAndOthers =
     (name : List ℕ) (club : Club) (slot : Slot)

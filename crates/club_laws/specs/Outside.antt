@@ -1,18 +1,21 @@
--- What the solo machine sees of other members (ours): their number of persons in the requested slot, and whether the slot is closed.
+-- Laws about the other members' data that the solo machine can see. The solo machine sees only the
+-- other members' number of persons in the requested slot, and whether the slot is closed.
 use Rattle.std.specs.Prelude.{◌≡◌, ℕ, List, Option, Some, None, codes}
 use Rattle.club_values.specs.declared.slot.Slot.{Slot}
 use Rattle.club_core.specs.{Basis.{Basis, basis_of}, Club.{Club, empty_club, is_closed}, Pass.Words, Request.request_slot, Run.Asked}
 use Rattle.club_core.specs.{Solo.{bookings_of_others, own_part, own_events}, Sums.taken_in}
 use Rattle.club_laws.specs.SoloExamples.{amy_alone, amy_among_others}
 
--- in both clubs, others have the same number of persons in the slot, and the slot is closed in both or open in both
+-- Other members have the same number of persons in the slot in both clubs, and the slot is closed
+-- in both clubs or in neither club.
 abbrev pub HoldAlike : List ℕ → Club → Club → Option Slot → Type 0
 HoldAlike name a b None = Unit {0}
 HoldAlike name a b (Some slot) =
     (taken_in slot (bookings_of_others name a) ≡ taken_in slot (bookings_of_others name b))
     × (is_closed slot a ≡ is_closed slot b)
 
--- two clubs give the solo machine the same event for a member's request, if `HoldAlike` is true of the request's slot
+-- Suppose that other members use the requested slot in the same way in two clubs. Then both clubs
+-- give the solo machine the same event for a member's request.
 abbrev pub SeesTheSlotAlone : Type 0
 SeesTheSlotAlone =
     (name : List ℕ) (a b : Club) (words : Words) (moment : ℕ) (in_a in_b : Basis)
@@ -22,6 +25,6 @@ SeesTheSlotAlone =
     → HoldAlike name a b (request_slot words.request)
     → own_part name a (Asked words moment) ≡ own_part name b (Asked words moment)
 
--- a member's own events are the same with and without other members, if others have no persons in its slots when it asks
+-- In the example runs, amy's own events are the same with and without another member.
 abbrev pub SeesNothingOfOthers : Type 0
 SeesNothingOfOthers = own_events (codes "amy") empty_club amy_among_others ≡ own_events (codes "amy") empty_club amy_alone

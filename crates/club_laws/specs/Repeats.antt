@@ -1,4 +1,4 @@
--- A served booking or cancellation takes place once (ours).
+-- Laws about repeated requests. A booking or a cancellation that was served takes place only once.
 use Rattle.club_rows.specs.declared.booking.Booking.{Booking}
 use Rattle.club_core.specs.{Acceptance.IsAcceptedIn, Basis.key_of, Club.Club, Pass.Words}
 use Rattle.club_core.specs.{Run.{Commanded, ToOffice, Event, Asked, step, replies_of, club_after, EventReply, ToMember}, Sums.booking_under}
@@ -7,13 +7,14 @@ use Rattle.club_core.specs.declared.reply.Reply.TheVariants.{Booked, Cancelled}
 use Rattle.std.specs.Prelude.{Some, if◌then◌else◌, ◌≡◌, ℕ, List, ◌∷◌, ◌++◌}
 use Rattle.club_core.specs.declared.request.Request.TheVariants as asked
 
--- the reply to a booking or a cancellation that was served
+-- The reply serves a booking or a cancellation.
 abbrev pub IsBookedOrCancelled : Reply → Type 0
 IsBookedOrCancelled (Booked key number charge left) = Unit {0}
 IsBookedOrCancelled (Cancelled key number refund) = Unit {0}
 IsBookedOrCancelled reply = ⊥
 
--- a request for the same booking or cancellation was served with this reply within the history, under a pass of the same key
+-- The history contains a served request for the same booking or cancellation, with this reply. The
+-- passes of both requests name the same key.
 pub record WasServed (club : Club) (history : List Event) (words : Words) (reply : Reply) : Type 0 where
   pub front : List Event
   pub first : Words
@@ -25,7 +26,8 @@ pub record WasServed (club : Club) (history : List Event) (words : Words) (reply
   pub same_key : key_of words.pass ≡ key_of first.pass
   pub same_request : words.request ≡ first.request
 
--- an accepted repeat of a served request gets the same reply and changes nothing, after any further events and at any moment
+-- An accepted repeat of a served request gets the same reply and changes nothing. Any events may
+-- come between the two requests.
 abbrev pub RepeatsReturnTheSame : Type 0
 RepeatsReturnTheSame =
     (club : Club) (history : List Event) (words : Words) (moment : ℕ) (reply : Reply)
@@ -33,7 +35,7 @@ RepeatsReturnTheSame =
     → IsAcceptedIn (club_after club history) words moment
     → step (club_after club history) (Asked words moment) ≡ record { reply = ToMember reply; club = club_after club history }
 
--- without the event, all other replies and the last club are the same
+-- A run without this event has the same other replies and the same last club.
 pub record MayBeLeftOut (club : Club) (front : List Event) (event : Event) (rest : List Event) (reply : EventReply) : Type 0 where
   pub replies : replies_of club (front ++ event ∷ rest) ≡ replies_of club front ++ reply ∷ replies_of (club_after club front) rest
   pub others : replies_of club (front ++ rest) ≡ replies_of club front ++ replies_of (club_after club front) rest
@@ -46,7 +48,8 @@ RepeatsMayBeLeftOut =
     → IsAcceptedIn (club_after club history) words moment
     → MayBeLeftOut club history (Asked words moment) rest (ToMember reply)
 
--- the office cancelled a booking within the history, and this was the booking's row before
+-- The office cancelled a booking within the history. `booking` is the booking's row before the
+-- cancellation.
 pub record WasCancelled (club : Club) (history : List Event) (key : List ℕ) (number : ℕ) (booking : Booking) : Type 0 where
   pub front : List Event
   pub rest : List Event
@@ -54,11 +57,13 @@ pub record WasCancelled (club : Club) (history : List Event) (key : List ℕ) (n
   pub reply_is : (step (club_after club front) (Commanded (CancelBooking key number))).reply ≡ ToOffice Done
   pub found : booking_under key number (club_after club front).bookings ≡ Some booking
 
--- the recorded refund after the office's cancellation: the whole charge, or the earlier refund if the booking was already cancelled
+-- The recorded refund after a cancellation by the office. The refund is the whole charge, or the
+-- earlier refund if the booking was already cancelled.
 abbrev pub refund_by_office : Booking → ℕ
 refund_by_office booking = if booking.cancelled then booking.refund else booking.charge
 
--- after the office's cancellation, an accepted cancellation by the member returns the recorded refund and changes nothing, at any later time
+-- If a member cancels a booking that the office cancelled before, the reply states the recorded
+-- refund, and nothing changes.
 abbrev pub CancellationsReturnTheRecord : Type 0
 CancellationsReturnTheRecord =
     (club : Club) (history : List Event) (words : Words) (moment : ℕ) (key : List ℕ) (number : ℕ) (booking : Booking)

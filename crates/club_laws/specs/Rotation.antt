@@ -1,4 +1,4 @@
--- Example runs with a rotation of a key, evaluated by computation (ours).
+-- Example runs in which the office replaces a key's root.
 use Rattle.std.specs.{Prelude.{◌≡◌, ℕ, List, [], ◌∷◌, Some, Ok, replicate, codes}, Str.bytes_eq}
 use Rattle.club_core.specs.Examples.{opened_club, root, slot_at, noon, late, served_booking, account}
 use Rattle.club_core.specs.{Run.{Event, Asked, Commanded, replies_of, ToMember, ToOffice}, declared.command.Command.TheVariants.{RevokeKey, RotateKey}}
@@ -6,19 +6,20 @@ use Rattle.club_core.specs.declared.{command.OfficeAnswer.TheVariants.{Done, New
 use Rattle.club_core.specs.declared.refusal.Refusal.TheVariants as refusals
 use Rattle.club_core.specs.declared.request.Request.TheVariants as asked
 
--- a request under a pass of the key amy-1 that is signed under this root alone
+-- A request with a pass of the key amy-1. Only this root signs the pass.
 abbrev pub ask_under : List ℕ → Request → ℕ → Event
 ask_under root request moment =
     Asked (record { pass = Ok (record { key = Some (codes "amy-1"); caveats = []; is_signed = λ other. bytes_eq other root }); request = request }) moment
 
--- two more roots
+-- The roots that the office sets in the example runs.
 abbrev pub second_root : List ℕ
 second_root = replicate 16 8
 
 abbrev pub third_root : List ℕ
 third_root = replicate 64 9
 
--- 2026-04-25T00:00; `before_midnight` is a minute earlier
+-- The moments of the example requests. `midnight` is 2026-04-25T00:00, and `before_midnight` is a
+-- minute earlier.
 abbrev pub midnight : ℕ
 midnight = 29_617_920
 
@@ -28,7 +29,8 @@ before_midnight = 29_617_919
 abbrev pub rotate : List ℕ → ℕ → Event
 rotate root until = Commanded (RotateKey (codes "amy-1") root until)
 
--- the older root is valid before the given moment; a repeat under the new root gets the recorded reply and charges nothing
+-- The older root is valid before the given moment. A booking that is repeated under the new root
+-- gets the recorded reply and charges nothing.
 abbrev pub RepeatsUnderANewRoot : Type 0
 RepeatsUnderANewRoot =
     replies_of opened_club
@@ -47,7 +49,7 @@ RepeatsUnderANewRoot =
     ∷ account 9_400 1 600
     ∷ []
 
--- a second rotation drops the older root of the first, and a revoked key stays revoked
+-- A second rotation drops the older root that the first rotation kept. A revoked key stays revoked.
 abbrev pub DropsTheOldestRoot : Type 0
 DropsTheOldestRoot =
     replies_of opened_club

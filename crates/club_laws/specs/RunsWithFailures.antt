@@ -1,4 +1,4 @@
--- The laws over runs in which some events failed, as statements about the responses (ours). The laws apply to the run without the failed events.
+-- Laws about runs in which some events failed.
 use Rattle.club_core.specs.{Acceptance.IsAcceptedIn, Basis.key_of, Club.{Club, empty_club, member_named, IsSound}, Events.IsEvent, Pass.Words}
 use Rattle.club_core.specs.{Run.{Event, Asked, step, replies_of, club_after, ToMember, Response}, Solo.{own_events, part_of, solo_replies}}
 use Rattle.club_core.specs.declared.reply.Reply.{Reply, TheVariants.Cancelled}
@@ -9,7 +9,7 @@ use Rattle.std.specs.Prelude.{◌≡◌, ℕ, IsFalse, List, ◌∷◌, ◌++◌
 use Rattle.club_values.specs.declared.slot.Slot.{Slot}
 use Rattle.club_core.specs.declared.request.Request.TheVariants as asked
 
--- the club at the end is sound
+-- A run from a sound club ends in a sound club, even if some events failed.
 abbrev pub SoundWithFailures : Type 0 → Type 0
 SoundWithFailures O =
     (presentation : Presentation O) (club last : Club) (events : List Event) (replies : List (Response O))
@@ -18,7 +18,7 @@ SoundWithFailures O =
     → IsRun presentation club events replies last
     → IsSound last
 
--- points are conserved
+-- A run neither creates nor loses points, even if some events failed.
 abbrev pub ConservesWithFailures : Type 0 → Type 0
 ConservesWithFailures O =
     (presentation : Presentation O) (last : Club) (events : List Event) (replies : List (Response O)) (name : List ℕ) (member : Member)
@@ -28,7 +28,7 @@ ConservesWithFailures O =
     → let answered = answered_events presentation events replies in
     IsConserved last answered (replies_of empty_club answered) member
 
--- no slot is overbooked
+-- A run overbooks no slot, even if some events failed.
 abbrev pub PlacesWithFailures : Type 0 → Type 0
 PlacesWithFailures O =
     (presentation : Presentation O) (last : Club) (events : List Event) (replies : List (Response O)) (slot : Slot)
@@ -36,7 +36,8 @@ PlacesWithFailures O =
     → IsRun presentation empty_club events replies last
     → HasPlaces slot last
 
--- the history has a request for the same booking or cancellation, under a pass of the same key, which was served with this reply
+-- The history contains a served request for the same booking or cancellation, with this reply. The
+-- passes of both requests name the same key.
 pub record WasReturned {O : Type 0} (history : List Event) (replies : List (Response O)) (words : Words) (reply : Reply) : Type 0 where
   pub front : List Event
   pub before : List (Response O)
@@ -51,7 +52,8 @@ pub record WasReturned {O : Type 0} (history : List Event) (replies : List (Resp
   pub same_key : key_of words.pass ≡ key_of first.pass
   pub same_request : words.request ≡ first.request
 
--- a later repeat gets the same response unless it fails; without the repeat, all other responses and the last club are the same
+-- A later repeat gets the same response, unless the repeat fails. The run without the repeat has
+-- the same other responses and the same last club.
 abbrev pub RepeatsWithFailures : Type 0 → Type 0
 RepeatsWithFailures O =
     (presentation : Presentation O) (club last : Club) (history rest : List Event) (before since : List (Response O))
@@ -63,8 +65,9 @@ RepeatsWithFailures O =
     → (IsFalse (has_failed presentation (Asked words moment) returned) → returned ≡ ToMember reply)
     × IsRun presentation club (history ++ rest) (before ++ since) last
 
--- After the office cancelled a booking, a later cancellation by the member returns the recorded refund, unless it
--- fails. Without that cancellation, all other responses and the last club are the same.
+-- If a member cancels a booking that the office cancelled before, the response states the recorded
+-- refund, unless the request fails. The run without this request has the same other responses and
+-- the same last club.
 abbrev pub CancellationsWithFailures : Type 0 → Type 0
 CancellationsWithFailures O =
     (presentation : Presentation O) (club last : Club) (history rest : List Event) (before since : List (Response O))
@@ -78,7 +81,7 @@ CancellationsWithFailures O =
     → (IsFalse (has_failed presentation (Asked words moment) returned) → returned ≡ ToMember (Cancelled key number (refund_by_office booking)))
     × IsRun presentation club (history ++ rest) (before ++ since) last
 
--- in this club, an accepted repeat of a served request gets the same reply and changes nothing
+-- In this club, an accepted repeat of a served request gets the same reply and changes nothing.
 abbrev pub RepeatsServedReplies : {O : Type 0} → Club → List Event → List (Response O) → Type 0
 RepeatsServedReplies club events replies =
     (words : Words) (moment : ℕ) (reply : Reply)
@@ -86,14 +89,15 @@ RepeatsServedReplies club events replies =
     → IsAcceptedIn club words moment
     → step club (Asked words moment) ≡ record { reply = ToMember reply; club = club }
 
--- repeats get the same reply in the last club and after one more event, such as a failed one whose change survived a crash
+-- After a run, an accepted repeat of a served request gets the same reply. The repeat also gets the
+-- same reply after one more event, such as a failed event whose change survived a crash.
 abbrev pub RepeatsAfterOneMore : Type 0 → Type 0
 RepeatsAfterOneMore O =
     (presentation : Presentation O) (club last : Club) (events : List Event) (replies : List (Response O))
     → IsRun presentation club events replies last
     → RepeatsServedReplies last events replies × ((event : Event) → RepeatsServedReplies (step last event).club events replies)
 
--- a member's part and its own events determine the replies to its requests
+-- A member's part and own events determine the replies to the member's requests.
 abbrev pub SoloLawWithFailures : Type 0 → Type 0
 SoloLawWithFailures O =
     (presentation : Presentation O) (name : List ℕ) (club last : Club) (events : List Event) (replies : List (Response O))
@@ -103,7 +107,8 @@ SoloLawWithFailures O =
     replies_to name club answered (answers presentation events replies)
     ≡ map ToMember (solo_replies (part_of name club) (own_events name club answered))
 
--- if a member's part and its own events are the same in two runs, so are the replies to its requests
+-- If a member's part and own events are the same in two runs, the member's requests get the same
+-- replies in both runs.
 abbrev pub SoloLawOfTwoWithFailures : Type 0 → Type 0
 SoloLawOfTwoWithFailures O =
     (presentation : Presentation O) (name : List ℕ) (a b last end : Club) (events others : List Event) (replies returned : List (Response O))

@@ -1,4 +1,5 @@
--- Example runs from the empty club, evaluated by computation (ours): one member's requests, alone and among another member's requests.
+-- Example runs from the empty club, with the requests of one member. Another member's events don't
+-- change the replies to these requests, unless both members use the same slot.
 use Rattle.club_core.specs.{Club.empty_club, Examples.{opening, root, slot_at, noon, late, ask, served_booking, account, served_cancellation}}
 use Rattle.club_core.specs.{Run.{Event, Asked, Commanded, replies_of, EventReply, ToMember}, declared.command.Command.TheVariants.{AddMember, Credit, Debit}}
 use Rattle.club_core.specs.declared.command.Command.TheVariants.{SetFacility, CancelBooking, AddKey, RevokeKey, CloseSlot, OpenSlot, SetQuota}
@@ -7,18 +8,18 @@ use Rattle.std.specs.Prelude.{◌≡◌, true, List, [], ◌∷◌, ◌++◌, So
 use Rattle.club_core.specs.declared.request.Request.TheVariants as asked
 use Rattle.club_laws.specs.SoloLaw.{replies_to}
 
--- the replies to amy's requests in a run that begins before she is a member
+-- The replies to amy's requests in a run from the empty club.
 abbrev pub replies_to_amy : List Event → List EventReply
 replies_to_amy events = replies_to (codes "amy") empty_club events (replies_of empty_club events)
 
--- a request under bob's key
+-- A request under bob's key.
 abbrev pub ask_of_bob : Request → Event
 ask_of_bob request = Asked (record { pass = Ok (record { key = Some (codes "bob-1"); caveats = []; is_signed = λ _. true }); request = request }) noon
 
 abbrev pub bob_joins : List Event
 bob_joins = Commanded (AddMember (codes "bob") 5) ∷ Commanded (Credit (codes "bob") 10_000) ∷ Commanded (AddKey (codes "bob-1") (codes "bob") root) ∷ []
 
--- amy books three of four places, views her account, and cancels
+-- Amy books a slot for three persons, views her account, and cancels the booking.
 abbrev pub amy_alone : List Event
 amy_alone =
     opening ++ ask (asked.Book (slot_at 18) 7 2) noon ∷ ask asked.Account noon ∷ ask (asked.Cancel (slot_at 18) 7) noon ∷ []
@@ -26,8 +27,9 @@ amy_alone =
 abbrev pub AnswersAmyAlone : Type 0
 AnswersAmyAlone = replies_to_amy amy_alone ≡ served_booking 7 600 1 ∷ account 9_400 1 600 ∷ served_cancellation 7 600 ∷ []
 
--- Amy's requests among those of bob. He books other slots and hers, even under her number, and cancels in her slot. He is credited and
--- debited, and gets a quota and a key. One of his keys is revoked. The office cancels a booking of his, and closes and opens another slot.
+-- Amy sends the same requests, while bob books slots and cancels bookings, also in amy's slot and
+-- under her booking number. The office credits and debits bob, changes his quota, adds a key and
+-- revokes a key. The office also cancels a booking of bob, and closes and opens another slot.
 abbrev pub amy_among_others : List Event
 amy_among_others =
     opening
@@ -51,11 +53,12 @@ amy_among_others =
     ∷ ask (asked.Cancel (slot_at 18) 7) noon
     ∷ []
 
--- amy gets the same replies as without bob
+-- Amy gets the same replies with bob as without bob.
 abbrev pub AnswersAmyAmongOthers : Type 0
 AnswersAmyAmongOthers = replies_to_amy amy_among_others ≡ replies_to_amy amy_alone
 
--- a place of bob in amy's slot lowers the number of places left by one, and changes no other reply
+-- If bob has one place in amy's slot, the reply to amy's booking states one place less. No other
+-- reply to amy changes.
 abbrev pub ShowsAmyATakenPlace : Type 0
 ShowsAmyATakenPlace =
     replies_to_amy
@@ -68,7 +71,8 @@ ShowsAmyATakenPlace =
     ∷ [])
     ≡ served_booking 7 600 0 ∷ account 9_400 1 600 ∷ served_cancellation 7 600 ∷ []
 
--- after the office cancels bob's booking in amy's slot and then hers, amy sees his places free, her points refunded, and the recorded replies
+-- The office cancels bob's booking in amy's slot, and later cancels amy's booking. Amy can book the
+-- places that bob had, gets her points back, and gets the recorded replies to her repeats.
 abbrev pub ShowsAmyHerCancellation : Type 0
 ShowsAmyHerCancellation =
     replies_to_amy
@@ -90,7 +94,8 @@ ShowsAmyHerCancellation =
     ∷ served_booking 7 600 1
     ∷ []
 
--- new places and a new price apply to amy's next booking; her earlier booking keeps its charge and its places left
+-- New places and a new price apply to amy's next booking. Her earlier booking keeps its charge and
+-- its places left.
 abbrev pub ShowsAmyNewNumbers : Type 0
 ShowsAmyNewNumbers =
     replies_to_amy

@@ -1,14 +1,15 @@
--- A member's replies in a run are those of a machine that has only the member's part (ours).
+-- Laws about the replies to a member's requests. In every run, the replies are those of a machine
+-- that has only the member's part of the club.
 use Rattle.std.specs.Prelude.{◌≡◌, ℕ, Bool, true, false, List, [], ◌∷◌, map, if◌then◌else◌}
 use Rattle.club_core.specs.{After.after, Club.{Club, IsSound}, Run.{Event, step, after_change, replies_of, club_after, ToMember}}
 use Rattle.club_core.specs.Solo.{OwnEvent, OwnAsk, OwnChange, own_part, own_events, part_of, solo_verdict, solo_replies}
 
--- whether a member's entry for an event is a request
+-- Whether a member's own event is a request.
 abbrev pub is_ask : List OwnEvent → Bool
 is_ask (OwnAsk words moment others ∷ events) = true
 is_ask events = false
 
--- the replies to the member's own requests, out of the replies to all events
+-- The replies to the member's own requests, taken from the replies to all events.
 abbrev pub replies_to : {R : Type 0} → List ℕ → Club → List Event → List R → List R
 replies_to name club (event ∷ events) (reply ∷ replies) =
     if is_ask (own_part name club event)
@@ -16,14 +17,16 @@ replies_to name club (event ∷ events) (reply ∷ replies) =
     else replies_to name (step club event).club events replies
 replies_to name club events replies = []
 
--- a member's part and its own events determine the replies to its requests, whatever others do in between
+-- A member's part and own events determine the replies to the member's requests, whatever other
+-- members do.
 abbrev pub SoloLaw : Type 0
 SoloLaw =
     (name : List ℕ) (club : Club) (events : List Event)
     → IsSound club
     → replies_to name club events (replies_of club events) ≡ map ToMember (solo_replies (part_of name club) (own_events name club events))
 
--- if a member's part and its own events are the same in two runs, so are the replies to its requests
+-- If a member's part and own events are the same in two runs, the member's requests get the same
+-- replies in both runs.
 abbrev pub SoloLawOfTwo : Type 0
 SoloLawOfTwo =
     (name : List ℕ) (a b : Club) (events others : List Event)
@@ -33,14 +36,14 @@ SoloLawOfTwo =
     → own_events name a events ≡ own_events name b others
     → replies_to name a events (replies_of a events) ≡ replies_to name b others (replies_of b others)
 
--- the member's part after its own events
+-- The member's part after its own events.
 abbrev pub solo_part : Club → List OwnEvent → Club
 solo_part part [] = part
 solo_part part (OwnChange change ∷ events) = solo_part (after change part) events
 solo_part part (OwnAsk words moment others ∷ events) =
     solo_part (after_change (solo_verdict part words moment others).change part) events
 
--- the member's part after its own events is its part of the run's last club
+-- A member's part after its own events is the member's part of the club after the whole run.
 abbrev pub EndsWithThePart : Type 0
 EndsWithThePart =
     (name : List ℕ) (club : Club) (events : List Event)

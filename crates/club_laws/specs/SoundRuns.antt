@@ -1,4 +1,4 @@
--- Every club that a run reaches is sound, and each change fits (ours).
+-- Laws about sound clubs. Every run from a sound club ends in a sound club.
 use Rattle.std.specs.Prelude.{◌≡◌, ◌≢◌, ◌+◌, ◌≤◌, true, false, List, [], ◌∷◌, ◌++◌, map, sum_by, All, Contains, Some, Ok}
 use Rattle.club_values.specs.{Moment.IsMoment, declared.slot.Slot.Slot}
 use Rattle.club_rows.specs.{Limits.{credited_limit, quota_limit, IsRoot}, Rows.{IsMember, IsFacility, IsKey, IsSlot, IsBooking}}
@@ -9,29 +9,34 @@ use Rattle.club_core.specs.{Sums.{booking_under, cost_of, taken_in}, declared.ch
 use Rattle.club_core.specs.declared.change.Change.TheVariants.{InsertKey, MarkRevoked, ReplaceRoot, MarkClosed, MarkOpen, ReplaceQuota, TakeCredit}
 use Rattle.club_core.specs.declared.change.Change.TheVariants.{ReplaceNumbers, InsertBooking, MarkCancelled}
 
--- the empty club, with which a run begins, is sound
+-- The empty club is sound.
 abbrev pub EmptyIsSound : Type 0
 EmptyIsSound = IsSound empty_club
 
--- a step from a sound club leads to a sound club, if the event's values are within their limits
+-- A step from a sound club leads to a sound club if the event's values are within their limits.
 abbrev pub StepsKeepSound : Type 0
 StepsKeepSound = (club : Club) (event : Event) → IsSound club → IsEvent event → IsSound (step club event).club
 
--- an event makes this change to a club
+-- An event makes this change to a club.
 abbrev pub IsChangeBy : Club → Event → Change → Type 0
 IsChangeBy club (Asked words moment) change = (verdict_in club words moment).change ≡ Some change
 IsChangeBy club (Commanded command) change = office_verdict club command ≡ Ok (Some change)
 
--- a change that an event makes to a sound club matches the values of the club's rows, and the changed club is sound
+-- If an event changes a sound club, the change matches the club's rows, and the changed club is
+-- sound.
 abbrev pub ChangesFit : Type 0
 ChangesFit = (club : Club) (event : Event) (change : Change) → IsSound club → IsEvent event → IsChangeBy club event change → FitsClub change club
 
--- a run from a sound club ends in a sound club
+-- A run from a sound club ends in a sound club if the values of all events are within their limits.
 abbrev pub RunsKeepSound : Type 0
 RunsKeepSound = (club : Club) (events : List Event) → IsSound club → All IsEvent events → IsSound (club_after club events)
 
--- A booking suits a club under four conditions. Its values are within their limits. Its number is
--- free. Its key belongs to a member who can pay it. Its slot has room for its persons.
+-- A booking suits a club under these conditions:
+--
+-- - The values of the booking are within their limits.
+-- - The booking's key has no other booking with the same number.
+-- - The booking's key belongs to a member who can pay for the booking.
+-- - The booking's slot has room for all persons of the booking.
 pub record SuitsBooking (booking : Booking) (club : Club) : Type 0 where
   pub row : IsBooking booking
   pub free : All (λ (other : Booking). ¬ ((other.key ≡ booking.key) × (other.number ≡ booking.number))) club.bookings
@@ -44,9 +49,16 @@ pub record SuitsBooking (booking : Booking) (club : Club) : Type 0 where
   pub located : facility_named booking.slot.facility club ≡ Some facility
   pub placed : taken_in booking.slot (club.bookings ++ booking ∷ []) ≤ facility.places
 
--- A change suits a club under these conditions. Its values are within their limits, a new name is unused, and the rows that a new row
--- refers to exist. A member's credit is at most the maximum, and covers the cost of its bookings. A new booking suits the club. A booking
--- to cancel is on record, and its refund is at most its charge. A facility's new numbers leave a place for each person in each slot.
+-- A change suits a club under these conditions:
+--
+-- - The values of the change are within their limits.
+-- - A new row has an unused name, and refers only to existing rows.
+-- - A credit doesn't raise the member's credited points above the maximum.
+-- - A debit leaves the member enough points to pay for the member's bookings.
+-- - New numbers of a facility leave a place for each person in each slot.
+-- - A slot to close isn't closed yet.
+-- - A new booking suits the club.
+-- - A booking to cancel is on record, and its refund is at most its charge.
 abbrev pub Suits : Change → Club → Type 0
 Suits (InsertMember member) club = IsMember member × All (λ (other : Member). other.name ≢ member.name) club.members
 Suits (AddCredit name points) club = (member : Member) × (member_named name club ≡ Some member) × (member.credited + points ≤ credited_limit)
@@ -67,6 +79,6 @@ Suits (InsertBooking booking member) club = SuitsBooking booking club
 Suits (MarkCancelled booking member refund) club =
     (booking_under booking.key booking.number club.bookings ≡ Some booking) × (refund ≤ booking.charge)
 
--- a change that suits a sound club leads to a sound club
+-- A change that suits a sound club leads to a sound club.
 abbrev pub SuitingChangesKeepSound : Type 0
 SuitingChangesKeepSound = (club : Club) (change : Change) → IsSound club → Suits change club → IsSound (after change club)

@@ -1,4 +1,4 @@
-//! Points are neither created nor lost, and no slot is overbooked.
+//! Laws about points and places. Points are neither created nor lost, and no slot is overbooked.
 
 ghost use Rattle.club_laws.specs.Conservation.{ConservesPoints, ConservesWithoutCorrections};
 ghost use Rattle.club_laws.specs.Conservation.{NeverOverbooks, SoundClubsHavePlaces};
@@ -10,38 +10,39 @@ pub fn counts_each_once()
     ensures { CountsEachOnce }
 {}
 
-/// An example: a debit counts if and only if the office's reply says that it was done.
+/// An example: a debit counts if and only if the office's reply reports success.
 pub fn counts_a_debit()
     ensures { CountsADebit }
 {}
 
-/// An example: the office's cancellation refunds the whole charge once. It refunds nothing if the
-/// member cancelled the booking before.
+/// An example: a cancellation by the office refunds the whole charge once. The cancellation refunds
+/// nothing if the member cancelled the booking before.
 pub fn counts_a_cancellation_once()
     ensures { CountsACancellationOnce }
 {}
 
-/// A member's balance, debits and charges add up to its credits and refunds. No balance is below 0.
-/// A booking that the office cancelled first is refunded in full.
+/// The sum of a member's balance, debits and charges equals the sum of the member's credits and
+/// refunds. No balance is below 0. If the office is the first to cancel a booking, the refund is
+/// the whole charge.
 pub fn conserves_points()
     ensures { ConservesPoints }
 {}
 
-/// If the office neither debits nor cancels, a member's balance and charges add up to its credits
-/// and the refunds in its replies.
+/// If the office neither debits nor cancels, the sum of a member's balance and charges equals the
+/// sum of the member's credits and refunds.
 #[tactic(auto, using(crate::proofs::PointRuns::conserved_without_corrections))]
 pub fn conserves_without_corrections()
     ensures { ConservesWithoutCorrections }
 {}
 
-/// After a run, each slot has a place for each person who booked it.
+/// After a run, each slot has at least as many places as persons.
 #[tactic(auto, using(crate::proofs::PointRuns::has_room))]
 pub fn never_overbooks()
     ensures { NeverOverbooks }
 {}
 
-/// In every sound club, each slot has a place for each person who booked it, even if no run leads
-/// to that club.
+/// In every sound club, each slot has at least as many places as persons. The club need not be the
+/// result of a run.
 #[tactic(auto, using(crate::proofs::PointRuns::has_places))]
 pub fn sound_clubs_have_places()
     ensures { SoundClubsHavePlaces }

@@ -1,30 +1,30 @@
-//! Runs in which some events failed because an allocation or the storage failed. `O` is the type of
-//! a desk's answers to the office.
+//! Laws about runs in which some events failed because an allocation or the storage failed. `O` is
+//! the type of a desk's answers to the office.
 
 ghost use Rattle.club_laws.specs.Failed.{CutsRuns, JoinsRuns, LeavesEvents, LeavesOutFailed};
 ghost use Rattle.club_laws.specs.Failed.{NeverUnavailable, RunsWithoutFailures};
 ghost use Rattle.club_laws.specs.FailedExample.{LeavesOutFailedEvents};
 
-/// Failed events can be left out of a run. The run without them has the same other responses and
-/// the same last club.
+/// A run without its failed events has the same other responses and the same last club.
 #[tactic(auto, using(crate::proofs::FailedEvents::run_of_answered))]
 pub fn leaves_out_failed<O>()
     ensures { LeavesOutFailed O }
 {}
 
-/// If all events are within their limits, so are the events that didn't fail.
+/// If all events are within their limits, then all answered events are within their limits.
 #[tactic(auto, using(crate::proofs::FailedEvents::events_left))]
 pub fn leaves_events<O>()
     ensures { LeavesEvents O }
 {}
 
-/// A run can be split in two. The second part begins with the last club of the first part.
+/// A run can be split into two runs. The second run begins with the last club of the first run.
 #[tactic(auto, using(crate::proofs::FailedEvents::cut))]
 pub fn cuts_runs<O>()
     ensures { CutsRuns O }
 {}
 
-/// Two runs can be joined into one if the second begins with the last club of the first.
+/// Two runs can be joined into one run if the second run begins with the last club of the first
+/// run.
 #[tactic(auto, using(crate::proofs::FailedEvents::join))]
 pub fn joins_runs<O>()
     ensures { JoinsRuns O }
@@ -42,8 +42,8 @@ pub fn never_unavailable()
     ensures { NeverUnavailable }
 {}
 
-/// An example: a failed credit and a failed booking change nothing. The other replies are those of
-/// the run without them.
+/// An example: a failed credit and a failed booking change nothing. The run without the failed
+/// events has the same other replies.
 pub fn leaves_out_failed_events()
     ensures { LeavesOutFailedEvents }
 {}

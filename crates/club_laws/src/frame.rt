@@ -1,21 +1,23 @@
-//! The changes and events that leave a member's part (its rows and the facilities) unchanged.
+//! Laws about the changes and events that leave a member's part unchanged. A member's part contains
+//! the member's row, keys and bookings, and all facilities.
 
 ghost use Rattle.club_laws.specs.Frame.{ChangesThePartAlike, LeavesThePart, TakenIsOwnAndOthers};
 
-/// A change of the club either makes the same change in a member's part, or leaves that part
+/// In a sound club, each change makes the same change in a member's part, or leaves the part
 /// unchanged.
 #[tactic(auto, using(crate::proofs::MemberParts::changes_the_part_alike))]
 pub fn changes_the_part_alike()
     ensures { ChangesThePartAlike }
 {}
 
-/// An event that isn't one of the member's own leaves the member's part unchanged.
+/// An event that isn't one of the member's own events leaves the member's part unchanged.
 #[tactic(auto, using(crate::proofs::SoloRuns::leaves_the_part))]
 pub fn leaves_the_part()
     ensures { LeavesThePart }
 {}
 
-/// The persons in a slot are those whom the member booked plus those whom others booked.
+/// The number of persons in a slot is the sum of the member's own persons and other members'
+/// persons.
 #[tactic(auto, using(crate::proofs::FilteredRows::sum_in_parts))]
 pub fn taken_is_own_and_others()
     ensures { TakenIsOwnAndOthers }

@@ -1,4 +1,5 @@
-//! Laws of the club's state machine over whole runs. Each law is an empty function's contract.
+//! Laws of the club's state machine over whole runs. Each law is the contract of a function with an
+//! empty body.
 #![tactic(auto)]
 
 pub mod account;

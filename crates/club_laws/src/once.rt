@@ -1,4 +1,4 @@
-//! A served booking or cancellation takes place once.
+//! Laws about repeated requests. A booking or a cancellation that was served takes place only once.
 
 ghost use Rattle.club_laws.specs.ExampleRuns.{AcceptsARepeat, RepeatsAfterTheOffice};
 ghost use Rattle.club_laws.specs.Repeats.{CancellationsReturnTheRecord, RepeatsMayBeLeftOut};
@@ -7,7 +7,8 @@ ghost use Rattle.club_laws.specs.Repeats.{RepeatsReturnTheSame};
 use club_core::laws::tests_the_signature;
 use pass_caveats::laws::tests_the_set;
 
-/// A repeat of a served booking or cancellation gets the first reply, and changes nothing.
+/// An accepted repeat of a served booking or cancellation gets the first reply, and changes
+/// nothing.
 pub fn repeats_return_the_same()
     ensures { RepeatsReturnTheSame }
 {
@@ -15,7 +16,7 @@ pub fn repeats_return_the_same()
     tests_the_signature();
 }
 
-/// Leaving a repeated request out of a run changes neither the other replies nor the last club.
+/// A run without a repeated request has the same other replies and the same last club.
 pub fn repeats_may_be_left_out()
     ensures { RepeatsMayBeLeftOut }
 {
@@ -23,13 +24,13 @@ pub fn repeats_may_be_left_out()
     tests_the_signature();
 }
 
-/// An example: a request to book is repeated after the booking was cancelled and the slot has
-/// begun. The repeat is accepted, even under a pass that may spend nothing.
+/// An example: a member repeats a booking after its cancellation, when the slot has begun. The desk
+/// accepts the repeat, even under a pass that allows no spending.
 pub fn accepts_a_repeat()
     ensures { AcceptsARepeat }
 {}
 
-/// If a member cancels a booking that the office cancelled before, the reply has the recorded
+/// If a member cancels a booking that the office cancelled before, the reply states the recorded
 /// refund, and nothing changes.
 pub fn cancellations_return_the_record()
     ensures { CancellationsReturnTheRecord }
@@ -38,7 +39,8 @@ pub fn cancellations_return_the_record()
     tests_the_signature();
 }
 
-/// An example: the office cancels a booking, and then the member cancels and repeats it.
+/// An example: the office cancels a booking. The member then cancels the same booking, and repeats
+/// the request for the booking.
 pub fn repeats_after_the_office()
     ensures { RepeatsAfterTheOffice }
 {}

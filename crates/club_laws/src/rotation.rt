@@ -2,13 +2,14 @@
 
 ghost use Rattle.club_laws.specs.Rotation.{DropsTheOldestRoot, RepeatsUnderANewRoot};
 
-/// The older root is valid before the given moment. A booking made under it can be repeated under
-/// the new root: the request gets the first reply, and charges nothing.
+/// The older root is valid before the given moment. A booking that is repeated under the new root
+/// gets the first reply, and charges nothing.
 pub fn repeats_under_a_new_root()
     ensures { RepeatsUnderANewRoot }
 {}
 
-/// A second rotation drops the older root of the first. A revoked key stays revoked.
+/// A second rotation drops the older root that the first rotation kept. A revoked key stays
+/// revoked.
 pub fn drops_the_oldest_root()
     ensures { DropsTheOldestRoot }
 {}

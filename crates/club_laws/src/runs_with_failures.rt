@@ -1,5 +1,4 @@
-//! The laws for runs in which some events failed, as statements about the responses. `O` is the
-//! type of a desk's answers to the office.
+//! Laws about runs in which some events failed. `O` is the type of a desk's answers to the office.
 
 ghost use Rattle.club_laws.specs.RunsWithFailures.{CancellationsWithFailures};
 ghost use Rattle.club_laws.specs.RunsWithFailures.{ConservesWithFailures, PlacesWithFailures};
@@ -16,18 +15,19 @@ pub fn keeps_sound<O>()
     ensures { SoundWithFailures O }
 {}
 
-/// Points are neither created nor lost.
+/// A run neither creates nor loses points.
 pub fn conserves_points<O>()
     ensures { ConservesWithFailures O }
 {}
 
-/// After a run, each slot has a place for each person who booked it.
+/// After a run, each slot has at least as many places as persons.
 #[tactic(auto, using(crate::proofs::FailedEvents::places_with_failures))]
 pub fn never_overbooks<O>()
     ensures { PlacesWithFailures O }
 {}
 
-/// A repeated request gets the first response. Leaving it out changes nothing else in the run.
+/// A repeated request gets the first response, unless the repeat fails. The run without the repeat
+/// has the same other responses and the same last club.
 pub fn repeats_return_the_same<O>()
     ensures { RepeatsWithFailures O }
 {
@@ -35,8 +35,9 @@ pub fn repeats_return_the_same<O>()
     tests_the_signature();
 }
 
-/// If a member cancels a booking that the office cancelled before, the reply has the recorded
-/// refund. Leaving the request out changes nothing else in the run.
+/// If a member cancels a booking that the office cancelled before, the response states the recorded
+/// refund, unless the request fails. The run without this request has the same other responses and
+/// the same last club.
 pub fn cancellations_return_the_record<O>()
     ensures { CancellationsWithFailures O }
 {
@@ -44,8 +45,8 @@ pub fn cancellations_return_the_record<O>()
     tests_the_signature();
 }
 
-/// A repeat of a served request gets the same reply in the last club of the run. This also holds in
-/// each club that one more event may lead to.
+/// After a run, an accepted repeat of a served request gets the same reply. The repeat also gets
+/// the same reply after one more event.
 pub fn repeats_after_one_more<O>()
     ensures { RepeatsAfterOneMore O }
 {
@@ -53,14 +54,14 @@ pub fn repeats_after_one_more<O>()
     tests_the_signature();
 }
 
-/// A member's part and its own events determine the replies to its requests.
+/// A member's part and own events determine the replies to the member's requests.
 #[tactic(auto, using(crate::proofs::SoloRuns::solo_with_failures))]
 pub fn solo_law<O>()
     ensures { SoloLawWithFailures O }
 {}
 
-/// If a member's part and its own events are the same in two runs, so are the replies to its
-/// requests.
+/// If a member's part and own events are the same in two runs, the member's requests get the same
+/// replies in both runs.
 #[tactic(auto, using(crate::proofs::SoloRuns::solo_with_failures))]
 pub fn solo_law_of_two<O>()
     ensures { SoloLawOfTwoWithFailures O }

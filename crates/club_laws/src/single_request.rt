@@ -1,4 +1,4 @@
-//! Laws of a single request: the rows that its reply depends on, and when it is served.
+//! Laws about the answer to a single request.
 
 ghost use Rattle.club_laws.specs.{Revoked.ServesNoRevokedKey, SingleRequest.AnswersFormsAlike};
 ghost use Rattle.club_laws.specs.SingleRequest.{DependsOnTheBasisAlone, MoreCaveatsNeverOpenMore};
@@ -8,19 +8,19 @@ ghost use Rattle.club_laws.specs.SingleRequest.{ServesOnlyTheEntitled};
 use club_core::laws::tests_the_signature;
 use pass_caveats::laws::tests_the_set;
 
-/// If two clubs have the same basis for a request, both give the same reply at the same moment.
+/// If two clubs have the same basis for a request, both clubs give the same answer at the same
+/// moment.
 pub fn depends_on_the_basis_alone()
     ensures { DependsOnTheBasisAlone }
 {}
 
-/// Without a basis, the reply is a refusal that the request alone determines.
+/// A request without a basis is refused. The refusal depends only on the request and its pass.
 #[tactic(auto, using(crate::proofs::ServedPasses::refused_blind))]
 pub fn refuses_without_a_basis()
     ensures { RefusesWithoutABasis }
 {}
 
-/// A pass that isn't signed under a valid root of its key gets the same reply as a pass that names
-/// no key.
+/// If no valid root of its key signs a pass, the reply is the same as for a pass that names no key.
 #[tactic(auto, using(crate::proofs::ServedPasses::unsigned_in))]
 pub fn refuses_the_unsigned()
     ensures { RefusesTheUnsigned }
@@ -28,9 +28,8 @@ pub fn refuses_the_unsigned()
     tests_the_signature();
 }
 
-/// A request is served only if its pass names a key of the club that isn't revoked. The pass must
-/// be signed under a root of that key that is valid at the moment. Each caveat must allow the
-/// request.
+/// The desk serves a request only if its pass names a key of the club that isn't revoked. A valid
+/// root of the key must have signed the pass. Each caveat must allow the request.
 #[tactic(auto, using(crate::proofs::ServedPasses::served_entitled))]
 pub fn serves_only_the_entitled()
     ensures { ServesOnlyTheEntitled }
@@ -39,7 +38,7 @@ pub fn serves_only_the_entitled()
     tests_the_signature();
 }
 
-/// After a key was revoked, no run serves a request under that key.
+/// After the office revoked a key, the desk serves no request under that key.
 pub fn serves_no_revoked_key()
     ensures { ServesNoRevokedKey }
 {
@@ -47,8 +46,8 @@ pub fn serves_no_revoked_key()
     tests_the_signature();
 }
 
-/// If a request is served under a pass with added caveats, it gets the same reply under the pass
-/// without them.
+/// If a request is served under a pass with added caveats, the request gets the same reply under
+/// the pass without the added caveats.
 #[tactic(auto, using(crate::proofs::ServedPasses::wide_in))]
 pub fn more_caveats_never_open_more()
     ensures { MoreCaveatsNeverOpenMore }

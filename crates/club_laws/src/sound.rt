@@ -1,4 +1,4 @@
-//! Every club that a run reaches is sound (satisfies its invariants), and each change fits it.
+//! Laws about sound clubs. Every run from a sound club ends in a sound club.
 
 ghost use Rattle.club_laws.specs.SoundRuns.{ChangesFit, EmptyIsSound, RunsKeepSound};
 ghost use Rattle.club_laws.specs.SoundRuns.{StepsKeepSound, SuitingChangesKeepSound};
@@ -8,27 +8,27 @@ pub fn empty_is_sound()
     ensures { EmptyIsSound }
 {}
 
-/// A step from a sound club leads to a sound club, if the event's values are within the limits of
+/// A step from a sound club leads to a sound club if the event's values are within the limits of
 /// their types.
 pub fn steps_keep_sound()
     ensures { StepsKeepSound }
 {}
 
-/// The change that an event makes to a sound club fits that club: it matches the values of the
-/// club's rows, and the changed club is sound.
+/// If an event changes a sound club, the change matches the club's rows, and the changed club is
+/// sound.
 #[tactic(auto, using(crate::proofs::SoundSteps::fits_event))]
 pub fn changes_fit()
     ensures { ChangesFit }
 {}
 
-/// A run from a sound club ends in a sound club, if the values of all events are within the limits
+/// A run from a sound club ends in a sound club if the values of all events are within the limits
 /// of their types.
 pub fn runs_keep_sound()
     ensures { RunsKeepSound }
 {}
 
-/// A change that meets the conditions of `Suits` leads from a sound club to a sound club. A store
-/// needs to test nothing else.
+/// A change that meets the conditions of `Suits` keeps a sound club sound. A store needs to test no
+/// other conditions.
 pub fn suiting_changes_keep_sound()
     ensures { SuitingChangesKeepSound }
 {}

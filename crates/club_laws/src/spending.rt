@@ -1,10 +1,10 @@
-//! What a key has spent is part of what its member has used.
+//! Laws about the points that a key has spent and the points that its member has used.
 
 ghost use Rattle.club_laws.specs.Spending.{AccountsShowWhatIsUsed, SpendsWithinItsMember};
 
 use club_core::laws::own_bookings_suffice;
 
-/// No key has spent more than its member has used.
+/// No key has spent more points than its member has used.
 #[tactic(auto, using(crate::proofs::PointRuns::spent_within))]
 pub fn spends_within_its_member()
     ensures { SpendsWithinItsMember }
@@ -12,8 +12,7 @@ pub fn spends_within_its_member()
     own_bookings_suffice();
 }
 
-/// In a sound club, an account's credit minus its balance is the number of points that the member
-/// has used.
+/// In a sound club, the points that a member has used are the credited points minus the balance.
 #[tactic(auto, using(crate::proofs::PointRuns::used_of_account))]
 pub fn accounts_show_what_is_used()
     ensures { AccountsShowWhatIsUsed }

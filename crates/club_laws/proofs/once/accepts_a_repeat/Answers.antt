@@ -6,7 +6,7 @@ use Rattle.club_core.specs.Examples.{opened_club, slot_at, noon, late, root, ask
 use Rattle.club_laws.specs.ExampleRuns.{booked_then_cancelled, words_again}
 use Rattle.club_laws.proofs.once.accepts_a_repeat.Goals as goal
 
--- the basis of the repeated request
+-- The basis of the repeated request.
 abbrev named : Basis
 named =
     basis_with (club_after opened_club booked_then_cancelled) words_again.request
