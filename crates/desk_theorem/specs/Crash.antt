@@ -1,4 +1,4 @@
--- The club in a store that is reopened after a crash (ours).
+-- Defines the club of a store that is reopened after a crash.
 use Rattle.std.specs.Prelude.{◌≡◌, ◌⊎◌, List, [], ◌∷◌, All, Contains, IsTrue}
 use Rattle.sqlite_disk.specs.declared.Disk as disk
 use Rattle.sqlite.specs.{Files.{file_state, over_files, IsOpened}, Held.Held, Recovery.Image, Start.FindsIn, State.State, Store.Ghosts, View.IsClean}
@@ -11,41 +11,46 @@ use Rattle.club_store.specs.{Crash.{CrashLeaves, IsOpenedOn, LeavesOneOf, Repres
 use Rattle.club_tables.specs.{ReadsAndChanges.sound_in, Tables.Represents}
 use Rattle.club_gate.specs.Runs.{IsWithinOneEvent, MayBeLeft, DeskResponse, club_left}
 
--- The state represents exactly one of these clubs, and no crash leaves another club. An accepted repeat of a request gets the same reply.
+-- The state represents exactly one of these clubs, and no later crash changes the club. In this
+-- club, an accepted repeat of a served request gets the same reply.
 pub record RecoversOne (state : State) (clubs : List Club) (events : List machine.Event) (returned : List DeskResponse) : Type 0 where
   pub club : Club
   pub among : Contains clubs club
   pub represents : Represents state club []
   pub again : RepeatsServedReplies club events returned
 
--- Suppose that a store could recover to these clubs. A store that is opened on the files after a crash recovers exactly one of the clubs.
+-- Suppose that a crash of the old store may leave any of these clubs. A store that is opened on the
+-- files after the crash recovers exactly one of the clubs.
 abbrev pub SurvivesCrash : {D E : Type 0} {d : disk.Ghosts D} {e : disk.Ghosts E} → FileStore D d → Held (FileStore E e) → List Club
     → List machine.Event → List DeskResponse → Type 0
 SurvivesCrash before after clubs events returned =
     (left : Image) → CrashLeaves before clubs left → OpensFrom left after → ∥ RecoversOne (file_state after) clubs events returned ∥₁
 
--- a crash may leave this image of a store's file and log
+-- A crash may leave this image of a store's file and log.
 abbrev pub CrashMayLeave : {D : Type 0} {d : disk.Ghosts D} → FileStore D d → Image → Type 0
 CrashMayLeave store left = IsClean (file.view store) × (file.state store).may_leave left
 
--- A store that `Store::adopt` opened, over a connection to a file and a log of this image.
+-- `Store::adopt` opened the store. Its connection found a file and a log with this image.
 pub record IsAdoptedFrom {E : Type 0} {e : disk.Ghosts E} (start : Image) (now : Held (FileStore E e)) : Type 0 where
   pub was : Held (FileStore E e)
   pub opening : IsOpened was
   pub found : FindsIn start (file_state was)
   pub again : (clubs : List Club) → IsOpenedOn (file_state was) clubs → RepresentsOne (file_state now) clubs
 
--- a store that `Store::open_file` or `Store::adopt` opened on a file and a log of this image
+-- `Store::open_file` or `Store::adopt` opened the store on a file and a log with this image.
 abbrev pub IsReopened : {E : Type 0} {e : disk.Ghosts E} → Image → Held (FileStore E e) → Type 0
 IsReopened start now = OpensFrom start now ⊎ IsAdoptedFrom start now
 
--- Each of these clubs is sound, and after any crash the engine's store is a database of one of them.
+-- Each of these clubs is sound. After any crash, the engine's store contains a database of one of
+-- the clubs.
 abbrev pub leaves_sound_in : {S : Type 0} → Ghosts S → S → Club → List Club → Type 0
 leaves_sound_in g store club others =
     All IsSound (club ∷ others) × IsTrue (g.view store).is_numbered × LeavesOneOf g store (club ∷ others)
 
--- After a run and a crash, a reopened store holds exactly one club, and no further crash leaves another one. This club is that of the answered events, or
--- another crash state of the run. If it is the former, or one event away from the former, a repeat of a served request gets the same reply and changes nothing.
+-- After a run and a crash, a reopened store represents exactly one club, and no later crash changes
+-- the club. The store's club is the club of the answered events, or another possible crash state.
+-- If the store's club is at most one event later than the answered events, an accepted repeat of a
+-- served request gets the same reply.
 pub record RecoversAfterRun {E : Type 0} {e : disk.Ghosts E} (opened : Held (FileStore E e)) (club : Club) (others : List Club) (events : List machine.Event)
     (returned : List DeskResponse) : Type 0 where
   pub now : Club
@@ -53,7 +58,8 @@ pub record RecoversAfterRun {E : Type 0} {e : disk.Ghosts E} (opened : Held (Fil
   pub again : IsWithinOneEvent (club_left club events returned) now → RepeatsServedReplies now events returned
   pub represents : sound_in over_files opened now []
 
--- After a run from this club and a crash, every store that is opened on the file and log that the crash left recovers as `RecoversAfterRun` says.
+-- A crash may occur during a run from this club or after the run. Every store that is then opened
+-- on the file and the log satisfies `RecoversAfterRun`.
 abbrev pub OpensAgain : {D E : Type 0} {d : disk.Ghosts D} → disk.Ghosts E → FileStore D d → Club → List Club → List machine.Event → List DeskResponse → Type 0
 OpensAgain {E = E} e store club others events returned =
     (left : Image) (opened : Held (FileStore E e)) → CrashMayLeave store left → IsReopened left opened

@@ -1,4 +1,4 @@
--- A desk over a new database in memory handles a list of events and a request after them (ours).
+-- Defines how a desk over a new database in memory handles a list of events and a later request.
 use Rattle.std.specs.Prelude.{◌≡◌, ◌⊎◌, ℕ, List, [], Option}
 use Rattle.sqlite.specs.{Held.{Held, state}, State.HasCleanDisk, Steps.over_memory, declared.MemStore.MemStore}
 use Rattle.club_core.specs.{Club.{Club, empty_club}, declared.{change.Change.Change, reply.Reply.Reply, request.Request.Request, store.StoreFault.StoreFault}}
@@ -8,27 +8,33 @@ use Rattle.club_store.specs.Failing.{Fails}
 use Rattle.club_gate.specs.{Desk.FailsForCause, Events.AreEventsOf, Runs.{AreHandled, club_left, responses_of}, declared.event.Event.Event}
 use Rattle.club_gate.specs.declared.event.EventReply.{EventReply}
 
--- a connection to a database in memory
+-- A connection to a database in memory.
 abbrev pub InMemory : Type 0
 InMemory = Held MemStore
 
--- a read or a change in memory failed with this fault; `None` stands for a read
+-- A read or a change in memory failed with this fault. `None` means a read, and `Some` means a
+-- change.
 abbrev pub fails_in_memory : Option Change → InMemory → StoreFault → InMemory → Type 0
 fails_in_memory = Fails over_memory
 
--- the events were handled in order: a step answered each event, or the store itself failed during the event
+-- The desk handled the events in order. A step of the machine answered each event, or the event
+-- failed because memory or storage failed.
 abbrev pub AreHandledInMemory : InMemory → List Event → List EventReply → InMemory → Type 0
 AreHandledInMemory = AreHandled (λ held. HasCleanDisk (state over_memory held)) (sound_in over_memory) fails_in_memory
 
--- a desk over the tables of an empty club in memory handled the events
+-- A desk handled the events. The desk's store was a database in memory that started with an empty
+-- club.
 pub record HandlesFromNothing (events : List Event) (replies : List EventReply) : Type 0 where
   pub start : InMemory
   pub last : InMemory
   pub empty : Represents (state over_memory start) empty_club []
   pub handled : AreHandledInMemory start events replies last
 
--- A desk handled the events and then a request. If the reply is `Unavailable`, there are two cases. The store itself failed, at a read or at the request's
--- change. Or the text is JSON, and the store is unchanged.
+-- A desk handled the events and then a request. If the reply is `Unavailable`, there are two
+-- possible causes:
+--
+-- - The store failed, at a read or at the request's change.
+-- - The text of the pass is JSON, and the store is unchanged.
 pub record RepliesFromNothing (events : List Event) (replies : List EventReply) (text : List ℕ) (request : Request) (moment : ℕ) (reply : Reply)
     : Type 0 where
   pub run : HandlesFromNothing events replies

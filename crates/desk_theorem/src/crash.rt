@@ -1,4 +1,4 @@
-//! The crash law: the state of a desk over a file after a crash.
+//! The crash law, for a desk over a file.
 
 ghost use Rattle.std.specs.Prelude.{List, All, IfOk};
 ghost use Rattle.sqlite.specs.FileStore as file;
@@ -18,9 +18,10 @@ use club_store::laws::{files_hold_one_of, one_club_recovered};
 use sqlite::{Alter, FileFrom, FileStore, Start};
 use sqlite_disk::Disk;
 
-/// The crash law. Reopening the files after a crash recovers exactly one of the clubs that the old
-/// store could recover to. If all of these clubs repeat the replies to served requests, so does the
-/// recovered club. Every later crash recovers the same club.
+/// The crash law. Suppose that a crash of the old store may leave any of these clubs. Reopening the
+/// files after the crash recovers exactly one of the clubs, and every later crash recovers the same
+/// club. If a repeat of a served request gets the same reply in all of these clubs, the repeat also
+/// gets this reply in the recovered club.
 pub fn served_survives_a_crash<D: Disk, Q: Start>(
     before: &FileStore<D>,
     after: &Store<FileStore<FileFrom<Q>>>,
@@ -33,7 +34,7 @@ pub fn served_survives_a_crash<D: Disk, Q: Start>(
 }
 
 // Runs a list of events at a desk over any store of the engine. Returns the responses and the
-// store. If a function over a file made these calls, its proof would take twice as long.
+// store. This function is separate because the proof is twice as long for a function over a file.
 fn run_to_end<S: Alter + Drop>(
     mut desk: Desk<Store<S>>,
     events: &[Event],
@@ -57,9 +58,9 @@ fn run_to_end<S: Alter + Drop>(
 }
 
 /// Runs a list of events at a desk over a file, and returns the responses and the store. The
-/// machine may crash during the run or after it. In a crash during a call, the disk fails from that
-/// point on. A store that is then opened on the files, over a disk `E`, has the changes of all
-/// answered events.
+/// machine may crash during the run or after the run. After a crash during a call, the disk fails
+/// every later call. A store that is then opened on the files, over a disk `E`, has the changes of
+/// all answered events.
 ///
 /// # Errors
 ///
@@ -68,17 +69,20 @@ pub fn run_and_leave<D: Disk + Drop, E: Disk>(
     desk: Desk<Store<FileStore<D>>>,
     events: &[Event],
 ) -> Result<(Vec<EventReply>, FileStore<D>), StoreFault>
-    // The replies are those of the specified machine to the events that didn't fail.
+    // For the events that didn't fail, the responses are the responses of the specified machine.
     ensures answered { IfOk result (λ left. IsClean (file.view left.1)
         → (club : Club) (others : List Club)
         → sound_in over_files desk club others
         → (seen : List machine.Event) → AreEventsOf events.now seen
         → IsAnsweredRun club seen (responses_of left.0.items)) }
-    // After any crash, a store opened by `open_file` or `adopt` holds the club of the answered
-    // events, or that club after one event that failed since the last change. If the run changed
-    // nothing, the store may also hold a club that a crash could have left before the run. A repeat
-    // of a served request gets the same reply and changes nothing, in the club of the answered
-    // events and in each other club one event away from it.
+    // After any crash, a store that `open_file` or `adopt` opens has one of these clubs:
+    //
+    // - the club of the answered events
+    // - the club of the answered events after one more event, which failed after the last change
+    // - a club that a crash could have left before the run, if the run changed nothing
+    //
+    // If the store's club is at most one event later than the answered events, a repeat of a served
+    // request gets the same reply and changes nothing.
     ensures again { IfOk result (λ left. (club : Club) (others : List Club)
         → sound_in over_files desk club others
         → (seen : List machine.Event) → AreEventsOf events.now seen

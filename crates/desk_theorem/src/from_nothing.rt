@@ -1,4 +1,5 @@
-//! A desk over an empty database in memory. No clause requires anything of the desk or its tables.
+//! Laws about a desk over an empty database in memory. The laws have no preconditions on the desk
+//! or its tables.
 
 ghost use Rattle.std.specs.Prelude.{IfErr, IfOk, List};
 ghost use Rattle.club_core.specs.Club.{empty_club};
@@ -15,7 +16,7 @@ use club_store::Store;
 use club_values::Moment;
 use std::alloc::Global;
 
-/// Returns the responses of a desk over an empty database to a list of events.
+/// Runs a list of events at a desk over an empty database, and returns the responses.
 ///
 /// # Errors
 ///
@@ -24,8 +25,8 @@ pub fn run_from_nothing(alloc: Global, events: &[Event]) -> Result<Vec<EventRepl
     ensures lawful { IfOk result (λ replies. (seen : List machine.Event)
         → AreEventsOf events.now seen
         → IsLawfulRun empty_club seen (responses_of replies.items)) }
-    // One step answered each event, or the store failed during the event, as it can in `ask` and
-    // `office`.
+    // A step of the machine answered each event, or the event failed because memory or storage
+    // failed.
     ensures handled { IfOk result (λ replies. HandlesFromNothing events.now replies.items) }
     ensures fault { IfErr result IsMemoryFault }
 {
@@ -38,15 +39,15 @@ pub fn run_from_nothing(alloc: Global, events: &[Event]) -> Result<Vec<EventRepl
     }
 }
 
-/// The responses to a list of events, and the reply to a request after them.
+/// The responses to a list of events, and the reply to a later request.
 #[derive(Drop)]
 pub struct RunAndReply {
     pub replies: Vec<EventReply>,
     pub reply: Reply,
 }
 
-/// Returns the responses of a desk over an empty database to a list of events, and its reply to a
-/// request after them.
+/// Runs a list of events and then a request at a desk over an empty database. Returns the responses
+/// and the reply.
 ///
 /// # Errors
 ///
@@ -60,17 +61,19 @@ pub fn reply_from_nothing(
     ensures run { IfOk result (λ returned. (seen : List machine.Event)
         → AreEventsOf events.now seen
         → IsLawfulRun empty_club seen (responses_of returned.replies.items)) }
-    // The reply is based on the club that the answered events leave.
+    // The reply depends on the club after the answered events.
     ensures lawful { IfOk result (λ returned. (seen : List machine.Event)
         → AreEventsOf events.now seen
         → IsLawful (club_left empty_club seen (responses_of returned.replies.items))
         words.now.pass.now words.now.request moment returned.reply) }
-    // One step answered each event, or the store failed during the event. If the reply is
-    // `Unavailable`, the store failed, or there was no memory for a text in JSON.
+    // A step of the machine answered each event, or the event failed because memory or storage
+    // failed. If the reply is `Unavailable`, the store failed, or there was no memory for a pass in
+    // JSON.
     ensures handled { IfOk result (λ returned. RepliesFromNothing events.now
         returned.replies.items words.now.pass.now words.now.request moment returned.reply) }
     ensures fault { IfErr result IsMemoryFault }
-    // Even without memory, a text that is neither JSON nor a pass is refused with its own fault.
+    // Even without memory, a text that is neither JSON nor a pass gets the refusal for its own
+    // fault.
     ensures in_place { IfOk result
         (λ returned. RefusesByFormFault words.now.pass.now returned.reply) }
 {

@@ -1,5 +1,5 @@
-//! The law of the desk and its tables together. It covers the responses to any list of commands and
-//! requests from an empty database, the reply to a further request, and the state after a crash.
+//! Laws about the desk together with its tables. The laws cover the responses of a desk that starts
+//! with an empty database, and the state of a desk after a crash.
 #![tactic(auto)]
 
 mod crash;

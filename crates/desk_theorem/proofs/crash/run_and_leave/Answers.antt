@@ -10,7 +10,7 @@ use Rattle.club_gate.specs.Runs.{IsWithinOneEvent, MayBeLeft, DeskResponse, club
 use Rattle.desk_theorem.specs.Crash.{IsReopened, RecoversAfterRun}
 use Rattle.desk_theorem.proofs.crash.run_and_leave.Goals as goal
 
--- either the club after the run, or another possible crash state
+-- The club `now` is the club after the run, or another possible crash state.
 abbrev IsOf : Club → List Club → List Event → List DeskResponse → Club → Type 0
 IsOf club others events returned now =
     (now ≡ club_left club events returned) ⊎ MayBeLeft club others (club_left club events returned) events returned now
@@ -30,7 +30,6 @@ module _ {E : Type 0} {e : disk.Ghosts E} (opened : Held (FileStore E e)) (club 
   recovers_after_run (now ∷ clubs) sound each (inr later) =
       recovers_after_run clubs (All-tail IsSound now clubs sound) (All-tail (IsOf club others events returned) now clubs each) later
 
--- if files hold one of these clubs, the reopened store has one of them, whether `open_file` or `adopt` opened it
 reopened_as_one : {E : Type 0} {e : disk.Ghosts E} (left : Image) (opened : Held (FileStore E e)) → IsReopened left opened
     → (clubs : List Club) → HoldsOneOf left clubs → RepresentsOne (file_state opened) clubs
 reopened_as_one left opened (inl opens) clubs holds = opens.again clubs holds
