@@ -68,8 +68,7 @@ right-of places options n m e same h =
     rw (not_zero places h) refl in
     ap (λ s. styled_decimal s n) e ∙ wide ∙ padded_integral-right places (decimal n) ∙ ap (λ k. right_in places (decimal k)) same
 
--- The text that the format string `{} {}:00 {} {} {} {}` gives for these arguments, with a line
--- feed.
+-- The text of a day sheet's row, with its line feed.
 unfoldable pub laid_text : List ℕ → ℕ → List ℕ → List ℕ → List ℕ → List ℕ → List ℕ
 laid_text facility hour key number persons charge =
     facility ++ (codes " " ++ (two_digits hour ++

@@ -14,7 +14,8 @@ IsAllowedBy ask None = ⊥
 IsAllowedBy ask (Some caveat) = Permits caveat ask
 
 -- The pass is accepted for the request. A root of the basis's key signs the pass, and that root is
--- valid at the moment. The key isn't revoked, and each caveat of the pass allows the request.
+-- valid when the request comes. The key isn't revoked, and each caveat of the pass allows the
+-- request.
 pub record IsAcceptedPass (pass : Pass) (request : Request) (moment : ℕ) (basis : Basis) : Type 0 where
   pub signed : IsSignedUnder pass basis.key moment
   pub not_revoked : basis.key.revoked ≡ false
@@ -29,8 +30,8 @@ pub record IsAcceptedIn (club : Club) (words : Words) (moment : ℕ) : Type 0 wh
   pub acceptance : IsAcceptedPass pass words.request moment basis
 
 -- The text is a pass that allows its holder to make the request. The pass names a key of the club,
--- and the key isn't revoked. A root of the key signs the pass, and that root is valid at the
--- moment. Each caveat of the pass allows the request.
+-- and the key isn't revoked. A root of the key signs the pass, and that root is valid when the
+-- request comes. Each caveat of the pass allows the request.
 pub record IsEntitled (club : Club) (words : Words) (moment : ℕ) : Type 0 where
   pub pass : Pass
   pub basis : Basis

@@ -1,5 +1,5 @@
 -- Defines the answer to a request. The rules first accept or refuse the pass, and then decide the
--- request. The answer depends only on the request, its pass, the moment and the view.
+-- request. The answer depends only on the request, its pass, its moment and the view.
 use Rattle.std.specs.Prelude.{ℕ, not, Bool, false, [], ◌∷◌, Option, Some, None, Result, Ok, Err, is_some, option_map}
 use Rattle.pass_caveats.specs.{Fault.first_fault_of, declared.{ask.Ask.Ask, fault.CaveatFault.{CaveatFault, TheVariants.{NotUnderstood, Denied}}}}
 use Rattle.club_rows.specs.{Facility.charge_of, declared.facility.Facility.Facility}
@@ -29,7 +29,7 @@ ask_of view request moment = record {
   spent = view.spent;
 }
 
--- The refusal for a text that isn't a pass.
+-- The refusal for a text that isn't a valid pass.
 abbrev pub form_refusal : PassFault → Refusal
 form_refusal TooLong = PassTooLong
 form_refusal Malformed = PassMalformed
@@ -65,6 +65,6 @@ answer_to (Ok pass) request moment (Some basis) =
 abbrev pub answer_by_basis : Words → ℕ → Option Basis → Verdict
 answer_by_basis words moment basis = answer_to words.pass words.request moment basis
 
--- A club's answer to a request at a moment.
+-- A club's answer to a request that comes at this moment.
 abbrev pub verdict_in : Club → Words → ℕ → Verdict
 verdict_in club words moment = answer_by_basis words moment (basis_of club words)

@@ -211,7 +211,7 @@ SetsAFacility =
     ∷ []
 
 -- A cancellation by the office refunds the whole charge, even after the slot has begun. Later
--- repeats get the recorded replies.
+-- repeats of the member's requests get the recorded replies.
 abbrev pub CancelsForAMember : Type 0
 CancelsForAMember =
     replies_of opened_club

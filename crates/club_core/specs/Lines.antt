@@ -1,4 +1,5 @@
--- Defines a decision as a list of lines. The first line whose condition is true gives the answer.
+-- Defines a decision as a list of lines. Each line has a condition and an answer. The first line
+-- whose condition is true gives the answer.
 use Rattle.std.specs.Prelude.{Bool, if◌then◌else◌, List, [], ◌∷◌}
 
 -- An answer and its condition.

@@ -7,7 +7,7 @@ use Rattle.club_rows.specs.declared.key.KeyRow.{KeyRow}
 use Rattle.club_core.specs.{Answer.ask_of, Verdict.verdict_of, declared.{request.Request.Request, view.View.View}}
 use Rattle.club_core.specs.declared.request.Request.TheVariants as asked
 
--- A view with the key's row only. It has no booking and no facility, and all its sums are 0.
+-- A view with the key's row only. The view has no booking and no facility, and all its sums are 0.
 abbrev pub bare_view : KeyRow → View
 bare_view key = record {
   key = key;
@@ -21,8 +21,8 @@ bare_view key = record {
   booking = None;
 }
 
--- A view with only the key's row, the recorded booking and the facility. Caveats depend on nothing
--- else in a view, except on the points that the key has spent.
+-- A view with only the key's row, the recorded booking and the facility. The only other part on
+-- which caveats depend is the number of points that the key has spent.
 abbrev pub seen_by_caveats : View → View
 seen_by_caveats view = record (bare_view view.key) { facility = view.facility; booking = view.booking }
 

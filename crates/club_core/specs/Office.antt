@@ -1,5 +1,5 @@
--- Defines how the rules decide the office's commands. The first line whose condition is true
--- refuses the command.
+-- Defines how the rules decide the office's commands. The first true condition in a list refuses
+-- the command.
 use Rattle.std.specs.{Prelude.{ℕ, ◌+◌, ◌&&◌, not, Bool, false, List, [], ◌∷◌, nat_lt, nat_le, is_some, Option, Some, None, Result, Ok, Err}, Str.bytes_eq}
 use Rattle.club_values.specs.declared.slot.Slot.{Slot}
 use Rattle.club_rows.specs.{Facility.is_open_at, Limits.{credited_limit, quota_limit, places_limit, price_limit, shutting_limit}}

@@ -17,12 +17,12 @@ pub record Words : Type 0 where
   pub pass : Result Pass PassFault
   pub request : Request
 
--- The root is valid at the moment. The key's root is always valid. The key's older root is valid
--- until it expires.
+-- The root is valid at the given moment. The key's root is always valid. The key's older root is
+-- valid until it expires.
 abbrev pub IsGoodRoot : Key → ℕ → List ℕ → Type 0
 IsGoodRoot key moment root = (root ≡ key.root) ⊎ (older_root_at key.older moment ≡ Some root)
 
--- The pass is signed under a root of the key that is valid at the moment.
+-- A root of the key that is valid at the given moment signs the pass.
 pub record IsSignedUnder (pass : Pass) (key : Key) (moment : ℕ) : Type 0 where
   pub root : List ℕ
   pub good : IsGoodRoot key moment root

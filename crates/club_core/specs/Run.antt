@@ -6,7 +6,7 @@ use Rattle.club_core.specs.declared.command.{Command.TheVariants.{CancelBooking,
 use Rattle.club_core.specs.declared.{command.{OfficeAnswer.TheVariants.{Done, NewKey, NotDone}, OfficeFault.OfficeFault}, reply.Reply.Reply}
 use Rattle.club_core.specs.declared.verdict.Verdict.{Verdict}
 
--- A request at a moment, or a command of the office.
+-- A request with the moment when it comes, or a command of the office.
 pub data Event : Type 0 where
   Asked : (words : Words) (moment : ℕ) → Event
   Commanded : (command : Command) → Event

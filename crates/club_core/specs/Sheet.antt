@@ -1,4 +1,4 @@
--- Defines the day sheet and its order of rows.
+-- Defines the rows and the text of the day sheet.
 use Rattle.std.specs.{Cmp.Lexicographic.slice_cmp, Fmt.decimal, Ordering.nat_cmp, Prelude.{◌≡◌, ◌⊎◌, ℕ, ◌-◌, ◌<◌, ◌==◌, ◌&&◌, not, Bool, List, [], ◌∷◌, ◌++◌}}
 use Rattle.std.specs.{Prelude.{length, replicate, filter, sum_by, flat_map, AllPairs, IsPermutation, codes}, declared.cmp.Ordering.TheVariants.Less}
 use Rattle.club_values.specs.{Day.day_text, Digits.two_digits}

@@ -19,7 +19,7 @@ abbrev pub outside : List ℕ → Club → Option Slot → SlotUse
 outside member club slot = slot_use_by (bookings_of_others member club) club slot
 
 -- An event that concerns a member: a request under a key of the member, or a change of the member's
--- part. A request comes with the use of its slot by other members.
+-- part. A request includes other members' use of its slot.
 pub data OwnEvent : Type 0 where
   OwnAsk : (words : Words) (moment : ℕ) (others : SlotUse) → OwnEvent
   OwnChange : (change : Change) → OwnEvent

@@ -36,7 +36,8 @@ spent_under key bookings = sum_by cost_of (filter (is_under key) bookings)
 abbrev pub balance_of : Member → List Booking → ℕ
 balance_of member bookings = member.credited - sum_by cost_of bookings
 
--- Whether a booking is open. An open booking isn't cancelled, and its slot begins after the moment.
+-- Whether a booking is open. An open booking isn't cancelled, and its slot begins after the given
+-- moment.
 abbrev pub is_to_come : ℕ → Booking → Bool
 is_to_come moment booking = not booking.cancelled && nat_lt moment (start_of booking.slot)
 

@@ -1,5 +1,4 @@
--- Defines the answer to an accepted request. The first line whose condition is true decides the
--- answer.
+-- Defines the answer to an accepted request. The first true condition in a list decides the answer.
 use Rattle.std.specs.Prelude.{ℕ, ◌+◌, ◌-◌, ◌==◌, ◌&&◌, not, false, List, [], ◌∷◌, nat_lt, nat_le, if◌then◌else◌, Option, Some, None}
 use Rattle.club_values.specs.{Slot.start_of, declared.slot.Slot.Slot}
 use Rattle.club_core.specs.{Lines.{Line, line_if, first_of}, declared.{change.Change.TheVariants.{InsertBooking, MarkCancelled}, refusal.Refusal.Refusal}}
@@ -88,7 +87,8 @@ book_verdict view slot number guests moment =
     recorded_or view.booking (λ booking. repeat_booking_verdict booking slot guests)
     (new_verdict view slot number guests moment view.facility)
 
--- The answers that change nothing, for the cancellation of a recorded booking.
+-- The conditions under which the cancellation of a recorded booking changes nothing, with their
+-- answers.
 abbrev pub cancel_lines : Booking → Slot → ℕ → List (Line Verdict)
 cancel_lines booking slot moment =
     line_if (not (same_slot booking.slot slot)) (refusal_verdict NumberUsed)

@@ -3,9 +3,9 @@
 use club_rows::{Booking, Facility, Key, Member, Root};
 use club_values::{Moment, Name, Slot};
 
-/// A change of the club's rows. The change contains the row values on which its decision was based.
-/// A store applies the change without reading the rows first, and refuses the change if the rows
-/// have other values.
+/// A change of the club's rows. The change contains the row values on which the decision was based.
+/// A store doesn't read the rows before it applies the change. The store refuses the change if the
+/// rows have other values.
 #[derive(Clone, Copy, Debug, PartialEq, Eq)]
 pub enum Change {
     InsertMember(Member),

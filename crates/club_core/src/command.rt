@@ -58,7 +58,7 @@ pub enum Command {
         name: Name,
     },
     /// Replaces a key's root. The desk accepts passes signed under the former root until the moment
-    /// `until`, and refuses them from that moment on.
+    /// `until`. From this moment on, the desk refuses these passes.
     RotateKey {
         name: Name,
         root: Root,

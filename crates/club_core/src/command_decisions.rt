@@ -1,5 +1,5 @@
 //! Decides the commands of the office from their views. Each decision tests its conditions in
-//! order. The first failed test refuses the command.
+//! order. The first test that fails refuses the command.
 
 ghost use Rattle.std.specs.Prelude.{◌≡◌, not, nat_lt};
 ghost use Rattle.club_rows.specs.Limits.{quota_limit};

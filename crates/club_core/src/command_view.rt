@@ -5,7 +5,7 @@ use crate::slot_use::SlotUse;
 use club_rows::{Booking, Facility, Key, Member};
 
 /// The rows and sums that decide a command. A field that the command doesn't need is `None` or 0.
-/// If the command needs no slot, `slot` has no persons and isn't closed.
+/// If the command needs no slot, the field `slot` has no persons and isn't closed.
 #[derive(Clone, Copy, Debug, PartialEq, Eq)]
 pub struct CommandView {
     pub member: Option<Member>,

@@ -1,4 +1,4 @@
-//! Decides the four kinds of requests, after the pass was accepted. Each decision is a list of
+//! Decides the four kinds of requests, after the desk accepted the pass. Each decision is a list of
 //! conditions. The first condition that is true determines the reply.
 
 ghost use Rattle.std.specs.Prelude.{◌≡◌, Some};
@@ -16,10 +16,11 @@ use crate::view::View;
 use club_rows::{Booking, BookingNumber, Facility, Guests};
 use club_values::{MINUTES_A_DAY, Moment, Name, Slot};
 
-/// The booking window, in minutes: a slot may begin at most 60 days after the moment.
+/// The booking window, in minutes: a slot may begin at most 60 days after the moment of the
+/// request.
 const BOOKING_WINDOW: u64 = 60 * MINUTES_A_DAY as u64;
 
-/// Returns whether a slot of the facility can be booked at a moment.
+/// Returns whether a slot of the facility can be booked at the given moment.
 fn is_bookable(facility: &Facility, slot: &Slot, moment: Moment) -> bool
     ensures { result ≡ facilities.is_bookable facility.now slot.now moment }
 {

@@ -30,9 +30,9 @@ pub enum Refusal {
     /// The identifier names no key of the club, or the signature is wrong.
     NotVerified,
     KeyRevoked,
-    /// A caveat isn't understood. The number is the caveat's position, counted from 1.
+    /// A caveat isn't understood. The value is the caveat's position in the pass, counted from 1.
     CaveatNotUnderstood(usize),
-    /// A caveat denies the request. The number is the caveat's position, counted from 1.
+    /// A caveat denies the request. The value is the caveat's position in the pass, counted from 1.
     CaveatDenies(usize),
     /// The key has used the number for another booking.
     NumberUsed,

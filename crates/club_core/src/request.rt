@@ -9,7 +9,7 @@ use club_values::{Action, Slot};
 /// A request to the desk.
 #[derive(Clone, Copy, Debug, PartialEq, Eq)]
 pub enum Request {
-    /// Shows a slot.
+    /// Shows the state of a slot.
     View {
         slot: Slot,
     },

@@ -1,6 +1,6 @@
 //! Defines the use of a slot.
 
-/// The use of a slot: its number of persons, and whether it is closed.
+/// The use of a slot: its number of persons, and whether the slot is closed.
 #[derive(Clone, Copy, Debug, PartialEq, Eq)]
 pub struct SlotUse {
     /// The number of persons in the slot.

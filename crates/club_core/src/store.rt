@@ -34,7 +34,7 @@ impl fmt::Display for StoreFault {
 impl Error for StoreFault {}
 
 /// A store of a club's rows. The store keeps its promises while its disk is clean. A disk is clean
-/// if it returns what was written, and nobody else writes to it.
+/// if every read returns the bytes that were written, and no other program writes to the disk.
 pub trait ClubStore {
     ghost use Rattle.std.specs.Prelude.{◌≡◌, ◌∷◌, All, IfErr, List, Option, Some, option_map};
     ghost use Rattle.club_core.specs.Basis.{account_named, slot_use};
@@ -52,8 +52,8 @@ pub trait ClubStore {
     // Whether the disk has been clean so far.
     ghost disk_is_clean: { Self → Type 0 };
 
-    // A call failed with this fault between the two states. `None` is a call that reads, and `Some`
-    // is a call that applies this change.
+    // A call failed with this fault. The two states are the states before and after the call.
+    // `None` is a call that reads, and `Some` is a call that applies this change.
     ghost fails: { Option Change → Self → StoreFault → Self → Type 0 };
 
     /// Returns the row of the key with this name, or `None` if the club has no such key.
@@ -93,7 +93,7 @@ pub trait ClubStore {
             (λ club account. account ≡ account_named member.now club) };
 
     /// Returns the number of a member's open bookings. An open booking isn't cancelled, and its
-    /// slot begins after the moment.
+    /// slot begins after the given moment.
     fn open_count(&mut self, member: &Name, moment: Moment) -> Result<u64, StoreFault>
         ensures { ReadsStore disk_is_clean represents fails self.old self.new result
             (λ club count. count ≡ count_to_come moment (bookings_of member.now club)) };
@@ -111,8 +111,8 @@ pub trait ClubStore {
     /// Applies a change.
     ///
     /// The call fails without effect if the change doesn't match the club's rows, or if the changed
-    /// club would violate its invariants. The call can also fail because of memory or storage. The
-    /// club is then unchanged, but a crash may leave the changed club.
+    /// club would violate its invariants. The call can also fail because memory or storage fails.
+    /// After such a failure the club is unchanged, but a crash may leave the changed club.
     fn apply(&mut self, change: &Change) -> Result<(), StoreFault>
         ensures was_clean { disk_is_clean self.new → disk_is_clean self.old }
         ensures changed { disk_is_clean self.new →

@@ -8,8 +8,8 @@ use club_rows::{Booking, Facility, Key, KeyRow, Member};
 use club_values::Moment;
 use pass_caveats::Ask;
 
-/// The rows and sums that decide a request. A view contains the request's key, the key's member,
-/// and the state of the requested slot.
+/// The rows and sums that decide a request. A view contains the key of the request's pass, the
+/// key's member, and the state of the requested slot.
 #[derive(Clone, Copy, Debug, PartialEq, Eq)]
 pub struct View {
     pub key: KeyRow,
@@ -18,7 +18,7 @@ pub struct View {
     pub member: Member,
     /// The member's balance in points.
     pub balance: u32,
-    /// The number of the member's open bookings at the moment.
+    /// The number of the member's open bookings when the request comes.
     pub open_count: u64,
     /// The slot's facility, or `None` if the request names no slot or the facility is unknown.
     pub facility: Option<Facility>,
@@ -80,7 +80,7 @@ impl View {
         }
     }
 
-    /// Returns the values of the request that caveats can test at the moment.
+    /// Returns the values of the request that caveats can test.
     pub fn ask(&self, request: &Request, moment: Moment) -> Ask
         ensures { result ≡ ask_of self.now request.now moment }
     {

@@ -7,7 +7,7 @@ use Rattle.club_laws.proofs.Common.{verdict_in, credited_member, revoked_key, ro
 use Rattle.club_laws.proofs.{Common.{replies_of, club_after, member_with_quota}, MemberParts.{is_key_of-added, is_key_of-edited}}
 use Rattle.club_laws.specs.Points.{key_given, keys_given, credit_accepted, credits_accepted, debit_accepted, debits_accepted}
 
--- The two clubs differ at most in their bookings.
+-- The two clubs have the same keys and the same members.
 pub record KeepsPeople (club new : Club) : Type 0 where
   pub keys : new.keys ≡ club.keys
   pub members : new.members ≡ club.members

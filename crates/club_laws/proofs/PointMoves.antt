@@ -10,7 +10,7 @@ use Rattle.club_laws.specs.Points.{Entry, is_entry_of, firsts, charge_of_reply, 
 use Rattle.std.proofs.lemmas.List.Sums.{sum_by-cons}
 use Rattle.club_rows.specs.Rows.{IsBooking}
 
--- A record of bookings that were seen, by key and number.
+-- The record of the keys and numbers that were seen so far.
 abbrev pub Seen : Type 0
 Seen = List ℕ → ℕ → Bool
 
@@ -18,8 +18,8 @@ Seen = List ℕ → ℕ → Bool
 abbrev pub with_entry : Entry → Seen → Seen
 with_entry entry seen key number = seen key number || (bytes_eq key entry.key && number == entry.number)
 
--- Whether an entry adds points to a total. Its key must pass the test, and its key and number must
--- be new to the record.
+-- Whether an entry adds points to a total. The entry's key must pass the test, and its key and
+-- number must be new to the record.
 abbrev pub counts : (List ℕ → Bool) → Seen → Entry → Bool
 counts p seen entry = p entry.key && not (seen entry.key entry.number)
 

@@ -12,7 +12,7 @@ ask_of_other_key request =
     Asked (record { pass = Ok (record { key = Some (codes "amy-2"); caveats = []; is_signed = λ _. true }); request = request }) noon
 
 -- Amy makes two bookings under each of her keys, and cancels one of the four bookings. Another
--- booking's slot has begun when she views the account.
+-- booking's slot has begun when amy views the account.
 abbrev pub some_bookings : List Event
 some_bookings =
     Commanded (AddKey (codes "amy-2") (codes "amy") root)

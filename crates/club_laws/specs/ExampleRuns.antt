@@ -12,8 +12,8 @@ use Rattle.club_laws.specs.{Points.{keys_given, credits_accepted, debits_accepte
 abbrev pub at_six : ℕ
 at_six = 29_626_920
 
--- A member makes two bookings, and repeats the request for the booking at 18. The member then
--- cancels this booking, and repeats the cancellation and the request for the booking.
+-- A member makes two bookings, and repeats the booking at 18. The member then cancels the booking
+-- at 18, repeats the cancellation, and repeats the booking.
 abbrev pub some_events : List Event
 some_events =
     opening
@@ -36,7 +36,7 @@ pub record AreFigures (events : List Event) (replies : List EventReply) (charged
 abbrev pub CountsEachOnce : Type 0
 CountsEachOnce = AreFigures some_events (replies_of empty_club some_events) 800 10_000 300
 
--- The office also debits 400 points, and then tries to debit 9,101 points, which are more than the
+-- The office also debits 400 points, and then tries to debit 9,101 points, which is more than the
 -- balance.
 abbrev pub debited_events : List Event
 debited_events = some_events ++ Commanded (Debit (codes "amy") 400) ∷ Commanded (Debit (codes "amy") 9_101) ∷ []
@@ -47,7 +47,7 @@ pub record CountsADebit : Type 0 where
   pub debits : debits_accepted (codes "amy") debited_events (replies_of empty_club debited_events) ≡ 400
 
 -- The office cancels both bookings, but the booking at 18 is already cancelled. Then the member
--- cancels the booking at 19, and repeats the request for this booking.
+-- cancels the booking at 19, and repeats the booking.
 abbrev pub cancelled_events : List Event
 cancelled_events =
     some_events
@@ -63,8 +63,7 @@ abbrev pub CountsACancellationOnce : Type 0
 CountsACancellationOnce = AreFigures cancelled_events (replies_of empty_club cancelled_events) 800 10_000 500
 
 -- The office cancels a booking. If the member then cancels the booking, the reply states the
--- recorded refund. If the member then repeats the request for the booking, the reply is the first
--- reply.
+-- recorded refund. If the member then repeats the booking, the reply is the booking's first reply.
 abbrev pub RepeatsAfterTheOffice : Type 0
 RepeatsAfterTheOffice =
     replies_of (club_after empty_club some_events)
@@ -75,8 +74,7 @@ RepeatsAfterTheOffice =
 abbrev pub booked_then_cancelled : List Event
 booked_then_cancelled = ask (asked.Book (slot_at 18) 7 2) noon ∷ ask (asked.Cancel (slot_at 18) 7) noon ∷ []
 
--- A repeat of the request for the booking. Its pass has the same key, and a caveat that allows no
--- spending.
+-- A repeat of the booking, under a pass with a caveat that allows no spending.
 abbrev pub words_again : Words
 words_again = record {
   pass = Ok (record { key = Some (codes "amy-1"); caveats = Some (Spend 0) ∷ []; is_signed = λ _. true });

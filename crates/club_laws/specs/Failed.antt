@@ -3,8 +3,8 @@ use Rattle.std.specs.Prelude.{◌≡◌, ◌≢◌, ◌⊎◌, Bool, true, false
 use Rattle.club_core.specs.{Club.Club, Events.IsEvent, Run.{Event, Asked, Commanded, step, replies_of, club_after, EventReply, Response, ToMember, ToOffice}}
 use Rattle.club_core.specs.declared.{command.OfficeAnswer.OfficeAnswer, refusal.Refusal.TheVariants.Unavailable, reply.Reply.{Reply, TheVariants.Refused}}
 
--- How a desk shows the machine's answers to the office. `is_fault` tests whether an answer that the
--- desk shows reports a failure of memory or storage.
+-- Describes how a desk shows the machine's answers to the office. `is_fault` tests whether a shown
+-- answer reports a failure of memory or storage.
 pub record Presentation (O : Type 0) : Type 0 where
   pub shown : OfficeAnswer → O
   pub is_fault : O → Bool
@@ -25,7 +25,7 @@ has_failed presentation (Asked words moment) (ToMember reply) = is_unavailable r
 has_failed presentation (Commanded command) (ToOffice answer) = presentation.is_fault answer
 has_failed presentation event returned = false
 
--- An event was answered. The response and the next club are those of the machine.
+-- An event was answered. The response and the next club are the results of the machine's step.
 pub record IsAnsweredStep {O : Type 0} (presentation : Presentation O) (club : Club) (event : Event) (returned : Response O) (next : Club) : Type 0 where
   pub success : IsFalse (has_failed presentation event returned)
   pub reply : returned ≡ present_reply presentation (step club event).reply
@@ -39,15 +39,15 @@ pub record IsWithoutEffect {O : Type 0} (presentation : Presentation O) (club : 
 abbrev pub IsStep : {O : Type 0} → Presentation O → Club → Event → Response O → Club → Type 0
 IsStep presentation club event returned next = IsAnsweredStep presentation club event returned next ⊎ IsWithoutEffect presentation club event returned next
 
--- A run of a list of events, with their responses. Each event was answered or failed, and `last` is
--- the club after the run.
+-- A run of a list of events, with the responses to the events. Each event was answered or failed,
+-- and `last` is the club after the run.
 abbrev pub IsRun : {O : Type 0} → Presentation O → Club → List Event → List (Response O) → Club → Type 0
 IsRun presentation club [] [] last = last ≡ club
 IsRun presentation club (event ∷ events) (returned ∷ replies) last =
     (next : Club) × IsStep presentation club event returned next × IsRun presentation next events replies last
 IsRun presentation club events replies last = ⊥
 
--- The events that were answered.
+-- The events that didn't fail.
 abbrev pub answered_events : {O : Type 0} → Presentation O → List Event → List (Response O) → List Event
 answered_events presentation (event ∷ events) (returned ∷ replies) =
     if has_failed presentation event returned
@@ -80,7 +80,7 @@ LeavesEvents O =
     → All IsEvent events
     → All IsEvent (answered_events presentation events replies)
 
--- Two runs in a row. The second run begins with the last club of the first run.
+-- Two consecutive runs. The second run begins with the last club of the first run.
 pub record AreRuns {O : Type 0} (presentation : Presentation O) (club last : Club) (front rest : List Event) (before since : List (Response O)) : Type 0 where
   pub now : Club
   pub first : IsRun presentation club front before now
@@ -94,15 +94,14 @@ CutsRuns O =
     → IsRun presentation club (front ++ rest) (before ++ since) last
     → AreRuns presentation club last front rest before since
 
--- Two runs in a row can be joined into one run.
+-- Two consecutive runs can be joined into one run.
 abbrev pub JoinsRuns : Type 0 → Type 0
 JoinsRuns O =
     (presentation : Presentation O) (club last : Club) (front rest : List Event) (before since : List (Response O))
     → AreRuns presentation club last front rest before since
     → IsRun presentation club (front ++ rest) (before ++ since) last
 
--- Suppose that a desk shows no answer to the office as a fault. Then the machine's own run
--- satisfies `IsRun`.
+-- If a desk shows no answer to the office as a fault, the machine's own run satisfies `IsRun`.
 abbrev pub RunsWithoutFailures : Type 0 → Type 0
 RunsWithoutFailures O =
     (presentation : Presentation O) (club : Club) (events : List Event)

@@ -10,7 +10,7 @@ use Rattle.club_laws.specs.Failed.{Presentation, present_reply, answered_events,
 abbrev pub presentation : Presentation (Option OfficeAnswer)
 presentation = record { shown = λ answer. Some answer; is_fault = λ returned. is_none returned }
 
--- Amy becomes a member. Her second credit fails, and her booking fails. Then she views her account.
+-- Amy becomes a member. Amy's second credit and her booking fail, and then she views her account.
 abbrev pub events : List Event
 events = opening ++ Commanded (Credit (codes "amy") 5) ∷ ask (asked.Book (slot_at 18) 7 2) noon ∷ ask asked.Account noon ∷ []
 

@@ -14,8 +14,8 @@ is_of_part name club change = is_own name club change
 abbrev pub part_after : List ℕ → Club → Change → Club
 part_after name club change = if is_of_part name club change then after change (part_of name club) else part_of name club
 
--- Each change that leads from a sound club to a sound club has the effect of `part_after` on a
--- member's part.
+-- If a change leads from a sound club to a sound club, `part_after` is the member's part after the
+-- change.
 abbrev pub ChangesThePartAlike : Type 0
 ChangesThePartAlike =
     (name : List ℕ) (club : Club) (change : Change)

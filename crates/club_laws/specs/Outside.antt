@@ -14,8 +14,8 @@ HoldAlike name a b (Some slot) =
     (taken_in slot (bookings_of_others name a) ≡ taken_in slot (bookings_of_others name b))
     × (is_closed slot a ≡ is_closed slot b)
 
--- Suppose that other members use the requested slot in the same way in two clubs. Then both clubs
--- give the solo machine the same event for a member's request.
+-- If other members use the requested slot in the same way in two clubs, both clubs give the solo
+-- machine the same event for a member's request.
 abbrev pub SeesTheSlotAlone : Type 0
 SeesTheSlotAlone =
     (name : List ℕ) (a b : Club) (words : Words) (moment : ℕ) (in_a in_b : Basis)

@@ -1,4 +1,5 @@
--- Laws about repeated requests. A booking or a cancellation that was served takes place only once.
+-- Laws about repeated requests. An accepted repeat of a served booking or cancellation changes
+-- nothing.
 use Rattle.club_rows.specs.declared.booking.Booking.{Booking}
 use Rattle.club_core.specs.{Acceptance.IsAcceptedIn, Basis.key_of, Club.Club, Pass.Words}
 use Rattle.club_core.specs.{Run.{Commanded, ToOffice, Event, Asked, step, replies_of, club_after, EventReply, ToMember}, Sums.booking_under}
@@ -7,7 +8,7 @@ use Rattle.club_core.specs.declared.reply.Reply.TheVariants.{Booked, Cancelled}
 use Rattle.std.specs.Prelude.{Some, if◌then◌else◌, ◌≡◌, ℕ, List, ◌∷◌, ◌++◌}
 use Rattle.club_core.specs.declared.request.Request.TheVariants as asked
 
--- The reply serves a booking or a cancellation.
+-- The reply confirms a booking or a cancellation.
 abbrev pub IsBookedOrCancelled : Reply → Type 0
 IsBookedOrCancelled (Booked key number charge left) = Unit {0}
 IsBookedOrCancelled (Cancelled key number refund) = Unit {0}
@@ -26,8 +27,8 @@ pub record WasServed (club : Club) (history : List Event) (words : Words) (reply
   pub same_key : key_of words.pass ≡ key_of first.pass
   pub same_request : words.request ≡ first.request
 
--- An accepted repeat of a served request gets the same reply and changes nothing. Any events may
--- come between the two requests.
+-- An accepted repeat of a served request gets the same reply and changes nothing, whatever events
+-- come between the request and its repeat.
 abbrev pub RepeatsReturnTheSame : Type 0
 RepeatsReturnTheSame =
     (club : Club) (history : List Event) (words : Words) (moment : ℕ) (reply : Reply)

@@ -28,7 +28,7 @@ ConservesWithFailures O =
     → let answered = answered_events presentation events replies in
     IsConserved last answered (replies_of empty_club answered) member
 
--- A run overbooks no slot, even if some events failed.
+-- No slot is overbooked after a run, even if some events failed.
 abbrev pub PlacesWithFailures : Type 0 → Type 0
 PlacesWithFailures O =
     (presentation : Presentation O) (last : Club) (events : List Event) (replies : List (Response O)) (slot : Slot)

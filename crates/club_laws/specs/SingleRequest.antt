@@ -12,19 +12,19 @@ abbrev pub DependsOnTheBasisAlone : Type 0
 DependsOnTheBasisAlone =
     (words : Words) (moment : ℕ) (a b : Club) → basis_of a words ≡ basis_of b words → verdict_in a words moment ≡ verdict_in b words moment
 
--- The refusal of a request without a basis. It is the fault of the pass's text, or `NotVerified`
--- for a text that is a pass.
+-- The refusal of a request without a basis. If the text isn't a pass, the refusal names the fault
+-- of the text. Otherwise, the refusal is `NotVerified`.
 abbrev pub blind_refusal : Result Pass PassFault → Refusal
 blind_refusal (Err fault) = form_refusal fault
 blind_refusal (Ok pass) = NotVerified
 
--- A request without a basis gets the refusal `blind_refusal`, which depends only on the request and
--- its pass.
+-- A request without a basis gets the refusal `blind_refusal`. This refusal depends only on the
+-- request and its pass.
 abbrev pub RefusesWithoutABasis : Type 0
 RefusesWithoutABasis =
     (words : Words) (moment : ℕ) (club : Club) → basis_of club words ≡ None → verdict_in club words moment ≡ refusal_verdict (blind_refusal words.pass)
 
--- If no valid root of its key signs a pass, the request is refused with `NotVerified`.
+-- A request is refused with `NotVerified` if no valid root of the pass's key signs the pass.
 abbrev pub RefusesTheUnsigned : Type 0
 RefusesTheUnsigned =
     (words : Words) (moment : ℕ) (club : Club) (pass : Pass) (key : Key)
@@ -34,8 +34,8 @@ RefusesTheUnsigned =
     → ¬ IsSignedUnder pass key moment
     → verdict_in club words moment ≡ refusal_verdict NotVerified
 
--- The desk serves a request only if the request is entitled. A repeated request must be entitled
--- too.
+-- The club serves a request, even a repeated request, only if the pass allows its holder to make
+-- the request.
 abbrev pub ServesOnlyTheEntitled : Type 0
 ServesOnlyTheEntitled =
     (words : Words) (moment : ℕ) (club : Club) → IsServed (verdict_in club words moment).reply → IsEntitled club words moment

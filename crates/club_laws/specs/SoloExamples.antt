@@ -1,5 +1,5 @@
 -- Example runs from the empty club, with the requests of one member. Another member's events don't
--- change the replies to these requests, unless both members use the same slot.
+-- change the replies to a member's requests, unless both members use the same slot.
 use Rattle.club_core.specs.{Club.empty_club, Examples.{opening, root, slot_at, noon, late, ask, served_booking, account, served_cancellation}}
 use Rattle.club_core.specs.{Run.{Event, Asked, Commanded, replies_of, EventReply, ToMember}, declared.command.Command.TheVariants.{AddMember, Credit, Debit}}
 use Rattle.club_core.specs.declared.command.Command.TheVariants.{SetFacility, CancelBooking, AddKey, RevokeKey, CloseSlot, OpenSlot, SetQuota}
@@ -27,9 +27,10 @@ amy_alone =
 abbrev pub AnswersAmyAlone : Type 0
 AnswersAmyAlone = replies_to_amy amy_alone ≡ served_booking 7 600 1 ∷ account 9_400 1 600 ∷ served_cancellation 7 600 ∷ []
 
--- Amy sends the same requests, while bob books slots and cancels bookings, also in amy's slot and
--- under her booking number. The office credits and debits bob, changes his quota, adds a key and
--- revokes a key. The office also cancels a booking of bob, and closes and opens another slot.
+-- Amy sends the same requests, while bob books slots and cancels bookings. Some of bob's bookings
+-- are in amy's slot or have her booking number. The office credits and debits bob, changes his
+-- quota, adds a key and revokes a key. The office also cancels one of bob's bookings, and closes
+-- and opens another slot.
 abbrev pub amy_among_others : List Event
 amy_among_others =
     opening
@@ -57,8 +58,8 @@ amy_among_others =
 abbrev pub AnswersAmyAmongOthers : Type 0
 AnswersAmyAmongOthers = replies_to_amy amy_among_others ≡ replies_to_amy amy_alone
 
--- If bob has one place in amy's slot, the reply to amy's booking states one place less. No other
--- reply to amy changes.
+-- If bob has one place in amy's slot, the reply to amy's booking states one free place less. No
+-- other reply to amy changes.
 abbrev pub ShowsAmyATakenPlace : Type 0
 ShowsAmyATakenPlace =
     replies_to_amy
@@ -71,8 +72,9 @@ ShowsAmyATakenPlace =
     ∷ [])
     ≡ served_booking 7 600 0 ∷ account 9_400 1 600 ∷ served_cancellation 7 600 ∷ []
 
--- The office cancels bob's booking in amy's slot, and later cancels amy's booking. Amy can book the
--- places that bob had, gets her points back, and gets the recorded replies to her repeats.
+-- The office cancels bob's booking in amy's slot, and later cancels amy's booking. Amy can then
+-- book the places that bob had, and later gets her points back. Amy's repeated requests get the
+-- recorded replies.
 abbrev pub ShowsAmyHerCancellation : Type 0
 ShowsAmyHerCancellation =
     replies_to_amy
@@ -94,8 +96,8 @@ ShowsAmyHerCancellation =
     ∷ served_booking 7 600 1
     ∷ []
 
--- New places and a new price apply to amy's next booking. Her earlier booking keeps its charge and
--- its places left.
+-- New places and a new price apply to amy's next booking. Amy's earlier booking keeps its charge
+-- and its places left.
 abbrev pub ShowsAmyNewNumbers : Type 0
 ShowsAmyNewNumbers =
     replies_to_amy

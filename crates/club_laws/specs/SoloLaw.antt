@@ -1,5 +1,5 @@
--- Laws about the replies to a member's requests. In every run, the replies are those of a machine
--- that has only the member's part of the club.
+-- Laws about the replies to a member's requests. A machine that has only the member's part of the
+-- club gives the same replies.
 use Rattle.std.specs.Prelude.{◌≡◌, ℕ, Bool, true, false, List, [], ◌∷◌, map, if◌then◌else◌}
 use Rattle.club_core.specs.{After.after, Club.{Club, IsSound}, Run.{Event, step, after_change, replies_of, club_after, ToMember}}
 use Rattle.club_core.specs.Solo.{OwnEvent, OwnAsk, OwnChange, own_part, own_events, part_of, solo_verdict, solo_replies}

@@ -52,7 +52,7 @@ pub record SuitsBooking (booking : Booking) (club : Club) : Type 0 where
 -- A change suits a club under these conditions:
 --
 -- - The values of the change are within their limits.
--- - A new row has an unused name, and refers only to existing rows.
+-- - A new row has an unused name, and every name that it refers to exists.
 -- - A credit doesn't raise the member's credited points above the maximum.
 -- - A debit leaves the member enough points to pay for the member's bookings.
 -- - New numbers of a facility leave a place for each person in each slot.

@@ -3,8 +3,8 @@ use Rattle.std.specs.Prelude.{◌≡◌, ℕ, ◌-◌, ◌≤◌, List, sum_by, 
 use Rattle.club_rows.specs.declared.key.Key.{Key}
 use Rattle.club_core.specs.{Basis.account_named, Club.{Club, IsSound, bookings_of}, Sums.{cost_of, spent_under}, declared.account.MemberAccount.MemberAccount}
 
--- No key has spent more points than its member has used. The points used are the cost of the
--- bookings under all keys of the member.
+-- No key has spent more points than its member has used. The points that a member has used are the
+-- cost of the bookings under all the member's keys.
 abbrev pub SpendsWithinItsMember : Type 0
 SpendsWithinItsMember =
     (club : Club) (key : Key) → Contains club.keys key → spent_under key.name club.bookings ≤ sum_by cost_of (bookings_of key.member club)

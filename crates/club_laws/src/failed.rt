@@ -42,8 +42,8 @@ pub fn never_unavailable()
     ensures { NeverUnavailable }
 {}
 
-/// An example: a failed credit and a failed booking change nothing. The run without the failed
-/// events has the same other replies.
+/// An example: a failed credit and a failed booking change nothing. A run without the failed events
+/// has the same other replies.
 pub fn leaves_out_failed_events()
     ensures { LeavesOutFailedEvents }
 {}

@@ -1,4 +1,5 @@
-//! Laws about repeated requests. A booking or a cancellation that was served takes place only once.
+//! Laws about repeated requests. An accepted repeat of a served booking or cancellation changes
+//! nothing.
 
 ghost use Rattle.club_laws.specs.ExampleRuns.{AcceptsARepeat, RepeatsAfterTheOffice};
 ghost use Rattle.club_laws.specs.Repeats.{CancellationsReturnTheRecord, RepeatsMayBeLeftOut};
@@ -40,7 +41,7 @@ pub fn cancellations_return_the_record()
 }
 
 /// An example: the office cancels a booking. The member then cancels the same booking, and repeats
-/// the request for the booking.
+/// the booking.
 pub fn repeats_after_the_office()
     ensures { RepeatsAfterTheOffice }
 {}

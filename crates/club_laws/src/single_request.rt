@@ -20,7 +20,7 @@ pub fn refuses_without_a_basis()
     ensures { RefusesWithoutABasis }
 {}
 
-/// If no valid root of its key signs a pass, the reply is the same as for a pass that names no key.
+/// A pass gets the same reply as a pass that names no key, if no valid root of its key signs it.
 #[tactic(auto, using(crate::proofs::ServedPasses::unsigned_in))]
 pub fn refuses_the_unsigned()
     ensures { RefusesTheUnsigned }

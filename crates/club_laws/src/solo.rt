@@ -1,5 +1,5 @@
-//! Laws about the replies to a member's requests. In every run, the replies are those of a machine
-//! that has only the member's part of the club.
+//! Laws about the replies to a member's requests. A machine that has only the member's part of the
+//! club gives the same replies.
 
 ghost use Rattle.club_laws.specs.SoloExamples.{AnswersAmyAlone, AnswersAmyAmongOthers};
 ghost use Rattle.club_laws.specs.SoloExamples.{ShowsAmyATakenPlace, ShowsAmyHerCancellation};
@@ -36,8 +36,8 @@ pub fn answers_amy_among_others()
     ensures { AnswersAmyAmongOthers }
 {}
 
-/// An example: if another member has one place in the slot, the reply to a booking states one place
-/// less. No other reply changes.
+/// An example: if another member has one place in the slot, the reply to a booking states one free
+/// place less. No other reply changes.
 pub fn shows_amy_a_taken_place()
     ensures { ShowsAmyATakenPlace }
 {}

@@ -30,7 +30,7 @@ SurvivesCrash before after clubs events returned =
 abbrev pub CrashMayLeave : {D : Type 0} {d : disk.Ghosts D} → FileStore D d → Image → Type 0
 CrashMayLeave store left = IsClean (file.view store) × (file.state store).may_leave left
 
--- `Store::adopt` opened the store. Its connection found a file and a log with this image.
+-- `Store::adopt` opened the store. The store's connection found a file and a log with this image.
 pub record IsAdoptedFrom {E : Type 0} {e : disk.Ghosts E} (start : Image) (now : Held (FileStore E e)) : Type 0 where
   pub was : Held (FileStore E e)
   pub opening : IsOpened was
@@ -58,8 +58,8 @@ pub record RecoversAfterRun {E : Type 0} {e : disk.Ghosts E} (opened : Held (Fil
   pub again : IsWithinOneEvent (club_left club events returned) now → RepeatsServedReplies now events returned
   pub represents : sound_in over_files opened now []
 
--- A crash may occur during a run from this club or after the run. Every store that is then opened
--- on the file and the log satisfies `RecoversAfterRun`.
+-- After a run from this club, a crash may leave a file and a log. Every store that is then opened
+-- on this file and this log satisfies `RecoversAfterRun`.
 abbrev pub OpensAgain : {D E : Type 0} {d : disk.Ghosts D} → disk.Ghosts E → FileStore D d → Club → List Club → List machine.Event → List DeskResponse → Type 0
 OpensAgain {E = E} e store club others events returned =
     (left : Image) (opened : Held (FileStore E e)) → CrashMayLeave store left → IsReopened left opened

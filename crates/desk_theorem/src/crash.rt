@@ -1,4 +1,4 @@
-//! The crash law, for a desk over a file.
+//! The law about crashes of a desk over a file.
 
 ghost use Rattle.std.specs.Prelude.{List, All, IfOk};
 ghost use Rattle.sqlite.specs.FileStore as file;
@@ -18,10 +18,10 @@ use club_store::laws::{files_hold_one_of, one_club_recovered};
 use sqlite::{Alter, FileFrom, FileStore, Start};
 use sqlite_disk::Disk;
 
-/// The crash law. Suppose that a crash of the old store may leave any of these clubs. Reopening the
-/// files after the crash recovers exactly one of the clubs, and every later crash recovers the same
-/// club. If a repeat of a served request gets the same reply in all of these clubs, the repeat also
-/// gets this reply in the recovered club.
+/// States the crash law. Suppose that a crash of the old store may leave any of these clubs.
+/// Reopening the files after the crash recovers exactly one of the clubs, and every later crash
+/// recovers the same club. If a repeat of a served request gets the same reply in all of these
+/// clubs, the repeat also gets this reply in the recovered club.
 pub fn served_survives_a_crash<D: Disk, Q: Start>(
     before: &FileStore<D>,
     after: &Store<FileStore<FileFrom<Q>>>,
@@ -77,9 +77,9 @@ pub fn run_and_leave<D: Disk + Drop, E: Disk>(
         → IsAnsweredRun club seen (responses_of left.0.items)) }
     // After any crash, a store that `open_file` or `adopt` opens has one of these clubs:
     //
-    // - the club of the answered events
-    // - the club of the answered events after one more event, which failed after the last change
-    // - a club that a crash could have left before the run, if the run changed nothing
+    // - The club of the answered events.
+    // - The club of the answered events after one more event, which failed after the last change.
+    // - A club that a crash could have left before the run, if the run changed nothing.
     //
     // If the store's club is at most one event later than the answered events, a repeat of a served
     // request gets the same reply and changes nothing.
