@@ -13,9 +13,8 @@ abbrev pub IsAllowedBy : Ask → Option Caveat → Type 0
 IsAllowedBy ask None = ⊥
 IsAllowedBy ask (Some caveat) = Permits caveat ask
 
--- The pass is accepted for the request. A root of the basis's key signs the pass, and that root is
--- valid when the request comes. The key isn't revoked, and each caveat of the pass allows the
--- request.
+-- The pass is accepted for the request. A root of the key signs the pass, and that root is valid
+-- when the request comes. The key isn't revoked, and each caveat of the pass allows the request.
 pub record IsAcceptedPass (pass : Pass) (request : Request) (moment : ℕ) (basis : Basis) : Type 0 where
   pub signed : IsSignedUnder pass basis.key moment
   pub not_revoked : basis.key.revoked ≡ false

@@ -82,8 +82,7 @@ view_of basis request moment = record {
   booking = option_and_then (λ (number : ℕ). booking_under basis.key.name number basis.bookings) (request_number request);
 }
 
--- The view of a request under the key with this name. The view is `None` if the club has no such
--- key.
+-- The view of a request under the key with this name. The view is `None` if no key has this name.
 abbrev pub view_in : Club → List ℕ → Request → ℕ → Option View
 view_in club key request moment =
     option_map (λ (basis : Basis). view_of basis request moment)
@@ -93,7 +92,7 @@ view_in club key request moment =
 abbrev pub seen_of : Request → ℕ → Basis → KeyView
 seen_of request moment basis = record { key = basis.key; view = view_of basis request moment }
 
--- The key with this name, and the view of a request under that key. The result is `None` if the
--- club has no such key.
+-- The key with this name, and the view of a request under that key. The result is `None` if no key
+-- has this name.
 abbrev pub key_view_in : Club → List ℕ → Request → ℕ → Option KeyView
 key_view_in club key request moment = option_map (seen_of request moment) (option_and_then (basis_under club request) (key_named key club))

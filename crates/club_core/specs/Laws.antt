@@ -27,8 +27,8 @@ abbrev pub TestsTheSignature : Type 0
 TestsTheSignature = (pass : Pass) (key : Key) (moment : ℕ) →
     IsTrue (is_signed_under pass key moment) ↔ IsSignedUnder pass key moment
 
--- The bookings of a key's member suffice to find the points that the key has spent, and the key's
--- booking under each number.
+-- The bookings of a key's member determine the points that the key has spent. The same bookings
+-- contain the key's booking under each number.
 pub record HasOwnBookings (club : Club) (key : Key) : Type 0 where
   pub spent : spent_under key.name (bookings_of key.member club) ≡ spent_under key.name club.bookings
   pub booking : (number : ℕ) → booking_under key.name number (bookings_of key.member club) ≡ booking_under key.name number club.bookings

@@ -1,6 +1,5 @@
--- Defines the rows and events on which a member's replies depend. A member's replies depend on the
--- member's own rows and events, on all facilities, and on other members' use of the requested
--- slots.
+-- Defines the rows and events on which a member's replies depend. The rows are the member's part of
+-- the club. The events are the member's own events, with other members' use of the requested slots.
 use Rattle.std.specs.Prelude.{ℕ, ◌+◌, not, Bool, true, false, List, [], ◌∷◌, ◌++◌, filter, Option, Some, None, Result, Ok, Err, option_map, if◌then◌else◌}
 use Rattle.std.specs.Str.{bytes_eq}
 use Rattle.club_values.specs.declared.slot.Slot.{Slot}
@@ -19,13 +18,13 @@ abbrev pub outside : List ℕ → Club → Option Slot → SlotUse
 outside member club slot = slot_use_by (bookings_of_others member club) club slot
 
 -- An event that concerns a member: a request under a key of the member, or a change of the member's
--- part. A request includes other members' use of its slot.
+-- part of the club. A request includes other members' use of its slot.
 pub data OwnEvent : Type 0 where
   OwnAsk : (words : Words) (moment : ℕ) (others : SlotUse) → OwnEvent
   OwnChange : (change : Change) → OwnEvent
 
--- Whether a change by the office affects the member's part. The member's part contains the member's
--- row, keys and bookings, and all facilities.
+-- Whether a change by the office affects the member's part of the club. The member's part contains
+-- the member's row, keys and bookings, and all facilities.
 abbrev pub is_own : List ℕ → Club → Change → Bool
 is_own name club (InsertMember member) = bytes_eq member.name name
 is_own name club (AddCredit member points) = bytes_eq member name
@@ -62,7 +61,7 @@ abbrev pub own_events : List ℕ → Club → List Event → List OwnEvent
 own_events name club [] = []
 own_events name club (event ∷ events) = own_part name club event ++ own_events name (step club event).club events
 
--- The member's row, keys and bookings, and all facilities.
+-- The member's part of the club: the member's row, keys and bookings, and all facilities.
 abbrev pub part_of : List ℕ → Club → Club
 part_of name club = record {
   members = filter (λ (member : Member). bytes_eq member.name name) club.members;
@@ -72,7 +71,7 @@ part_of name club = record {
   closed = [];
 }
 
--- The basis from the member's part, after adding other members' use of the slot.
+-- The basis from the member's part of the club, after adding other members' use of the slot.
 abbrev pub with_others : SlotUse → Basis → Basis
 with_others others basis = record basis {
   state = record basis.state {
@@ -83,7 +82,8 @@ with_others others basis = record basis {
 abbrev pub solo_verdict : Club → Words → ℕ → SlotUse → Verdict
 solo_verdict part words moment others = answer_by_basis words moment (option_map (with_others others) (basis_of part words))
 
--- The replies to the member's requests, computed from the member's part and own events.
+-- The replies to the member's requests, computed from the member's part of the club and the
+-- member's own events.
 abbrev pub solo_replies : Club → List OwnEvent → List Reply
 solo_replies part [] = []
 solo_replies part (OwnChange change ∷ events) = solo_replies (after change part) events

@@ -262,8 +262,8 @@ fn open_slot(view: &CommandView, slot: &Slot) -> Result<Option<Change>, OfficeFa
 ///
 /// # Errors
 ///
-/// - `OutOfRange`: a number or an hour is outside its limits, a credit would raise the member's
-///   points above their limit, or a debit is more than the balance.
+/// - `OutOfRange`: a number or an hour is outside its limits, a credit raises the points above the
+///   maximum, or a debit exceeds the balance.
 /// - `Unknown`: the command's member, key, facility or booking doesn't exist.
 /// - `Exists`: the new name is taken, the key already has the root, or the slot is already closed.
 /// - `SlotInUse`: the slot has bookings, or one of the facility's slots has more persons than the

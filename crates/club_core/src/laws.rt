@@ -87,8 +87,8 @@ pub fn tests_the_signature()
     ensures { TestsTheSignature }
 {}
 
-/// The bookings of a key's member suffice to find the points that the key has spent, and the key's
-/// booking under each number.
+/// The bookings of a key's member determine the points that the key has spent. The same bookings
+/// contain the key's booking under each number.
 pub fn own_bookings_suffice()
     ensures { OwnBookings }
 {}

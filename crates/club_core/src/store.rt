@@ -56,7 +56,7 @@ pub trait ClubStore {
     // `None` is a call that reads, and `Some` is a call that applies this change.
     ghost fails: { Option Change → Self → StoreFault → Self → Type 0 };
 
-    /// Returns the row of the key with this name, or `None` if the club has no such key.
+    /// Returns the row of the key with this name, or `None` if no key has this name.
     fn key_row(&mut self, name: &Name) -> Result<Option<KeyRow>, StoreFault>
         ensures { ReadsStore disk_is_clean represents fails self.old self.new result
             (λ club row. row ≡ option_map row_of_key (key_named name.now club)) };
@@ -66,7 +66,7 @@ pub trait ClubStore {
         ensures { ReadsStore disk_is_clean represents fails self.old self.new result
             (λ club older. older ≡ older_root_of name.now club) };
 
-    /// Returns the facility with this name, or `None` if the club has no such facility.
+    /// Returns the facility with this name, or `None` if no facility has this name.
     fn facility(&mut self, name: &Name) -> Result<Option<Facility>, StoreFault>
         ensures { ReadsStore disk_is_clean represents fails self.old self.new result
             (λ club facility. facility ≡ facility_named name.now club) };
@@ -82,12 +82,13 @@ pub trait ClubStore {
         ensures { ReadsStore disk_is_clean represents fails self.old self.new result
             (λ club most. most ≡ most_taken_in facility.now club.bookings) };
 
-    /// Returns the key's booking under a number, or `None` if the key has no such booking.
+    /// Returns the key's booking under a number, or `None` if the key has no booking under the
+    /// number.
     fn booking(&mut self, key: &Name, number: BookingNumber) -> Result<Option<Booking>, StoreFault>
         ensures { ReadsStore disk_is_clean represents fails self.old self.new result
             (λ club booking. booking ≡ booking_under key.now number club.bookings) };
 
-    /// Returns the member with this name and its balance, or `None` if the club has no such member.
+    /// Returns the member with this name and its balance, or `None` if no member has this name.
     fn account(&mut self, member: &Name) -> Result<Option<MemberAccount>, StoreFault>
         ensures { ReadsStore disk_is_clean represents fails self.old self.new result
             (λ club account. account ≡ account_named member.now club) };
@@ -111,8 +112,8 @@ pub trait ClubStore {
     /// Applies a change.
     ///
     /// The call fails without effect if the change doesn't match the club's rows, or if the changed
-    /// club would violate its invariants. The call can also fail because memory or storage fails.
-    /// After such a failure the club is unchanged, but a crash may leave the changed club.
+    /// club would violate its invariants. If memory or storage fails, the call fails and leaves the
+    /// club unchanged, but a later crash may leave the changed club.
     fn apply(&mut self, change: &Change) -> Result<(), StoreFault>
         ensures was_clean { disk_is_clean self.new → disk_is_clean self.old }
         ensures changed { disk_is_clean self.new →

@@ -26,7 +26,8 @@ pub struct View {
     pub taken: u64,
     /// Whether the slot is closed.
     pub closed: bool,
-    /// The key's booking under the request's number, or `None` if the key has no such booking.
+    /// The key's booking under the request's number, or `None` if the key has no booking under the
+    /// number.
     pub booking: Option<Booking>,
 }
 

@@ -5,7 +5,7 @@ use Rattle.club_laws.proofs.Common.{booking_under, verdict_in, cancelled_booking
 use Rattle.club_laws.proofs.{Common.{ToMember, Result, Change, OfficeFault, refund_at}, FoundRows.{is_numbered, numbered, found_by_own, find-map}}
 use Rattle.club_laws.specs.Points.{Entry, charge_told, charge_of_reply}
 
--- The charge of the booking, or the given default if there is no booking.
+-- The charge of the booking, or the default `other` if there is no booking.
 abbrev pub charge_or : Option Booking → ℕ → ℕ
 charge_or None other = other
 charge_or (Some booking) other = booking.charge

@@ -52,7 +52,7 @@ module _ (member : List ℕ) where
       let later = keys_given member events (replies_of next.club events) in
       grind (arith, keys_of_run next.club key events, keys_of_step club key event, list_any-append (λ (k : List ℕ). bytes_eq k key) given later)
 
--- The points credited to a member, or 0 if there is no such member.
+-- The points credited to a member, or 0 if there is no member.
 abbrev pub credit_of : Option Member → ℕ
 credit_of None = 0
 credit_of (Some member) = member.credited

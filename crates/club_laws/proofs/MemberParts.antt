@@ -1,4 +1,4 @@
--- Lemmas about the effect of each kind of change on a member's part.
+-- Lemmas about the effect of each kind of change on a member's part of the club.
 use Rattle.club_laws.proofs.{AnswerCases.{answer_cases, written, CommandRestsOn, change_of, command_cases}, Common.{CancelBooking, ReplaceNumbers}}
 use Rattle.club_laws.proofs.Common.{debited_member, TakeCredit, ◌≡◌, ◌≢◌, ℕ, Bool, true, List, [], ◌∷◌, ◌++◌, get_or, map, Option, Some, sym, ◌∙◌, arith, false}
 use Rattle.club_laws.proofs.Common.{cond, filter, None, All, Contains, append-nil, refl, find, AllPairs, Result, bytes_eq-Decides, ◌&&◌, ◌||◌, bytes_eq}
@@ -146,7 +146,7 @@ part_changed name club (MarkCancelled booking member refund) known fresh =
     λ e. filter_fixed own edit (λ other f. grind (arith, bytes_eq-Decides other.key booking.key)) club.bookings in
     grind (arith, filter-map edit own club.bookings)
 
--- The properties of a club that the lemmas about a member's part need.
+-- The properties of a club that the lemmas about members' parts need.
 pub record IsKeyed (club : Club) : Type 0 where
   pub unique : AllPairs (λ (a : Key) (b : Key). a.name ≢ b.name) club.keys
   pub known : HasKnownKeys club

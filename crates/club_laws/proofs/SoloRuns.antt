@@ -1,4 +1,4 @@
--- Lemmas for the proof that a member's part and own events determine the replies to the member's
+-- Lemmas for the proof that a member's part of the club determines the replies to the member's
 -- requests.
 use Rattle.club_laws.proofs.{AnswerCases.{known_rows, whole_basis, is_own_key, answer_cases, written, change_of, command_cases}, Common.{subst, ◌≡◌, ℕ, ◌+◌}}
 use Rattle.club_laws.proofs.Common.{Bool, List, Option, Some, None, option_map, refl, sym, ap, true, false, cond, [], ◌∷◌, Result, ◌∙◌, arith, ◌++◌, map, Slot}

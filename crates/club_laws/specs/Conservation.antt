@@ -7,10 +7,10 @@ use Rattle.club_core.specs.{Run.{Event, Commanded, replies_of, club_after, Event
 use Rattle.club_core.specs.declared.command.Command.TheVariants.{Debit, CancelBooking}
 use Rattle.club_laws.specs.Points.{keys_given, credits_accepted, debits_accepted, charges_of_replies, refunds_given, refunds_of_replies, total_under}
 
--- The sum of the member's balance, debits and charges equals the sum of the member's credits and
--- refunds. For each booking, only the first charge and the first refund count. If the office
--- cancelled a booking first, the booking's refund is its whole charge. The member's bookings never
--- cost more than the points credited to the member, so the balance is never below 0.
+-- The member's balance plus debits plus charges equals the member's credits plus refunds. For each
+-- booking, only the first charge and the first refund count. If the office cancelled a booking
+-- first, the booking's refund is its whole charge. The member's bookings never cost more than the
+-- points credited to the member, so the balance is never below 0.
 pub record IsConserved (club : Club) (events : List Event) (replies : List EventReply) (member : Member) : Type 0 where
   pub balance_adds_up :
       balance_of member (bookings_of member.name club) + debits_accepted member.name events replies
@@ -30,8 +30,8 @@ IsNoCorrection (Commanded (Debit name points)) = ⊥
 IsNoCorrection (Commanded (CancelBooking key number)) = ⊥
 IsNoCorrection event = Unit {0}
 
--- If the office neither debits nor cancels, the sum of the member's balance and charges equals the
--- sum of the member's credits and refunds.
+-- If the office neither debits nor cancels, the member's balance plus charges equals the member's
+-- credits plus refunds.
 abbrev pub ConservesWithoutCorrections : Type 0
 ConservesWithoutCorrections =
     (events : List Event) (name : List ℕ) (member : Member) → All IsEvent events → All IsNoCorrection events

@@ -57,8 +57,8 @@ cancelled_events =
     ∷ ask (asked.Book (slot_at 19) 8 0) late
     ∷ []
 
--- The refunds are the whole 200 points of the booking at 19, and half of the 600 points of the
--- booking at 18.
+-- The refund of the booking at 19 is its whole charge of 200 points. The refund of the booking at
+-- 18 is half of its 600 points.
 abbrev pub CountsACancellationOnce : Type 0
 CountsACancellationOnce = AreFigures cancelled_events (replies_of empty_club cancelled_events) 800 10_000 500
 

@@ -1,15 +1,15 @@
--- Laws about the changes and events that leave a member's part unchanged.
+-- Laws about the changes and events that leave a member's part of the club unchanged.
 use Rattle.std.specs.Prelude.{◌≡◌, ℕ, ◌+◌, Bool, List, [], if◌then◌else◌, Some}
 use Rattle.club_values.specs.declared.slot.Slot.{Slot}
 use Rattle.club_core.specs.{After.after, Club.{Club, IsSound, is_key_of}, Run.{Event, step}, Solo.{outside, is_own, own_part, part_of}, Sums.taken_in}
 use Rattle.club_core.specs.declared.change.Change.{Change, TheVariants.InsertBooking}
 
--- Whether a change affects the member's part.
+-- Whether a change affects the member's part of the club.
 abbrev pub is_of_part : List ℕ → Club → Change → Bool
 is_of_part name club (InsertBooking booking member) = is_key_of name club booking.key
 is_of_part name club change = is_own name club change
 
--- The member's part after a change of the club. A change that doesn't affect the part leaves the
+-- The member's part of the club after a change. A change that doesn't affect the part leaves the
 -- part unchanged.
 abbrev pub part_after : List ℕ → Club → Change → Club
 part_after name club change = if is_of_part name club change then after change (part_of name club) else part_of name club
@@ -23,7 +23,8 @@ ChangesThePartAlike =
     → IsSound (after change club)
     → part_of name (after change club) ≡ part_after name club change
 
--- An event that adds nothing to the member's own events leaves the member's part unchanged.
+-- An event that adds nothing to the member's own events leaves the member's part of the club
+-- unchanged.
 abbrev pub LeavesThePart : Type 0
 LeavesThePart =
     (name : List ℕ) (club : Club) (event : Event)

@@ -1,21 +1,21 @@
--- Laws about the other members' data that the solo machine can see. The solo machine sees only the
--- other members' number of persons in the requested slot, and whether the slot is closed.
+-- Laws about the solo machine, which has only one member's part of the club. The solo machine sees
+-- only how many persons of other members are in the requested slot, and whether the slot is closed.
 use Rattle.std.specs.Prelude.{◌≡◌, ℕ, List, Option, Some, None, codes}
 use Rattle.club_values.specs.declared.slot.Slot.{Slot}
 use Rattle.club_core.specs.{Basis.{Basis, basis_of}, Club.{Club, empty_club, is_closed}, Pass.Words, Request.request_slot, Run.Asked}
 use Rattle.club_core.specs.{Solo.{bookings_of_others, own_part, own_events}, Sums.taken_in}
 use Rattle.club_laws.specs.SoloExamples.{amy_alone, amy_among_others}
 
--- Other members have the same number of persons in the slot in both clubs, and the slot is closed
--- in both clubs or in neither club.
+-- Other members have the same number of persons in the slot in both clubs. The slot is closed in
+-- both clubs or in neither club.
 abbrev pub HoldAlike : List ℕ → Club → Club → Option Slot → Type 0
 HoldAlike name a b None = Unit {0}
 HoldAlike name a b (Some slot) =
     (taken_in slot (bookings_of_others name a) ≡ taken_in slot (bookings_of_others name b))
     × (is_closed slot a ≡ is_closed slot b)
 
--- If other members use the requested slot in the same way in two clubs, both clubs give the solo
--- machine the same event for a member's request.
+-- Suppose that other members use the requested slot in the same way in two clubs. Then the solo
+-- machine gets the same event from both clubs.
 abbrev pub SeesTheSlotAlone : Type 0
 SeesTheSlotAlone =
     (name : List ℕ) (a b : Club) (words : Words) (moment : ℕ) (in_a in_b : Basis)

@@ -27,7 +27,7 @@ pub record WasServed (club : Club) (history : List Event) (words : Words) (reply
   pub same_key : key_of words.pass ≡ key_of first.pass
   pub same_request : words.request ≡ first.request
 
--- An accepted repeat of a served request gets the same reply and changes nothing, whatever events
+-- An accepted repeat of a served request gets the same reply and changes nothing. Other events may
 -- come between the request and its repeat.
 abbrev pub RepeatsReturnTheSame : Type 0
 RepeatsReturnTheSame =

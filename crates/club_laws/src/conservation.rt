@@ -21,15 +21,14 @@ pub fn counts_a_cancellation_once()
     ensures { CountsACancellationOnce }
 {}
 
-/// The sum of a member's balance, debits and charges equals the sum of the member's credits and
-/// refunds. No balance is below 0. If the office is the first to cancel a booking, the refund is
-/// the whole charge.
+/// A member's balance plus debits plus charges equals the member's credits plus refunds. No balance
+/// is below 0. If the office is the first to cancel a booking, the refund is the whole charge.
 pub fn conserves_points()
     ensures { ConservesPoints }
 {}
 
-/// If the office neither debits nor cancels, the sum of a member's balance and charges equals the
-/// sum of the member's credits and refunds.
+/// If the office neither debits nor cancels, a member's balance plus charges equals the member's
+/// credits plus refunds.
 #[tactic(auto, using(crate::proofs::PointRuns::conserved_without_corrections))]
 pub fn conserves_without_corrections()
     ensures { ConservesWithoutCorrections }

@@ -1,16 +1,17 @@
-//! Laws about the changes and events that leave a member's part unchanged. A member's part contains
-//! the member's row, keys and bookings, and all facilities.
+//! Laws about the changes and events that leave a member's part of the club unchanged. A member's
+//! part contains the member's row, keys and bookings, and all facilities.
 
 ghost use Rattle.club_laws.specs.Frame.{ChangesThePartAlike, LeavesThePart, TakenIsOwnAndOthers};
 
-/// In a sound club, each change makes the same change in a member's part, or leaves the part
-/// unchanged.
+/// In a sound club, each change makes the same change in a member's part of the club, or leaves the
+/// part unchanged.
 #[tactic(auto, using(crate::proofs::MemberParts::changes_the_part_alike))]
 pub fn changes_the_part_alike()
     ensures { ChangesThePartAlike }
 {}
 
-/// An event that isn't one of the member's own events leaves the member's part unchanged.
+/// An event that isn't one of the member's own events leaves the member's part of the club
+/// unchanged.
 #[tactic(auto, using(crate::proofs::SoloRuns::leaves_the_part))]
 pub fn leaves_the_part()
     ensures { LeavesThePart }

@@ -1,8 +1,8 @@
-//! Laws about the other members' data that the solo machine can see.
+//! Laws about the solo machine, which has only one member's part of the club.
 
 ghost use Rattle.club_laws.specs.Outside.{SeesNothingOfOthers, SeesTheSlotAlone};
 
-/// For a request, the solo machine sees only the other members' number of persons in the slot, and
+/// The solo machine sees only how many persons of other members are in the requested slot, and
 /// whether the slot is closed.
 pub fn sees_the_slot_alone()
     ensures { SeesTheSlotAlone }

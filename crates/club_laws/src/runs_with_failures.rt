@@ -54,14 +54,14 @@ pub fn repeats_after_one_more<O>()
     tests_the_signature();
 }
 
-/// A member's part and own events determine the replies to the member's requests.
+/// A member's part of the club and own events determine the replies to the member's requests.
 #[tactic(auto, using(crate::proofs::SoloRuns::solo_with_failures))]
 pub fn solo_law<O>()
     ensures { SoloLawWithFailures O }
 {}
 
-/// If a member's part and own events are the same in two runs, the member's requests get the same
-/// replies in both runs.
+/// Suppose that a member's part of the club and own events are the same in two runs. Then the
+/// replies to the member's requests are the same in both runs.
 #[tactic(auto, using(crate::proofs::SoloRuns::solo_with_failures))]
 pub fn solo_law_of_two<O>()
     ensures { SoloLawOfTwoWithFailures O }

@@ -46,8 +46,8 @@ pub fn serves_no_revoked_key()
     tests_the_signature();
 }
 
-/// If a request is served under a pass with added caveats, the request gets the same reply under
-/// the pass without the added caveats.
+/// A request that is served under a pass with added caveats gets the same reply under the original
+/// pass.
 #[tactic(auto, using(crate::proofs::ServedPasses::wide_in))]
 pub fn more_caveats_never_open_more()
     ensures { MoreCaveatsNeverOpenMore }

@@ -6,20 +6,21 @@ ghost use Rattle.club_laws.specs.SoloExamples.{ShowsAmyATakenPlace, ShowsAmyHerC
 ghost use Rattle.club_laws.specs.SoloExamples.{ShowsAmyNewNumbers};
 ghost use Rattle.club_laws.specs.SoloLaw.{EndsWithThePart, SoloLaw, SoloLawOfTwo};
 
-/// A member's part and own events determine the replies to the member's requests.
+/// A member's part of the club and own events determine the replies to the member's requests.
 #[tactic(auto, using(crate::proofs::SoloRuns::solo_law))]
 pub fn solo_law()
     ensures { SoloLaw }
 {}
 
-/// If a member's part and own events are the same in two runs, the member's requests get the same
-/// replies in both runs.
+/// Suppose that a member's part of the club and own events are the same in two runs. Then the
+/// replies to the member's requests are the same in both runs.
 #[tactic(auto, using(crate::proofs::SoloRuns::solo_law))]
 pub fn solo_law_of_two()
     ensures { SoloLawOfTwo }
 {}
 
-/// A member's part after its own events is the member's part of the club after the whole run.
+/// Applying the member's own events to the member's part gives the member's part of the club after
+/// the run.
 #[tactic(auto, using(crate::proofs::SoloRuns::ends_with_the_part))]
 pub fn ends_with_the_part()
     ensures { EndsWithThePart }

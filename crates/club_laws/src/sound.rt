@@ -21,8 +21,8 @@ pub fn changes_fit()
     ensures { ChangesFit }
 {}
 
-/// A run from a sound club ends in a sound club if the values of all events are within the limits
-/// of their types.
+/// A run from a sound club ends in a sound club if the values of all events are within their
+/// limits.
 pub fn runs_keep_sound()
     ensures { RunsKeepSound }
 {}

@@ -12,7 +12,7 @@ use Rattle.club_tables.specs.{ReadsAndChanges.sound_in, Tables.Represents}
 use Rattle.club_gate.specs.Runs.{IsWithinOneEvent, MayBeLeft, DeskResponse, club_left}
 
 -- The state represents exactly one of these clubs, and no later crash changes the club. In this
--- club, an accepted repeat of a served request gets the same reply.
+-- club, an accepted repeat gets the first reply.
 pub record RecoversOne (state : State) (clubs : List Club) (events : List machine.Event) (returned : List DeskResponse) : Type 0 where
   pub club : Club
   pub among : Contains clubs club
@@ -49,8 +49,8 @@ leaves_sound_in g store club others =
 
 -- After a run and a crash, a reopened store represents exactly one club, and no later crash changes
 -- the club. The store's club is the club of the answered events, or another possible crash state.
--- If the store's club is at most one event later than the answered events, an accepted repeat of a
--- served request gets the same reply.
+-- If the store's club is at most one event later than the answered events, an accepted repeat gets
+-- the first reply.
 pub record RecoversAfterRun {E : Type 0} {e : disk.Ghosts E} (opened : Held (FileStore E e)) (club : Club) (others : List Club) (events : List machine.Event)
     (returned : List DeskResponse) : Type 0 where
   pub now : Club

@@ -20,8 +20,8 @@ use sqlite_disk::Disk;
 
 /// States the crash law. Suppose that a crash of the old store may leave any of these clubs.
 /// Reopening the files after the crash recovers exactly one of the clubs, and every later crash
-/// recovers the same club. If a repeat of a served request gets the same reply in all of these
-/// clubs, the repeat also gets this reply in the recovered club.
+/// recovers the same club. If a repeat of a served request gets the same reply in each of these
+/// clubs, the recovered club gives this reply too.
 pub fn served_survives_a_crash<D: Disk, Q: Start>(
     before: &FileStore<D>,
     after: &Store<FileStore<FileFrom<Q>>>,
@@ -34,7 +34,8 @@ pub fn served_survives_a_crash<D: Disk, Q: Start>(
 }
 
 // Runs a list of events at a desk over any store of the engine. Returns the responses and the
-// store. This function is separate because the proof is twice as long for a function over a file.
+// store. The function isn't written for a file only, because its proof would then take twice as
+// long.
 fn run_to_end<S: Alter + Drop>(
     mut desk: Desk<Store<S>>,
     events: &[Event],
@@ -64,7 +65,7 @@ fn run_to_end<S: Alter + Drop>(
 ///
 /// # Errors
 ///
-/// Fails if there was no memory for the replies. In this case, no event was answered.
+/// Fails without answering an event if there is no memory for the replies.
 pub fn run_and_leave<D: Disk + Drop, E: Disk>(
     desk: Desk<Store<FileStore<D>>>,
     events: &[Event],
@@ -81,8 +82,8 @@ pub fn run_and_leave<D: Disk + Drop, E: Disk>(
     // - The club of the answered events after one more event, which failed after the last change.
     // - A club that a crash could have left before the run, if the run changed nothing.
     //
-    // If the store's club is at most one event later than the answered events, a repeat of a served
-    // request gets the same reply and changes nothing.
+    // If the store's club is at most one event later than the answered events, repeats get the
+    // first reply and change nothing.
     ensures again { IfOk result (λ left. (club : Club) (others : List Club)
         → sound_in over_files desk club others
         → (seen : List machine.Event) → AreEventsOf events.now seen

@@ -1,5 +1,5 @@
-//! Laws about the desk together with its tables. The laws cover the responses of a desk that starts
-//! with an empty database, and the state of a desk after a crash.
+//! Laws about the desk together with its tables. The laws cover a desk that starts with an empty
+//! database, and a desk after a crash.
 #![tactic(auto)]
 
 mod crash;
