@@ -267,6 +267,7 @@ class Audit:
         for file in in_reading_order(self.book, [self.book.specs[module] for module in {it.module for it in listed}]):
             own = sorted((it for it in listed if it.module == file.module), key=lambda it: it.line)
             gist = re.sub(r" \([^)]*(\)|$)", "", re.match(r".*?[^A-Z0-9][.:](?= |$)|.*", file.head)[0]).rstrip(".:")
+            gist = re.sub(r"(?:This file )?(?:defines|states) (.)", lambda it: it[1].upper(), gist, count=1, flags=re.IGNORECASE)
             source = source_of(" ".join([file.head, *(it.comment for it in own)]))
             source = f" [{source}]" if source else ""
             groups = [(numbers + (mark and " " + mark), ", ".join(f"`{it.name}`" for it in group))
