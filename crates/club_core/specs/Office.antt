@@ -82,8 +82,8 @@ close_verdict held slot (Some facility) =
     ∷ [])
     (Ok (Some (MarkClosed slot)))
 
--- The decision on a command: its change, or the fault for which it is refused. The change is `None`
--- if the command has nothing to change.
+-- The decision on a command: the change that it makes, or the fault of its refusal. The change is
+-- `None` if the command has nothing to change.
 abbrev pub command_verdict : CommandView → Command → Result (Option Change) OfficeFault
 command_verdict view (AddMember name quota) =
     first_of

@@ -36,7 +36,7 @@ pub(crate) fn fault_after<'a, F: FieldSource<'a> + Drop>(
 }
 
 /// Returns the first caveat that refuses the request if the key has spent no points. Also returns
-/// the greatest number of spent points for which this result stays the same. The source is
+/// the slack: with at most that number of spent points the result stays the same. The source is
 /// unchanged.
 pub(crate) fn unspent_fault<'a, F: FieldSource<'a> + Drop>(source: &F, ask: &Ask) -> Unspent
     ensures { OfItsPass (F.left source.now) (λ pass. (spent : ℕ) → IsWithin result.slack spent

@@ -26,7 +26,7 @@ pub trait Inlet {
         ensures called { fills self.old result room.new self.new };
 }
 
-/// The writer to which an exchange sends the reply.
+/// A writer that takes the bytes of a reply.
 pub trait Outlet {
     ghost use Rattle.std.specs.Prelude.{◌≡◌, ◌≤◌, ℕ, List, length, Option, IfSome};
     ghost use Rattle.club_http.specs.{Calls.Call, Ends.{Takes, put_failures}};

@@ -87,7 +87,7 @@ pub fn read_command(alloc: Global, bytes: &[u8]) -> Result<Option<HandedCommand>
     }
 }
 
-// Splits a text into arguments, each of which a zero byte ends. Returns `None` if bytes remain
+// Splits a text into arguments. A zero byte ends each argument. Returns `None` if bytes remain
 // after the last zero byte.
 fn split_arguments(alloc: Global, text: &str) -> Result<Option<Vec<String>>, AllocError>
     ensures { IfOk result (λ arguments. MatchOption arguments (spec.EndsWithoutZero text.now)

@@ -20,7 +20,7 @@ abbrev pub left_until : Option ℕ → Option ℕ → ℕ
 left_until (Some due) (Some now) = due - now
 left_until due now = 0
 
--- The clock may show a time for which the predicate `P` is true.
+-- The clock may show a time that satisfies the predicate `P`.
 abbrev pub AtShown : (Option ℕ → Type 0) → (Option ℕ → Type 0) → Type 0
 AtShown Shows P = (shown : Option ℕ) × Shows shown × P shown
 
@@ -32,8 +32,8 @@ StartsLimit Shows clock patience (Some limit) new = new ≡ Some limit
 StartsLimit Shows clock patience None new = IsSomeAnd new (λ limit. (limit.clock.now ≡ clock)
     × AtShown (Shows clock) (λ shown. nanos_of limit.due ≡ due_after patience shown))
 
--- A relation `Calls` describes a call of a stream by four terms: the stream before the call, the
--- longest allowed wait in nanoseconds, the result, and the stream after the call.
+-- A relation between four terms describes a call of a stream. The terms are the stream before the
+-- call, the longest allowed wait in nanoseconds, the result, and the stream after the call.
 abbrev pub Calls : Type 0 → Type 1
 Calls Stream = Stream → ℕ → Waited → Stream → Type 0
 

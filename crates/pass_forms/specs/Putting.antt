@@ -1,4 +1,4 @@
--- Defines the buffer to which the writers append bytes.
+-- Defines the buffer where the writers put their bytes.
 use Rattle.std.specs.Prelude.{◌≡◌, ℕ, ◌<◌, List, ◌++◌, length, Result, Ok, Err}
 use Rattle.pass_forms.specs.declared.fault.FormFault.{FormFault, TheVariants.TooLong}
 

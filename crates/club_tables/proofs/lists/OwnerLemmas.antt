@@ -1,4 +1,4 @@
--- Lemmas about lists and sums, and about the member to whom a booking belongs.
+-- Lemmas about lists and sums, and about the member who made a booking.
 use Rattle.club_tables.proofs.Common.{◌≡◌, ◌≢◌, ℕ, ◌+◌, Bool, true, false, cond, List, [], ◌∷◌, ◌++◌, map, Some, Contains, refl, sym, ap, ◌∙◌, arith, filter}
 use Rattle.club_tables.proofs.Common.{find, sum_by, AllByRecursion, list_any, bytes_eq, false_from_ne_true, sum_by-cons, sum_by_push, bytes_eq-Decides}
 use Rattle.club_tables.proofs.Common.{nat_list_eq_equiv, and_comm, or-false, option_to_list, Key, Club, IsSound, is_key_of, IsOwnedBy, all_weaker, all-map}

@@ -42,7 +42,7 @@ precedes a b fails differ =
     by_parts _ _ (λ h. h) (exact_bytes a.key b.key) (λ key last.
     let apart : a.number ≢ b.number = λ number. differ (key, number) in grind (arith, nat_tests)))) fails
 
--- The values by which the day sheet is sorted.
+-- The values that determine the order of the day sheet.
 abbrev sheet_key : Booking → Row
 sheet_key b = Text b.slot.facility ∷ whole b.slot.hour ∷ Text b.key ∷ whole b.number ∷ []
 
