@@ -1,4 +1,4 @@
-//! Tests of requests for a booking: complete, cut short, in two pieces, and with bytes after them.
+//! Tests of requests for a booking: complete, cut short, and in two pieces.
 
 ghost use Rattle.http_request.specs.HeadResult.{Covers};
 
@@ -11,7 +11,6 @@ use test_kit::requests::BOOK_7;
 const BOOKING: &str = "PUT /slots/court-1/2026-05-01/18/bookings/7 HTTP/1.1\r\nHost: club\r\n\
     Authorization: Bearer AgEJ\r\nContent-Length: 12\r\n\r\n{\"guests\":2}";
 
-/// The decoded request, or the refusal.
 type Asked = Result<Request, Refusal>;
 
 pub(crate) const BAD_REQUEST: Asked = Err(Refusal::BadRequest);
@@ -64,28 +63,11 @@ fn is_booked_in_two(rt: &impl Runtime, bytes: &[u8], first: usize) {
     expect_row(rt, &is_whole(bytes, first), &true, &first);
 }
 
-fn pass_of<'a>(routes: &Routes, bytes: &'a [u8]) -> Option<&'a [u8]> {
-    match words_of(routes, bytes) {
-        Ok(words) => Some(words.pass),
-        Err(_) => None,
-    }
-}
-
-#[test]
-fn a_booking(rt: HostRuntime) {
-    let bytes = BOOKING.as_bytes();
-    asks(&rt, bytes, &booked(&rt));
-    expect_row(&rt, &is_whole(bytes, 0), &true, &"it is whole");
-    let carried = pass_of(&routes(&rt), bytes);
-    expect_row(&rt, &carried, &Some("AgEJ".as_bytes()), &"its pass");
-}
-
 fn is_cut(rt: &impl Runtime, bytes: &[u8]) {
     asks(rt, bytes, &BAD_REQUEST);
     expect_row(rt, &is_whole(bytes, bytes.len() / 2), &false, &bytes.len());
 }
 
-/// Each proper prefix of the booking is a bad request, and the scan finds it incomplete.
 #[test]
 fn cut(rt: HostRuntime) {
     let bytes = BOOKING.as_bytes();
@@ -94,7 +76,6 @@ fn cut(rt: HostRuntime) {
     }
 }
 
-/// The scan finds the same booking wherever the bytes are split in two.
 #[test]
 fn in_two_pieces(rt: HostRuntime) {
     for first in 0..BOOKING.len() + 1 {
@@ -102,19 +83,6 @@ fn in_two_pieces(rt: HostRuntime) {
     }
 }
 
-/// Numbers of bytes that follow a booking.
-static BEHIND: [usize; 3] = [1, 1_000, 100_000];
-
-#[test]
-fn with_bytes_behind(rt: HostRuntime) {
-    for behind in &BEHIND {
-        let text = join(&rt, &[(1, BOOKING), (*behind, "x")]);
-        asks(&rt, text.as_bytes(), &booked(&rt));
-        is_booked_in_two(&rt, text.as_bytes(), 100);
-    }
-}
-
-/// Ends the test unless a booking with this body decodes to `want`.
 pub(crate) fn ask_with(rt: &impl Runtime, body: &str, want: &Asked) {
     let length = body.len();
     let text = format!(in rt.alloc();
@@ -125,14 +93,11 @@ pub(crate) fn ask_with(rt: &impl Runtime, body: &str, want: &Asked) {
 }
 
 /// The longest request, with a head of 16,384 bytes and a body of 256.
-pub(crate) static LONGEST: [Piece; 6] = [
+pub(crate) static LONGEST: [Piece; 5] = [
     (
         1,
-        "PUT /slots/court-1/2026-05-01/18/bookings/7 HTTP/1.1\r\n",
-    ),
-    (
-        1,
-        "Authorization: Bearer AgEJ\r\nContent-Length: 256\r\nHost: ",
+        "PUT /slots/court-1/2026-05-01/18/bookings/7 HTTP/1.1\r\n\
+        Authorization: Bearer AgEJ\r\nContent-Length: 256\r\nHost: ",
     ),
     (16_384 - 113, "h"),
     (1, "\r\n\r\n{\"guests\":2"),
@@ -140,7 +105,6 @@ pub(crate) static LONGEST: [Piece; 6] = [
     (1, "}"),
 ];
 
-// The desk accepts the longest request. Without its last byte, the request is incomplete.
 #[test]
 fn longest(rt: HostRuntime) {
     let text = join(&rt, &LONGEST);
@@ -151,8 +115,7 @@ fn longest(rt: HostRuntime) {
     is_cut(&rt, &bytes[..bytes.len().saturating_sub(1)]);
 }
 
-/// `rt try --test --fail-alloc N` refuses the Nth allocation of this test. Then `Routes::new`
-/// fails, or the bytes decode to the booking or to `Unavailable`.
+/// `rt try --test --fail-alloc N` refuses the Nth allocation of this test.
 #[test]
 fn refused_memory(rt: HostRuntime) {
     if let Ok(routes) = Routes::new(rt.alloc()) {

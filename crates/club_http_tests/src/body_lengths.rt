@@ -12,7 +12,6 @@ fn books_by_bodies_of_each_length(rt: HostRuntime) {
     }
 }
 
-// A body of digits isn't a JSON object. These bodies have 0 to 256 bytes.
 #[test]
 fn refuses_digits_of_each_length(rt: HostRuntime) {
     for len in 0..257 {

@@ -1,15 +1,13 @@
-//! Exchanges over memory and over a socket, with a desk that counts its requests.
+//! Exchanges in memory, with a desk that counts its requests.
 
 pub mod doubles;
 mod reading;
 
 use crate::desk::Desk;
 use crate::expect::{Runtime, expect_bytes, expect_eq, expect_shown, noon};
-use crate::sockets::{client_of, expect_reply, loopback_listener};
 use club_core::{Refusal, Reply, Request};
-use club_http::{AnswerFault, Face, ReadInlet, WriteOutlet, answer};
+use club_http::{AnswerFault, Face, answer};
 use doubles::{Narrow, Pieces, ROOM};
-use std::net::TcpListener;
 use test_kit::exchanges::{BAD_REQUEST, BOOKED_7, UNAVAILABLE};
 use test_kit::replies;
 use test_kit::requests::BOOK_7;
@@ -38,7 +36,6 @@ fn booked(rt: &impl Runtime) -> Ended {
     (Ok(booked_reply(rt)), BOOK_7.request(), BOOKED_7)
 }
 
-/// Returns the outcome of an exchange whose writer failed after `len` bytes.
 fn cut_off(len: usize) -> Ended {
     (Err(AnswerFault::Write(len)), BOOK_7.request(), BOOKED_7)
 }
@@ -50,7 +47,6 @@ fn booking_desk(rt: &impl Runtime) -> Desk<'static> {
     }
 }
 
-/// Ends the test unless the exchange had the wanted outcome.
 fn expect_ended(
     rt: &impl Runtime,
     outcome: &Result<Reply, AnswerFault>,
@@ -69,7 +65,6 @@ fn expect_ended(
     expect_bytes(rt, writer.written_bytes(), written, "the booking");
 }
 
-/// Runs an exchange, and ends the test unless it has the wanted outcome.
 fn ends(rt: &impl Runtime, reader: &mut Pieces<'_>, writer: &mut Narrow, want: &Ended) {
     let mut desk = booking_desk(rt);
     let mut face = Face::new(rt.alloc()).expect(rt, "a face");
@@ -77,18 +72,15 @@ fn ends(rt: &impl Runtime, reader: &mut Pieces<'_>, writer: &mut Narrow, want: &
     expect_ended(rt, &outcome, &desk, writer, want);
 }
 
-/// Runs an exchange with a writer that has room for a complete reply.
 fn returns(rt: &impl Runtime, reader: &mut Pieces<'_>, want: &Ended) {
     ends(rt, reader, &mut Narrow::new(ROOM, ROOM), want);
 }
 
-/// Runs an exchange of the booking with this writer.
 fn gives(rt: &impl Runtime, writer: &mut Narrow, want: &Ended) {
     let mut reader = Pieces::new(BOOKING.as_bytes(), 600, false);
     ends(rt, &mut reader, writer, want);
 }
 
-/// The writer fails after each possible number of bytes.
 #[test]
 fn failing_writers(rt: HostRuntime) {
     for len in 0..BOOKED_7.len() {
@@ -98,7 +90,6 @@ fn failing_writers(rt: HostRuntime) {
     }
 }
 
-/// One writer accepts one byte per call, and another accepts none.
 #[test]
 fn short_writes(rt: HostRuntime) {
     let mut writer = Narrow::new(1, ROOM);
@@ -109,8 +100,7 @@ fn short_writes(rt: HostRuntime) {
     gives(&rt, &mut writer, &cut_off(0));
 }
 
-/// `rt try --test --fail-alloc N` refuses the Nth allocation of this test. The client gets the
-/// booking's reply, or `Unavailable` without a call of the desk.
+/// `rt try --test --fail-alloc N` refuses the Nth allocation of this test.
 #[test]
 fn refused_memory(rt: HostRuntime) {
     let Ok(mut face) = Face::new(rt.alloc()) else {
@@ -129,24 +119,4 @@ fn refused_memory(rt: HostRuntime) {
 fn names_of_faults(rt: HostRuntime) {
     expect_shown(&rt, &AnswerFault::Read, "input failed");
     expect_shown(&rt, &AnswerFault::Write(12), "output failed after 12 bytes");
-}
-
-/// Accepts the listener's next connection, and runs its exchange.
-fn answers_one(rt: &impl Runtime, listener: &TcpListener) {
-    let (stream, _) = listener.accept().expect(rt, "a connection");
-    let mut face = Face::new(rt.alloc()).expect(rt, "a face");
-    let mut desk = booking_desk(rt);
-    let mut reader = ReadInlet::new(&stream);
-    let mut writer = WriteOutlet::new(&stream);
-    let outcome = answer(&mut face, &mut desk, noon(rt), &mut reader, &mut writer);
-    expect_eq(rt, &outcome, &Ok(booked_reply(rt)));
-}
-
-/// The test binds, connects, writes, accepts, replies and reads, one step after the other.
-#[test]
-fn over_a_socket(rt: HostRuntime) {
-    let listener = loopback_listener(&rt);
-    let mut client = client_of(&rt, &listener, BOOKING.as_bytes());
-    answers_one(&rt, &listener);
-    expect_reply(&rt, &mut client, BOOKED_7);
 }

@@ -1,5 +1,3 @@
-//! The test double of the desk.
-
 use crate::server::{Call, Journal};
 use club_core::{Refusal, Reply, Request};
 use club_http::Responder;

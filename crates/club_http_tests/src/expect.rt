@@ -20,7 +20,6 @@ pub(crate) fn expect_eq<T: PartialEq + Debug>(rt: &impl Runtime, returned: &T, w
     assert_eq!(rt; returned, want);
 }
 
-/// Ends the test unless the values are equal. The message includes the row.
 pub(crate) fn expect_row<T: PartialEq + Debug>(
     rt: &impl Runtime,
     returned: &T,
@@ -30,12 +29,10 @@ pub(crate) fn expect_row<T: PartialEq + Debug>(
     assert_eq!(rt; returned, want, "{row:?}");
 }
 
-/// Ends the test unless the bytes are equal. The message includes `asked`.
 pub(crate) fn expect_bytes(rt: &impl Runtime, returned: &[u8], want: &[u8], asked: &str) {
     assert_eq!(rt; returned, want, "{asked}");
 }
 
-/// Ends the test unless the value is displayed as this text.
 pub(crate) fn expect_shown<T: Display>(rt: &impl Runtime, value: &T, want: &str) {
     let text = value.to_string(rt.alloc()).expect(rt, "memory");
     expect_bytes(rt, text.as_bytes(), want.as_bytes(), want);

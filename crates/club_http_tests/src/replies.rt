@@ -1,15 +1,12 @@
-//! Tests of a reply's bytes. The bytes of the buffer after a reply stay the same.
+//! The bytes of the longest reply. The bytes of the buffer after a reply stay the same.
 
 use crate::expect::{Runtime, expect_row};
-use club_core::{Refusal, Reply};
+use club_core::Reply;
 use club_values::Name;
 use http_response::{MAX_REPLY_LEN, reply_bytes};
-use test_kit::replies::{BOOKED_7, NOT_VERIFIED};
-use test_kit::{PlainReply, exchanges};
 
 static UNTOUCHED: [u8; MAX_REPLY_LEN] = [b'x'; MAX_REPLY_LEN];
 
-/// Ends the test unless the reply has this text, and the rest of the buffer stays the same.
 fn writes(rt: &impl Runtime, reply: &Reply, text: &str, len: usize) {
     expect_row(rt, &text.len(), &len, &text);
     let mut room = UNTOUCHED;
@@ -18,29 +15,6 @@ fn writes(rt: &impl Runtime, reply: &Reply, text: &str, len: usize) {
     expect_row(rt, &&room[written..], &&UNTOUCHED[written..], &text);
 }
 
-const UNAVAILABLE: PlainReply = PlainReply::Refused(Refusal::Unavailable);
-
-/// Replies, with their texts and the lengths of the texts.
-static REPLIES: [(PlainReply, &str, usize); 3] = [
-    (BOOKED_7, exchanges::BOOKED_7, 133),
-    (
-        NOT_VERIFIED,
-        "HTTP/1.1 401 Unauthorized\r\nContent-Type: application/json\r\nContent-Length: 33\r\n\
-        WWW-Authenticate: Bearer\r\nConnection: close\r\n\r\n\
-        {\"fault\":9,\"text\":\"not verified\"}",
-        159,
-    ),
-    (UNAVAILABLE, exchanges::UNAVAILABLE, 140),
-];
-
-#[test]
-fn worked_replies(rt: HostRuntime) {
-    for (reply, text, len) in &REPLIES {
-        writes(&rt, &reply.reply().expect(&rt, "a reply"), text, *len);
-    }
-}
-
-// The buffer has room for the longest reply, whose numbers are larger than those of any club.
 #[test]
 fn the_longest_reply(rt: HostRuntime) {
     let reply = Reply::AccountShown {

@@ -32,13 +32,11 @@ use test_kit::exchanges::UNAVAILABLE;
 
 const REQUEST: &[u8] = b"GET /account HTTP/1.1\r\nAuthorization: Bearer AgEJ\r\n\r\n";
 
-/// The text of the reply `Unavailable`, which the desk of these tests returns.
+/// The desk of these tests returns this reply.
 const REPLY: &str = UNAVAILABLE;
 
-/// A clock that can't be read.
 static UNREADABLE: Stopped = Stopped(None);
 
-/// Returns a clock that always shows this moment.
 fn always(moment: Moment) -> MomentsOf<'static, 'static, Stopped> {
     MomentsOf {
         clock: Clock::Fixed(moment),
@@ -50,17 +48,15 @@ fn new_face(rt: &impl Runtime) -> Face {
     Face::new(rt.alloc()).expect(rt, "a face")
 }
 
-/// Returns a desk that counts the requests at noon.
 fn desk_at_noon<'d>(rt: &impl Runtime) -> Desk<'d> {
     Desk::new(rt.alloc(), noon(rt))
 }
 
-/// Returns the patience with a client in most tests.
 fn patience() -> Duration {
     Duration::from_secs(10)
 }
 
-/// Returns a reply about a slot of a court that `taken` persons booked.
+/// Returns a reply about a court that `taken` persons booked.
 fn slot_shown(slot: Slot, price: u16, taken: u64) -> Reply {
     Reply::SlotShown {
         slot,
@@ -72,7 +68,7 @@ fn slot_shown(slot: Slot, price: u16, taken: u64) -> Reply {
     }
 }
 
-/// Accepts the next client of a listener. The office's commands come at the door, if any.
+/// Accepts the listener's next client. The office's commands come at the door.
 fn client_at<'a, C: time::Clock>(
     rt: &impl Runtime,
     listener: &'a TcpListener,
@@ -97,7 +93,6 @@ fn exchange<C: Connection>(
     connection.exchange(face, &mut always(at), desk, &mut Unlogged, at)
 }
 
-/// Serves the next `count` of these arrivals, each at noon.
 fn serves<L: Arrivals>(
     rt: &impl Runtime,
     arrivals: &mut L,
@@ -108,10 +103,8 @@ fn serves<L: Arrivals>(
     serve_on(arrivals, count, &mut moments, &mut new_face(rt), desk)
 }
 
-/// A client that sends a complete request, and then ends its side of the connection.
 const WHOLE: &[Step<'static>] = &[Step::Bytes(0, REQUEST), Step::End(0)];
 
-/// Clients that fail, refused requests, and commands of the office.
 static FAILING: [Wire<'static>; 10] = [
     Wire::Client(WHOLE),
     Wire::Command(Some(b"an order")),
@@ -125,21 +118,17 @@ static FAILING: [Wire<'static>; 10] = [
     Wire::Client(WHOLE),
 ];
 
-/// The number of clients to serve, and the expected number of waits for an arrival. Then the
-/// requests and commands that reach the desk, and the commands' total bytes. Commands don't count
-/// as clients. The server carries out no command after the last client.
-static COUNTS: [(u32, u64, u64, u64, usize); 7] = [
+/// The clients to serve and the waits for an arrival. Then the requests and commands that reach the
+/// desk, and the bytes of all commands. A command is no client.
+static COUNTS: [(u32, u64, u64, u64, usize); 5] = [
     (0, 0, 0, 0, 0),
     (1, 1, 1, 0, 0),
     (2, 3, 1, 1, 8),
-    (3, 4, 1, 1, 8),
     (4, 7, 1, 2, 21),
-    (5, 8, 2, 2, 21),
     (6, 9, 3, 2, 21),
 ];
 
-// A client that fails counts as served, and the server continues after a refused request. The desk
-// carries out each complete command once, with the bytes that were sent.
+// A client that fails counts as served. The server continues after a refused request.
 #[test]
 fn serves_as_many_as_asked(rt: HostRuntime) {
     for (count, waited, asked, commanded, bytes) in &COUNTS {

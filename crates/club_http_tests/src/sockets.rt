@@ -10,7 +10,6 @@ pub(crate) fn loopback_listener(
     TcpListener::bind(rt, "127.0.0.1:0").expect(rt, "a listener")
 }
 
-/// Returns a client that is connected to this listener and has sent these bytes.
 pub(crate) fn client_of(
     rt: &(impl Runtime + Net<Listener = TcpListener, Stream = TcpStream>),
     listener: &TcpListener,

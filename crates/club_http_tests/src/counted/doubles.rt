@@ -35,7 +35,6 @@ impl Inlet for Pieces<'_> {
 
     ghost failures = { λ reader. reader.failures };
 
-    // Each call is counted.
     ghost fills = { λ old _ _ new. new.calls ≡ one_more old.calls };
 
     fn fill(&mut self, room: &mut [u8]) -> Option<usize> {
@@ -53,7 +52,6 @@ impl Inlet for Pieces<'_> {
     }
 }
 
-/// The size of a writer's buffer.
 pub const ROOM: usize = 512;
 
 /// A writer that accepts a few bytes per call. After `limit` bytes it fails, or accepts no more.
@@ -95,7 +93,6 @@ impl Outlet for Narrow {
 
     ghost failures = { λ writer. writer.failures };
 
-    // Each call is counted.
     ghost puts = { λ old _ _ new. new.calls ≡ one_more old.calls };
 
     fn put(&mut self, bytes: &[u8]) -> Option<usize> {

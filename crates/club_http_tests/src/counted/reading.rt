@@ -17,46 +17,28 @@ fn is_read(rt: &impl Runtime, text: &str, (step, calls, left): &Reading, want: &
     expect_eq(rt, &(reader.calls, reader.left.len()), &(*calls, *left));
 }
 
-/// A text in pieces, and how the exchange must read it.
 type Read = (&'static [Piece], Reading);
 
 /// The booking has 128 bytes, and the buffer has room for 16,640. Bytes after the booking are read
 /// only if the last call returns them too.
-static BOOKINGS: [Read; 14] = [
+static BOOKINGS: [Read; 5] = [
     (&[(1, BOOKING)], (1, 128, 0)),
-    (&[(1, BOOKING)], (7, 19, 0)),
-    (&[(1, BOOKING)], (115, 2, 0)),
-    // One call reads the head, and a second call reads the body.
-    (&[(1, BOOKING)], (116, 2, 0)),
-    (&[(1, BOOKING)], (127, 2, 0)),
-    (&[(1, BOOKING)], (128, 1, 0)),
     (&[(1, BOOKING)], (100_000, 1, 0)),
-    (&[(1, BOOKING), (1, "x")], (1, 128, 1)),
-    (&[(1, BOOKING), (1, "x")], (600, 1, 0)),
-    (&[(1, BOOKING), (1_000, "x")], (100, 2, 928)),
     (&[(1, BOOKING), (1_000, "x")], (100_000, 1, 0)),
     (&[(1, BOOKING), (100_000, "x")], (1, 128, 100_000)),
-    (&[(1, BOOKING), (100_000, "x")], (1_460, 1, 98_668)),
     (&[(1, BOOKING), (100_000, "x")], (200_000, 1, 83_488)),
 ];
 
-/// Readings of the longest request, which has a head of 16,384 bytes and a body of 256.
-static LONGEST_READINGS: [Reading; 5] = [
+static LONGEST_READINGS: [Reading; 4] = [
     (200_000, 1, 0),
     (16_384, 2, 0),
     (16_383, 2, 0),
-    (1_460, 12, 0),
     (1, 16_640, 0),
 ];
 
 /// These 20,000 bytes contain no end of a head, so they are a bad request after 16,384 bytes. The
 /// buffer has room for 16,640 bytes.
-static ENDLESS: [Reading; 4] = [
-    (1, 16_384, 3_616),
-    (3, 5_462, 3_614),
-    (600, 28, 3_360),
-    (200_000, 1, 3_360),
-];
+static ENDLESS: [Reading; 3] = [(1, 16_384, 3_616), (600, 28, 3_360), (200_000, 1, 3_360)];
 
 fn is_read_so(rt: &impl Runtime, pieces: &[Piece], readings: &[Reading], want: &Ended) {
     let text = join(rt, pieces);
@@ -65,7 +47,6 @@ fn is_read_so(rt: &impl Runtime, pieces: &[Piece], readings: &[Reading], want: &
     }
 }
 
-/// The reader would fail if it were called after the last byte.
 #[test]
 fn reads_no_further_than_the_request(rt: HostRuntime) {
     for (pieces, reading) in &BOOKINGS {
@@ -87,7 +68,6 @@ fn by_steps(len: usize, step: usize) -> Reading {
     (step, calls as u64, left)
 }
 
-/// Reads a text that is a request and five more bytes, once with each of these steps.
 fn is_read_by_steps(rt: &impl Runtime, text: &str, steps: Range<usize>, want: &Ended) {
     let len = text.len().saturating_sub(5);
     for step in steps {
@@ -106,7 +86,6 @@ fn with_field(rt: &impl Runtime, field: &str) -> String {
     text.expect(rt, "memory")
 }
 
-/// The calls split the request in its head, at the end of the head, and in its body.
 #[test]
 fn splits_a_request(rt: HostRuntime) {
     for field in &FIELDS {
@@ -116,17 +95,14 @@ fn splits_a_request(rt: HostRuntime) {
 }
 
 /// Texts with an incomplete CR LF CR LF before the first complete one.
-static PARTS: [&str; 7] = [
+static PARTS: [&str; 5] = [
     "\r\n\r\nGET /",
     "\r\r\n\r\nGET /",
     "\r\n\r\r\n\r\nGET /",
     "\r\n\n\r\n\r\nGET /",
     "\n\r\n\r\nGET /",
-    "GET /\r\r\r\n\r\nGET /",
-    "GET /\r\n\r\r\r\n\r\nGET /",
 ];
 
-/// The first CR LF CR LF ends the head.
 #[test]
 fn begins_the_end_of_a_head_again(rt: HostRuntime) {
     for text in &PARTS {
@@ -134,7 +110,6 @@ fn begins_the_end_of_a_head_again(rt: HostRuntime) {
     }
 }
 
-/// Checks that incomplete bytes are a bad request, and that no reply follows a failed read.
 fn is_cut(rt: &impl Runtime, bytes: &[u8]) {
     returns(rt, &mut Pieces::new(bytes, 7, false), &IS_BAD);
     let mut reader = Pieces::new(bytes, 7, true);
@@ -142,7 +117,6 @@ fn is_cut(rt: &impl Runtime, bytes: &[u8]) {
     expect_eq(rt, &reader.failures, &1);
 }
 
-/// The input ends after each possible number of the booking's bytes.
 #[test]
 fn cut_input(rt: HostRuntime) {
     let bytes = BOOKING.as_bytes();

@@ -1,5 +1,5 @@
-//! The office's commands at the server's door, alone and while clients wait, over sockets in one
-//! process. No contract states which bytes a socket sends or receives.
+//! The office's commands at the server's door, alone and while clients wait. No contract states
+//! which bytes a socket sends or receives.
 
 use super::by_the_door::{door_at, new_path};
 use super::doubles::HandSet;
@@ -17,25 +17,19 @@ use std::os::unix::net::{UnixListener, UnixStream};
 use std::test::Fail;
 use std::time::{Clock, Duration};
 
-/// What a sender does after it sent its bytes, and before the server accepts its connection.
+/// A sender ends its side of the connection, stays silent, or closes the connection.
 #[derive(Clone, Copy, Debug, PartialEq, Eq)]
 enum Then {
-    /// The sender ends its side of the connection.
     Ends,
-    /// The sender stays silent.
     Waits,
-    /// The sender closes the connection.
     Goes,
 }
 
-/// The number of bytes that a sender sends, and what it does then.
 type Sent = (usize, Then);
 
-/// The answer if the bytes aren't a complete command.
 const NOTHING: &[u8] = b"!\x09nothing was done\0";
 
-/// A sender, the number of commands that the desk carries out, their total bytes, and the answer
-/// that the sender gets.
+/// A sender, the commands that the desk carries out, their bytes, and the answer.
 static ROWS: [(Sent, u64, usize, &[u8]); 8] = [
     ((8, Then::Ends), 1, 8, b"!\x01\0"),
     ((0, Then::Ends), 1, 0, b"!\x01\0"),
@@ -43,14 +37,11 @@ static ROWS: [(Sent, u64, usize, &[u8]); 8] = [
     ((8_191, Then::Ends), 1, 8_191, b"!\x01\0"),
     ((8_192, Then::Ends), 0, 0, NOTHING),
     ((70_000, Then::Ends), 0, 0, NOTHING),
-    // The server cuts off a silent sender.
     ((8, Then::Waits), 0, 0, NOTHING),
-    // The desk doesn't carry out the command if its sender closed the connection.
     ((0, Then::Goes), 0, 0, b""),
     ((8, Then::Goes), 0, 0, b""),
 ];
 
-/// Returns a sender that has sent its bytes, or `None` if the sender closed the connection.
 fn sender_at(
     rt: &HostRuntime,
     path: &str,
@@ -66,8 +57,6 @@ fn sender_at(
     Ok(Some(sender))
 }
 
-/// Serves a sender at a door with this desk and this clock. Returns whether the command was
-/// complete, and the bytes that the sender gets.
 fn visits<C: Clock>(
     rt: &HostRuntime,
     clock: &C,
@@ -93,8 +82,6 @@ fn visits<C: Clock>(
     Ok((whole, got))
 }
 
-// The desk carries out each command once, with the bytes that were sent. It does so only if the
-// command is complete and in time, and the sender is still connected.
 #[test]
 fn senders_at_a_door(rt: HostRuntime) -> Result<(), Fail> {
     for (sent, commanded, of, want) in &ROWS {
@@ -107,12 +94,10 @@ fn senders_at_a_door(rt: HostRuntime) -> Result<(), Fail> {
     Ok(())
 }
 
-/// The milliseconds by which the clock advances at each reading. The server reads the clock at the
-/// start of a limit of 200 milliseconds, and at each read or write.
+/// The clock advances by these milliseconds at each reading. The limit is 200.
 static LATE: [u64; 4] = [0, 150, 200, 1_000];
 
-// A server may be suspended for longer than the limit. It still carries out a command that has
-// come, and writes the complete answer.
+// A suspended server still carries out a command that has come.
 #[test]
 fn a_command_that_is_there_is_in_time(rt: HostRuntime) -> Result<(), Fail> {
     for step in &LATE {
@@ -125,8 +110,6 @@ fn a_command_that_is_there_is_in_time(rt: HostRuntime) -> Result<(), Fail> {
     Ok(())
 }
 
-// Returns how long the server waits for a silent sender, by this clock. Ends the test unless the
-// sender is told that nothing was done.
 fn waits_for_a_silent_sender<C: Clock>(
     rt: &HostRuntime,
     clock: &C,
@@ -140,8 +123,6 @@ fn waits_for_a_silent_sender<C: Clock>(
     Ok(rt.monotonic()?.saturating_sub(before))
 }
 
-// By the machine's clock, the server waits 200 milliseconds for a silent sender. If the clock
-// advances by 200 milliseconds at each reading, the server doesn't wait.
 #[test]
 fn a_command_has_a_fifth_of_a_second(rt: HostRuntime) -> Result<(), Fail> {
     let waited = waits_for_a_silent_sender(&rt, &rt, desk_at_noon(&rt))?;
@@ -152,7 +133,6 @@ fn a_command_has_a_fifth_of_a_second(rt: HostRuntime) -> Result<(), Fail> {
     Ok(())
 }
 
-/// Returns whether the next arrival is a command, or `None` if the wait failed.
 fn is_command<A: Arrivals>(arrivals: &mut A) -> Option<bool> {
     match arrivals.next() {
         Arrival::Command(_) => Some(true),
@@ -161,8 +141,8 @@ fn is_command<A: Arrivals>(arrivals: &mut A) -> Option<bool> {
     }
 }
 
-// After a shutdown, the door is readable and each accept at it fails. Such a failure isn't a
-// client. The server pauses ten milliseconds, and then accepts the client that waits.
+// After a shutdown, the door is readable and each accept at it fails. The server pauses ten
+// milliseconds, and then accepts a client.
 #[test]
 fn a_door_that_fails_is_no_client(rt: HostRuntime) -> Result<(), Fail> {
     let path = new_path(&rt, "fails")?;
@@ -184,8 +164,7 @@ fn a_door_that_fails_is_no_client(rt: HostRuntime) -> Result<(), Fail> {
 /// More bytes than a socket's buffers can store.
 const LONG: usize = 2_000_000;
 
-// The desk carries out a command even if the sender doesn't read the answer. The server then cuts
-// the sender off, so the sender gets an incomplete answer.
+// The server cuts the sender off, so the sender gets an incomplete answer.
 #[test]
 fn a_sender_that_takes_no_answer(rt: HostRuntime) -> Result<(), Fail> {
     let text = "x".repeat(rt.alloc(), LONG)?;
@@ -199,7 +178,6 @@ fn a_sender_that_takes_no_answer(rt: HostRuntime) -> Result<(), Fail> {
     Ok(())
 }
 
-/// Whether each arrival is a command. Two commands and three clients wait, and alternate.
 static TURNS: [bool; 5] = [true, false, true, false, false];
 
 #[test]

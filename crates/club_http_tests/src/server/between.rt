@@ -1,6 +1,5 @@
-//! Commands that come while the server waits for a client's request. A journal records the server's
-//! calls and their times. No contract states how long a server waits, whether a command or a client
-//! goes first, or that a stream is closed before the log has its line.
+//! Commands that come while the server waits for a request. No contract states how long a server
+//! waits, or whether a command or a client goes first.
 
 use super::doubles::{Script, Step, Wire};
 use super::journal::{Entries, Journal};
@@ -9,7 +8,7 @@ use crate::desk::Desk;
 use crate::expect::{Runtime, expect_eq, expect_row, noon};
 use desk_server::serve_logged;
 
-/// A client's and the office's steps, and how many milliseconds each command takes. Then the calls
+/// A client's and the office's steps, and the milliseconds that each command takes. Then the calls
 /// of a server with a patience of ten seconds, and their times.
 struct Row {
     steps: &'static [Step<'static>],
@@ -17,7 +16,6 @@ struct Row {
     calls: &'static str,
 }
 
-/// The request without its first letter.
 const REST: &[u8] = b"ET /account HTTP/1.1\r\nAuthorization: Bearer AgEJ\r\n\r\n";
 
 static ROWS: [Row; 6] = [
@@ -55,8 +53,7 @@ static ROWS: [Row; 6] = [
             (6000, WaitedBytesFirst(4000)), (10000, Read(0)), (10000, Closed), \
             (10000, NotedClient)]",
     },
-    // A command uses up all of the client's time. The server cuts the client off unless the request
-    // has come.
+    // A command uses up all of the client's time.
     Row {
         steps: &[Step::Command(1_000, Some(b"an order"))],
         command_takes: 20_000,

@@ -1,5 +1,4 @@
-//! Commands that come at the office's door while the server waits for a client's request, over
-//! sockets in one process.
+//! Commands that come at the office's door while the server waits for a client's request.
 
 use super::{REPLY, REQUEST, client_at, desk_at_noon, exchange, new_face, patience};
 use crate::desk::{Desk, Sender};
@@ -17,7 +16,6 @@ use std::test::Fail;
 use std::time::{Clock, Duration};
 use std::{env, process};
 
-/// Returns a path that no other process uses.
 pub fn new_path(rt: &HostRuntime, name: &str) -> Result<String, Fail> {
     let folder = env::temp_dir(rt)?;
     let folder = folder.as_str();
@@ -31,8 +29,7 @@ pub fn door_at(rt: &(impl Files + Net), path: &str) -> Result<UnixListener, Fail
     Ok(door)
 }
 
-/// Returns a connection on which the office has sent this command. A read of the answer fails after
-/// a second.
+/// A read of the answer fails after a second.
 pub fn office_at(rt: &impl Net, path: &str, command: &[u8]) -> Result<UnixStream, Fail> {
     let mut office = UnixStream::connect(rt, path)?;
     office.write_all(command)?;
@@ -41,8 +38,7 @@ pub fn office_at(rt: &impl Net, path: &str, command: &[u8]) -> Result<UnixStream
     Ok(office)
 }
 
-/// Returns a desk that makes the client send the rest of its request at a command. At a request the
-/// desk reads the office's connection.
+/// At a command the client sends the rest. At a request the desk reads the office.
 fn tied_desk<'x>(
     rt: &impl Runtime,
     client: &'x TcpStream,
@@ -62,9 +58,8 @@ fn tied_desk<'x>(
     }
 }
 
-/// Runs an exchange with a client that sends the rest of its request after a command. Returns the
-/// fault, the bytes of the commands, and the number of requests. The office must get the complete
-/// answer before the desk gets the request.
+/// Returns the fault, the bytes of the commands, and the number of requests. The office must get
+/// the complete answer before the desk gets the request.
 fn ends_beside_a_command<'x>(
     rt: &'x (impl Runtime + Net),
     path: &str,
@@ -84,7 +79,7 @@ fn ends_beside_a_command<'x>(
     Ok((outcome.err(), desk.bytes, desk.asked))
 }
 
-// The client has sent one letter. The office gets its answer before the client sends the rest.
+// The office gets its answer before the client sends the rest.
 #[test]
 fn a_command_between_two_pieces(rt: HostRuntime) -> Result<(), Fail> {
     let path = new_path(&rt, "between-two-pieces")?;
@@ -100,7 +95,6 @@ fn a_command_between_two_pieces(rt: HostRuntime) -> Result<(), Fail> {
     Ok(())
 }
 
-// The client sends nothing. The desk carries out the command. Then the client is cut off.
 #[test]
 fn a_command_beside_a_silent_client(rt: HostRuntime) -> Result<(), Fail> {
     let path = new_path(&rt, "beside-a-silent-client")?;
@@ -139,8 +133,7 @@ impl Clock for Sending<'_> {
     }
 }
 
-// The client has sent one letter. Then the door is shut down, and each later accept at it fails.
-// The server sleeps ten milliseconds, and then serves the client first.
+// Each accept at the door fails. The server sleeps, and then serves the client first.
 #[test]
 fn a_door_that_fails_beside_a_client(rt: HostRuntime) -> Result<(), Fail> {
     let path = new_path(&rt, "fails-beside-a-client")?;

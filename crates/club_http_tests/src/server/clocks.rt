@@ -1,6 +1,5 @@
-//! Tests of the local times that clocks show. No contract states which instant the machine's clock
-//! shows, so only these tests refuse a clock that is late or stops. A program in another language
-//! computed the expected moments from the zone database.
+//! Tests of the local times that clocks show. No contract states which instant the clock shows. A
+//! program in another language computed the moments from the zone database.
 
 use super::always;
 use super::doubles::{HandSet, Stopped};
@@ -12,20 +11,11 @@ use std::time::{self, Duration};
 
 const BERLIN: &str = "CET-1CEST,M3.5.0,M10.5.0/3";
 
-/// A zone's rule, the seconds since 1970 began, and the moment that a clock shows in the zone.
+/// A zone's rule, the seconds since the start of 1970, and the moment.
 type Shown = (&'static str, i64, Option<&'static str>);
 
-/// The rows include the first and the last minute of the years 2000 to 2099, and seconds just
-/// outside of these years.
-static SHOWN: [Shown; 23] = [
+static SHOWN: [Shown; 13] = [
     ("UTC0", 1_777_658_459, Some("2026-05-01T18:00")),
-    (BERLIN, 1_777_651_200, Some("2026-05-01T18:00")),
-    (BERLIN, 1_777_651_199, Some("2026-05-01T17:59")),
-    ("UTC0", 1_777_651_200, Some("2026-05-01T16:00")),
-    (BERLIN, 1_761_440_399, Some("2025-10-26T02:59")),
-    (BERLIN, 1_761_440_400, Some("2025-10-26T02:00")),
-    (BERLIN, 1_774_745_999, Some("2026-03-29T01:59")),
-    (BERLIN, 1_774_746_000, Some("2026-03-29T03:00")),
     (
         "EST5EDT,M3.2.0,M11.1.0",
         1_777_651_259,
@@ -36,13 +26,10 @@ static SHOWN: [Shown; 23] = [
     ("UTC0", 946_684_800, Some("2000-01-01T00:00")),
     (BERLIN, 946_681_199, None),
     (BERLIN, 946_681_200, Some("2000-01-01T00:00")),
-    ("EST5", 946_684_800, None),
-    ("EST5", 946_702_800, Some("2000-01-01T00:00")),
     ("UTC0", 4_102_444_799, Some("2099-12-31T23:59")),
     ("UTC0", 4_102_444_800, None),
     (BERLIN, 4_102_441_199, Some("2099-12-31T23:59")),
     (BERLIN, 4_102_441_200, None),
-    ("UTC0", 0, None),
     ("UTC0", -1, None),
     ("UTC0", 253_402_300_800, None),
 ];
@@ -69,13 +56,12 @@ pub fn noons(times: u64) -> HandSet {
     clock
 }
 
-/// Returns the moment of a clock at this second. For `None`, the clock can't be read.
+/// The clock can't be read if the second is `None`.
 fn moment_of(rt: &impl Runtime, rule: &'static str, second: Option<u64>) -> Option<Moment> {
     let clock = Stopped(second.map(Duration::from_secs));
     clock_in(rt, rule, &clock).now()
 }
 
-/// Returns the moment of this second in the zone, without a clock.
 fn moment_in_zone(rt: &impl Runtime, rule: &'static str, second: i64) -> Option<Moment> {
     let nanosecond = i128::from(second) * 1_000_000_000;
     let instant = Timestamp::from_nanosecond(nanosecond).ok()?;
@@ -99,14 +85,7 @@ fn shows_the_minute_of_a_clock(rt: HostRuntime) {
     expect_eq(&rt, &moment_of(&rt, "UTC0", None), &None);
 }
 
-static NO_ZONES: [&str; 6] = [
-    "",
-    "UTC",
-    "Europe/Berlin",
-    "UTC0 ",
-    "CET-1CEST,M3.5.0",
-    "X0",
-];
+static NO_ZONES: [&str; 5] = ["", "UTC", "Europe/Berlin", "CET-1CEST,M3.5.0", "X0"];
 
 #[test]
 fn rules_of_no_zone(rt: HostRuntime) {
@@ -115,8 +94,8 @@ fn rules_of_no_zone(rt: HostRuntime) {
     }
 }
 
-/// The days in March and October on which summer time starts and ends in Berlin, from 2000 to 2099.
-/// The change is at 01:00 UTC.
+/// The days in March and October on which summer time starts and ends in Berlin at 01:00 UTC, from
+/// 2000 to 2099.
 static MARCH: [u8; 100] = [
     26, 25, 31, 30, 28, 27, 26, 25, 30, 29, 28, 27, 25, 31, 30, 29, 27, 26, 25, 31, 29, 28, 27, 26,
     31, 30, 29, 28, 26, 25, 31, 30, 28, 27, 26, 25, 30, 29, 28, 27, 25, 31, 30, 29, 27, 26, 25, 31,
@@ -166,10 +145,8 @@ fn shows_the_end_of_each_summer_time(rt: HostRuntime) {
     }
 }
 
-/// The first second of 2030, counted from the start of 1970.
 const BEGINNING_OF_2030: u64 = 1_893_456_000;
 
-// The clock shows each minute of a day at the minute's first second and at its last.
 #[test]
 fn shows_each_minute_of_a_day(rt: HostRuntime) {
     let first = moment(&rt, "2030-01-01T00:00").number();
@@ -182,7 +159,6 @@ fn shows_each_minute_of_a_day(rt: HostRuntime) {
     }
 }
 
-// The server reads the clock once for each moment. The clock advances by a minute at each reading.
 #[test]
 fn shows_a_clock_that_advances(rt: HostRuntime) {
     let clock = HandSet::new(946_684_740_000_000, 60_000_000);
@@ -191,7 +167,6 @@ fn shows_a_clock_that_advances(rt: HostRuntime) {
     expect_eq(&rt, &moments.now(), &Some(moment(&rt, "2000-01-01T00:01")));
 }
 
-/// Returns the minutes since the start of 1970 by the machine's clock.
 fn minute_of(rt: &impl Runtime) -> u64 {
     rt.since_1970().expect(rt, "a time").as_secs() / 60
 }

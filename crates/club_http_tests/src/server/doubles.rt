@@ -15,32 +15,25 @@ use std::time::{Clock, Duration};
 /// The next event for a server that waits for a client, and the milliseconds before the event.
 #[derive(Clone, Copy, Drop)]
 pub enum Step<'a> {
-    /// Bytes of the client.
     Bytes(u64, &'a [u8]),
-    /// A command with these bytes, or `None` for an incomplete command.
+    /// A complete command has bytes, and an incomplete command has `None`.
     Command(u64, Option<&'a [u8]>),
     /// A command whose sender closed its connection before the server accepted it.
     Gone(u64),
-    /// The end of the client's bytes.
     End(u64),
-    /// The client's reader fails.
     Fails(u64),
 }
 
 /// The result of a wait for an arrival.
 #[derive(Clone, Copy, Drop)]
 pub enum Wire<'a> {
-    /// The wait failed.
     Absent,
-    /// A command of the office with these bytes, or `None` for an incomplete command.
     Command(Option<&'a [u8]>),
-    /// A client.
     Client(&'a [Step<'a>]),
     /// A client whose stream fails at each write.
     Deaf(&'a [Step<'a>]),
 }
 
-/// A writer that fails at each write.
 #[derive(Drop)]
 pub struct Broken;
 
@@ -59,7 +52,6 @@ pub struct Played<'a> {
     journal: &'a Journal,
     steps: &'a [Step<'a>],
     deaf: bool,
-    // The number of steps that have come.
     came: usize,
 }
 
@@ -68,8 +60,7 @@ fn milliseconds(limit: Duration) -> u64 {
 }
 
 impl<'a> Played<'a> {
-    // Returns the next step if the step comes within the limit. Otherwise advances the clock by the
-    // limit.
+    // Returns the next step within the limit, or `None` once the limit is over.
     fn next_within(&self, limit: Duration) -> Option<Step<'a>> {
         let most = milliseconds(limit);
         let next = self.steps.get(self.came).copied();
@@ -83,7 +74,6 @@ impl<'a> Played<'a> {
     }
 }
 
-/// Reads bytes that have arrived.
 fn read_from(bytes: &[u8], room: &mut [u8]) -> Waited
     ensures { IfSome (moved result) (λ n. n ≤ length room.new) }
 {
@@ -165,7 +155,6 @@ impl Drop for Played<'_> {
     }
 }
 
-/// A command of the office in memory, or `None` for an incomplete command.
 #[derive(Drop)]
 pub struct Letter<'a>(pub Option<&'a [u8]>);
 
@@ -268,7 +257,6 @@ impl HandSet {
         }
     }
 
-    /// Returns the milliseconds that the clock shows.
     pub fn elapsed(&self) -> u64 {
         self.microseconds.get() / 1_000
     }
@@ -304,7 +292,7 @@ impl Clock for HandSet {
 }
 
 /// A client that sends or receives one byte after each pause. Signals interrupt the first
-/// `interruptions` waits, halfway through the pause. The client ends after its last byte.
+/// `interruptions` waits, halfway through the pause.
 #[derive(Drop)]
 pub struct Slow<'a> {
     pub clock: &'a HandSet,
@@ -312,13 +300,11 @@ pub struct Slow<'a> {
     pub pause: u64,
     pub bytes: &'a [u8],
     pub interruptions: u32,
-    /// The number of reads or writes.
     pub calls: u64,
 }
 
 impl Slow<'_> {
-    // Waits for the pause, but not longer than the limit. Returns whether the pause is over, or
-    // `None` if a signal interrupted the wait.
+    // Returns whether the pause is over, or `None` if a signal interrupted the wait.
     fn wait(&mut self, limit: Duration) -> Option<bool> {
         let most = milliseconds(limit);
         if self.interruptions > 0 {
@@ -330,7 +316,6 @@ impl Slow<'_> {
         Some(self.pause <= most)
     }
 
-    // Sends the next byte, if any. Returns the number of bytes sent.
     fn send(&mut self, room: &mut [u8]) -> usize
         ensures { result ≤ length room.new }
     {

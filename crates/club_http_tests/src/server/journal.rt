@@ -1,5 +1,4 @@
-//! A journal of the calls of a client's stream, of the desk and of the log. It records the time of
-//! each call, by a clock that the test sets.
+//! A journal of the calls of a client's stream, of the desk and of the log, with their times.
 
 use super::doubles::HandSet;
 use crate::expect::Runtime;
@@ -10,16 +9,14 @@ use std::cell::RefCell;
 /// A call, with its time limit in milliseconds, or the number of bytes of a write or a command.
 #[derive(Clone, Copy, Debug)]
 pub enum Call {
-    /// A wait for a client or the office. If both are ready, this wait returns the command.
+    /// This wait returns the command if both the client and the office are ready.
     WaitedCommandFirst(u64),
     WaitedBytesFirst(u64),
     Read(u64),
     Wrote(u64, usize),
     EndedWriting,
-    /// The client's stream was closed.
     Closed,
     Asked,
-    /// The desk carried out a command with this number of bytes.
     Commanded(usize),
     Began,
     NotedCommand,
@@ -27,7 +24,6 @@ pub enum Call {
     NotedOther,
 }
 
-/// Calls, and the times at which they were made.
 #[derive(Drop)]
 pub struct Journal {
     pub clock: HandSet,
@@ -48,7 +44,7 @@ impl Journal {
         }
     }
 
-    /// Removes the calls and their times from the journal, and returns them as text.
+    /// Removes the calls from the journal.
     pub fn calls(&self, rt: &impl Runtime) -> String {
         let calls = self.calls.try_replace(Vec::new(rt.alloc()));
         let calls = calls.unwrap_or(Vec::new(rt.alloc()));
@@ -56,7 +52,6 @@ impl Journal {
     }
 }
 
-/// A log that records its calls in a journal.
 #[derive(Drop)]
 pub struct Entries<'j>(pub &'j Journal);
 

@@ -1,6 +1,5 @@
-//! Requests and replies of many lengths, over sockets in one process. Requests come in one piece or
-//! in many. No contract states which bytes a socket sends or receives, so only these tests refuse
-//! an exchange that drops a request or a reply of some length.
+//! Requests and replies of many lengths over sockets. No contract states which bytes a socket sends
+//! or receives.
 
 use super::by_the_door::{door_at, new_path, office_at};
 use super::{REQUEST, client_at, desk_at_noon, exchange, new_face, patience, slot_shown};
@@ -14,9 +13,7 @@ use std::net::{Net, TcpListener, TcpStream};
 use std::test::Fail;
 use test_kit::{COURT_AT_18, exchanges, replies, requests};
 
-/// Runs an exchange with a client that sends this request in pieces of `step` bytes. A command
-/// comes between each two pieces. Returns the desk's last request. Ends the test unless the client
-/// gets `text`.
+/// The client sends the request in pieces of `step` bytes. A command comes between each two pieces.
 fn asked_in_pieces(
     rt: &(impl Runtime + Net<Listener = TcpListener, Stream = TcpStream> + Files),
     path: &str,
@@ -53,7 +50,6 @@ fn asked_in_pieces(
     Ok(desk.last)
 }
 
-/// Returns the request of a booking with a head of `head` bytes and a body of `body` bytes.
 fn booking_of(rt: &impl Runtime, head: usize, body: usize) -> Result<Vec<u8>, Fail> {
     let start = format!(in rt.alloc();
         "PUT /slots/court-1/2026-05-01/18/bookings/7 HTTP/1.1\r\nAuthorization: Bearer AgEJ\r\n\
@@ -69,12 +65,9 @@ fn booking_of(rt: &impl Runtime, head: usize, body: usize) -> Result<Vec<u8>, Fa
 }
 
 /// The number of bytes of a head, of a body, and of each piece of the request.
-static BOOKINGS: [(usize, usize, usize); 9] = [
-    (200, 12, 20_000),
+static BOOKINGS: [(usize, usize, usize); 6] = [
     (200, 12, 7),
-    (8_192, 12, 20_000),
     (8_192, 256, 500),
-    (16_000, 100, 20_000),
     (16_384, 12, 20_000),
     (16_384, 256, 20_000),
     (16_384, 256, 8_193),
@@ -96,14 +89,11 @@ fn requests_of_each_length(rt: HostRuntime) -> Result<(), Fail> {
     Ok(())
 }
 
-/// A facility's name of the greatest length.
 const NAME: &str = "abcdefghijklmnopqrstuvwx";
 
-/// A price, and the number of persons who booked. With names of 1 to 24 letters, the replies have
-/// all lengths from 195 to 226 bytes.
+/// A price, and the number of persons. The replies have 195 to 226 bytes.
 static FIGURES: [(u16, u64); 3] = [(0, 0), (200, 3), (10_000, 999)];
 
-/// Returns a reply about a slot of the facility with this name, and the bytes of the reply.
 fn shown(
     rt: &impl Runtime,
     name: &str,

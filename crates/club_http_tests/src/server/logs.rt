@@ -1,4 +1,4 @@
-//! Tests of the server's log: the lines of its connections, and when the server writes them.
+//! Tests of the server's log.
 
 use super::clocks::{clock_in, noons};
 use super::doubles::{Broken, HandSet, Script, Step, Wire};
@@ -63,10 +63,10 @@ const LINES: &str = "2026-04-20T12:00 office credit 1 1533
 2026-04-20T12:00 - /account 405 1533
 ";
 
-/// The server's result, the number of waits for an arrival, and the number of requests at noon.
+/// The server's result, the waits for an arrival, and the requests at noon.
 type Served = (Result<(), ClockOutOfRange>, u64, u64);
 
-/// Serves the script's connections, and writes their lines. The clock fails after `left` readings.
+/// The clock fails after `left` readings.
 fn log_script<W: Write>(rt: &impl Runtime, left: u64, writer: &mut W) -> Served {
     let journal = Journal::new(rt.alloc());
     let mut arrivals = Script::new(&journal, &SCRIPT);
@@ -80,7 +80,6 @@ fn log_script<W: Write>(rt: &impl Runtime, left: u64, writer: &mut W) -> Served 
     (outcome, arrivals.waited, desk.asked)
 }
 
-// This law states that a log has the lines of the connections that it recorded.
 #[test]
 fn a_log_has_its_lines() {
     desk_server::laws::a_log_has_its_lines::<WriteOutlet<Broken>, HandSet>();
@@ -110,22 +109,16 @@ fn a_log_that_fails(rt: HostRuntime) {
     expect_eq(&rt, &returned, &(Ok(()), 11, 3));
 }
 
-/// The first bytes of a request, and the method and the path that the log shows, if any. The log
-/// uses only the first 96 bytes, which are enough for the desk's longest request line.
-static REQUEST_LINES: [(&str, Option<&str>, Option<&str>); 12] = [
+/// The first bytes of a request, and the method and the path in the log. The log uses 96 bytes,
+/// which are enough for the longest request line.
+static REQUEST_LINES: [(&str, Option<&str>, Option<&str>); 10] = [
     ("GET /account HTTP/1.1\r\n", Some("GET"), Some("/account")),
-    (
-        "DELETE /a/2026-05-01 ",
-        Some("DELETE"),
-        Some("/a/2026-05-01"),
-    ),
     ("OPTIONS * HTTP/1.1", Some("OPTIONS"), None),
     ("PROPFIND / HTTP/1.1", None, Some("/")),
     ("GET /account", None, None),
     ("GET  HTTP/1.1", Some("GET"), None),
     (" / HTTP/1.1", None, Some("/")),
     ("get /a?b HTTP/1.1", None, None),
-    ("", None, None),
     (
         "DELETE /slots/abcdefghijklmnopqrstuvwx/2026-05-01/18/bookings/999999999 HTTP/1.1\r\n\
         Host: a-host-whose-name-is-long.example\r\n",
@@ -163,7 +156,6 @@ fn request_lines(rt: HostRuntime) {
     }
 }
 
-/// A log that checks at each line whether the client's connection was closed first.
 #[derive(Drop)]
 struct Closings {
     client: TcpStream,
@@ -172,7 +164,6 @@ struct Closings {
 }
 
 impl Closings {
-    // Returns whether the connection ended or was reset within half a second.
     fn is_closed(&mut self) -> bool {
         let patience = Duration::from_millis(500);
         if self.client.set_read_timeout(Some(patience)).is_err() {
@@ -200,8 +191,7 @@ impl Log for Closings {
     }
 }
 
-/// The bytes of clients that the server cuts off. The server doesn't reply to them, since it would
-/// end its side of the connection after a reply and before the close.
+/// The server cuts these clients off without a reply.
 static CUT: [&[u8]; 3] = [b"", b"G", b"GET /account HTTP/1.1\r\nHost: club\r\n"];
 
 fn closes_before_its_line<'x>(rt: &'x impl Runtime, listener: &'x TcpListener, client: TcpStream) {
@@ -218,7 +208,6 @@ fn closes_before_its_line<'x>(rt: &'x impl Runtime, listener: &'x TcpListener, c
     expect_eq(rt, &(served, log.lines, log.closed), &(Ok(()), 1, 1));
 }
 
-// The server closes a connection before it writes the log line of the connection.
 #[test]
 fn closed_before_its_line(rt: HostRuntime) {
     for sent in &CUT {

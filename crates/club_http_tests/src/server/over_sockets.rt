@@ -1,6 +1,4 @@
 //! Servers and exchanges over sockets. No contract states which bytes a socket sends or receives.
-//! So only these tests refuse a listener that accepts nobody, and an exchange that reads or writes
-//! nothing.
 
 use super::doubles::HandSet;
 use super::{REPLY, REQUEST, client_at, desk_at_noon, exchange, new_face, patience, serves};
@@ -15,8 +13,7 @@ use std::test::Fail;
 use std::time::{Clock, Duration};
 use test_kit::exchanges::BAD_REQUEST;
 
-/// Serves the next `count` connections of the listener, with this patience. Returns the number of
-/// requests that reach the desk.
+/// Returns the number of requests that reach the desk.
 fn serve<'x>(
     rt: &'x impl Runtime,
     listener: &'x TcpListener,
@@ -29,8 +26,7 @@ fn serve<'x>(
     desk.asked
 }
 
-// The test binds, connects, writes, serves and reads, one step after the other. The first client
-// closes its connection before the server accepts it.
+// The first client closes its connection before the server accepts it.
 #[test]
 fn serves_over_a_socket(rt: HostRuntime) {
     let listener = loopback_listener(&rt);
@@ -47,8 +43,7 @@ fn accepts_a_client(rt: HostRuntime) {
     drop(client_at(&rt, &listener, None, &rt, patience()));
 }
 
-/// Runs an exchange with the next client of a listener. Ends the test unless the desk gets `asked`
-/// requests. Returns the face, which contains the bytes of the request.
+/// The face contains the bytes of the request.
 fn exchanges<'x>(rt: &'x impl Runtime, listener: &'x TcpListener, asked: u64) -> Face {
     let mut face = new_face(rt);
     let mut desk = desk_at_noon(rt);
@@ -59,7 +54,6 @@ fn exchanges<'x>(rt: &'x impl Runtime, listener: &'x TcpListener, asked: u64) ->
     face
 }
 
-/// The bytes that a client sends, the number of requests that reach the desk, and the reply.
 static EXCHANGES: [(&[u8], u64, &str); 2] = [(REQUEST, 1, REPLY), (b"x\r\n\r\n", 0, BAD_REQUEST)];
 
 #[test]
@@ -73,11 +67,9 @@ fn exchanges_over_a_socket(rt: HostRuntime) {
     }
 }
 
-/// The number of bytes that a client sends after its request.
 static BEHIND: [u16; 3] = [1, 1_000, 60_000];
 
-// If a socket is closed before all bytes were read, the connection is reset, and the client may
-// lose its reply. Here the client reads the complete reply, and can still send.
+// The client may lose its reply if the server closes the socket before it read all bytes.
 #[test]
 fn replies_before_bytes_behind_a_request(rt: HostRuntime) -> Result<(), Fail> {
     for behind in &BEHIND {
@@ -92,8 +84,8 @@ fn replies_before_bytes_behind_a_request(rt: HostRuntime) -> Result<(), Fail> {
     Ok(())
 }
 
-// The server reads the clock at the start of each of the two limits, and at each wait, read and
-// write. So five readings show that it doesn't wait for the client after the reply.
+// The server reads the clock at the start of two limits, and at each wait, read and write. So five
+// readings show that it doesn't wait for the client after the reply.
 #[test]
 fn closes_at_once_after_a_request(rt: HostRuntime) {
     let listener = loopback_listener(&rt);
@@ -106,7 +98,6 @@ fn closes_at_once_after_a_request(rt: HostRuntime) {
     expect_eq(&rt, &(outcome.is_ok(), clock.readable.get()), &(true, 5));
 }
 
-// One client sends nothing, and the other sends a part of a request.
 #[test]
 fn cuts_a_silent_client_off(rt: HostRuntime) {
     let listener = loopback_listener(&rt);
@@ -116,7 +107,6 @@ fn cuts_a_silent_client_off(rt: HostRuntime) {
     expect_eq(&rt, &serve(&rt, &listener, 2, brief), &0);
 }
 
-// The server waits for a silent client until its patience is over, by the machine's clock.
 #[test]
 fn waits_as_long_as_its_patience(rt: HostRuntime) {
     let listener = loopback_listener(&rt);
@@ -128,12 +118,12 @@ fn waits_as_long_as_its_patience(rt: HostRuntime) {
     expect_eq(&rt, &(after.saturating_sub(before) >= patience), &true);
 }
 
-/// The machine's clock. Each reading of it also reads the bytes that a client has received.
+/// Each reading of this clock also reads the bytes that the client has received.
 #[derive(Drop)]
 struct Watching<'c> {
     clock: &'c HostRuntime,
     client: &'c TcpStream,
-    // The number of bytes that the client received; `ended` says whether it also reached the end.
+    // The client received `came` bytes. It also reached the end if `ended` is true.
     came: Cell<usize>,
     ended: Cell<bool>,
 }
@@ -155,8 +145,7 @@ impl Clock for Watching<'_> {
     }
 }
 
-// If bytes follow a request, the server ends its side of the connection and continues to read. So
-// the client reads the end of its reply while the server waits.
+// The server ends its side of the connection while it waits for the client's.
 #[test]
 fn ends_one_side_and_reads_the_other(rt: HostRuntime) {
     let listener = loopback_listener(&rt);

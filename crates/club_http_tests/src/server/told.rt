@@ -1,5 +1,5 @@
-//! Exchanges over a stream that has ghost values of the bytes it will read and of those it has
-//! written. So the contract of an exchange covers each byte.
+//! Exchanges over a stream whose ghost values are the bytes to come and the bytes written. So the
+//! contract of an exchange covers each byte.
 
 use super::doubles::{Letter, Stopped};
 use super::{REPLY, REQUEST, desk_at_noon, exchange, new_face, patience};
@@ -54,23 +54,19 @@ impl<'a> ClientStream for Told<'a> {
     }
 }
 
-/// The exchange's fault, if any, the number of reads, the number of bytes that weren't read, and
-/// the number of bytes of the reply that the client received.
+/// The fault, the reads, the bytes left unread, and the bytes that the client received.
 type Outcome = (Option<AnswerFault>, u64, usize, usize);
 
-/// The largest number of bytes per call, the number of bytes that the client accepts, and the
-/// outcome. The request has 53 bytes and its reply 140.
-static OUTCOMES: [((usize, usize), Outcome); 6] = [
+/// The bytes per call, the bytes that the client accepts, and the outcome. The request has 53 bytes
+/// and its reply 140.
+static OUTCOMES: [((usize, usize), Outcome); 5] = [
     ((ROOM, ROOM), (None, 1, 0, 140)),
     ((1, ROOM), (None, 53, 0, 140)),
-    ((ROOM, 140), (None, 1, 0, 140)),
     ((ROOM, 139), (Some(AnswerFault::Write(139)), 1, 0, 139)),
     ((1, 1), (Some(AnswerFault::Write(1)), 53, 0, 1)),
     ((ROOM, 0), (Some(AnswerFault::Write(0)), 1, 0, 0)),
 ];
 
-// The client received the complete reply, or the prefix whose length the fault states. The server
-// reads nothing after the request.
 #[test]
 fn takes_the_reply_and_nothing_else(rt: HostRuntime) {
     for ((step, limit), want) in &OUTCOMES {
