@@ -3,7 +3,6 @@
 use std::fmt::Debug;
 use std::process::Abort;
 
-/// A runtime that can end a test and allocate memory.
 pub(crate) trait Host: Abort + AllocGlobal {}
 
 impl<R: Abort + AllocGlobal> Host for R {}
@@ -14,7 +13,6 @@ pub(crate) fn expect_eq<T: PartialEq + Debug>(rt: &impl Abort, returned: &T, wan
     assert_eq!(rt; returned, want);
 }
 
-/// Ends the test unless the values are equal. The message includes the row.
 pub(crate) fn expect_row<T: PartialEq + Debug>(
     rt: &impl Abort,
     row: &impl Debug,

@@ -1,4 +1,4 @@
-//! Scenes, which are played at a desk over tables in memory, and the desk of the fixture.
+//! Scenes at a desk over tables in memory.
 
 use crate::expect::{Host, expect_eq};
 use crate::values::{at, command, request};
@@ -11,12 +11,8 @@ pub(crate) trait Fixture {
     fn play<S: ClubStore + Drop>(&self, rt: &impl Host, desk: Desk<S>);
 }
 
-/// Plays a scene over new tables in memory. Only this function names the type of the tables, since
-/// a proof of such a function takes some ten seconds.
-///
-/// # Errors
-///
-/// Returns the fault if the tables can't be created. Then the scene isn't played.
+/// Returns the fault if the tables can't be created. Only this function names the type of the
+/// tables, since the proof of such a function takes some ten seconds.
 pub(crate) fn try_to_play(rt: &impl Host, scene: &impl Fixture) -> Result<(), StoreFault> {
     let store = Store::open_in_memory(rt.alloc())?;
     scene.play(rt, Desk::new(rt.alloc(), store));
@@ -32,7 +28,6 @@ pub(crate) fn carry_out<S: ClubStore>(rt: &impl Host, desk: &mut Desk<S>, plain:
     expect_eq(rt, &matches!(answer, OfficeReply::Refused(_)), &false);
 }
 
-/// Carries out the commands of the fixture at the desk of an empty club.
 pub(crate) fn furnish<S: ClubStore>(rt: &impl Host, mut desk: Desk<S>) -> Desk<S> {
     for plain in &FIXTURE {
         carry_out(rt, &mut desk, plain);
@@ -40,7 +35,6 @@ pub(crate) fn furnish<S: ClubStore>(rt: &impl Host, mut desk: Desk<S>) -> Desk<S
     desk
 }
 
-/// Returns the reply to a request with this pass at this moment.
 pub(crate) fn reply<S: ClubStore>(
     rt: &impl Host,
     desk: &mut Desk<S>,

@@ -3,7 +3,7 @@
 use crate::prelude::*;
 use club_gate::{Event, EventReply, Words};
 
-/// The answer to the command that adds the key `amy-1` with the root `ROOT`.
+/// The answer to `AddKey` for `amy-1` with `ROOT`.
 pub(crate) const SIGNED: OfficeReply = OfficeReply::Key {
     signature: AMY_1_SIGNATURE,
 };
@@ -11,7 +11,7 @@ pub(crate) const SIGNED: OfficeReply = OfficeReply::Key {
 #[derive(Clone, Copy)]
 pub(crate) enum Happens {
     Commanded(PlainCommand, OfficeReply),
-    /// A request at noon, with the text of its pass, and the expected reply.
+    /// A request at noon, with the text of its pass.
     Asked(&'static str, PlainRequest, PlainReply),
 }
 

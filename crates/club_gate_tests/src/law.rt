@@ -1,4 +1,4 @@
-//! Tests of lists of events that start with an empty database: their replies, and their files.
+//! Tests of lists of events that start with an empty database.
 
 use crate::happens::{Happens, SIGNED, events_and_replies};
 use crate::prelude::*;
@@ -8,8 +8,7 @@ use desk_theorem::{reply_from_nothing, run_and_leave, run_from_nothing};
 use sqlite::{Files, Options};
 use sqlite_disk::{Disk, Memory};
 
-/// Four commands, a booking, and its two repeats with the pass in other forms. Then the account,
-/// which was charged only once.
+/// The booking is repeated with the pass in two other forms. The account is charged once.
 static BOOKS: [Happens; 8] = [
     Happens::Commanded(PlainCommand::AddMember("amy", 5), OfficeReply::Done),
     Happens::Commanded(PlainCommand::Credit("amy", 10_000), OfficeReply::Done),
@@ -31,7 +30,6 @@ fn books_once_in_three_forms(rt: HostRuntime) {
     expect_eq(&rt, &replies.as_slice(), &want.as_slice());
 }
 
-/// Ends the test unless a request for the account gets this reply after these events.
 fn expect_reply_after(rt: &impl Host, rows: &[Happens], want: &PlainReply) {
     let words = Words {
         pass: AMY_V1.as_bytes(),
@@ -45,7 +43,7 @@ fn expect_reply_after(rt: &impl Host, rows: &[Happens], want: &PlainReply) {
     expect_eq(rt, &returned.reply, &want.reply().expect(rt, "a reply"));
 }
 
-// One request comes after a list of events. The other comes to an empty club, under an unknown key.
+// The second request comes to an empty club, under an unknown key.
 #[test]
 fn answers_after_a_list(rt: HostRuntime) {
     expect_reply_after(&rt, &BOOKS[..5], &ACCOUNT_AFTER);
@@ -57,7 +55,6 @@ fn desk_over<S: Alter + Drop>(rt: &impl Host, connection: Connection<S>) -> Desk
     Desk::new(rt.alloc(), store.expect(rt, "tables"))
 }
 
-/// Plays the rows at a desk over these files, and returns the files after the desk closed them.
 /// Returns `None` if `Files::may_be_used` refuses the files.
 fn files_left<D: Disk + Drop>(
     rt: &impl Host,
@@ -76,7 +73,6 @@ fn files_left<D: Disk + Drop>(
     Some(store.close())
 }
 
-// After the files are reopened, a repeat of the booking gets the same reply.
 #[test]
 fn books_once_over_two_openings(rt: HostRuntime) {
     let files = Files {

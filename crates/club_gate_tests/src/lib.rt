@@ -1,6 +1,5 @@
-//! Tests of the tables, of the store over them, and of the desk over tables in memory. The desk's
-//! tests cover calls of its store, memory, and random lists of events, whose replies are compared
-//! with the reference machine's. Scenarios have the replies to single requests and commands.
+//! Tests of the tables, of the store over them, and of the desk over tables in memory. Scenarios
+//! have the replies to single requests and commands.
 #![tactic(auto)]
 
 #[cfg(test)]

@@ -5,8 +5,8 @@ use crate::prelude::*;
 use crate::trial::Trial;
 use test_kit::drawn::{AUDIT_AMY, AUDITORS, Asking, Event, Numbers, SLOTS, audit};
 
-// The number of pairs of lists for each seed. The second list starts with the club after the first.
-// A hundred lists in one test would take most of its minute.
+// The second list of a pair starts with the club after the first list. A hundred lists in one test
+// would take most of its minute.
 const PAIRS: u32 = 10;
 
 const EVENTS: u32 = 60;
@@ -44,7 +44,7 @@ impl Fixture for Pair {
     }
 }
 
-/// Returns random events, and then requests that show the members' accounts and the slots.
+/// The last events show the accounts and the slots.
 fn draw(rt: &impl Host, numbers: &mut Numbers) -> Vec<Event> {
     let mut events = Vec::new(rt.alloc());
     for _ in 0..EVENTS {
@@ -63,7 +63,6 @@ fn draw(rt: &impl Host, numbers: &mut Numbers) -> Vec<Event> {
     events
 }
 
-/// Draws pairs of lists from the seed `first`, and plays_rows them event by event or in one run.
 fn play_lists(rt: &impl Host, first: u64, pairs: u32, are_run: bool) {
     let mut numbers = Numbers::new(first);
     for _ in 0..pairs {
@@ -88,8 +87,7 @@ fn answers_more_lists_as_the_reference(rt: HostRuntime) {
     play_lists(&rt, 2_029, PAIRS, false);
 }
 
-// The reference machine never replies `Unavailable`. So no test of lists accepts `Unavailable` from
-// the desk.
+// The reference machine never replies `Unavailable`, so the desk must not either.
 #[test]
 fn no_unavailable_with_ample_memory(rt: HostRuntime) {
     play_lists(&rt, 2_030, PAIRS, false);

@@ -5,8 +5,8 @@ use crate::passes::PresentedPass;
 use crate::prelude::*;
 use pass_forms::Form;
 
-/// Amy's pass with 64 caveats `guests <= 49`, and spaces at the end. The JSON has texts in the
-/// first row and base64 in the second. A program in another language made both.
+/// Amy's pass with 64 caveats `guests <= 49`, with texts and with base64. A program in another
+/// language made both.
 static TEXTS: [[Piece; 4]; 2] = [
     [
         (1, "{\"c\":[{\"i\":\"guests <= 49\"}"),
@@ -30,7 +30,6 @@ static TEXTS: [[Piece; 4]; 2] = [
     ],
 ];
 
-/// Ends the test unless the desk shows amy's account under this text of 8,192 characters.
 fn shows_account<S: ClubStore>(rt: &impl Host, desk: &mut Desk<S>, place: usize, pieces: &[Piece]) {
     let text = join(rt.alloc(), pieces).expect(rt, "memory");
     expect_eq(rt, &text.len(), &8_192);
@@ -55,7 +54,6 @@ fn serves_the_longest_json(rt: HostRuntime) {
     play(&rt, &LongTexts);
 }
 
-/// A run of events: the list `rows`, repeated `times` times.
 #[derive(Clone, Copy)]
 struct LongRun {
     rows: &'static [Happens],
@@ -77,7 +75,6 @@ impl Fixture for LongRun {
     }
 }
 
-/// A request whose text isn't a pass.
 static NO_PASS: [Happens; 1] = [Happens::Asked(
     "x",
     ACCOUNT,
@@ -92,7 +89,7 @@ fn runs_of_any_length(rt: HostRuntime) {
     }
 }
 
-/// A credit to bob, and a request for amy's account, which the credit doesn't change.
+/// The credit to bob doesn't change amy's account.
 static IN_TURN: [Happens; 2] = [
     Happens::Commanded(PlainCommand::Credit("bob", 1), OfficeReply::Done),
     Happens::Asked(AMY_V2, ACCOUNT, ACCOUNT_BEFORE),
@@ -107,7 +104,7 @@ fn runs_two_hundred_events(rt: HostRuntime) {
     play(&rt, &run);
 }
 
-/// The names of the facility and of the two keys have 24 letters, the greatest length.
+/// The names have 24 letters, the greatest length.
 const FACILITY: &str = "a-facility-of-24-letters";
 
 const KEY: &str = "a-key-name-of-24-letters";
@@ -124,7 +121,6 @@ static MEMBERS: [PlainCommand; 5] = [
 
 const BOOKINGS: u8 = 60;
 
-/// Returns the booking under a number. Its hour is the number modulo 24.
 fn booking(number: u8) -> PlainRequest {
     let slot = PlainSlot {
         facility: FACILITY,
@@ -146,7 +142,7 @@ const HEAD: &str = "Day sheet 2026-05-01\na-facility-of-24-letters 00:00 ";
 
 const END: &str = "\nTotal bookings 120, persons 120, charge 0\n";
 
-/// Ends the test unless the sheet has a line of 76 bytes for each booking.
+/// The sheet has a line of 76 bytes for each booking.
 fn prints_all<S: ClubStore>(rt: &impl Host, desk: &mut Desk<S>) {
     let sheet = desk.sheet(day(rt, "2026-05-01")).expect(rt, "a sheet");
     expect_eq(rt, &sheet.len(), &(21 + 120 * 76 + 42));
@@ -154,7 +150,6 @@ fn prints_all<S: ClubStore>(rt: &impl Host, desk: &mut Desk<S>) {
     expect_eq(rt, &sheet.ends_with(END), &true);
 }
 
-/// The day sheet of 120 bookings, which has more than 8,193 bytes.
 struct LongSheet;
 
 impl Fixture for LongSheet {

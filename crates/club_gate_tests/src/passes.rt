@@ -8,7 +8,6 @@ use test_kit::drawn::Asking;
 
 pub(crate) static FORMS: [Form; 3] = [Form::V1, Form::V2, Form::Json];
 
-/// The pass of a request.
 #[derive(Clone, Copy)]
 pub(crate) enum PresentedPass {
     /// The office's pass of a key under this root, with caveats added without knowledge of it.

@@ -1,7 +1,5 @@
 //! The desk reads from its store only what its answer needs, and changes the store in its last
-//! call. For a request the desk first reads the key, and the older root if the current root didn't
-//! sign the pass. Then it reads the booking's record and the facility, the sums for a spend limit,
-//! and the rows for the decision.
+//! call. It reads the older root if the current root didn't sign the pass.
 
 use crate::passes::{AMY, BOB, FORMS, PresentedPass};
 use crate::prelude::*;
@@ -58,17 +56,8 @@ const NOBODY: PresentedPass = PresentedPass::Of("nobody", ROOT, &[]);
 
 const UNDER_SECOND: PresentedPass = PresentedPass::Of("amy-1", SECOND_ROOT, &[]);
 
-const UNDER_SECOND_NARROWED: PresentedPass = PresentedPass::Of(
-    "amy-1",
-    SECOND_ROOT,
-    &["hours = 18-20"],
-);
-
 const UNDER_THIRD: PresentedPass = PresentedPass::Of("amy-1", THIRD_ROOT, &[]);
 
-const AT_18: PresentedPass = PresentedPass::Of("amy-1", ROOT, &["hours = 18-19"]);
-
-/// A pass that allows no booking, however little its key has spent.
 const VIEWS: PresentedPass = PresentedPass::Of("amy-1", ROOT, &["actions = view"]);
 
 const VIEWS_THEN_SPENDS: PresentedPass = PresentedPass::Of(
@@ -83,7 +72,6 @@ const COURTS: PresentedPass = PresentedPass::Of("amy-1", ROOT, &["hours = 18-20"
 
 const BOATS: PresentedPass = PresentedPass::Of("amy-1", ROOT, &["kind = boat"]);
 
-/// A slot of a facility that doesn't exist.
 const NOWHERE: PlainSlot = PlainSlot {
     facility: "court-9",
     ..COURT_AT_18
@@ -93,31 +81,27 @@ const CANCEL_8: PlainRequest = PlainRequest::Cancel(COURT_AT_18, 8);
 
 const BOOK_NOWHERE: PlainRequest = PlainRequest::Book(NOWHERE, 7, 2);
 
-static REFUSED: [Row; 5] = [
+static REFUSED: [Row; 4] = [
     // The identifier of this pass isn't that of a key.
     (PresentedPass::Unnamed, BOOK_7, NOT_VERIFIED, &[]),
     (NOBODY, BOOK_7, NOT_VERIFIED, &[Key]),
     (PresentedPass::Changed, BOOK_7, NOT_VERIFIED, BOTH_ROOTS),
-    (UNDER_SECOND_NARROWED, BOOK_7, NOT_VERIFIED, BOTH_ROOTS),
     (BOB, BOOK_7, KEY_REVOKED, &[Key]),
 ];
 
-// There is no booking under number 7.
-static FIRST: [Row; 10] = [
+static FIRST: [Row; 8] = [
     (AMY, VIEW, PlainReply::SlotShown(0, false), SLOT),
     (AMY, ACCOUNT, ACCOUNT_BEFORE, SUMS),
     (AMY, BOOK_7, BOOKED_7, BOOKING),
-    (AT_18, BOOK_7, BOOKED_7, BOOKING),
     (SPENDS_700, BOOK_7, BOOKED_7, LIMITED),
     // If a caveat refuses the request, the desk reads no sum.
-    (VIEWS, BOOK_7, DENIED_1, RECORD),
     (VIEWS_THEN_SPENDS, BOOK_7, DENIED_1, RECORD),
     (VIEWS, ACCOUNT, DENIED_1, &[Key]),
     (AMY, CANCEL_7, NO_SUCH_BOOKING, RECORD),
     (AMY, BOOK_NOWHERE, NO_SUCH_FACILITY, RECORD),
 ];
 
-// There is a booking under number 7, for 600 points.
+// Amy has booked number 7 for 600 points.
 static AGAIN: [Row; 10] = [
     (AMY, BOOK_7, BOOKED_7, REPEAT),
     // A repeat costs nothing, so a spend limit doesn't refuse it.
@@ -140,7 +124,6 @@ static ROTATED: [Row; 3] = [
     (UNDER_THIRD, BOOK_7, NOT_VERIFIED, BOTH_ROOTS),
 ];
 
-/// A key of amy, the caveats of its pass, the reply to the booking of number 8, and the calls.
 type Limited = (
     &'static str,
     &'static [&'static str],
@@ -148,23 +131,18 @@ type Limited = (
     &'static [Call],
 );
 
-/// Bookings of the last place for 200 points, under amy's first and second key.
 const BOOKED_BY_1: PlainReply = PlainReply::Booked("amy-1", 8, 200, 0);
 
 const BOOKED_BY_2: PlainReply = PlainReply::Booked("amy-2", 8, 200, 0);
 
 const THREE_LIMITS: &[&str] = &["spend <= 900", "spend <= 799", "spend <= 901"];
 
-// Amy's first key has booked number 7 for 600 points, and amy has spent nothing else. Number 8
-// costs 200 points. So the limits allow 599, 600 and 601 points before it.
-static LIMITS: [Limited; 8] = [
+// The booking of number 7 under `amy-1` cost 600 points. Number 8 costs 200 points.
+static LIMITS: [Limited; 6] = [
     ("amy-1", &["spend <= 799"], DENIED_1, OVER_THE_LIMIT),
     ("amy-1", &["spend <= 800"], BOOKED_BY_1, LIMITED),
-    ("amy-1", &["spend <= 801"], BOOKED_BY_1, LIMITED),
-    // The second key has spent nothing.
     ("amy-2", &["spend <= 799"], BOOKED_BY_2, SUMMED),
     ("amy-2", &["spend <= 800"], BOOKED_BY_2, LIMITED),
-    ("amy-2", &["spend <= 801"], BOOKED_BY_2, LIMITED),
     // The lowest of the limits decides whether the desk reads a sum.
     ("amy-2", THREE_LIMITS, BOOKED_BY_2, SUMMED),
     // A limit below the charge refuses the booking, however little was spent before.
@@ -206,12 +184,10 @@ static DONE: [Commanded; 11] = [
     (OpenSlot(COURT_AT_18), None, PLACED),
 ];
 
-// A refused command changes nothing.
 static REFUSED_COMMANDS: [Commanded; 12] = [
     (AddMember("amy", 1), Some(Exists), &[Account]),
     (Credit("cy", 1), Some(Unknown), &[Account]),
     (Debit("cy", 1), Some(Unknown), &[Account]),
-    // One point more than amy's balance.
     (Debit("amy", 10_001), Some(OutOfRange), &[Account]),
     (SetQuota("cy", 1), Some(Unknown), &[Account]),
     (ADD_AGAIN, Some(Exists), &[Facility]),
@@ -223,8 +199,7 @@ static REFUSED_COMMANDS: [Commanded; 12] = [
     (OpenSlot(NOWHERE), Some(Unknown), &[Facility]),
 ];
 
-/// Amy has booked `court-1` under the numbers 7 and 8, and has cancelled 8. A second cancellation
-/// succeeds without a change.
+/// Amy has booked the numbers 7 and 8, and has cancelled 8.
 static CANCELLED: [Commanded; 4] = [
     (CancelBooking("amy-1", 7), None, CANCELS),
     (CancelBooking("amy-1", 8), None, RECORDED),
@@ -232,12 +207,10 @@ static CANCELLED: [Commanded; 4] = [
     (CancelBooking("amy-9", 7), Some(Unknown), &[Key, Record]),
 ];
 
-/// The earlier requests, or a rotation. The club is the fixture, but bob's key is revoked and amy
-/// has a second key.
+/// Bob's key is revoked and amy has a second key before each row.
 #[derive(Clone, Copy)]
 enum Before {
     Requests(&'static [PlainRequest]),
-    /// Amy's first key gets a new root.
     Rotation,
 }
 
@@ -267,10 +240,8 @@ impl Before {
     }
 }
 
-/// A request or a command, with the expected answer.
 #[derive(Clone, Copy)]
 enum Asked {
-    /// A request under a pass in this form, and the expected reply.
     Request(Form, PresentedPass, PlainRequest, PlainReply),
     Command(PlainCommand, Option<OfficeFault>),
 }
@@ -295,7 +266,6 @@ impl Asked {
     }
 }
 
-/// The events before, the request or command, the index of its row, and the calls of the store.
 #[derive(Clone, Copy)]
 struct Reading {
     before: Before,
@@ -314,7 +284,6 @@ impl Fixture for Reading {
     }
 }
 
-/// Plays a row with its pass in each of the three forms.
 fn reads(rt: &impl Host, before: Before, place: usize, row: &Row) {
     let (shown, request, want, calls) = *row;
     for form in &FORMS {
@@ -348,8 +317,9 @@ fn are_called(rt: &impl Host, before: Before, rows: &[Commanded]) {
 }
 
 #[test]
-fn a_refused_pass_reads_its_key_alone(rt: HostRuntime) {
+fn a_pass_reads_its_key_and_perhaps_the_older_root(rt: HostRuntime) {
     reads_each(&rt, NOTHING, &REFUSED);
+    reads_each(&rt, Before::Rotation, &ROTATED);
 }
 
 #[test]
@@ -371,21 +341,8 @@ fn a_sum_is_read_only_where_the_limit_lies_below_what_the_member_has_used(rt: Ho
 }
 
 #[test]
-fn an_older_root_that_is_good_serves_and_is_read_only_then(rt: HostRuntime) {
-    reads_each(&rt, Before::Rotation, &ROTATED);
-}
-
-#[test]
 fn the_change_of_a_command_is_the_last_call(rt: HostRuntime) {
     are_called(&rt, NOTHING, &DONE);
-}
-
-#[test]
-fn a_refused_command_only_reads(rt: HostRuntime) {
     are_called(&rt, NOTHING, &REFUSED_COMMANDS);
-}
-
-#[test]
-fn a_cancellation_reads_its_key_and_its_record(rt: HostRuntime) {
     are_called(&rt, BOOKED_AND_CANCELLED, &CANCELLED);
 }

@@ -1,6 +1,6 @@
-//! The office's commands and booking 7, while memory is refused.
-//! `tests/desk/refused_memory_tests.py` refuses one allocation per run, each in turn. A call that
-//! is out of memory changes nothing, and a second call succeeds.
+//! The office's commands and a booking, while memory is refused.
+//! `tests/desk/refused_memory_tests.py` refuses one allocation per run. A call that is out of
+//! memory changes nothing, and a second call succeeds.
 
 use crate::fixture::try_to_play;
 use crate::happens::SIGNED;
@@ -10,7 +10,7 @@ use test_kit::passes::AMY_1_SECOND_SIGNATURE;
 
 const UNAVAILABLE: Reply = Reply::Refused(Refusal::Unavailable);
 
-/// Returns the reply at noon. If the first call is out of memory, asks a second time.
+/// Asks a second time if the first call is out of memory.
 fn reply_at_noon<S: ClubStore>(
     rt: &impl Host,
     desk: &mut Desk<S>,
@@ -23,7 +23,6 @@ fn reply_at_noon<S: ClubStore>(
     }
 }
 
-/// Returns what amy's key shows of the club: amy's account, and two slots.
 fn amys_view<S: ClubStore>(rt: &impl Host, desk: &mut Desk<S>) -> [Reply; 3] {
     [
         reply_at_noon(rt, desk, AMY_V2, &ACCOUNT),
@@ -34,8 +33,7 @@ fn amys_view<S: ClubStore>(rt: &impl Host, desk: &mut Desk<S>) -> [Reply; 3] {
 
 const OUT_OF_MEMORY: OfficeReply = OfficeReply::Refused(Fault::Store(StoreFault::Memory));
 
-/// Ends the test unless the office gets these answers. If the first call of a command is out of
-/// memory, the club must be unchanged, and a second call must get the answer.
+/// A command that is out of memory must leave the club unchanged.
 fn expect_answers<S: ClubStore>(
     rt: &impl Host,
     desk: &mut Desk<S>,
@@ -57,12 +55,10 @@ const DONE: OfficeReply = OfficeReply::Done;
 
 const EXISTS: OfficeReply = OfficeReply::Refused(Fault::Refused(OfficeFault::Exists));
 
-/// The answer to the command that replaces the root of `amy-1`.
 const SIGNED_ANEW: OfficeReply = OfficeReply::Key {
     signature: AMY_1_SECOND_SIGNATURE,
 };
 
-/// The commands that add amy with quota 5, 10,000 points and a key, and `court-1`.
 static FIXTURE: [(PlainCommand, OfficeReply); 4] = [
     (PlainCommand::AddMember("amy", 5), DONE),
     (PlainCommand::Credit("amy", 10_000), DONE),
@@ -73,7 +69,7 @@ static FIXTURE: [(PlainCommand, OfficeReply); 4] = [
     ),
 ];
 
-/// Commands after amy has booked. The older root stays good, so her pass still works.
+/// The older root stays good, so the pass of amy still works.
 static COMMANDS: [(PlainCommand, OfficeReply); 9] = [
     (PlainCommand::SetFacility("court-1", 3, 100, 9, 20), DONE),
     (PlainCommand::Debit("amy", 1), DONE),
@@ -89,7 +85,7 @@ static COMMANDS: [(PlainCommand, OfficeReply); 9] = [
     (PlainCommand::RevokeKey("amy-1"), DONE),
 ];
 
-/// Repeats of two commands. Their answers show that the commands were carried out.
+/// The answer `EXISTS` shows that the office carried out the first command.
 static REVOKED: [(PlainCommand, OfficeReply); 2] = [
     (PlainCommand::AddMember("amy", 5), EXISTS),
     (PlainCommand::CloseSlot(COURT_AT_19), EXISTS),
@@ -114,8 +110,7 @@ fn expect_replied<S: ClubStore>(
     expect_eq(rt, &returned, &want.reply().expect(rt, "a reply"));
 }
 
-/// Ends the test unless the booking succeeded or got `Unavailable`. If it got `Unavailable`,
-/// nothing must have changed. A second request must succeed.
+/// A booking with the reply `Unavailable` must change nothing. A second request must succeed.
 fn is_booked_or_unavailable<S: ClubStore>(
     rt: &impl Host,
     desk: &mut Desk<S>,
@@ -137,7 +132,7 @@ fn books<S: ClubStore>(rt: &impl Host, desk: &mut Desk<S>, pass: &str) {
     is_booked_or_unavailable(rt, desk, pass, &first);
 }
 
-/// Runs a list of only the booking. Returns its reply, or `Unavailable` if memory is refused.
+/// Returns `Unavailable` if the run is out of memory.
 fn reply_of_a_run<S: ClubStore>(rt: &impl Host, desk: &mut Desk<S>, pass: &str) -> Reply {
     let words = Words {
         pass: pass.as_bytes(),
@@ -153,13 +148,10 @@ fn reply_of_a_run<S: ClubStore>(rt: &impl Host, desk: &mut Desk<S>, pass: &str) 
     }
 }
 
-/// What a test does at the desk of the fixture.
 #[derive(Clone, Copy)]
 enum Task {
     Commands,
-    /// Books under this pass with `Desk::ask`.
     Ask(&'static str),
-    /// Books under this pass with `Desk::run`.
     Run(&'static str),
 }
 
@@ -177,7 +169,7 @@ impl Fixture for Task {
     }
 }
 
-/// Plays the task over new tables. If there was no memory for them, tries once more.
+/// Tries once more if there was no memory for the tables.
 fn perform(rt: &impl Host, task: &Task) {
     match try_to_play(rt, task) {
         Err(StoreFault::Memory) => try_to_play(rt, task).expect(rt, "a store"),

@@ -1,5 +1,5 @@
-//! A store that records its calls in their order. It can fail from a chosen call on. Its contracts
-//! promise nothing.
+//! A store that records its calls. It can fail from a chosen call on. Its contracts promise
+//! nothing.
 
 use crate::prelude::*;
 use club_core::{Change, MemberAccount, SlotUse};
@@ -21,11 +21,10 @@ pub(crate) enum Call {
     Change,
 }
 
-/// The number of calls that are recorded. No answer needs as many.
+/// No answer needs as many calls.
 const MOST: usize = 16;
 
-/// A store, its first calls in their order, and the number of all calls. From call number `first`
-/// on, each call fails with `fault`. The first call has number 1.
+/// Each call from number `first` on fails with `fault`. The first call has number 1.
 #[derive(Drop)]
 pub(crate) struct Refusing<S: ClubStore> {
     pub store: S,
@@ -36,7 +35,6 @@ pub(crate) struct Refusing<S: ClubStore> {
 }
 
 impl<S: ClubStore> Refusing<S> {
-    /// Returns a store whose calls fail with this fault from number `first` on.
     pub fn from_call(first: usize, fault: StoreFault, store: S) -> Refusing<S> {
         Refusing {
             store,
@@ -51,7 +49,6 @@ impl<S: ClubStore> Refusing<S> {
         Refusing::from_call(usize::MAX, StoreFault::Storage, store)
     }
 
-    /// Ends the test of a row unless the desk made exactly these calls, in this order.
     pub fn expect_calls(&self, rt: &impl Host, row: usize, want: &[Call]) {
         expect_row(rt, &row, &self.calls, &want.len());
         for (call, noted) in want.iter().zip(&self.noted) {

@@ -8,7 +8,6 @@ use club_reference::{Club, Words};
 use test_kit::drawn::{AMY, Asking, BEGINNING, Event};
 use test_kit::signed_pass;
 
-/// The desk, the reference machine, amy's solo machine, and the names of amy's keys.
 #[derive(Drop)]
 pub(crate) struct Trial<S: ClubStore> {
     desk: Desk<S>,
@@ -17,7 +16,7 @@ pub(crate) struct Trial<S: ClubStore> {
     own_keys: Vec<&'static str>,
 }
 
-/// Returns the text of the event's pass. A command has no pass, and its text is empty.
+/// Returns the text of the event's pass, or an empty text for a command.
 fn text_of(rt: &impl Host, event: &Event) -> String {
     match event {
         Event::Asked(asking) => text_of_asking(rt, asking),
@@ -25,7 +24,6 @@ fn text_of(rt: &impl Host, event: &Event) -> String {
     }
 }
 
-/// Returns the event as the desk gets it, with the text of its pass.
 fn sent_event<'a>(rt: &impl Host, event: &Event, text: &'a str) -> SentEvent<'a> {
     match event {
         Event::Asked(asking) => SentEvent::Asked {
@@ -39,7 +37,6 @@ fn sent_event<'a>(rt: &impl Host, event: &Event, text: &'a str) -> SentEvent<'a>
     }
 }
 
-/// Returns the request for the reference machine. Its pass is signed under one root.
 fn words_of(rt: &impl Host, asking: &Asking) -> Words {
     let key = name(rt, asking.key);
     let pass = signed_pass(rt.alloc(), Some(key), asking.root, asking.caveats);
@@ -49,7 +46,6 @@ fn words_of(rt: &impl Host, asking: &Asking) -> Words {
     }
 }
 
-/// Returns the answer that the desk must give if the reference machine gives this one.
 fn desk_reply(answer: &OfficeAnswer) -> OfficeReply {
     match *answer {
         OfficeAnswer::Done => OfficeReply::Done,
@@ -77,7 +73,7 @@ fn event_reply(rt: &impl Host, reference: &mut Club, event: &Event) -> EventRepl
 }
 
 impl<S: ClubStore> Trial<S> {
-    /// Starts with the club that each list begins with. `desk` is the desk of an empty club.
+    /// `desk` is the desk of an empty club.
     pub fn begin(rt: &impl Host, desk: Desk<S>) -> Trial<S> {
         let mut trial = Trial {
             desk,
@@ -112,7 +108,6 @@ impl<S: ClubStore> Trial<S> {
         self.own_keys.iter().any(|own| *own == key)
     }
 
-    /// Returns whether amy's part must also get a command that succeeded.
     fn is_own(&self, plain: &PlainCommand) -> bool {
         match *plain {
             PlainCommand::AddMember(member, _)
@@ -128,7 +123,7 @@ impl<S: ClubStore> Trial<S> {
         }
     }
 
-    /// Sends a command to the desk and the reference machine. Amy's commands go to her part too.
+    /// Amy's commands go to her part too.
     fn give(&mut self, rt: &impl Host, plain: &PlainCommand) {
         let answer = office_answer(rt, &mut self.reference, plain);
         let returned = self.desk.office(&command(rt, plain));
@@ -142,7 +137,7 @@ impl<S: ClubStore> Trial<S> {
         }
     }
 
-    /// Sends a request to the desk and the reference machine. Requests of amy go to her part too.
+    /// Amy's requests go to her part too.
     fn ask(&mut self, rt: &impl Host, asking: &Asking) {
         let text = text_of_asking(rt, asking);
         let desk = &mut self.desk;
@@ -176,7 +171,6 @@ impl<S: ClubStore> Trial<S> {
         self.desk.run(sent.as_slice()).expect(rt, "memory")
     }
 
-    /// Sends all events in one run, and compares the replies with the reference machine's.
     pub fn run(&mut self, rt: &impl Host, events: &[Event]) {
         let returned = self.desk_replies(rt, events);
         let mut want = Vec::new(rt.alloc());

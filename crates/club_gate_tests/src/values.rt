@@ -1,10 +1,9 @@
 //! Typed values that tests make from plain values.
 
-use crate::expect::{Host, expect_row};
+use crate::expect::Host;
 use club_core::{Command, Request};
 use club_rows::{Booking, BookingNumber, Root};
 use club_values::{Day, Moment, Name, Slot};
-use test_kit::minutes::{FIRST, NOON, START, UNTIL};
 use test_kit::{PlainBooking, PlainCommand, PlainRequest, PlainSlot};
 
 pub(crate) fn name(rt: &impl Host, text: &str) -> Name {
@@ -50,18 +49,4 @@ pub(crate) fn command(rt: &impl Host, plain: &PlainCommand) -> Command {
 
 pub(crate) fn push<T: Drop>(rt: &impl Host, values: &mut Vec<T>, value: T) {
     values.push(value).expect(rt, "memory");
-}
-
-static MOMENTS: [(&str, u32); 4] = [
-    ("2000-01-01T00:00", FIRST),
-    ("2026-04-20T12:00", NOON),
-    ("2026-04-25T00:00", UNTIL),
-    ("2026-05-01T18:00", START),
-];
-
-#[test]
-fn moments_are_those_of_their_texts(rt: HostRuntime) {
-    for (row, (text, minute)) in MOMENTS.iter().enumerate() {
-        expect_row(&rt, &row, &moment(&rt, text), &at(&rt, *minute));
-    }
 }

@@ -8,6 +8,3 @@ pub const UNTIL: u32 = 29_617_920;
 
 /// 2026-05-01T18:00, the moment at which the slots at 18 start.
 pub const START: u32 = 29_627_640;
-
-/// 2000-01-01T00:00, the first moment that the club accepts.
-pub const FIRST: u32 = 15_778_080;

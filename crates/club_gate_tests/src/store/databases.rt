@@ -4,15 +4,12 @@ use crate::prelude::*;
 use sqlite::MemStore;
 use test_kit::version_1::{OLDER_ROOTS, STATEMENTS};
 
-/// The contents of a database before a store opens it.
 #[derive(Clone, Copy)]
 pub(crate) enum Contents {
     Nothing,
-    /// Version 1 with the rows of `STATEMENTS`.
     First,
-    /// Version 2 with the same rows, but without the index of the bookings.
+    /// Version 2 without the index of the bookings.
     Unindexed,
-    /// Version 2 with the same rows and the index of the bookings.
     Second,
 }
 
@@ -31,7 +28,6 @@ impl Contents {
         }
     }
 
-    /// Returns the version in the table `desk`, if there is one.
     pub fn version(self) -> Option<i64> {
         match self {
             Contents::Nothing => None,
@@ -67,7 +63,7 @@ pub(crate) fn database(rt: &impl Host, contents: Contents) -> Connection<MemStor
     database_after(rt, &contents.statements())
 }
 
-/// Returns the number of bookings in a database, or `None` if it has no table of bookings.
+/// Returns `None` if the database has no table of bookings.
 pub(crate) fn bookings<S: Alter>(connection: &mut Connection<S>) -> Option<i64> {
     let row = connection
         .query_row("SELECT count(*) FROM bookings", &[])

@@ -1,6 +1,5 @@
-//! Openings of real files: a file in use, a file that can't be opened, and a file whose tables are
-//! refused. Only `do_in_file` and `make_file` open stores in files, since the proof of each takes
-//! at least half a minute.
+//! Openings of real files. Only `do_in_file` and `make_file` open stores in files, since the proof
+//! of each takes at least half a minute.
 
 use super::databases::{Contents, bookings, runs_all};
 use super::listing::shows;
@@ -11,19 +10,17 @@ use std::test::Fail;
 use std::{env, fs, process};
 use test_kit::version_1::STATEMENTS;
 
-/// What a failed opening returns besides its fault.
+/// A failed opening returns one of these besides its fault.
 #[derive(Clone, Copy, Debug, PartialEq, Eq)]
 pub enum Left {
-    /// The closed files.
     Files,
-    /// No files, since another connection holds them.
+    /// Another connection holds the files.
     Held,
-    /// The open file, with its number of bookings, or `None` if it has no table of them.
+    /// The number of bookings, or `None` if the file has no table of bookings.
     Open(Option<i64>),
     Nothing,
 }
 
-/// Returns a path that only this process uses.
 pub fn path_of(host: &HostRuntime) -> Result<String, Fail> {
     let folder = env::temp_dir(host)?;
     let folder = folder.as_str();
@@ -43,7 +40,6 @@ pub trait FileWork {
     fn work<S: Alter>(&self, rt: &impl Host, store: &mut Store<S>);
 }
 
-/// Opens the store in the file at a path, and does this work with the store.
 pub fn do_in_file(
     host: &HostRuntime,
     rt: &impl Host,
@@ -70,7 +66,6 @@ pub fn make_file(host: &HostRuntime, rt: &impl Host, path: &str, lists: &[&[&str
     connection.close().expect(rt, "closed");
 }
 
-/// Ends the test unless the store shows these contents.
 impl FileWork for Contents {
     fn work<S: Alter>(&self, rt: &impl Host, store: &mut Store<S>) {
         shows(rt, store, *self);
@@ -84,14 +79,13 @@ impl FileWork for OpensOnly {
     fn work<S: Alter>(&self, _rt: &impl Host, _store: &mut Store<S>) {}
 }
 
-/// Returns what a failed opening leaves, or `None` if the opening succeeds.
+/// Returns `None` if the opening succeeds.
 fn left_by_opening(host: &HostRuntime, rt: &impl Host, path: &str) -> Option<Left> {
     do_in_file(host, rt, path, &OpensOnly)
         .err()
         .map(|(_, left)| left)
 }
 
-/// Opens the same file a second time while the first store is open.
 #[derive(Clone, Copy)]
 struct Reopening<'a> {
     host: &'a HostRuntime,
@@ -105,7 +99,6 @@ impl FileWork for Reopening<'_> {
     }
 }
 
-/// The fault distinguishes a file in use from a file that can't be opened.
 #[test]
 fn a_held_file(rt: HostRuntime) -> Result<(), Fail> {
     let path = path_of(&rt)?;
@@ -123,7 +116,7 @@ fn a_held_file(rt: HostRuntime) -> Result<(), Fail> {
 
 static NINTH: [&str; 1] = ["UPDATE desk SET version = 9"];
 
-/// An opening that refuses the tables returns the open file with its rows. So does the next.
+/// The refused opening leaves the rows, so the second opening has the same result.
 #[test]
 fn a_file_of_refused_tables(rt: HostRuntime) -> Result<(), Fail> {
     let path = path_of(&rt)?;

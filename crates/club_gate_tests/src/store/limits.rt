@@ -1,10 +1,9 @@
-//! Rows outside their limits, in tables without checks. A read of such a row fails with `Storage`.
+//! A read of a row outside its limits fails with `Storage`. The tables have no checks.
 
 use super::databases::{database_after, runs};
 use super::listing::adopt;
 use crate::prelude::*;
 
-/// The tables of version 2, but without checks and references.
 static TABLES: [&str; 8] = [
     "CREATE TABLE desk (version INTEGER NOT NULL) STRICT",
     "CREATE TABLE members (name TEXT NOT NULL PRIMARY KEY, credited INTEGER NOT NULL, \
@@ -26,7 +25,6 @@ static TABLES: [&str; 8] = [
     "INSERT INTO desk (version) VALUES (2)",
 ];
 
-/// Amy, amy's key with an older root, the court, and a booking of the court for three persons.
 static ROWS: [&str; 6] = [
     "INSERT INTO members VALUES ('amy', 10000, 5, 600)",
     "INSERT INTO keys VALUES ('amy-1', 'amy', X'00112233445566778899AABBCCDDEEFF', 0)",
@@ -43,11 +41,9 @@ enum Read {
     Facility,
     Slot,
     Day,
-    /// The booking, as a part of the key's view.
     View,
 }
 
-/// Settings that move a row of `members` outside its limits.
 const MEMBERS: &str = "credited = -1; credited = 1000000000; quota = -1; quota = 100; used = -1; \
     used = 1000000000";
 
@@ -69,12 +65,11 @@ const SLOTS: &str = "closed = -1; closed = 2; taken = -1; taken = 51";
 const DAYS: &str = "pass_key = 'Amy-1'; number = 0; number = 1000000000; facility = 'Court-1'; \
     hour = -1; guests = 50; charge = -1; remains = 50; refund = 1";
 
-/// The booking isn't cancelled but has a refund, or the refund exceeds the charge.
+/// The last settings are a refund above the charge, and a refund of an open booking.
 const VIEWS: &str = "facility = ''; day = 10956; day = 47482; hour = 24; guests = -1; \
     charge = 499951; remains = -1; cancelled = 2; cancelled = 1, refund = -1; \
     cancelled = 1, refund = 601; refund = 1";
 
-/// Settings that keep a row within its limits.
 const LAST_MEMBER: &str = "credited = 999999999, quota = 99, used = 0";
 
 const LAST_OLDER_ROOT: &str = "until = 68374079, \
@@ -85,7 +80,6 @@ const LAST_FACILITY: &str = "places = 50, price = 9999, opens = 0, shuts = 24";
 
 const LAST_BOOKING: &str = "guests = 49, charge = 499950, remains = 49";
 
-/// Returns the fault of a read, if any.
 fn fault_of<S: Alter>(rt: &impl Host, store: &mut Store<S>, read: Read) -> Option<StoreFault> {
     match read {
         Read::Member => store.member(&name(rt, "amy")).err(),
@@ -100,7 +94,6 @@ fn fault_of<S: Alter>(rt: &impl Host, store: &mut Store<S>, read: Read) -> Optio
     }
 }
 
-/// Runs the statement `text`, and ends the test unless the read then has the fault `want`.
 fn ends(rt: &impl Host, text: &str, read: Read, want: Option<StoreFault>) {
     let mut connection = database_after(rt, &[&TABLES, &ROWS]);
     runs(rt, &mut connection, &[text]);
@@ -108,7 +101,7 @@ fn ends(rt: &impl Host, text: &str, read: Read, want: Option<StoreFault>) {
     expect_row(rt, &text, &fault, &want);
 }
 
-/// Updates the table with each setting in turn, and expects the fault `want` of the read.
+/// Updates the table with each setting, and expects the fault `want` of the read.
 fn end(rt: &impl Host, read: Read, table: &str, settings: &str, want: Option<StoreFault>) {
     for setting in settings.split(';') {
         let text = format!(in rt.alloc(); "UPDATE {table} SET {setting}").expect(rt, "memory");

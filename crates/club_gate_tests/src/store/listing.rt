@@ -13,7 +13,6 @@ const CANCELLED_8: PlainBooking = PlainBooking {
     ..BOOKING_8
 };
 
-/// Requests of `amy-1`, with the persons in the slot, and the booking under the number, if any.
 static VIEWS: [(PlainRequest, u64, Option<PlainBooking>); 6] = [
     (ACCOUNT, 0, None),
     (VIEW, 3, None),
@@ -37,14 +36,13 @@ pub(crate) fn adopt<S: Alter + Drop>(rt: &impl Host, connection: Connection<S>) 
         .expect(rt, "adopted")
 }
 
-/// Returns the key, and its view of a request on the day before the slots.
 fn view<S: Alter>(rt: &impl Host, store: &mut Store<S>, asked: &PlainRequest) -> KeyView {
     let at = moment(rt, DAY_BEFORE);
     let found = store.view(&name(rt, "amy-1"), &request(rt, asked), at);
     found.expect(rt, "an answer").expect(rt, "a view")
 }
 
-/// Ends the test unless a read of the key and a view both return this key and its older root.
+/// A read of the key and a view must both return the key and its older root.
 pub(crate) fn shows_key<S: Alter>(rt: &impl Host, store: &mut Store<S>, kept: &Kept) {
     let want = key(rt, kept);
     expect_eq(rt, &store.key(&want.name), &Ok(Some(want)));
@@ -65,7 +63,7 @@ fn shows_views<S: Alter>(rt: &impl Host, store: &mut Store<S>) {
     }
 }
 
-/// Reads the sums and bookings of the views again, each with its own method of the store.
+/// Reads each row of the views with its own method of the store.
 fn shows_rows<C: ClubStore>(rt: &impl Host, store: &mut C) {
     let amy = name(rt, "amy");
     let account = MemberAccount {
@@ -84,7 +82,6 @@ fn shows_rows<C: ClubStore>(rt: &impl Host, store: &mut C) {
     }
 }
 
-/// Ends the test unless the store shows the club of these contents.
 pub(crate) fn shows<S: Alter>(rt: &impl Host, store: &mut Store<S>, contents: Contents) {
     let amy = store.member(&name(rt, "amy"));
     if let Contents::Nothing = contents {

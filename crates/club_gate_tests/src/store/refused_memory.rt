@@ -1,6 +1,6 @@
 //! Openings of a store while memory is refused. `tests/desk/refused_memory_tests.py` refuses one
-//! allocation per run, each in turn. An opening that is out of memory leaves the database
-//! unchanged, and a second opening succeeds.
+//! allocation per run. An opening that is out of memory leaves the database unchanged, and a second
+//! opening succeeds.
 
 use super::databases::{Contents, database, version};
 use super::files::{do_in_file, make_file, path_of, remove};
@@ -9,7 +9,6 @@ use crate::prelude::*;
 use sqlite::MemStore;
 use std::test::Fail;
 
-/// Opens a store over a database. If the first opening is out of memory, opens it again.
 fn adopted_store<S: Alter + Drop>(
     rt: &impl Host,
     connection: Connection<S>,
@@ -55,8 +54,7 @@ fn store_in_memory(rt: HostRuntime) {
     shows(&rt, &mut new_store(&rt), Contents::Nothing);
 }
 
-/// Ends the test unless the store in the file shows these contents. If the first opening is out of
-/// memory, the second must succeed.
+/// The second opening must succeed if the first is out of memory.
 fn opens_at(host: &HostRuntime, rt: &impl Host, path: &str, contents: Contents) {
     if let Err((fault, _)) = do_in_file(host, rt, path, &contents) {
         expect_eq(rt, &fault, &StoreFault::Memory);
@@ -64,7 +62,6 @@ fn opens_at(host: &HostRuntime, rt: &impl Host, path: &str, contents: Contents) 
     }
 }
 
-/// The first opening creates the file, and the second finds it.
 #[test]
 fn new_file(rt: HostRuntime) -> Result<(), Fail> {
     let path = path_of(&rt)?;

@@ -1,14 +1,12 @@
-//! The rows of a small club, from plain values. Members have quota 5, and keys belong to amy.
+//! Rows from plain values. Members have quota 5, and keys belong to amy.
 
 use crate::prelude::*;
 use club_rows::{Facility, Key, Member, OlderRoot};
 use test_kit::{PlainFacility, amy};
 
-/// An older root of a key, and the moment until which passes under it are good.
 #[derive(Clone, Copy)]
 pub(crate) struct Older(pub &'static [u8], pub &'static str);
 
-/// A key of amy.
 #[derive(Clone, Copy)]
 pub(crate) struct Kept {
     pub name: &'static str,

@@ -8,7 +8,6 @@ use super::write::{Write, change};
 use crate::prelude::*;
 use test_kit::version_1::{DESK, WITHOUT_TOTALS};
 
-/// Returns the number of indexes that have the name of the bookings' index.
 fn indexes<S: Alter>(rt: &impl Host, connection: &mut Connection<S>) -> i64 {
     let listed = "SELECT count(*) FROM sqlite_schema \
         WHERE type = 'index' AND name = 'bookings_by_key' AND tbl_name = 'bookings'";
@@ -16,7 +15,7 @@ fn indexes<S: Alter>(rt: &impl Host, connection: &mut Connection<S>) -> i64 {
     row.get(0).expect(rt, "a number")
 }
 
-/// Ends the test unless the first opening creates the index, and a second one keeps it.
+/// The first opening must create the index, and a second one must keep it.
 fn gets_the_index(rt: &impl Host, contents: Contents) {
     let mut connection = database(rt, contents);
     expect_eq(rt, &indexes(rt, &mut connection), &0);
@@ -58,11 +57,11 @@ fn rotates_a_key_once_migrated(rt: HostRuntime) {
     shows_key(&rt, &mut adopt(&rt, store.into_connection()), &ROTATED);
 }
 
-/// A database that isn't a club's: its contents, the statements that change it, and its version.
+/// The contents, the statements that change them, and the version.
 type Other = (Contents, &'static [&'static str], Option<i64>);
 
-/// An unknown version, a version without its tables, a wrong table, and a transaction. Then tables
-/// with an unknown version, a missing table, and a table with the index's name.
+const NAMED_LIKE_THE_INDEX: &[&str] = &["CREATE TABLE bookings_by_key (name TEXT) STRICT"];
+
 static OTHERS: [Other; 9] = [
     (
         Nothing,
@@ -78,20 +77,12 @@ static OTHERS: [Other; 9] = [
     (Nothing, &["BEGIN"], None),
     (First, &["UPDATE desk SET version = 9"], Some(9)),
     (First, &["DROP TABLE slots"], Some(1)),
-    (
-        First,
-        &["CREATE TABLE bookings_by_key (name TEXT) STRICT"],
-        Some(1),
-    ),
+    (First, NAMED_LIKE_THE_INDEX, Some(1)),
     (Unindexed, &["DROP TABLE slots"], Some(2)),
-    (
-        Unindexed,
-        &["CREATE TABLE bookings_by_key (name TEXT) STRICT"],
-        Some(2),
-    ),
+    (Unindexed, NAMED_LIKE_THE_INDEX, Some(2)),
 ];
 
-/// Returns why a store refuses to open a database, and the database's version after that.
+/// Returns the fault, and the version after the refused opening.
 fn refusal<S: Alter + Drop>(
     rt: &impl Host,
     connection: Connection<S>,
@@ -101,7 +92,6 @@ fn refusal<S: Alter + Drop>(
     (fault, version(&mut left))
 }
 
-/// Ends the test unless the store refuses the database, and leaves its version unchanged.
 fn is_refused(rt: &impl Host, row: usize, other: &Other) {
     let (contents, texts, version) = other;
     let mut connection = database(rt, *contents);

@@ -8,24 +8,22 @@ use test_kit::PlainFacility;
 
 #[derive(Clone, Copy)]
 pub(crate) enum Write {
-    /// Adds a member with this number of credited points.
     Member(&'static str, u32),
     Credit(&'static str, u32),
     Debit(&'static str, u32),
     Quota(&'static str, u8),
     Facility(PlainFacility),
-    /// Replaces the numbers of a facility: its places, price, and hours of opening and closing.
+    /// The places, the price, and the hours of opening and closing.
     Numbers(&'static str, u8, u16, u8, u8),
     Key(Kept),
     Revoke(&'static str),
-    /// Replaces a key's root. Passes under the former root are good until its moment.
+    /// Passes under the former root are good until its moment.
     Rotate(&'static str, Older, &'static [u8]),
     Close(PlainSlot),
     Open(PlainSlot),
-    /// Adds a booking: the key, the number, the slot, the guests, the member that pays, and the
-    /// charge. One place is left after it.
+    /// The key, the number, the slot, the guests, the member that pays, and the charge.
     Book(&'static str, u32, PlainSlot, u8, &'static str, u32),
-    /// Cancels a booking, with a refund to this member.
+    /// The member gets the refund.
     Cancel(PlainBooking, &'static str, u32),
 }
 
