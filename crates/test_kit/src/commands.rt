@@ -6,36 +6,26 @@ use club_core::Command;
 use club_rows::{BookingNumber, Root};
 use club_values::{Kind, Moment, Name};
 
-/// A command of the office.
 #[derive(Clone, Copy)]
 pub enum PlainCommand {
-    /// Adds a member with this quota.
     AddMember(&'static str, u32),
-    /// Credits this many points to a member.
     Credit(&'static str, u32),
-    /// Takes this many points from a member's credit.
     Debit(&'static str, u32),
-    /// Replaces a member's quota.
     SetQuota(&'static str, u32),
-    /// Adds a facility. The numbers are its places, the points per place, and the hours at which it
-    /// opens and shuts.
+    /// The numbers are its places, the points per place, and the hours of opening and closing.
     AddFacility(&'static str, Kind, u32, u32, u32, u32),
-    /// Replaces the four numbers of a facility.
     SetFacility(&'static str, u32, u32, u32, u32),
-    /// Adds a key with this name, for this member and with this root.
+    /// The name of the key, its member and its root.
     AddKey(&'static str, &'static str, &'static [u8]),
     RevokeKey(&'static str),
-    /// Replaces a key's root. Passes under the older root are good until this minute, which is
-    /// counted from 1970-01-01T00:00.
+    /// Passes under the older root are good until this minute, counted from 1970-01-01T00:00.
     RotateKey(&'static str, &'static [u8], u32),
-    /// Cancels the booking under a key and a number.
+    /// The key and the number of the booking.
     CancelBooking(&'static str, u32),
     CloseSlot(PlainSlot),
     OpenSlot(PlainSlot),
 }
 
-/// Adds amy and bob, each with quota 5, 10,000 points and a key. Adds `court-1`, with 4 places for
-/// 200 points each, and `room-1`, with 1 place for 601. Both open at 8 and shut at 22.
 pub static FIXTURE: [PlainCommand; 8] = [
     PlainCommand::AddMember("amy", 5),
     PlainCommand::Credit("amy", 10_000),
@@ -52,7 +42,7 @@ fn named(text: &str) -> Option<Name> {
 }
 
 impl PlainCommand {
-    /// Returns the command, or `None` if a name, a root, a moment or a slot is outside its limits.
+    /// Returns `None` if a name, a root, a moment or a slot is outside its limits.
     pub fn command(&self) -> Option<Command> {
         Some(match *self {
             PlainCommand::AddMember(member, quota) => Command::AddMember {

@@ -23,13 +23,12 @@ static MEMBERS: [&str; 3] = [AMY, "bob", "cy"];
 
 static KEYS: [&str; 4] = ["amy-1", "bob-1", "cy-1", SPARE];
 
-// The name of a key that doesn't exist at the start.
 const SPARE: &str = "spare";
 
-/// The slots of the random events, all on 2026-05-01.
+/// All slots are on 2026-05-01.
 pub static SLOTS: [PlainSlot; 3] = [COURT_AT_18, COURT_AT_19, ROOM_AT_18];
 
-/// An audit key for each member, which shows the member's account. No random event uses it.
+/// An audit key shows the account of its member. No random event uses it.
 pub const AUDIT_AMY: &str = "audit-amy";
 
 const AUDIT_BOB: &str = "audit-bob";
@@ -38,8 +37,7 @@ const AUDIT_CY: &str = "audit-cy";
 
 pub static AUDITORS: [&str; 3] = [AUDIT_AMY, AUDIT_BOB, AUDIT_CY];
 
-/// The commands that create the club: three members, each with a key and an audit key, and then
-/// `court-1` and `room-1`.
+/// Each member has a key and an audit key.
 pub static BEGINNING: [PlainCommand; 14] = [
     PlainCommand::AddMember(AMY, 2),
     PlainCommand::Credit(AMY, 1_500),
@@ -57,7 +55,6 @@ pub static BEGINNING: [PlainCommand; 14] = [
     PlainCommand::AddFacility("room-1", Kind::Room, 1, 601, 8, 22),
 ];
 
-// The lists of caveats that a random pass may have.
 static CAVEATS: [&[&str]; 12] = [
     &[],
     &[],
@@ -73,13 +70,12 @@ static CAVEATS: [&[&str]; 12] = [
     &["days = 2026-05-01..2026-05-02", "shoe = red"],
 ];
 
-/// The roots of keys. At the start of a club, all keys have the first root.
+/// All keys have the first root at the start.
 static ROOTS: [&[u8]; 2] = [ROOT, SECOND_ROOT];
 
 static FORMS: [Form; 3] = [Form::V1, Form::V2, Form::Json];
 
-/// A request, and its pass: the office's pass of a key under a root, with caveats added without
-/// knowledge of the root.
+/// A request under a pass of this key and root, with these caveats.
 #[derive(Clone, Copy)]
 pub struct Asking {
     pub key: &'static str,
@@ -90,7 +86,6 @@ pub struct Asking {
     pub moment: u32,
 }
 
-/// Returns the request for a member's account under the member's audit key.
 pub fn audit(key: &'static str) -> Asking {
     Asking {
         key,
@@ -102,26 +97,22 @@ pub fn audit(key: &'static str) -> Asking {
     }
 }
 
-/// A random event: a request or a command.
 #[derive(Clone, Copy)]
 pub enum Event {
     Asked(Asking),
     Commanded(PlainCommand),
 }
 
-/// A generator of random numbers.
 #[derive(Drop)]
 pub struct Numbers {
     state: u64,
 }
 
 impl Numbers {
-    /// Returns the generator with the seed `first`.
     pub fn new(first: u64) -> Numbers {
         Numbers { state: first }
     }
 
-    /// Returns the next random number, which is less than `bound`.
     fn below(&mut self, bound: u32) -> u32
         requires { 0 < bound }
         ensures { result < bound }
@@ -134,7 +125,7 @@ impl Numbers {
         SLOTS[self.below(3) as usize]
     }
 
-    // In three of four cases, the slot depends only on the booking's number.
+    // The slot depends only on the number of the booking in three of four cases.
     fn slot_of(&mut self, booking: u32) -> PlainSlot {
         if self.below(4) == 0 {
             return self.slot();
@@ -153,7 +144,7 @@ impl Numbers {
         }
     }
 
-    // Near the start of the slots at 18, or near the first minute at which they can be booked.
+    // The moment is near the start of the slots at 18, or near their first bookable minute.
     fn moment(&mut self) -> u32 {
         match self.below(8) {
             0 => START - 86_500 + self.below(200),
@@ -205,7 +196,6 @@ impl Numbers {
         }
     }
 
-    /// Returns the next event. One event in six is a command, on average.
     pub fn event(&mut self) -> Event {
         match self.below(6) {
             0 => Event::Commanded(self.command()),

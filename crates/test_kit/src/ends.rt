@@ -1,5 +1,3 @@
-//! The expected end of a run of a command.
-
 use std::alloc::{AllocError, Global};
 
 /// The expected status and text of a run.
@@ -13,7 +11,7 @@ pub enum End {
     Begins(u8, &'static str),
 }
 
-/// The status of a run, and the text on its standard output or its standard error.
+/// The text is on standard output or on standard error.
 #[derive(Debug, Drop)]
 pub struct Output {
     pub status: u8,
@@ -21,13 +19,11 @@ pub struct Output {
 }
 
 impl Output {
-    /// Returns whether the status is `status` and the text starts with `front`.
     pub fn begins(&self, status: u8, front: &str) -> bool {
         self.status == status && self.text.as_str().starts_with(front)
     }
 }
 
-/// Returns whether `text` is `line` and a line feed.
 fn is_line(text: &str, line: &str) -> bool {
     match text.strip_suffix('\n') {
         Some(text) => text == line,
@@ -36,7 +32,6 @@ fn is_line(text: &str, line: &str) -> bool {
 }
 
 impl End {
-    /// Returns whether a run with this output ended as expected.
     pub fn fits(&self, output: &Output) -> bool {
         let text = output.text.as_str();
         match self {

@@ -1,6 +1,5 @@
-//! Values that the test crates share: commands of the office, requests, replies and rows as plain
-//! values. Also the club of most tests, known passes, bytes of known exchanges, and tables of
-//! version 1. This crate has no assertions, and returns `None` for a value outside its limits.
+//! Plain values that the test crates share. This crate has no assertions, and returns `None` for a
+//! value outside its limits.
 #![tactic(auto)]
 
 mod commands;

@@ -1,5 +1,4 @@
-//! The texts of the office's pass for the key `amy-1`, and signatures. An independent program
-//! computed both.
+//! The passes of the key `amy-1`, and its signatures, from an independent program.
 
 /// The pass of `amy-1` under `ROOT` in each form. The text in V2 has 79 characters.
 pub const AMY_V1: &str =
@@ -13,7 +12,6 @@ pub const AMY_JSON: &str =
     "{\"c\":[],\"i\":\"key:amy-1\",\"l\":\"club-desk\",\"s64\":\"DsU-vMVpq3Ex5_BQk6D5VX6Tim\
     C0IfCk7Dn6nv7TIJk\",\"v\":2}";
 
-/// The signatures of the pass of `amy-1` under `ROOT` and under `SECOND_ROOT`.
 pub const AMY_1_SIGNATURE: [u8; 32] = *b"\
     \x0e\xc5\x3e\xbc\xc5\x69\xab\x71\x31\xe7\xf0\x50\x93\xa0\xf9\x55\
     \x7e\x93\x8a\x60\xb4\x21\xf0\xa4\xec\x39\xfa\x9e\xfe\xd3\x20\x99";

@@ -12,7 +12,6 @@ fn append(text: &mut String, piece: &Piece) -> Result<(), AllocError> {
     Ok(())
 }
 
-/// Returns the pieces as one text.
 pub fn join(alloc: Global, pieces: &[Piece]) -> Result<String, AllocError> {
     let mut text = String::new(alloc);
     for piece in pieces {

@@ -1,4 +1,4 @@
-//! A test double of a process. It has given arguments, and keeps what is printed on standard error.
+//! A test double of a process, which keeps what is printed on standard error.
 
 use std::alloc::Global;
 use std::cell::RefCell;
@@ -6,7 +6,6 @@ use std::env::{Env, FillError};
 use std::fmt::Display;
 use std::io::{self, ErrorKind};
 
-/// A process with these arguments and without environment variables.
 #[derive(Drop)]
 pub struct Process<'a> {
     alloc: Global,
@@ -15,7 +14,6 @@ pub struct Process<'a> {
 }
 
 impl<'a> Process<'a> {
-    /// Returns a process with these arguments that hasn't printed anything.
     pub fn new(alloc: Global, arguments: &'a [&'a [u8]]) -> Process<'a> {
         Process {
             alloc,
@@ -24,7 +22,6 @@ impl<'a> Process<'a> {
         }
     }
 
-    /// Returns what the process printed on its standard error.
     pub fn into_printed(self) -> String {
         let Process { printed, .. } = self;
         printed.into_inner()

@@ -13,7 +13,6 @@ pub struct PlainFacility {
     pub price: u16,
 }
 
-/// The facilities `court-1` and `room-1`.
 pub const COURT: PlainFacility = PlainFacility {
     name: "court-1",
     kind: Kind::Court,
@@ -40,7 +39,6 @@ pub struct PlainBooking {
     pub refund: Option<u32>,
 }
 
-/// Amy's bookings of `court-1` under number 7, for three persons, and of `room-1` under number 8.
 pub const BOOKING_7: PlainBooking = PlainBooking {
     key: "amy-1",
     number: 7,
@@ -61,7 +59,6 @@ pub const BOOKING_8: PlainBooking = PlainBooking {
     refund: None,
 };
 
-/// Returns amy's row, with this many points credited and this quota.
 pub fn amy(credited: u32, quota: u8) -> Option<Member> {
     Some(Member {
         name: Name::read(b"amy")?,
@@ -71,7 +68,6 @@ pub fn amy(credited: u32, quota: u8) -> Option<Member> {
 }
 
 impl PlainFacility {
-    /// Returns the row, or `None` if its name isn't valid.
     pub fn facility(&self) -> Option<Facility> {
         Some(Facility {
             name: Name::read(self.name.as_bytes())?,
@@ -85,7 +81,7 @@ impl PlainFacility {
 }
 
 impl PlainBooking {
-    /// Returns the row, or `None` if a part is outside its limits.
+    /// Returns `None` if a part is outside its limits.
     pub fn booking(&self) -> Option<Booking> {
         Some(Booking {
             key: Name::read(self.key.as_bytes())?,

@@ -1,7 +1,6 @@
-//! SQL statements that create a club with tables of version 1, and that change those tables to
-//! version 2 without the index of the bookings.
+//! SQL statements that create a club with tables of version 1.
 
-/// Creates the table `desk`, which has the version. All versions have this table.
+/// All versions have this table.
 pub const DESK: &str = "CREATE TABLE desk (version INTEGER NOT NULL) STRICT";
 
 const FACILITIES: &str =
@@ -27,8 +26,7 @@ const BOOKINGS: &str =
 
 const FIRST: &str = "INSERT INTO desk (version) VALUES (1)";
 
-/// Creates the tables, and inserts the rows of the fixture. Amy has booked the court under number
-/// 7. The booking of the room under number 8 is cancelled with a refund of 300.
+/// Amy has booked the court under number 7. The cancelled booking of the room has a refund of 300.
 pub static STATEMENTS: [&str; 18] = [
     DESK,
     "CREATE TABLE members (name TEXT NOT NULL PRIMARY KEY, credited INTEGER NOT NULL CHECK \
@@ -55,7 +53,7 @@ pub static STATEMENTS: [&str; 18] = [
     "INSERT INTO bookings VALUES ('amy-1', 8, 'room-1', 20574, 18, 0, 601, 0, 1, 300)",
 ];
 
-/// Creates the earlier tables, without the totals of members and slots, and inserts a member.
+/// These earlier tables have no totals of members and slots.
 pub static WITHOUT_TOTALS: [&str; 8] = [
     DESK,
     "CREATE TABLE members (name TEXT NOT NULL PRIMARY KEY, credited INTEGER NOT NULL CHECK \
@@ -72,7 +70,7 @@ pub static WITHOUT_TOTALS: [&str; 8] = [
     "INSERT INTO members VALUES ('amy', 10000, 5)",
 ];
 
-/// Changes tables of version 1 to version 2, but doesn't create the index of the bookings.
+/// These statements change version 1 to version 2, without the index of the bookings.
 pub static OLDER_ROOTS: [&str; 2] = [
     "CREATE TABLE old_roots (pass_key TEXT NOT NULL PRIMARY KEY REFERENCES keys (name), root BLOB \
         NOT NULL, until INTEGER NOT NULL CHECK (until BETWEEN 15778080 AND 68374079)) STRICT",

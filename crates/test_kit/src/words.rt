@@ -13,8 +13,7 @@ fn texts(alloc: Global, caveats: &[&str]) -> Result<Vec<Vec<u8>>, AllocError> {
     Ok(texts)
 }
 
-/// Returns a pass with these caveats, signed under this root. Returns `None` if the root isn't
-/// valid or memory is refused.
+/// Returns `None` if the root isn't valid or memory is refused.
 pub fn signed_pass(
     alloc: Global,
     key: Option<Name>,
