@@ -1,4 +1,4 @@
-//! Assertions, and the runtime that a test needs.
+//! Assertions, and the runtime of a test.
 
 use std::fmt::Debug;
 use std::process::Abort;

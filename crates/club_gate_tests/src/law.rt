@@ -8,7 +8,7 @@ use desk_theorem::{reply_from_nothing, run_and_leave, run_from_nothing};
 use sqlite::{Files, Options};
 use sqlite_disk::{Disk, Memory};
 
-/// The booking is repeated with the pass in two other forms. The account is charged once.
+/// The club books once for three passes in three forms, and charges the account once.
 static BOOKS: [Happens; 8] = [
     Happens::Commanded(PlainCommand::AddMember("amy", 5), OfficeReply::Done),
     Happens::Commanded(PlainCommand::Credit("amy", 10_000), OfficeReply::Done),

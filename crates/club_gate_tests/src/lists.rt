@@ -1,5 +1,5 @@
-//! Random lists of events, played one by one or in one run. The desk replies like the reference
-//! machine, and to amy like the solo machine, which has only amy's part of the club.
+//! Random lists of events. The desk replies like the reference machine. The desk replies to amy
+//! like the solo machine, which has only her part of the club.
 
 use crate::prelude::*;
 use crate::trial::Trial;
@@ -11,7 +11,7 @@ const PAIRS: u32 = 10;
 
 const EVENTS: u32 = 60;
 
-/// Two lists of events. Each is played event by event, or in one run if `are_run`.
+/// A pair is played in two runs if `are_run` is true, else event by event.
 #[derive(Drop)]
 struct Pair {
     first: Vec<Event>,
@@ -87,7 +87,7 @@ fn answers_more_lists_as_the_reference(rt: HostRuntime) {
     play_lists(&rt, 2_029, PAIRS, false);
 }
 
-// The reference machine never replies `Unavailable`, so the desk must not either.
+// The reference machine never replies `Unavailable`, so the desk must never reply that.
 #[test]
 fn no_unavailable_with_ample_memory(rt: HostRuntime) {
     play_lists(&rt, 2_030, PAIRS, false);

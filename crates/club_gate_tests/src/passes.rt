@@ -10,9 +10,9 @@ pub(crate) static FORMS: [Form; 3] = [Form::V1, Form::V2, Form::Json];
 
 #[derive(Clone, Copy)]
 pub(crate) enum PresentedPass {
-    /// The office's pass of a key under this root, with caveats added without knowledge of it.
+    /// The office's pass of a key under this root, narrowed by these caveats.
     Of(&'static str, &'static [u8], &'static [&'static str]),
-    /// Amy's pass with a changed last byte of the signature.
+    /// Amy's pass with a wrong signature.
     Changed,
     /// A pass whose identifier is `amy-1` without the prefix `key:`.
     Unnamed,

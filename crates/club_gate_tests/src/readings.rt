@@ -1,5 +1,5 @@
 //! The desk reads from its store only what its answer needs, and changes the store in its last
-//! call. It reads the older root if the current root didn't sign the pass.
+//! call. The desk reads the older root if the current root didn't sign the pass.
 
 use crate::passes::{AMY, BOB, FORMS, PresentedPass};
 use crate::prelude::*;
@@ -24,12 +24,12 @@ const RECORD: &[Call] = &[Key, Record, Facility];
 
 const BOOKING: &[Call] = &[Key, Record, Facility, Slot, Account, OpenCount, Change];
 
-/// If the limit covers the charge and all that the member has used, the desk reads no sum.
+/// The desk reads no sum if the limit covers the charge and all that the member has used.
 const LIMITED: &[Call] = &[
     Key, Record, Facility, Account, Slot, Account, OpenCount, Change,
 ];
 
-/// If the limit is lower, the desk also reads how much the key has spent.
+/// The desk reads what the key has spent if the limit is lower.
 const SUMMED: &[Call] = &[
     Key, Record, Facility, Account, Spent, Slot, Account, OpenCount, Change,
 ];
@@ -38,7 +38,7 @@ const OVER_THE_LIMIT: &[Call] = &[Key, Record, Facility, Account, Spent];
 
 const SUMS: &[Call] = &[Key, Account, OpenCount, Spent];
 
-/// For a repeat, the desk reads the facility only if a caveat restricts the kind.
+/// A repeat reads the facility only if a caveat restricts the kind.
 const REPEAT: &[Call] = &[Key, Record];
 
 const CANCELLATION: &[Call] = &[Key, Record, Change];
@@ -94,7 +94,7 @@ static FIRST: [Row; 8] = [
     (AMY, ACCOUNT, ACCOUNT_BEFORE, SUMS),
     (AMY, BOOK_7, BOOKED_7, BOOKING),
     (SPENDS_700, BOOK_7, BOOKED_7, LIMITED),
-    // If a caveat refuses the request, the desk reads no sum.
+    // A caveat refuses these requests before the desk reads a sum.
     (VIEWS_THEN_SPENDS, BOOK_7, DENIED_1, RECORD),
     (VIEWS, ACCOUNT, DENIED_1, &[Key]),
     (AMY, CANCEL_7, NO_SUCH_BOOKING, RECORD),
@@ -113,7 +113,7 @@ static AGAIN: [Row; 10] = [
     (AMY, CANCEL_7, CANCELLED_7, CANCELLATION),
     (SPENDS_700, CANCEL_7, CANCELLED_7, CANCELLATION),
     (AMY, ACCOUNT, ACCOUNT_AFTER, SUMS),
-    // With number 8, the key would have spent 800 points.
+    // The key would have spent 800 points with number 8.
     (SPENDS_700, BOOK_8, DENIED_1, OVER_THE_LIMIT),
 ];
 

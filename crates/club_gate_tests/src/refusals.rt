@@ -43,7 +43,7 @@ fn reports_failures(rt: HostRuntime) {
     let fault = StoreFault::Memory;
     play(&rt, &Failure { first: 1, fault });
     let fault = StoreFault::Storage;
-    // A booking makes seven calls. The seventh writes.
+    // A booking makes seven calls, and the last one writes.
     for first in 2..=7 {
         play(&rt, &Failure { first, fault });
     }

@@ -1,5 +1,4 @@
-//! A store that records its calls. It can fail from a chosen call on. Its contracts promise
-//! nothing.
+//! A store that records its calls, and that can fail from a chosen call on.
 
 use crate::prelude::*;
 use club_core::{Change, MemberAccount, SlotUse};
@@ -21,7 +20,7 @@ pub(crate) enum Call {
     Change,
 }
 
-/// No answer needs as many calls.
+/// No answer needs this many calls.
 const MOST: usize = 16;
 
 /// Each call from number `first` on fails with `fault`. The first call has number 1.

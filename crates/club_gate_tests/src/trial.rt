@@ -87,7 +87,7 @@ impl<S: ClubStore> Trial<S> {
         trial
     }
 
-    /// Continues with the same club, a desk with an empty cache, and a new copy of amy's part.
+    /// Continues with this club, a desk with an empty cache, and a new copy of amy's part.
     pub fn reopened(self, rt: &impl Host) -> Trial<S> {
         let Trial {
             desk,
@@ -123,7 +123,7 @@ impl<S: ClubStore> Trial<S> {
         }
     }
 
-    /// Amy's commands go to her part too.
+    /// Gives amy's commands to her part, too.
     fn give(&mut self, rt: &impl Host, plain: &PlainCommand) {
         let answer = office_answer(rt, &mut self.reference, plain);
         let returned = self.desk.office(&command(rt, plain));
@@ -137,7 +137,7 @@ impl<S: ClubStore> Trial<S> {
         }
     }
 
-    /// Amy's requests go to her part too.
+    /// Asks her part, too, if the request is amy's.
     fn ask(&mut self, rt: &impl Host, asking: &Asking) {
         let text = text_of_asking(rt, asking);
         let desk = &mut self.desk;

@@ -18,8 +18,8 @@ const BOOKING: &str = "PUT /slots/court-1/2026-05-01/18/bookings/7 HTTP/1.1\r\nH
 
 const _: () = prove!(BOOKING.len() == 128);
 
-/// The result of an exchange, the desk's last request, and the text of the reply. If the writer
-/// failed, the written bytes are a prefix of the text.
+/// The result of an exchange, the desk's last request, and the text of the reply. A failed writer
+/// has a prefix of the text.
 type Ended = (Result<Reply, AnswerFault>, Option<Request>, &'static str);
 
 const IS_BAD: Ended = (Ok(Reply::Refused(Refusal::BadRequest)), None, BAD_REQUEST);

@@ -27,15 +27,15 @@ impl Sender<'_> {
     }
 }
 
-/// A desk that returns the same reply to each request and the same answer to each command. It
-/// counts both.
+/// A desk that counts requests and commands. All requests get one reply, and all commands one
+/// answer.
 #[derive(Drop)]
 pub struct Desk<'d> {
     pub alloc: Global,
     /// The desk counts only the requests at this moment.
     pub moment: Moment,
     pub reply: Reply,
-    /// The status of an answer; its text is `text`.
+    /// The status and the text of each answer.
     pub status: u8,
     pub text: &'d str,
     pub asked: u64,
@@ -44,11 +44,11 @@ pub struct Desk<'d> {
     /// The total number of bytes of all commands.
     pub bytes: usize,
     pub sender: Option<Sender<'d>>,
-    /// At a request the desk reads this connection to its end, and stores the bytes in `got`.
+    /// The desk reads this connection to its end at a request, and stores the bytes in `got`.
     pub office: Option<&'d UnixStream>,
     pub got: Vec<u8>,
     pub journal: Option<&'d Journal>,
-    /// How long a request and a command take, in milliseconds of the journal's clock.
+    /// A request and a command take this many milliseconds of the journal's clock.
     pub asking_takes: u64,
     pub command_takes: u64,
 }

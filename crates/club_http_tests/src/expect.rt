@@ -8,8 +8,8 @@ use std::time::Clock;
 use test_kit::Piece;
 use test_kit::moments::NOON;
 
-/// The runtime of a test. Helpers for sockets require `Net` in their own bound. The borrow checker
-/// doesn't cover a test that gets `Net` through this trait.
+/// A helper for sockets needs `Net` in its own bound. The borrow checker doesn't cover a test that
+/// gets `Net` through this trait.
 pub(crate) trait Runtime: Abort + Alloc<A = Global> + Clock {}
 
 impl<R: Abort + Alloc<A = Global> + Clock> Runtime for R {}

@@ -4,13 +4,13 @@ use crate::bodies::is_whole;
 use crate::expect::{Runtime, expect_row, join};
 use test_kit::Piece;
 
-/// Bytes, and whether a complete request is a prefix of them.
+/// A text, and whether a complete request is its prefix.
 static WHOLE: [(&str, bool); 9] = [
     ("", false),
     ("GET /account HTTP/1.1\r\n\r", false),
     ("GET /account HTTP/1.1\r\n\r\nGET", true),
     ("GET /account HTTP/1.1\n\n", false),
-    // These heads are invalid, whatever bytes follow.
+    // An invalid head needs no further bytes.
     ("\r\n\r\n", true),
     ("GET\r\n\r\n", true),
     ("PUT / HTTP/1.1\r\nContent-Length: 2\r\n\r\n{", false),
@@ -19,7 +19,7 @@ static WHOLE: [(&str, bool); 9] = [
     ("PUT / HTTP/1.1\r\nContent-Length: 257\r\n\r\n", true),
 ];
 
-/// Long texts, and whether a complete request is a prefix. A head has at most 16,384 bytes.
+/// Long texts. A head has at most 16,384 bytes.
 static LONG: [(&[Piece], bool); 3] = [
     (&[(16_383, "a")], false),
     (&[(16_384, "a")], true),

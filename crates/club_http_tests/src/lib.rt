@@ -1,5 +1,5 @@
-//! Tests of requests and replies as bytes, of exchanges with a desk that counts its requests, and
-//! of the server over sockets and over memory.
+//! Tests of requests and replies as bytes, of exchanges with a test double of the desk, and of the
+//! server.
 #![tactic(auto)]
 
 #[cfg(test)]

@@ -1,4 +1,4 @@
-//! The bytes of the longest reply. The bytes of the buffer after a reply stay the same.
+//! The bytes of the longest reply, and of the buffer after the reply.
 
 use crate::expect::{Runtime, expect_row};
 use club_core::Reply;

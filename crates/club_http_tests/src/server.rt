@@ -83,7 +83,7 @@ fn client_at<'a, C: time::Clock>(
     client.expect(rt, "a connection")
 }
 
-/// Runs an exchange at the desk's moment. Afterwards `face` contains the bytes of the request.
+/// Runs an exchange at the desk's moment. The request is in `face` after the exchange.
 fn exchange<C: Connection>(
     face: &mut Face,
     connection: &mut C,
@@ -118,8 +118,8 @@ static FAILING: [Wire<'static>; 10] = [
     Wire::Client(WHOLE),
 ];
 
-/// The clients to serve and the waits for an arrival. Then the requests and commands that reach the
-/// desk, and the bytes of all commands. A command is no client.
+/// The clients to serve, and the expected waits for an arrival. The other numbers are the desk's
+/// requests, its commands, and their bytes. A command doesn't count as a client.
 static COUNTS: [(u32, u64, u64, u64, usize); 5] = [
     (0, 0, 0, 0, 0),
     (1, 1, 1, 0, 0),

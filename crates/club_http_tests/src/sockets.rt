@@ -21,7 +21,7 @@ pub(crate) fn client_of(
     client
 }
 
-/// Ends the test unless the client gets this text, and then the end of the connection.
+/// The client must get this text, and then the end of the connection.
 pub(crate) fn expect_reply(rt: &impl Runtime, client: &mut TcpStream, want: &str) {
     let mut returned = Vec::new(rt.alloc());
     client.read_to_end(&mut returned).expect(rt, "a reply");

@@ -12,7 +12,7 @@ pub enum PlainCommand {
     Credit(&'static str, u32),
     Debit(&'static str, u32),
     SetQuota(&'static str, u32),
-    /// The numbers are its places, the points per place, and the hours of opening and closing.
+    /// The places, the points per place, and the hours of opening and closing.
     AddFacility(&'static str, Kind, u32, u32, u32, u32),
     SetFacility(&'static str, u32, u32, u32, u32),
     /// The name of the key, its member and its root.

@@ -1,4 +1,4 @@
-//! Random events from a fixed seed, and the club in which they happen.
+//! Random events from a fixed seed, and the club of these events.
 
 ghost use Rattle.std.specs.Prelude.{◌<◌};
 
@@ -10,7 +10,7 @@ use crate::slots::{COURT_AT_18, COURT_AT_19, PlainSlot, ROOM_AT_18};
 use club_values::Kind;
 use pass_forms::Form;
 
-// The linear congruential generator of Knuth's MMIX. The upper 31 of its 64 bits are used.
+// The linear congruential generator of Knuth's MMIX. The events use the upper 31 bits.
 const FACTOR: u64 = 6_364_136_223_846_793_005;
 
 const SUMMAND: u64 = 1_442_695_040_888_963_407;

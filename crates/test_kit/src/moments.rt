@@ -2,7 +2,6 @@
 
 pub const NOON: &str = "2026-04-20T12:00";
 
-/// An older root is good until this moment.
 pub const UNTIL: &str = "2026-04-25T00:00";
 
 pub const BEFORE_UNTIL: &str = "2026-04-24T23:59";

@@ -2,7 +2,7 @@
 
 use std::alloc::{AllocError, Global};
 
-/// How many times a text is repeated, and the text.
+/// The number of repetitions of a text, and the text.
 pub type Piece = (usize, &'static str);
 
 fn append(text: &mut String, piece: &Piece) -> Result<(), AllocError> {

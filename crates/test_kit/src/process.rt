@@ -1,4 +1,4 @@
-//! A test double of a process, which keeps what is printed on standard error.
+//! A test double of a process, with what the process printed on standard error.
 
 use std::alloc::Global;
 use std::cell::RefCell;

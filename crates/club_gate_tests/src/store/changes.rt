@@ -107,7 +107,7 @@ const UNFIT: &[Write] = &[
     Cancel(BOOKING_7, "amy", 601),
     Book("amy-1", 7, COURT_AT_18, 2, "amy", 600),
     Book("amy-1", 9, NOWHERE, 0, "amy", 200),
-    // Two persons for one place, and five persons for four places.
+    // The slots have one place and four places left.
     Book("amy-1", 9, COURT_AT_18, 1, "amy", 200),
     Book("amy-1", 9, COURT_AT_19, 4, "amy", 200),
     Book("amy-1", 9, COURT_AT_18, 0, "amy", 9_401),
@@ -133,7 +133,7 @@ const UNFIT: &[Write] = &[
     Rotate("amy-2", OLDER, SECOND_ROOT),
 ];
 
-/// Ben has 1,000 points. He can't pay for bookings of amy's key or get their refund.
+/// Ben has 1,000 points. A member can't pay for bookings of another member's key or get the refund.
 const UNFIT_OF_BEN: &[Write] = &[
     Book("amy-1", 9, COURT_AT_19, 2, "ben", 600),
     Cancel(BOOKING_7, "ben", 300),

@@ -28,7 +28,7 @@ pub fn path_of(host: &HostRuntime) -> Result<String, Fail> {
     Ok(format!(in host.alloc(); "{folder}/club-{id}")?)
 }
 
-/// Removes a file, and its log if there is one.
+/// Removes a file and its log.
 pub fn remove(host: &HostRuntime, path: &str) -> Result<(), Fail> {
     fs::remove_file(host, path)?;
     let log = format!(in host.alloc(); "{path}-wal")?;

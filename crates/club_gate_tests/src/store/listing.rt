@@ -1,4 +1,4 @@
-//! The rows and views of the club in `databases`. Amy has booked the court, and has booked and
+//! The rows and views of the club in `databases`. Amy has booked the court and the room, and has
 //! cancelled the room.
 
 use super::databases::{Contents, database};
@@ -51,7 +51,7 @@ pub(crate) fn shows_key<S: Alter>(rt: &impl Host, store: &mut Store<S>, kept: &K
     expect_eq(rt, &seen.view.key, &want.row());
 }
 
-/// Amy had 10,000 points. The court cost 600. The room cost 601, and 300 were refunded.
+/// Amy had 10,000 points. The court cost 600. The room cost 601, with a refund of 300.
 fn shows_views<S: Alter>(rt: &impl Host, store: &mut Store<S>) {
     for (row, (asked, taken, booked)) in VIEWS.iter().enumerate() {
         let seen = view(rt, store, asked).view;
@@ -94,7 +94,6 @@ pub(crate) fn shows<S: Alter>(rt: &impl Host, store: &mut Store<S>, contents: Co
     shows_rows(rt, store);
 }
 
-/// The test opens the tables a second time.
 #[test]
 fn shows_what_a_key_sees(rt: HostRuntime) {
     let mut store = adopt(&rt, database(&rt, Contents::Second));

@@ -32,7 +32,6 @@ fn makes_the_index_of_the_bookings(rt: HostRuntime) {
     gets_the_index(&rt, Unindexed);
 }
 
-/// The test opens the tables a second time.
 #[test]
 fn has_no_older_root_once_migrated(rt: HostRuntime) {
     let mut store = adopt(&rt, database(&rt, First));
@@ -57,7 +56,7 @@ fn rotates_a_key_once_migrated(rt: HostRuntime) {
     shows_key(&rt, &mut adopt(&rt, store.into_connection()), &ROTATED);
 }
 
-/// The contents, the statements that change them, and the version.
+/// The contents, the statements that change the contents, and the version.
 type Other = (Contents, &'static [&'static str], Option<i64>);
 
 const NAMED_LIKE_THE_INDEX: &[&str] = &["CREATE TABLE bookings_by_key (name TEXT) STRICT"];

@@ -4,11 +4,11 @@ ghost use Rattle.std.specs.Prelude.{◌≤◌};
 
 use club_http::{Inlet, Outlet};
 
-/// A reader that returns a few bytes per call. After its last byte it returns no bytes, or fails.
+/// A reader that returns a few bytes per call. A call after its last byte returns none, or fails.
 #[derive(Drop)]
 pub struct Pieces<'a> {
     pub left: &'a [u8],
-    /// The largest number of bytes that one call returns, minus one.
+    /// A call returns at most this many bytes and one more.
     behind_first: usize,
     fails: bool,
     pub calls: u64,
@@ -54,7 +54,7 @@ impl Inlet for Pieces<'_> {
 
 pub const ROOM: usize = 512;
 
-/// A writer that accepts a few bytes per call. After `limit` bytes it fails, or accepts no more.
+/// A writer that accepts a few bytes per call. A call after `limit` bytes fails, or accepts none.
 #[derive(Drop)]
 pub struct Narrow {
     bytes: [u8; ROOM],

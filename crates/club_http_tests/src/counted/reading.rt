@@ -7,8 +7,8 @@ use crate::expect::{Runtime, expect_eq, join};
 use std::ops::Range;
 use test_kit::Piece;
 
-/// The largest number of bytes per call, the expected number of calls, and the number of bytes left
-/// unread. The reader fails if it is called after its last byte.
+/// The most bytes per call, the calls, and the bytes left unread. The reader fails if a call comes
+/// after its last byte.
 type Reading = (usize, u64, usize);
 
 fn is_read(rt: &impl Runtime, text: &str, (step, calls, left): &Reading, want: &Ended) {
@@ -19,8 +19,7 @@ fn is_read(rt: &impl Runtime, text: &str, (step, calls, left): &Reading, want: &
 
 type Read = (&'static [Piece], Reading);
 
-/// The booking has 128 bytes, and the buffer has room for 16,640. Bytes after the booking are read
-/// only if the last call returns them too.
+/// The booking has 128 bytes. The buffer has room for 16,640 bytes.
 static BOOKINGS: [Read; 5] = [
     (&[(1, BOOKING)], (1, 128, 0)),
     (&[(1, BOOKING)], (100_000, 1, 0)),
@@ -36,8 +35,7 @@ static LONGEST_READINGS: [Reading; 4] = [
     (1, 16_640, 0),
 ];
 
-/// These 20,000 bytes contain no end of a head, so they are a bad request after 16,384 bytes. The
-/// buffer has room for 16,640 bytes.
+/// A text without the end of a head is a bad request after 16,384 bytes.
 static ENDLESS: [Reading; 3] = [(1, 16_384, 3_616), (600, 28, 3_360), (200_000, 1, 3_360)];
 
 fn is_read_so(rt: &impl Runtime, pieces: &[Piece], readings: &[Reading], want: &Ended) {
@@ -75,7 +73,7 @@ fn is_read_by_steps(rt: &impl Runtime, text: &str, steps: Range<usize>, want: &E
     }
 }
 
-/// Header fields of 0, 5, 6 and 7 bytes. They move the end of the head to each remainder modulo 4.
+/// Header fields of 0, 5, 6 and 7 bytes move the end of the head to each remainder modulo 4.
 static FIELDS: [&str; 4] = ["", "A: \r\n", "A: b\r\n", "A: bc\r\n"];
 
 fn with_field(rt: &impl Runtime, field: &str) -> String {

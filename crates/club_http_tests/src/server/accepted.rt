@@ -114,9 +114,9 @@ fn exchanges_of_each_day(rt: HostRuntime) {
 
 const WHOLE: usize = exchanges::BOOK_7.len();
 
-/// The bytes that a client sends, the milliseconds before its exchange, and those of the desk. Then
-/// the requests that reach the desk, and the fault. The client has ten seconds from its connection,
-/// and ten more from the reply's first byte. The server serves a late request that is complete.
+/// The sent bytes, the milliseconds before the exchange, the milliseconds that the desk takes, the
+/// desk's requests, and the fault. The client has ten seconds from its connection, and ten more
+/// from the reply's first byte. The server serves a late request that is complete.
 static LIMITS: [(usize, u64, u64, u64, Option<AnswerFault>); 6] = [
     (WHOLE, 0, 0, 1, None),
     (WHOLE, 9_999, 0, 1, None),

@@ -29,7 +29,7 @@ type Sent = (usize, Then);
 
 const NOTHING: &[u8] = b"!\x09nothing was done\0";
 
-/// A sender, the commands that the desk carries out, their bytes, and the answer.
+/// A sender, the commands that the desk carries out, the bytes of the commands, and the answer.
 static ROWS: [(Sent, u64, usize, &[u8]); 8] = [
     ((8, Then::Ends), 1, 8, b"!\x01\0"),
     ((0, Then::Ends), 1, 0, b"!\x01\0"),
@@ -76,7 +76,7 @@ fn visits<C: Clock>(
     fs::remove_file(rt, path.as_str())?;
     let mut got = Vec::new(rt.alloc());
     if let Some(mut sender) = sender {
-        // The connection is reset after the answer if the server left bytes unread.
+        // The client resets the connection if the server left bytes unread.
         let _ = sender.read_to_end(&mut got);
     }
     Ok((whole, got))
@@ -94,7 +94,7 @@ fn senders_at_a_door(rt: HostRuntime) -> Result<(), Fail> {
     Ok(())
 }
 
-/// The clock advances by these milliseconds at each reading. The limit is 200.
+/// The clock advances by these milliseconds at each reading. A command has 200 milliseconds.
 static LATE: [u64; 4] = [0, 150, 200, 1_000];
 
 // A suspended server still carries out a command that has come.
@@ -141,7 +141,7 @@ fn is_command<A: Arrivals>(arrivals: &mut A) -> Option<bool> {
     }
 }
 
-// After a shutdown, the door is readable and each accept at it fails. The server pauses ten
+// The door is readable after a shutdown, and each accept at the door fails. The server pauses ten
 // milliseconds, and then accepts a client.
 #[test]
 fn a_door_that_fails_is_no_client(rt: HostRuntime) -> Result<(), Fail> {

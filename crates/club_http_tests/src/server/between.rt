@@ -8,8 +8,8 @@ use crate::desk::Desk;
 use crate::expect::{Runtime, expect_eq, expect_row, noon};
 use desk_server::serve_logged;
 
-/// A client's and the office's steps, and the milliseconds that each command takes. Then the calls
-/// of a server with a patience of ten seconds, and their times.
+/// The steps of a client and of the office, the milliseconds that each command takes, and the calls
+/// of the server with their times. The server has a patience of ten seconds.
 struct Row {
     steps: &'static [Step<'static>],
     command_takes: u64,
@@ -26,7 +26,7 @@ static ROWS: [Row; 6] = [
         calls: "[(0, Began), (0, WaitedBytesFirst(10000)), (0, Read(10000)), (0, Asked), \
             (0, Wrote(10000, 140)), (0, Closed), (0, NotedClient)]",
     },
-    // A command arrives between two pieces of the request. It uses up some of the client's time.
+    // A command between two pieces of the request uses up some of the client's time.
     Row {
         steps: &[
             Step::Bytes(1_000, b"G"),
@@ -39,7 +39,7 @@ static ROWS: [Row; 6] = [
             (1600, NotedCommand), (1600, WaitedBytesFirst(8400)), (3600, Read(6400)), \
             (3600, Asked), (3600, Wrote(10000, 140)), (3600, Closed), (3600, NotedClient)]",
     },
-    // A silent client delays no command, and the server cuts it off after ten seconds.
+    // A silent client delays no command. The server cuts the client off after ten seconds.
     Row {
         steps: &[
             Step::Command(3_000, Some(b"an order")),
@@ -70,7 +70,7 @@ static ROWS: [Row; 6] = [
             (21000, NotedCommand), (21000, Read(0)), (21000, Asked), (21000, Wrote(10000, 140)), \
             (21000, Closed), (21000, NotedClient)]",
     },
-    // After a bad request the server reads the rest of the bytes before it closes the stream.
+    // The server reads the bytes after a bad request before it closes the stream.
     Row {
         steps: &[
             Step::Bytes(0, b"x"),

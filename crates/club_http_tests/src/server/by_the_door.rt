@@ -38,7 +38,7 @@ pub fn office_at(rt: &impl Net, path: &str, command: &[u8]) -> Result<UnixStream
     Ok(office)
 }
 
-/// At a command the client sends the rest. At a request the desk reads the office.
+/// The client sends `rest` at a command. The desk reads `office` at a request.
 fn tied_desk<'x>(
     rt: &impl Runtime,
     client: &'x TcpStream,

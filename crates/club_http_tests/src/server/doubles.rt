@@ -47,7 +47,7 @@ impl Write for Broken {
     }
 }
 
-/// The stream of a client in memory. It records its calls in a journal.
+/// The stream of a client in memory, which records its calls in a journal.
 pub struct Played<'a> {
     journal: &'a Journal,
     steps: &'a [Step<'a>],
@@ -60,7 +60,7 @@ fn milliseconds(limit: Duration) -> u64 {
 }
 
 impl<'a> Played<'a> {
-    // Returns the next step within the limit, or `None` once the limit is over.
+    // Returns `None` if the next step comes after the limit.
     fn next_within(&self, limit: Duration) -> Option<Step<'a>> {
         let most = milliseconds(limit);
         let next = self.steps.get(self.came).copied();
@@ -224,7 +224,7 @@ impl<'a> Arrivals for Script<'a> {
     }
 }
 
-/// A clock that always shows the same time, or that can't be read if the time is `None`.
+/// A clock that always shows one time. A clock with `None` can't be read.
 #[derive(Drop)]
 pub struct Stopped(pub Option<Duration>);
 
@@ -238,7 +238,8 @@ impl Clock for Stopped {
     }
 }
 
-/// A clock that a test sets. It advances by a step at each reading, and while the server sleeps.
+/// A clock that a test sets, and that advances by a step at each reading. A sleep of the server
+/// advances the clock, too.
 #[derive(Drop)]
 pub struct HandSet {
     microseconds: Cell<u64>,
@@ -304,7 +305,7 @@ pub struct Slow<'a> {
 }
 
 impl Slow<'_> {
-    // Returns whether the pause is over, or `None` if a signal interrupted the wait.
+    // Returns whether the pause is over. A wait that a signal interrupts returns `None`.
     fn wait(&mut self, limit: Duration) -> Option<bool> {
         let most = milliseconds(limit);
         if self.interruptions > 0 {

@@ -6,7 +6,7 @@ use desk_server::{Log, LogEvent};
 use std::alloc::Global;
 use std::cell::RefCell;
 
-/// A call, with its time limit in milliseconds, or the number of bytes of a write or a command.
+/// A call, with its time limit in milliseconds, or the bytes of a write or a command.
 #[derive(Clone, Copy, Debug)]
 pub enum Call {
     /// This wait returns the command if both the client and the office are ready.

@@ -24,8 +24,8 @@ const UNWRITTEN: Option<AnswerFault> = Some(AnswerFault::Write(0));
 /// The milliseconds before each byte that a client sends and receives, and the readings after which
 /// the clock fails.
 ///
-/// The request has 53 bytes and its reply 140. The patience is ten seconds for each. Then the
-/// server tries one more read or write without a wait.
+/// The request has 53 bytes and its reply 140. The patience is ten seconds for each. The server
+/// tries one more read or write without a wait after ten seconds.
 static OUTCOMES: [((u64, u64, u64), Outcome); 10] = [
     ((0, 0, ALWAYS), (None, 53, 140, 0)),
     ((100, 50, ALWAYS), (None, 53, 140, 12_300)),
@@ -118,7 +118,7 @@ fn what_still_comes_is_taken(rt: HostRuntime) {
     }
 }
 
-// After a shutdown, a listener fails at once. The server pauses after each failure.
+// A listener fails at once after a shutdown. The server pauses after each failure.
 #[test]
 fn rests_after_a_wait_that_failed(rt: HostRuntime) {
     let listener = loopback_listener(&rt);

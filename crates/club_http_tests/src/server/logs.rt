@@ -102,7 +102,7 @@ fn a_line_for_a_connection_without_a_moment(rt: HostRuntime) {
     expect_bytes(&rt, &written, lines, "no moment");
 }
 
-// If the log fails, the clients still get the same replies.
+// The clients get their replies even if the log fails.
 #[test]
 fn a_log_that_fails(rt: HostRuntime) {
     let returned = log_script(&rt, u64::MAX, &mut Broken);

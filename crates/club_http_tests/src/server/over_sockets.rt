@@ -84,8 +84,8 @@ fn replies_before_bytes_behind_a_request(rt: HostRuntime) -> Result<(), Fail> {
     Ok(())
 }
 
-// The server reads the clock at the start of two limits, and at each wait, read and write. So five
-// readings show that it doesn't wait for the client after the reply.
+// The server reads the clock at the start of two limits, and at each wait, read and write. Five
+// readings show that the server doesn't wait for the client after the reply.
 #[test]
 fn closes_at_once_after_a_request(rt: HostRuntime) {
     let listener = loopback_listener(&rt);
@@ -123,7 +123,7 @@ fn waits_as_long_as_its_patience(rt: HostRuntime) {
 struct Watching<'c> {
     clock: &'c HostRuntime,
     client: &'c TcpStream,
-    // The client received `came` bytes. It also reached the end if `ended` is true.
+    // The client received `came` bytes. The client reached the end of the bytes if `ended` is true.
     came: Cell<usize>,
     ended: Cell<bool>,
 }
@@ -145,7 +145,7 @@ impl Clock for Watching<'_> {
     }
 }
 
-// The server ends its side of the connection while it waits for the client's.
+// The server ends its side of the connection, and continues to read.
 #[test]
 fn ends_one_side_and_reads_the_other(rt: HostRuntime) {
     let listener = loopback_listener(&rt);

@@ -1,5 +1,5 @@
-//! Exchanges over a stream whose ghost values are the bytes to come and the bytes written. So the
-//! contract of an exchange covers each byte.
+//! Exchanges over a stream whose ghost values are the bytes to come and the bytes written. The
+//! contract of an exchange covers each byte of this stream.
 
 use super::doubles::{Letter, Stopped};
 use super::{REPLY, REQUEST, desk_at_noon, exchange, new_face, patience};
