@@ -1,5 +1,4 @@
-//! Test doubles of a server's arrivals: clients whose requests come in two halves, and commands of
-//! the office, which may come between the halves.
+//! Test doubles of the arrivals at a server.
 
 ghost use Rattle.std.specs.Prelude.{◌≤◌, length, IfSome};
 ghost use Rattle.desk_server.specs.Limits.{moved};
@@ -17,7 +16,7 @@ use std::cell::RefCell;
 use std::io::{self, Read, Write};
 use std::time::Duration;
 
-/// The bytes that a server wrote to its clients and to the office, in their order.
+/// Keeps replies and answers in the order in which the server writes them.
 #[derive(Drop)]
 pub struct Written(RefCell<Vec<u8>>);
 
@@ -26,7 +25,7 @@ impl Written {
         Written(RefCell::new(Vec::new(alloc)))
     }
 
-    /// Adds bytes. If memory is refused, the bytes are missing in the end.
+    /// Without memory, the bytes are missing, and the test fails.
     fn add(&self, bytes: &[u8]) {
         if let Ok(mut written) = self.0.try_borrow_mut() {
             let _ = written.extend_from_slice(bytes);
@@ -51,15 +50,14 @@ impl Write for &Written {
     }
 }
 
-/// A client's request, and the command that comes after the first half of it. The command may be
-/// empty. If the request is empty, the office comes with the command.
+/// The command comes between two halves of the request, or alone without a request.
 #[derive(Drop)]
 pub struct Arriving {
     pub request: Vec<u8>,
     pub command: Vec<u8>,
 }
 
-/// A connection of the office that brings a command.
+/// A connection of the office that brings one command.
 #[derive(Drop)]
 pub struct Letter<'a> {
     command: &'a [u8],
@@ -73,7 +71,7 @@ impl Handover for Letter<'_> {
     }
 }
 
-/// The stream of a client: the bytes of the next two reads, and a command that hasn't come yet.
+/// A client's stream. Its next two reads return `half` and `rest`.
 #[derive(Drop)]
 pub struct Sender<'a> {
     half: &'a [u8],
@@ -96,7 +94,6 @@ impl<'a> Sender<'a> {
     }
 }
 
-// Reads a half.
 fn read_from(bytes: &[u8], room: &mut [u8]) -> Waited
     ensures { IfSome (moved result) (λ n. n ≤ length room.new) }
 {
@@ -150,7 +147,6 @@ impl<'a> ClientStream for Sender<'a> {
     }
 }
 
-/// Arrivals in turn, at a machine whose clock stands still.
 #[derive(Drop)]
 pub struct Queue<'a> {
     arriving: &'a [Arriving],
@@ -161,7 +157,6 @@ pub struct Queue<'a> {
 }
 
 impl<'a> Queue<'a> {
-    /// Returns these arrivals. The server's bytes for them are added to `written`.
     pub fn new(arriving: &'a [Arriving], machine: &'a Machine, written: &'a Written) -> Queue<'a> {
         Queue {
             arriving,
@@ -199,7 +194,6 @@ impl<'a> Arrivals for Queue<'a> {
     }
 }
 
-/// Gives these moments in turn, and then none.
 #[derive(Drop)]
 pub struct Given<'a>(pub &'a [Moment]);
 

@@ -1,4 +1,4 @@
-//! The input and the writer of a run, the clients of its server, and the clock of its machine.
+//! Test doubles around a run: its input and writer, its server's clients, and its clock.
 
 use crate::runs::Fixture;
 use std::cell::Cell;
@@ -7,11 +7,9 @@ use std::io::{self, ErrorKind, Read, Write};
 use std::net::TcpStream;
 use std::time::{Clock, Duration};
 
-/// The input of a run.
 #[derive(Clone, Copy)]
 pub enum Input<'a> {
     Bytes(&'a [u8]),
-    /// Each read of it fails.
     Broken,
 }
 
@@ -24,15 +22,15 @@ impl Read for Input<'_> {
     }
 }
 
-/// Counts of the calls at a database in memory.
+/// Counts of the calls of a database in memory.
 #[derive(Drop)]
 pub struct Notes {
     pub opened: Cell<u64>,
     pub closed: Cell<u64>,
-    /// The closings before the run's first write, and before a server's door was removed.
+    /// The closings before the run's first write, and before a server removes its door.
     pub written: Cell<Option<u64>>,
     pub removed: Cell<Option<u64>>,
-    /// The bytes of the command that was handed over last.
+    /// The length of the command that was handed over last.
     pub handed: Cell<usize>,
 }
 
@@ -48,9 +46,8 @@ impl Notes {
     }
 }
 
-/// A writer with limited room. Once a server's line is flushed, a client for each request connects
-/// to the port of the line, and sends the request, which waits there for the server. So a server
-/// and its clients need one thread.
+/// A writer with limited room. A flush after a server's line connects the clients, which send their
+/// requests at once. So one thread is enough for the server and its clients.
 #[derive(Drop)]
 pub struct Caller<'a> {
     rt: &'a HostRuntime,
@@ -71,20 +68,17 @@ impl<'a> Caller<'a> {
         }
     }
 
-    /// Returns the written bytes, without the line of a server that clients came to.
     pub fn written_bytes(&self) -> &[u8] {
         self.written.as_slice()
     }
 
-    // The port of a server's line.
     fn port(&self) -> Option<u16> {
         let line = str::from_utf8(self.written_bytes()).ok()?;
         let port = line.strip_prefix("listening on 127.0.0.1:")?;
         port.strip_suffix("\n")?.parse().ok()
     }
 
-    // Returns a client that has sent a request to this port. Nobody may listen at another address
-    // of the machine.
+    // Fails if the server also listens at another address of the machine.
     fn send(&self, port: u16, request: &str) -> io::Result<TcpStream> {
         if TcpStream::connect(self.rt, ("127.0.0.2", port)).is_ok() {
             return Err(io::Error::from(ErrorKind::AddrInUse));
@@ -94,8 +88,7 @@ impl<'a> Caller<'a> {
         Ok(client)
     }
 
-    /// Returns the replies to the clients in turn. A connection that the server closed before it
-    /// read the request may end with an error.
+    /// The server may close a connection early, so a read may end with an error.
     pub fn reply(self) -> Vec<u8> {
         let Caller { rt, clients, .. } = self;
         let mut reply = Vec::new(rt.alloc());
@@ -142,15 +135,14 @@ impl Write for Caller<'_> {
     }
 }
 
-/// The clock of a machine. It shows one second, counted from the start of 1970, or can't be read.
-/// The first two readings of the time since its start are 0: a connection's limit and its time in
-/// the log begin then. Later ones are `later` microseconds. Sleeps add to each.
+/// Without `second`, no reading succeeds. The first two monotonic readings are 0, because a
+/// connection's limit and log begin with them. Later readings are `later` microseconds.
 #[derive(Drop)]
 pub struct Machine {
     second: Option<u64>,
     later: u64,
     read: Cell<u64>,
-    /// The milliseconds of all sleeps.
+    /// The sum of all sleeps in milliseconds.
     pub slept: Cell<u64>,
 }
 

@@ -1,5 +1,4 @@
-//! Commands over a club in memory, and roots from standard input. Each command opens the club and
-//! closes it once. Other rows are in the scenarios.
+//! Commands over a club in memory, and roots from standard input.
 
 use crate::callers::Input;
 use crate::memory::play;
@@ -7,7 +6,7 @@ use crate::runs::Fixture;
 use crate::servers::OFFICE;
 use std::test::Fail;
 
-// The passes were computed by a program of another language.
+// A program in another language computed the passes.
 static PASSES_OF_KEYS: [&str; 3] = [
     "add-key amy-2 amy 00112233445566778899aabbccddeeff --form v1 => \
         0 MDAxN2xvY2F0aW9uIGNsdWItZGVzawowMDE5aWRlbnRpZmllciBrZXk6YW15LTIKMDAyZnNpZ25hdHVyZ\
@@ -28,11 +27,10 @@ fn passes_of_keys(rt: HostRuntime) -> Result<(), Fail> {
     Ok(())
 }
 
-// The arguments are checked before a club is opened. The version opens none.
-static WORDS: [&str; 4] = [
+// The program checks arguments before it opens a club.
+static WORDS: [&str; 3] = [
     "sheet 2026-02-29 => 3 bad value",
     "serve --port 65536 --count 1 => 3 bad value",
-    "add-key k amy 00112233445566778899aabbccddee => 3 bad value",
     "--version => 0 clubdesk 0.1.0\n",
 ];
 
@@ -44,22 +42,19 @@ fn arguments(rt: HostRuntime) -> Result<(), Fail> {
     Ok(())
 }
 
-// An input, and a row. The passes were computed by a program of another language.
-static ROOTS: [&str; 4] = [
+static ROOTS: [&str; 3] = [
     "00112233445566778899aabbccddeeff\n; add-key amy-2 amy --root-stdin => \
         0 AgEJY2x1Yi1kZXNrAglrZXk6YW15LTIAAAYgUOOwsg36q2wZ89taIV1hBCPWdeNG5HoD3cxZpXgEN0M\n",
     "00112233445566778899AABBCCDDEEFF; add-key amy-2 amy --root-stdin => \
         0 AgEJY2x1Yi1kZXNrAglrZXk6YW15LTIAAAYgUOOwsg36q2wZ89taIV1hBCPWdeNG5HoD3cxZpXgEN0M\n",
     "ffeeddccbbaa99887766554433221100\n; rotate-key amy-1 2026-04-25T00:00 --root-stdin => \
         0 AgEJY2x1Yi1kZXNrAglrZXk6YW15LTEAAAYgKCFX6Yuml46qONOaXLd8NdScMHF3Rhger2bpvDhpHo8\n",
-    "00112233445566778899aabbccddeeff; rotate-key amy-1 2026-04-25T00:00 --root-stdin => \
-        1 refused: exists",
 ];
 
 static NO_ROOTS: [&[u8]; 8] = [
     b"",
     b"\n",
-    // 15 bytes, and 16 and a half.
+    // The first root has 15 bytes, and the second has 16 and a half.
     b"00112233445566778899aabbccddee\n",
     b"00112233445566778899aabbccddeeff1\n",
     b"00112233445566778899aabbccddeefg\n",
@@ -70,7 +65,7 @@ static NO_ROOTS: [&[u8]; 8] = [
 
 const NO_ROOT: &str = "add-key amy-2 amy --root-stdin => 3 bad value";
 
-// Four runs made the club. The command opens it `openings` times more.
+// The rows of `OFFICE` open the club four times.
 fn ends_so(rt: &HostRuntime, row: &str, input: Input<'_>, openings: u64) -> Result<(), Fail> {
     let scene = Fixture {
         input,
@@ -89,7 +84,7 @@ fn roots(rt: HostRuntime) -> Result<(), Fail> {
     Ok(())
 }
 
-// The input is read before a club is opened.
+// The program reads its input before it opens a club.
 #[test]
 fn no_roots(rt: HostRuntime) -> Result<(), Fail> {
     for input in &NO_ROOTS {
@@ -105,7 +100,6 @@ fn no_roots(rt: HostRuntime) -> Result<(), Fail> {
 const LONGEST: &str = "add-key amy-2 amy --root-stdin => \
     0 AgEJY2x1Yi1kZXNrAglrZXk6YW15LTIAAAYgDX-5zX6dlNErx-MuAUoVk9vN8GThsorPx80b0Maeqt4\n";
 
-// A text after a root of 64 zero bytes, and whether the whole is a root.
 static BEHIND_THE_LONGEST: [(&str, bool); 5] = [
     ("", true),
     ("\n", true),
@@ -114,19 +108,14 @@ static BEHIND_THE_LONGEST: [(&str, bool); 5] = [
     ("\n0", false),
 ];
 
-// A root has 64 bytes at most, and nothing is cut off.
 #[test]
 fn long_roots(rt: HostRuntime) -> Result<(), Fail> {
     let longest = "00".repeat(rt.alloc(), 64)?;
     for (behind, is_taken) in &BEHIND_THE_LONGEST {
         let text = format!(in rt.alloc(); "{longest}{behind}")?;
         let row = if *is_taken { LONGEST } else { NO_ROOT };
-        ends_so(
-            &rt,
-            row,
-            Input::Bytes(text.as_bytes()),
-            u64::from(*is_taken),
-        )?;
+        let input = Input::Bytes(text.as_bytes());
+        ends_so(&rt, row, input, u64::from(*is_taken))?;
     }
     Ok(())
 }

@@ -1,4 +1,4 @@
-//! The door of a server: its file, who may make it, and files that can't have one.
+//! The door of a server: its file, its maker, and files that can't have a door.
 
 use crate::files::{AMY, new_club};
 use crate::runs::{ClubFile, expect_eq, new_path};
@@ -8,7 +8,6 @@ use std::fs;
 use std::os::unix::fs::{FileTypeExt, MetadataExt, symlink};
 use std::test::Fail;
 
-// Returns the mode of a socket, or `None` if there is none.
 fn socket_mode(rt: &HostRuntime, path: &str) -> Option<u32> {
     let found = fs::symlink_metadata(rt, path).ok()?;
     if found.file_type().is_socket() {
@@ -18,11 +17,9 @@ fn socket_mode(rt: &HostRuntime, path: &str) -> Option<u32> {
     }
 }
 
-/// The mode of a file that only its owner may use.
 const OWN: Option<u32> = Some(0o600);
 
-// Only its owner may use a door. A door takes the place of an earlier one. It is removed when it is
-// dropped, but not when the earlier one is.
+// A new door replaces an earlier door. Dropping the earlier door doesn't remove the new door.
 fn expect_door(rt: &HostRuntime, club: &ClubFile<'_>) -> Result<(), Fail> {
     let place = club.path_with("-office")?;
     let door = FileDoor::make(rt, club.path())?;
@@ -41,8 +38,7 @@ fn a_door_beside_its_file(rt: HostRuntime) -> Result<(), Fail> {
     expect_door(&rt, &new_club(&rt, "door", &AMY)?)
 }
 
-// A door is next to its file, however long the path of their folder is. This folder's name alone
-// has more bytes than a socket's address may have.
+// The folder's name alone has more bytes than a socket's address may have.
 #[test]
 fn a_door_in_a_folder_of_a_long_name(rt: HostRuntime) -> Result<(), Fail> {
     let path = new_path(&rt, "deep")?;
@@ -58,7 +54,6 @@ fn a_door_in_a_folder_of_a_long_name(rt: HostRuntime) -> Result<(), Fail> {
     Ok(())
 }
 
-// A file or a folder with the door's name stays, and no door is made.
 #[test]
 fn no_door_over_a_file(rt: HostRuntime) -> Result<(), Fail> {
     let club = new_club(&rt, "no-door", &AMY)?;
@@ -73,7 +68,7 @@ fn no_door_over_a_file(rt: HostRuntime) -> Result<(), Fail> {
     Ok(())
 }
 
-// A link with the door's name stays, even one to a socket. No door is made, and none is used.
+// Commands don't connect by a link either, even if the link leads to a socket.
 #[test]
 fn no_door_over_a_link(rt: HostRuntime) -> Result<(), Fail> {
     let club = new_club(&rt, "linked-door", &AMY)?;
@@ -90,7 +85,7 @@ fn no_door_over_a_link(rt: HostRuntime) -> Result<(), Fail> {
     Ok(())
 }
 
-/// A user, the owner of the file, the user of the command, and whether the first may make the door.
+/// A user, the file's owner, the command's user, and whether the first user may make a door.
 static MAKERS: [(u32, u32, u32, bool); 6] = [
     (1000, 1000, 2000, true),
     (2000, 1000, 2000, true),
@@ -108,7 +103,7 @@ fn who_may_make_a_door(rt: HostRuntime) -> Result<(), Fail> {
     Ok(())
 }
 
-// A file whose name is too long for a door has no server, and commands open it.
+// The name is too long for a door, so the file has no server, and commands open the file.
 #[test]
 fn a_file_of_a_long_name(rt: HostRuntime) -> Result<(), Fail> {
     let name = format!(in rt.alloc(); "long-{:0>90}", 0)?;

@@ -1,15 +1,13 @@
-//! Ends that aren't the office's: a writer that fails, and a port in use.
+//! Failing writers, and a port in use.
 
 use crate::memory::{play, play_words};
 use crate::runs::{ClubFile, Fixture, expect_eq};
 use std::net::TcpListener;
 use std::test::Fail;
 
-/// The end of a run with a failing writer.
 const FULL: &str = "7 input or output failed";
 
-// Fails unless a run over a file fails with its writer, which takes this many bytes, and logs
-// nothing. The run would write more.
+// Fails unless the run writes exactly `room` bytes, reports a failed write and logs nothing.
 fn expect_full(
     rt: &HostRuntime,
     club: &ClubFile<'_>,
@@ -26,7 +24,7 @@ fn expect_full(
     Ok(())
 }
 
-// A key whose pass can't be printed is kept. A server whose line can't be written serves nobody.
+// The key stays although the pass wasn't printed.
 #[test]
 fn a_failing_writer(rt: HostRuntime) -> Result<(), Fail> {
     let club = ClubFile::new(&rt, "full")?;
@@ -37,8 +35,7 @@ fn a_failing_writer(rt: HostRuntime) -> Result<(), Fail> {
     expect_full(&rt, &club, "serve --port 0 --count 1 --log", 5)
 }
 
-// Returns the number of bytes that a run writes over a club in memory. Fails unless the run fails
-// with its writer, which takes them all and can't flush them, and logs nothing.
+// Returns the number of bytes that a run writes before its flush fails.
 fn unflushed(rt: &HostRuntime, words: &str, after: &[&str]) -> Result<usize, Fail> {
     let scene = Fixture {
         flushes: false,
@@ -51,19 +48,12 @@ fn unflushed(rt: &HostRuntime, words: &str, after: &[&str]) -> Result<usize, Fai
     Ok(output.taken)
 }
 
-// The written bytes may be lost. A committed change stays.
 #[test]
 fn a_writer_that_fails_to_flush(rt: HostRuntime) -> Result<(), Fail> {
     expect_eq(&rt, &unflushed(&rt, "--version", &[])?, &15)?;
     let after = &["add-member bob 5 => 1 refused: exists"];
     expect_eq(&rt, &unflushed(&rt, "add-member bob 5", after)?, &5)?;
     expect_eq(&rt, &unflushed(&rt, "sheet 2026-05-01", &[])?, &34)?;
-    Ok(())
-}
-
-// If the line with the server's address may be lost, nobody is served.
-#[test]
-fn a_server_that_fails_to_flush(rt: HostRuntime) -> Result<(), Fail> {
     let taken = unflushed(&rt, "serve --port 0 --count 1 --log", &[])?;
     expect_eq(&rt, &(taken > 0), &true)?;
     Ok(())

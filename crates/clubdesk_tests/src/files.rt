@@ -9,14 +9,12 @@ use test_kit::exchanges::{BOOK_7, BOOKED_7, UNAVAILABLE};
 
 pub(crate) static AMY: [&str; 1] = ["add-member amy 5 => 0 done\n"];
 
-/// Returns a new file after these rows.
 pub fn new_club<'a>(rt: &'a HostRuntime, name: &str, rows: &[&str]) -> Result<ClubFile<'a>, Fail> {
     let club = ClubFile::new(rt, name)?;
     club.play(rows)?;
     Ok(club)
 }
 
-// Fails unless amy's booking gets this reply from a server over the file.
 fn expect_reply(
     rt: &HostRuntime,
     club: &ClubFile<'_>,
@@ -32,7 +30,7 @@ fn expect_reply(
     Ok(())
 }
 
-// The booking is made over a socket. Later runs find it in the file, and so does a second server.
+// Later runs and a second server find the booking in the file.
 #[test]
 fn a_day_in_a_file(rt: HostRuntime) -> Result<(), Fail> {
     let club = new_club(&rt, "day", &OFFICE)?;
@@ -42,8 +40,7 @@ fn a_day_in_a_file(rt: HostRuntime) -> Result<(), Fail> {
     club.play(&["close-slot court-1 2026-05-01 18 => 1 refused: slot in use"])
 }
 
-// A server that drops its database leaves a booking in the log alone: the file is unchanged. The
-// run that prints the day's sheet finds it there.
+// The server drops its database without closing it, so only the log has the booking.
 #[test]
 fn a_booking_in_the_log_alone(rt: HostRuntime) -> Result<(), Fail> {
     let club = new_club(&rt, "left", &OFFICE)?;
@@ -58,7 +55,7 @@ fn a_booking_in_the_log_alone(rt: HostRuntime) -> Result<(), Fail> {
     club.play(&BOOKED)
 }
 
-// Nobody would find a booking in a file that has lost its name. So the booking is refused.
+// Nobody would find a booking in a file without a name, so the server refuses the booking.
 #[test]
 fn a_file_that_was_removed(rt: HostRuntime) -> Result<(), Fail> {
     let club = new_club(&rt, "gone", &OFFICE)?;
@@ -69,7 +66,7 @@ fn a_file_that_was_removed(rt: HostRuntime) -> Result<(), Fail> {
     expect_reply(&rt, &club, scene, UNAVAILABLE)
 }
 
-// After a command has ended, the file has all committed changes: its log may be removed.
+// A command moves its changes into the file before it ends.
 #[test]
 fn the_log_may_go(rt: HostRuntime) -> Result<(), Fail> {
     let club = new_club(&rt, "log", &AMY)?;
@@ -92,10 +89,9 @@ fn files_of_something_else(rt: HostRuntime) -> Result<(), Fail> {
     expect_eq(&rt, &left.as_slice(), &[b'x'; 100].as_slice())
 }
 
-/// The place of the version in a new file. Its table is on the second page, its row at the end.
+/// The version's table is on the second page of a new file, and its row is at the end.
 const VERSION_AT: usize = 8_191;
 
-// A file of version 2 gets version 9.
 #[test]
 fn files_of_another_version(rt: HostRuntime) -> Result<(), Fail> {
     let club = new_club(&rt, "version", &AMY)?;
@@ -119,7 +115,6 @@ fn files_that_cannot_be(rt: HostRuntime) -> Result<(), Fail> {
     Ok(())
 }
 
-// Only its owner may use a new file and its log.
 #[test]
 fn modes(rt: HostRuntime) -> Result<(), Fail> {
     let club = new_club(&rt, "modes", &AMY)?;

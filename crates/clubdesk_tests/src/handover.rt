@@ -1,5 +1,4 @@
-//! Commands that are handed over to a server, over sockets: the bytes that the server gets, and the
-//! reading of its answer. Attempts, and the sleep between them.
+//! Commands that are handed over to a server's socket, and attempts with sleeps between them.
 
 use crate::callers::Machine;
 use crate::files::{AMY, new_club};
@@ -15,46 +14,36 @@ use std::os::unix::fs::symlink;
 use std::os::unix::net::UnixStream;
 use std::test::Fail;
 
-/// The bytes of a command.
 const COMMAND: &[u8] = b"5\0\0clubdesk\0add-member\0club\0amy\05\0";
 
-/// The name of a database that has no server.
 const NO_FILE: &str = "none";
 
-/// A status and a text.
 type Answer = Option<(u8, &'static str)>;
 
-/// The bytes that a server sends, and the answer that they encode.
 static ANSWERED: [(&[u8], Answer); 8] = [
     (b"!\0done\n\0", Some((0, "done\n"))),
     (b"!\x01refused: exists\0", Some((1, "refused: exists"))),
     (b"!\x04\0", Some((4, ""))),
-    (
-        b"!\x03\xc3\x84 is no name\0",
-        Some((3, "\u{c4} is no name")),
-    ),
-    // The server took the command, but its answer is missing or cut.
+    (b"!\x03\xc3\x84 is no\0", Some((3, "\u{c4} is no"))),
+    // The answer is missing or cut.
     (b"!", None),
     (b"!\0", None),
     (b"!\0done\n", None),
     (b"!\0done\n!", None),
 ];
 
-// Sends all bytes of a server.
 fn send(server: &mut UnixStream, bytes: &[u8]) -> Result<(), Fail> {
     server.write_all(bytes)?;
     server.shutdown(Shutdown::Write)?;
     Ok(())
 }
 
-// Returns a connection to a server that sends these bytes, and the server.
 fn server_of(rt: &HostRuntime, bytes: &[u8]) -> Result<(UnixStream, UnixStream), Fail> {
     let (client, mut server) = UnixStream::pair(rt)?;
     send(&mut server, bytes)?;
     Ok((client, server))
 }
 
-// Fails unless these bytes are all that a server got.
 fn expect_sent(rt: &HostRuntime, server: &mut UnixStream, bytes: &[u8]) -> Result<(), Fail> {
     let mut sent = Vec::new(rt.alloc());
     server.read_to_end(&mut sent)?;
@@ -83,7 +72,7 @@ fn hands_a_command_over(rt: HostRuntime) -> Result<(), Fail> {
     Ok(())
 }
 
-/// Servers that have greeted, the next one last.
+/// The next server is the last one.
 #[derive(Drop)]
 struct Greeted(Global, Vec<UnixStream>);
 
@@ -95,31 +84,20 @@ impl Servers for Greeted {
     }
 }
 
-/// A command that is tried again: the answers of the servers in order, the command's own answer,
-/// the number of servers that get it, and the milliseconds slept.
+/// The servers' answers, the final answer, the number of asked servers, and the milliseconds slept.
 struct Retried(&'static [&'static [u8]], Answer, usize, u64);
 
-const NOTHING: &[u8] = b"\x09nothing was done\0";
+const UNDONE: &[u8] = b"\x09nothing was done\0";
 
 static RETRIED: [Retried; 6] = [
-    Retried(&[b"\0done\n\0", NOTHING], Some((0, "done\n")), 1, 0),
-    Retried(&[NOTHING, b"\0done\n\0"], Some((0, "done\n")), 2, 10),
-    Retried(
-        &[NOTHING, NOTHING, b"\x01refused: exists\0"],
-        Some((1, "refused: exists")),
-        3,
-        20,
-    ),
-    // The command may have been carried out, so it isn't sent again.
+    Retried(&[b"\0done\n\0", UNDONE], Some((0, "done\n")), 1, 0),
+    Retried(&[UNDONE, b"\0done\n\0"], Some((0, "done\n")), 2, 10),
+    Retried(&[UNDONE, UNDONE, b"\x01no\0"], Some((1, "no")), 3, 20),
+    // The first server may have carried out the command, so no other server gets it.
     Retried(&[b"", b"\0done\n\0"], None, 1, 0),
-    Retried(&[NOTHING, b"\0done\n", b"\0done\n\0"], None, 2, 10),
-    // Ten seconds are over.
-    Retried(
-        &[NOTHING, NOTHING],
-        Some((9, "nothing was done")),
-        2,
-        10_000,
-    ),
+    Retried(&[UNDONE, b"\0done\n", b"\0done\n\0"], None, 2, 10),
+    // After ten seconds, nobody tries the command again.
+    Retried(&[UNDONE, UNDONE], Some((9, "nothing was done")), 2, 10_000),
 ];
 
 fn tries_again(rt: &HostRuntime, retried: &Retried) -> Result<(), Fail> {
@@ -146,7 +124,6 @@ fn tries_again(rt: &HostRuntime, retried: &Retried) -> Result<(), Fail> {
     expect_answer(rt, &answer, want)
 }
 
-// Only a command that no server got whole is tried again, for ten seconds.
 #[test]
 fn tries_again_until_done(rt: HostRuntime) -> Result<(), Fail> {
     for retried in &RETRIED {
@@ -155,8 +132,7 @@ fn tries_again_until_done(rt: HostRuntime) -> Result<(), Fail> {
     Ok(())
 }
 
-// A server that ends after its greeting doesn't get the command, and can't carry it out. The next
-// server does.
+// The first server ended after its greeting, so it can't have carried out the command.
 #[test]
 fn nothing_was_done_by_a_server_that_is_gone(rt: HostRuntime) -> Result<(), Fail> {
     let (gone, server) = UnixStream::pair(&rt)?;
@@ -171,11 +147,9 @@ fn nothing_was_done_by_a_server_that_is_gone(rt: HostRuntime) -> Result<(), Fail
     expect_answer(&rt, &answer, &Some((0, "done\n")))
 }
 
-/// Bytes that are no greeting. The system resets a connection that is closed with unread bytes, so
-/// each is one byte or none.
+/// The system resets a connection with unread bytes, so each greeting has at most one byte.
 static NO_GREETINGS: [&[u8]; 3] = [b"", b"?", b"\0"];
 
-// A server with another greeting, or with none, is handed nothing.
 #[test]
 fn hands_nothing_without_a_greeting(rt: HostRuntime) -> Result<(), Fail> {
     for bytes in &NO_GREETINGS {
@@ -186,7 +160,6 @@ fn hands_nothing_without_a_greeting(rt: HostRuntime) -> Result<(), Fail> {
     Ok(())
 }
 
-// A server is also found by a link to its database.
 #[test]
 fn hands_over_by_a_door_behind_a_link(rt: HostRuntime) -> Result<(), Fail> {
     let club = new_club(&rt, "linked", &AMY)?;
@@ -202,7 +175,7 @@ fn hands_over_by_a_door_behind_a_link(rt: HostRuntime) -> Result<(), Fail> {
     expect_answer(&rt, &answer, &Some((0, "done\n")))
 }
 
-/// Attempts: this many fail, and the next one succeeds.
+/// Fails this number of times, then succeeds.
 #[derive(Drop)]
 struct Trier(u32);
 
@@ -220,7 +193,7 @@ impl Attempts for Trier {
     }
 }
 
-/// The number of failing attempts, whether one of five succeeds, and the milliseconds slept.
+/// Failing attempts, whether one of five attempts succeeds, and the milliseconds slept.
 static TRIED: [(u32, bool, u64); 4] = [(0, true, 0), (1, true, 10), (4, true, 40), (5, false, 50)];
 
 #[test]
@@ -228,11 +201,8 @@ fn sleeps_between_attempts(rt: HostRuntime) -> Result<(), Fail> {
     for (vain, gains, millis) in &TRIED {
         let clock = Machine::new(Some(0), 0);
         let gained = gain(&mut Trier(*vain), &clock, 5);
-        expect_eq(
-            &rt,
-            &(gained.is_some(), clock.slept.get()),
-            &(*gains, *millis),
-        )?;
+        let outcome = (gained.is_some(), clock.slept.get());
+        expect_eq(&rt, &outcome, &(*gains, *millis))?;
     }
     Ok(())
 }

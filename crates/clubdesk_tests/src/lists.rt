@@ -1,5 +1,4 @@
-//! Random lists of requests and commands, as bytes, through the server. It writes the replies and
-//! the answers of the reference machine.
+//! Random requests and commands as bytes. The server must write the reference machine's replies.
 
 use crate::arriving::{Arriving, Given, Queue, Written};
 use crate::callers::Machine;
@@ -23,12 +22,10 @@ use test_kit::drawn::{AUDIT_AMY, AUDITORS, Asking, BEGINNING, Event, Numbers, SL
 use test_kit::roots::ROOT;
 use test_kit::{PlainCommand, PlainRequest, PlainSlot, signed_pass};
 
-/// The number of lists that a test plays over one club, and of the events in each.
 const LISTS: u32 = 10;
 
 const EVENTS: u32 = 60;
 
-// Returns one of the two drawn roots in hexadecimal.
 fn root_text(bytes: &[u8]) -> &'static str {
     if bytes == ROOT {
         "00112233445566778899aabbccddeeff"
@@ -37,12 +34,10 @@ fn root_text(bytes: &[u8]) -> &'static str {
     }
 }
 
-// The office's pass of a key under a root.
 fn pass_of(rt: &HostRuntime, key: &Name, root: &Root) -> Result<Pass, AllocError> {
     minted(rt.alloc(), key, key_signature(key, root))
 }
 
-// The text of the pass of a request.
 fn pass_text(rt: &HostRuntime, asking: &Asking) -> Result<String, Fail> {
     let key = Name::read(asking.key.as_bytes()).ok_or("a name")?;
     let root = Root::new(asking.root).ok_or("a root")?;
@@ -53,14 +48,13 @@ fn pass_text(rt: &HostRuntime, asking: &Asking) -> Result<String, Fail> {
     Ok(write_any(rt.alloc(), asking.form, &pass)?)
 }
 
-// The facility, the day and the hour of a slot, separated by this text.
 fn slot_text(rt: &HostRuntime, slot: &PlainSlot, between: &str) -> Result<String, Fail> {
     let slot = slot.slot().ok_or("a slot")?;
     let (facility, day, hour) = (slot.facility, slot.day, slot.hour);
     Ok(format!(in rt.alloc(); "{facility}{between}{day}{between}{hour}")?)
 }
 
-// The method, the path and the body of a request, separated by spaces.
+// Returns the method, the path and the body, separated by spaces.
 fn request_words(rt: &HostRuntime, asked: &PlainRequest) -> Result<String, Fail> {
     match asked {
         PlainRequest::View(slot) => {
@@ -80,7 +74,6 @@ fn request_words(rt: &HostRuntime, asked: &PlainRequest) -> Result<String, Fail>
     }
 }
 
-// The bytes of a drawn request.
 fn request_bytes(rt: &HostRuntime, asking: &Asking) -> Result<Vec<u8>, Fail> {
     let words = request_words(rt, &asking.asked)?;
     let (line, body) = words.as_str().rsplit_once(' ').ok_or("a body")?;
@@ -92,13 +85,12 @@ fn request_bytes(rt: &HostRuntime, asking: &Asking) -> Result<Vec<u8>, Fail> {
     Ok(text.as_bytes().to_vec(rt.alloc())?)
 }
 
-// The name and the arguments of a command about a slot.
 fn slot_words(rt: &HostRuntime, command: &str, slot: &PlainSlot) -> Result<String, Fail> {
     let slot = slot_text(rt, slot, " ")?;
     Ok(format!(in rt.alloc(); "{command} {slot}")?)
 }
 
-// The name and the arguments of a command. A new key's root is read from standard input.
+// The program reads a new key's root from standard input.
 fn command_words(rt: &HostRuntime, plain: &PlainCommand) -> Result<String, Fail> {
     let alloc = rt.alloc();
     let words = match plain {
@@ -130,7 +122,6 @@ fn command_words(rt: &HostRuntime, plain: &PlainCommand) -> Result<String, Fail>
     Ok(words?)
 }
 
-// The bytes of a command.
 fn bytes_of_command(rt: &HostRuntime, plain: &PlainCommand) -> Result<Vec<u8>, Fail> {
     let root = match plain {
         PlainCommand::AddKey(_, _, root) => root_text(root),
@@ -142,7 +133,7 @@ fn bytes_of_command(rt: &HostRuntime, plain: &PlainCommand) -> Result<Vec<u8>, F
     Ok(command_bytes(rt.alloc(), root, arguments.as_slice())?)
 }
 
-// The status of a command, what it prints, and a zero byte.
+// Returns the status, the output and a zero byte.
 fn answer_text(rt: &HostRuntime, answer: &OfficeAnswer) -> Result<String, Fail> {
     match answer {
         OfficeAnswer::Done => Ok(format!(in rt.alloc(); "\0done\n\0")?),
@@ -155,7 +146,7 @@ fn answer_text(rt: &HostRuntime, answer: &OfficeAnswer) -> Result<String, Fail> 
     }
 }
 
-/// The arrivals at the server with their moments, and the bytes that the reference machine wants.
+/// The arrivals with their moments, and the bytes that the reference machine wants.
 #[derive(Drop)]
 struct Plan<'a> {
     rt: &'a HostRuntime,
@@ -178,7 +169,6 @@ impl<'a> Plan<'a> {
         }
     }
 
-    // Gives a command to the reference machine, and returns its bytes.
     fn give(&mut self, plain: &PlainCommand, moment: Moment) -> Result<Vec<u8>, Fail> {
         let command = plain.command().ok_or("a command")?;
         let answer = self.reference.office(&command)?;
@@ -188,7 +178,6 @@ impl<'a> Plan<'a> {
         bytes_of_command(self.rt, plain)
     }
 
-    // The reference machine's reply.
     fn reply(&mut self, asking: &Asking, moment: Moment) -> Result<Reply, Fail> {
         let key = Name::read(asking.key.as_bytes());
         let pass = signed_pass(self.rt.alloc(), key, asking.root, asking.caveats);
@@ -199,7 +188,6 @@ impl<'a> Plan<'a> {
         Ok(self.reference.ask(&words, moment)?)
     }
 
-    // Asks the reference machine, and returns the bytes of the request.
     fn ask(&mut self, asking: &Asking, moment: Moment) -> Result<Vec<u8>, Fail> {
         let reply = self.reply(asking, moment)?;
         let mut room = [0; MAX_REPLY_LEN];
@@ -210,8 +198,7 @@ impl<'a> Plan<'a> {
         request_bytes(self.rt, asking)
     }
 
-    // Adds an arrival: a client with a request, the office with a command, or both. In the last
-    // case the command comes between the halves of the request, and is carried out first.
+    // A command with a request comes between the request's halves, and is carried out first.
     fn add(&mut self, asking: Option<Asking>, plain: Option<&PlainCommand>) -> Result<(), Fail> {
         let moment = asking.unwrap_or(audit(AUDIT_AMY)).moment;
         let moment = Moment::from_number(moment).ok_or("a moment")?;
@@ -227,7 +214,7 @@ impl<'a> Plan<'a> {
         Ok(())
     }
 
-    // Adds events in their order. A command after a request comes between the request's halves.
+    // A command that follows a request comes between the request's halves.
     fn add_each(&mut self, events: &[Event]) -> Result<(), Fail> {
         let mut waiting = None;
         for event in events {
@@ -247,7 +234,6 @@ impl<'a> Plan<'a> {
         Ok(())
     }
 
-    // Serves the arrivals, and fails unless the server writes the bytes that are wanted.
     fn serve<S: ClubStore, C: Clock>(&self, desk: &mut OfficeDesk<'_, S, C>) -> Result<(), Fail> {
         let rt = self.rt;
         let mut face = Face::new(rt.alloc())?;
@@ -265,7 +251,6 @@ impl<'a> Plan<'a> {
         }
     }
 
-    // Forgets the arrivals.
     fn clear(&mut self) {
         self.arriving.clear();
         self.moments.clear();
@@ -274,7 +259,6 @@ impl<'a> Plan<'a> {
     }
 }
 
-// Adds requests that show the accounts of all members, and all slots.
 fn add_audit(events: &mut Vec<Event>) -> Result<(), AllocError> {
     for key in &AUDITORS {
         events.push(Event::Asked(audit(key)))?;
@@ -289,7 +273,6 @@ fn add_audit(events: &mut Vec<Event>) -> Result<(), AllocError> {
     Ok(())
 }
 
-// Plays lists from a seed, one after the other, over one club, which is made first.
 fn play_lists<S: ClubStore + Drop>(rt: &HostRuntime, store: S, first: u64) -> Result<(), Fail> {
     let mut desk = OfficeDesk::new(rt.alloc(), rt, store);
     let mut plan = Plan::new(rt);

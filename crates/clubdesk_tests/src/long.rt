@@ -6,8 +6,7 @@ use crate::runs::{ClubFile, Fixture, expect_end, new_path, parts_of};
 use crate::servers::OFFICE;
 use std::test::Fail;
 
-// A rotated key's account, and a slot in the last hour. The pass was computed by a program of
-// another language.
+// A program in another language computed the pass.
 static EDGES: [&str; 4] = [
     "rotate-key amy-1 ffeeddccbbaa99887766554433221100 2099-12-31T23:59 => \
         0 AgEJY2x1Yi1kZXNrAglrZXk6YW15LTEAAAYgKCFX6Yuml46qONOaXLd8NdScMHF3Rhger2bpvDhpHo8\n",
@@ -18,7 +17,7 @@ static EDGES: [&str; 4] = [
         price 9999\nplaces 50\ntaken 0\nclosed no\n",
 ];
 
-// The long path leads to the file of a short path.
+// The long path leads to the same file as the short path.
 #[test]
 fn at_a_path_of_4000_letters(rt: HostRuntime) -> Result<(), Fail> {
     let short = new_path(&rt, "long")?;
@@ -30,7 +29,7 @@ fn at_a_path_of_4000_letters(rt: HostRuntime) -> Result<(), Fail> {
     club.play(&EDGES)
 }
 
-// The least and the greatest of each decimal length.
+// The least and the greatest number of each decimal length.
 static CREDITS: [u32; 13] = [
     1, 9, 10, 99, 100, 999, 1_000, 9_999, 10_000, 99_999, 100_000, 999_999, 1_000_000,
 ];
@@ -44,8 +43,7 @@ fn takes_credits_of_each_length(rt: HostRuntime) -> Result<(), Fail> {
     Ok(())
 }
 
-// The key gets the root, and its pass is printed. The scenarios have the passes under roots of each
-// length. The same root from standard input is refused.
+// The scenarios have the passes under roots of each length.
 fn takes_a_root(rt: &HostRuntime, club: &ClubFile<'_>, hex: &str) -> Result<(), Fail> {
     let words = format!(in rt.alloc(); "rotate-key amy-1 {hex} 2099-12-31T23:59")?;
     let output = club.run(&Fixture::after(&[]), words.as_str())?;
@@ -73,8 +71,7 @@ fn takes_roots_of_each_length(rt: HostRuntime) -> Result<(), Fail> {
     Ok(())
 }
 
-/// Keys with names of 24 letters, in the order of the sheet. Their passes were computed by a
-/// program of another language.
+/// The keys' names have 24 letters. A program in another language computed the passes.
 static KEYS: [&str; 5] = [
     "add-member a 99 => 0 done\n",
     "add-key a-key-name-of-24-letters a 00112233445566778899aabbccddeeff => \
@@ -87,12 +84,11 @@ static KEYS: [&str; 5] = [
     "add-facility a-facility-of-24-letters room 50 0 0 24 => 0 done\n",
 ];
 
-/// The number of hours with bookings, and of the bookings of each key in an hour.
+/// The hours with bookings, and the bookings of each key in an hour.
 const HOURS: u32 = 20;
 
 const EACH: u32 = 3;
 
-/// Adds the requests in an hour of the key that a row adds, and their lines of the sheet.
 fn book_hour(
     rt: &HostRuntime,
     row: &str,
@@ -119,8 +115,6 @@ fn book_hour(
     Ok(())
 }
 
-/// Returns the requests of a day, and the row of its sheet: lines of 76 bytes between a first line
-/// of 21 bytes and a last line of 42.
 fn book_day(rt: &HostRuntime) -> Result<(Vec<String>, String), Fail> {
     let mut requests = Vec::new(rt.alloc());
     let mut sheet = format!(in rt.alloc(); "sheet 2026-05-01 => 0 Day sheet 2026-05-01\n")?;

@@ -10,14 +10,12 @@ use std::os::unix::net::UnixListener;
 use std::test::Fail;
 use test_kit::exchanges::BOOK_7;
 
-/// The name of the database.
 const NAME: &str = "club";
 
 fn count(cell: &Cell<u64>) {
     cell.set(cell.get().saturating_add(1));
 }
 
-/// A door without visitors.
 pub struct ShutDoor<'a>(&'a Notes);
 
 impl Door for ShutDoor<'_> {
@@ -33,7 +31,6 @@ impl Drop for ShutDoor<'_> {
     }
 }
 
-/// A server that has greeted, and gives one answer to each command.
 #[derive(Drop)]
 pub struct Greeted<'a> {
     rt: &'a HostRuntime,
@@ -51,8 +48,7 @@ impl Visit for Greeted<'_> {
     }
 }
 
-/// One database, which stays from one opening to the next, and none of another name. Its opening
-/// may fail, and a server may have it open.
+/// The only database. An opening may fail, and a server may have the database open.
 #[derive(Drop)]
 struct InMemory<'a, S: ClubStore + Drop> {
     rt: &'a HostRuntime,
@@ -93,7 +89,7 @@ impl<'a, S: ClubStore + Drop> Databases for InMemory<'a, S> {
 
     ghost closes = { λ _ _ _. Unit {0} };
 
-    // A database that is open can't be opened.
+    // An open database can't be opened again.
     fn open(&mut self, name: &str) -> Result<S, StoreFault> {
         count(&self.notes.opened);
         if name != NAME {
@@ -133,7 +129,7 @@ impl<'a, S: ClubStore + Drop> Databases for InMemory<'a, S> {
     }
 }
 
-/// The output of a run, and the counts of its database, which include those of the other rows.
+/// The counts include the rows before and after the run.
 #[derive(Drop)]
 pub struct Played {
     pub output: Output,
@@ -141,7 +137,6 @@ pub struct Played {
 }
 
 impl Played {
-    /// Fails unless the database was opened and closed that many times.
     pub fn expect_openings(&self, opened: u64, closed: u64) -> Result<(), Fail> {
         if self.notes.opened.get() == opened && self.notes.closed.get() == closed {
             return Ok(());
@@ -150,7 +145,7 @@ impl Played {
     }
 }
 
-// Plays a scene over a store. Functions over any store are proved faster than over a known one.
+// A function over any store is proved faster than a function over a known store.
 fn play_in<S: ClubStore + Drop>(
     rt: &HostRuntime,
     store: S,
@@ -165,19 +160,16 @@ fn play_in<S: ClubStore + Drop>(
     Ok(Played { output, notes })
 }
 
-/// Plays a scene with a run on these words.
 pub fn play_words(rt: &HostRuntime, scene: &Fixture<'_>, words: &str) -> Result<Played, Fail> {
     play_in(rt, Store::open_in_memory(rt.alloc())?, scene, words)
 }
 
-/// Plays a scene with a run on the words of a row. Fails unless it ends as the row says.
 pub fn play(rt: &HostRuntime, scene: &Fixture<'_>, row: &str) -> Result<Played, Fail> {
     let played = play_words(rt, scene, parts_of(row)?.0)?;
     expect_end(rt, row, played.output.returned.as_str())?;
     Ok(played)
 }
 
-/// Runs over a database whose opening fails.
 static FAILING: [&str; 4] = [
     "sheet 2026-05-01 => 4 out of memory",
     "serve --port 0 --count 1 => 4 out of memory",
@@ -202,13 +194,12 @@ fn openings_that_fail(rt: HostRuntime) -> Result<(), Fail> {
     Ok(())
 }
 
-/// A command, and a sheet.
 static ANSWERED: [&str; 2] = [
     "add-member amy 5 => 0 done\n",
     "sheet 2026-05-01 => 0 Day sheet 2026-05-01\nNo bookings.\n",
 ];
 
-// A stopped pager or terminal doesn't keep the database open.
+// A stopped pager or terminal must not keep the database open.
 #[test]
 fn closed_before_the_answer_is_written(rt: HostRuntime) -> Result<(), Fail> {
     for row in &ANSWERED {
@@ -220,7 +211,7 @@ fn closed_before_the_answer_is_written(rt: HostRuntime) -> Result<(), Fail> {
     Ok(())
 }
 
-// The next program that opens the database may make a door. The earlier door is removed by then.
+// The next program that opens the database may make a door, so the earlier door must be gone.
 #[test]
 fn a_door_is_removed_before_the_database_is_closed(rt: HostRuntime) -> Result<(), Fail> {
     let scene = Fixture {

@@ -1,7 +1,5 @@
-//! Runs of the program, rows with their expected ends, and clubs in files.
-//!
-//! A row has the words of a run, which are its command and its arguments without the database, and
-//! its end. The end is the status, and the output or the line of the fault.
+//! Runs of the program, and clubs in files. A row has a command without its database, then an end.
+//! An end is a status with the output or the fault's line.
 
 use crate::callers::{Caller, Input, Machine, Notes};
 use club_core::StoreFault;
@@ -16,35 +14,29 @@ use std::time::Clock;
 use std::{env, fs, process};
 use test_kit::Process;
 
-/// A server's answer to a command: the status and the text, or nothing.
 pub type ServerAnswer<'a> = Option<(u8, &'a str)>;
 
-/// The circumstances of a run of the program.
 #[derive(Clone, Copy)]
 pub struct Fixture<'a> {
-    /// The rows to play before the run and after it.
     pub before: &'a [&'a str],
     pub after: &'a [&'a str],
-    /// The input of the run, the number of bytes that it can write, whether these can be flushed,
-    /// and the requests of the clients of its server.
+    /// The input, the number of writable bytes, whether a flush succeeds, and the clients'
+    /// requests.
     pub input: Input<'a>,
     pub room: usize,
     pub flushes: bool,
     pub requests: &'a [&'a str],
-    /// Over memory: the time of `Machine`, the fault of each opening, and the answer of the server
-    /// that has the database open, if there is one.
+    /// Over memory only: the values of `Machine`, the fault of an opening, and a server's answer.
     pub second: Option<u64>,
     pub later: u64,
     pub fault: Option<StoreFault>,
     pub server: Option<ServerAnswer<'a>>,
-    /// Over a file: whether the database is dropped and not closed, as by a killed server, and the
-    /// path of a file that is removed once the server listens.
+    /// Over a file only: whether the server is killed, and a file to remove once it listens.
     pub is_killed: bool,
     pub removed: Option<&'a str>,
 }
 
 impl<'a> Fixture<'a> {
-    /// Returns the circumstances of a run after these rows, with nothing special.
     pub fn after(before: &'a [&'a str]) -> Fixture<'a> {
         Fixture {
             before,
@@ -63,8 +55,7 @@ impl<'a> Fixture<'a> {
     }
 }
 
-/// The result of a run: its end, the number of bytes that it wrote, the replies to the clients of
-/// its server, and its log.
+/// `returned` has the status and the text, and `taken` is the number of written bytes.
 #[derive(Drop)]
 pub struct Output {
     pub returned: String,
@@ -73,7 +64,6 @@ pub struct Output {
     pub log: Vec<u8>,
 }
 
-// The end of a run with this status, by the text on standard error and the written bytes.
 fn text_of(
     rt: &HostRuntime,
     status: u8,
@@ -89,7 +79,6 @@ fn text_of(
     }
 }
 
-// Runs the program on this line, by this clock of the machine.
 fn run_over<C: Clock, D: Databases>(
     rt: &HostRuntime,
     machine: &C,
@@ -117,7 +106,7 @@ fn run_over<C: Clock, D: Databases>(
     })
 }
 
-/// Returns the command line with these words and the name of a database. `--version` needs none.
+/// `--version` needs no database.
 pub fn line_of(rt: &HostRuntime, name: &str, words: &str) -> Result<String, AllocError> {
     match words.split_once(' ') {
         Some((command, rest)) => format!(in rt.alloc(); "clubdesk {command} {name} {rest}"),
@@ -125,7 +114,6 @@ pub fn line_of(rt: &HostRuntime, name: &str, words: &str) -> Result<String, Allo
     }
 }
 
-/// Fails unless the values are equal.
 pub fn expect_eq<T: PartialEq + Debug>(
     rt: &HostRuntime,
     returned: &T,
@@ -137,12 +125,10 @@ pub fn expect_eq<T: PartialEq + Debug>(
     Err(format!(in rt.alloc(); "{returned:?} in place of {want:?}")?.into())
 }
 
-/// Returns the words and the end of a row.
 pub fn parts_of(row: &str) -> Result<(&str, &str), Fail> {
     Ok(row.split_once(" => ").ok_or("a row")?)
 }
 
-/// Fails unless the end of a run is that of its row.
 pub fn expect_end(rt: &HostRuntime, row: &str, returned: &str) -> Result<(), Fail> {
     if returned == parts_of(row)?.1 {
         return Ok(());
@@ -150,7 +136,6 @@ pub fn expect_end(rt: &HostRuntime, row: &str, returned: &str) -> Result<(), Fai
     Err(format!(in rt.alloc(); "{row}: {returned}")?.into())
 }
 
-// Plays rows over the database of a name, one after the other.
 fn play_rows<D: Databases>(
     rt: &HostRuntime,
     databases: &mut D,
@@ -168,7 +153,6 @@ fn play_rows<D: Databases>(
     Ok(())
 }
 
-/// Plays a scene with a run on these words over the database of a name.
 pub fn play_over<C: Clock, D: Databases>(
     rt: &HostRuntime,
     machine: &C,
@@ -185,7 +169,7 @@ pub fn play_over<C: Clock, D: Databases>(
     Ok(output)
 }
 
-/// Databases of a run that may be killed. Then they are dropped and not closed.
+/// A killed run drops its databases without closing them.
 #[derive(Drop)]
 struct Fragile<'d, D> {
     databases: &'d mut D,
@@ -226,7 +210,6 @@ impl<D: Databases> Databases for Fragile<'_, D> {
     }
 }
 
-/// A scene at the file of a path, and the words of its run.
 #[derive(Drop)]
 struct AtFile<'x> {
     rt: &'x HostRuntime,
@@ -268,13 +251,12 @@ fn play_at_file<'x>(
     run_over_files(rt, at_file)
 }
 
-/// The file of a club, which is removed in the end.
 pub struct ClubFile<'a> {
     rt: &'a HostRuntime,
     path: String,
 }
 
-/// Returns a path that only this process uses, where no file exists yet.
+/// Only this process uses the path.
 pub fn new_path(rt: &HostRuntime, name: &str) -> Result<String, Fail> {
     let folder = env::temp_dir(rt)?;
     let folder = folder.as_str();
@@ -283,12 +265,10 @@ pub fn new_path(rt: &HostRuntime, name: &str) -> Result<String, Fail> {
 }
 
 impl<'a> ClubFile<'a> {
-    /// Returns the file at a path.
     pub fn at(rt: &'a HostRuntime, path: String) -> ClubFile<'a> {
         ClubFile { rt, path }
     }
 
-    /// Returns a file that only this process uses, and that doesn't exist yet.
     pub fn new(rt: &'a HostRuntime, name: &str) -> Result<ClubFile<'a>, Fail> {
         let path = new_path(rt, name)?;
         Ok(ClubFile { rt, path })
@@ -298,17 +278,14 @@ impl<'a> ClubFile<'a> {
         self.path.as_str()
     }
 
-    /// Returns the file's path with an end.
     pub fn path_with(&self, end: &str) -> Result<String, AllocError> {
         format!(in self.rt.alloc(); "{}{end}", self.path)
     }
 
-    /// Plays a scene with a run on these words over the file.
     pub fn run(&self, scene: &Fixture<'_>, words: &str) -> Result<Output, Fail> {
         play_at_file(self.rt, self.path(), *scene, words)
     }
 
-    /// Plays rows over the file, one after the other.
     pub fn play(&self, rows: &[&str]) -> Result<(), Fail> {
         for row in rows {
             let output = self.run(&Fixture::after(&[]), parts_of(row)?.0)?;

@@ -1,5 +1,5 @@
-//! Runs with a clock of the test, over a club in memory: servers, and accounts that are shown. A
-//! program in another language computed the moments from the database of the zones.
+//! Servers and shown accounts by a clock of the test. A program in another language computed the
+//! moments from the database of the zones.
 
 use crate::memory::{play, play_words};
 use crate::runs::{Fixture, expect_eq};
@@ -8,7 +8,6 @@ use std::test::Fail;
 use std::time::Clock;
 use test_kit::exchanges::{BOOK_7, BOOKED_7};
 
-/// Amy with quota 5 and 10,000 points, her key, and a court.
 pub(crate) static OFFICE: [&str; 4] = [
     "add-member amy 5 => 0 done\n",
     "credit amy 10000 => 0 done\n",
@@ -17,7 +16,6 @@ pub(crate) static OFFICE: [&str; 4] = [
         0 AgEJY2x1Yi1kZXNrAglrZXk6YW15LTEAAAYgDsU-vMVpq3Ex5_BQk6D5VX6TimC0IfCk7Dn6nv7TIJk\n",
 ];
 
-/// The sheet of the day once the booking is made.
 pub(crate) static BOOKED: [&str; 1] = [
     "sheet 2026-05-01 => 0 Day sheet 2026-05-01\n\
     court-1                  18:00 amy-1                            7  3    600\n\
@@ -30,8 +28,7 @@ const NOT_BOOKABLE: &str =
     "HTTP/1.1 409 Conflict\r\nContent-Type: application/json\r\nContent-Length: 34\r\n\
     Connection: close\r\n\r\n{\"fault\":16,\"text\":\"not bookable\"}";
 
-// Returns the end of a server of the booking, its reply, and the sheet of the day afterwards. The
-// slot may have begun, or the clock is out of range.
+// Returns the server's end, the reply, and the sheet afterwards.
 fn outcome_of(word: &str) -> (&'static str, &'static str, &'static [&'static str]) {
     match word {
         "served" => ("0 ", BOOKED_7, &BOOKED),
@@ -40,7 +37,7 @@ fn outcome_of(word: &str) -> (&'static str, &'static str, &'static [&'static str
     }
 }
 
-// Returns the text of a log. Its line has `$` for the method and the path of the booking.
+// `$` stands for the method and the path of the booking.
 fn log_of(rt: &HostRuntime, line: &str) -> Result<String, AllocError> {
     match line.split_once('$') {
         Some((moment, rest)) => format!(in rt.alloc();
@@ -51,9 +48,8 @@ fn log_of(rt: &HostRuntime, line: &str) -> Result<String, AllocError> {
     }
 }
 
-// Serves the booking over a new club, and prints the sheet of the day, in six runs. A row has the
-// second that the machine's clock shows, if it can be read; the options of the server; the outcome;
-// and the log. The log ends with the microseconds of the connection.
+// A row has the clock's second, the server's options, the outcome and the log. A log ends with the
+// microseconds of the connection.
 fn serves(rt: &HostRuntime, row: &str) -> Result<(), Fail> {
     let (second, rest) = row.split_once("; ").ok_or("a second")?;
     let (options, rest) = rest.split_once("; ").ok_or("options")?;
@@ -77,17 +73,14 @@ fn serves(rt: &HostRuntime, row: &str) -> Result<(), Fail> {
     played.expect_openings(6, 6)
 }
 
-static SERVED: [&str; 22] = [
-    // The moment is fixed, so that the machine's clock doesn't count.
+static SERVED: [&str; 18] = [
+    // A fixed moment needs no clock.
     "none; --at 2026-04-20T12:00; served; unlogged",
     "none; --at 2026-04-20T12:00 --log; served; 2026-04-20T12:00 $ 200 0",
     "1777658400; --log --at 2026-05-01T17:59 --zone CET-1CEST,M3.5.0,M10.5.0/3; served; \
         2026-05-01T17:59 $ 200 1533",
-    "1777658399; --at 2026-05-01T18:00; not bookable; unlogged",
     "1777658399; --at 2026-05-01T18:00 --log; not bookable; 2026-05-01T18:00 $ 409 1533",
-    "946684799; --at 2026-04-20T12:00; served; unlogged",
-    // A request that arrived whole is served, even after its time. It waits four seconds, with a
-    // patience of three, four and five, and an hour less a second, with a patience of an hour.
+    // A complete request is served even after the server's patience.
     "0; --at 2026-04-20T12:00 --log --patience 3; served; 2026-04-20T12:00 $ 200 4000000",
     "0; --at 2026-04-20T12:00 --log --patience 4; served; 2026-04-20T12:00 $ 200 4000000",
     "0; --patience 5 --at 2026-04-20T12:00 --log; served; 2026-04-20T12:00 $ 200 4000000",
@@ -99,13 +92,11 @@ static SERVED: [&str; 22] = [
     "1777651199; --zone CET-1CEST,M3.5.0,M10.5.0/3 --log; served; 2026-05-01T17:59 $ 200 1533",
     "1777651200; --zone CET-1CEST,M3.5.0,M10.5.0/3 --log; not bookable; \
         2026-05-01T18:00 $ 409 1533",
-    "1777651200; --zone CET-1CEST,M3.5.0,M10.5.0/3; not bookable; unlogged",
     "1777672799; --zone EST5EDT,M3.2.0,M11.1.0 --log; served; 2026-05-01T17:59 $ 200 1533",
-    // Outside the years 2000 to 2099, and a clock that can't be read. There is no reply.
+    // Outside the years 2000 to 2099, and without a clock.
     "946684799; --log; out of range; - - - - 1533",
     "4102444800; --zone UTC0; out of range; unlogged",
     "4102441200; --log --zone CET-1CEST,M3.5.0,M10.5.0/3; out of range; - - - - 1533",
-    "none; --zone UTC0; out of range; unlogged",
     "none; --log; out of range; - - - - 0",
 ];
 
@@ -117,15 +108,13 @@ fn serves_by_a_clock(rt: HostRuntime) -> Result<(), Fail> {
     Ok(())
 }
 
-/// The beginning of the booking's request. Its client sends no more.
+/// The client sends only this line of the booking's request.
 const BEGINNING: &str = "PUT /slots/court-1/2026-05-01/18/bookings/7 HTTP/1.1\r\n";
 
-/// A server's patience in seconds, and the microseconds that have passed when it has read the
-/// beginning. A second is left.
+/// The patience in seconds, and the microseconds that pass before the server waits.
 static A_SECOND_LEFT: [(u32, u64); 3] = [(1, 0), (2, 1_000_000), (3_600, 3_599_000_000)];
 
-// The server waits for the rest of a request until its patience is over. Then it serves the next
-// client.
+// After its patience, the server serves the next client.
 fn waits(rt: &HostRuntime, patience: u32, later: u64) -> Result<(), Fail> {
     let words = format!(in rt.alloc();
         "serve --port 0 --count 2 --at 2026-04-20T12:00 --patience {patience}"
@@ -145,7 +134,7 @@ fn waits(rt: &HostRuntime, patience: u32, later: u64) -> Result<(), Fail> {
     Err(format!(in rt.alloc(); "patience {patience}: waited {waited} seconds")?.into())
 }
 
-// These waits are real. A test's time limit stops a server that waits for an hour or for ever.
+// The test waits in real time, and its time limit stops a server that waits too long.
 #[test]
 fn waits_as_long_as_its_patience(rt: HostRuntime) -> Result<(), Fail> {
     for (patience, later) in &A_SECOND_LEFT {
@@ -154,8 +143,7 @@ fn waits_as_long_as_its_patience(rt: HostRuntime) -> Result<(), Fail> {
     Ok(())
 }
 
-/// The second that the machine's clock shows, if it can be read, and a row. The zone is one hour
-/// ahead of UTC in winter. A fixed moment needs no clock.
+/// The clock's second, and a row. A fixed moment needs no clock.
 static SHOWN: [&str; 5] = [
     "1777658399; show-account amy-1 => 0 member amy\nbalance 10000\nquota 5\nopen 0\nspent 0\n\
         revoked no\nolder root none\n",
@@ -165,7 +153,6 @@ static SHOWN: [&str; 5] = [
     "none; show-account amy-2 --at 2026-04-20T12:00 => 1 refused: unknown",
 ];
 
-// Four runs made the club, and each run that shows an account opens it once.
 #[test]
 fn shows_accounts_by_a_clock(rt: HostRuntime) -> Result<(), Fail> {
     for row in &SHOWN {
@@ -179,10 +166,9 @@ fn shows_accounts_by_a_clock(rt: HostRuntime) -> Result<(), Fail> {
     Ok(())
 }
 
-/// Each is the first of ten ports. At least one of the ten is free.
+/// Each number is the first of ten ports. At least one of the ten is free.
 static FIRST_OF_TEN: [u16; 6] = [1_025, 30_000, 60_001, 60_990, 61_001, 65_526];
 
-// Serves the booking at one of ten ports. Other programs may listen at the others.
 fn serves_in(rt: &HostRuntime, first: u16) -> Result<(), Fail> {
     let scene = Fixture {
         requests: &[BOOK_7],
