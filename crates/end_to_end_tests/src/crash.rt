@@ -1,5 +1,4 @@
-//! Tasks over two files. One file fails at each of its calls in turn, and the club must be whole
-//! afterwards.
+//! Tasks over two files. One file fails at each call in turn, and the club must stay whole.
 
 use crate::desk::{Event, FIXTURE};
 use crate::disk::{Bytes, NEVER, Part, Stop, Stops};
@@ -15,17 +14,17 @@ use test_kit::version_1::{OLDER_ROOTS, STATEMENTS};
 #[derive(Clone, Copy)]
 pub(crate) enum Beginning {
     Nothing,
-    /// A desk has made the club of the fixture and these events.
+    /// A desk makes the fixture's club and plays these events.
     Made(&'static [Event]),
-    /// Statements have made tables of version 1 with such a club in them.
+    /// Statements make the same club in tables of version 1.
     First(&'static [Event]),
-    /// As `First`, then changed to version 2 without the index of the bookings.
+    /// Statements make the same club in version 2 without the bookings' index.
     Unindexed(&'static [Event]),
 }
 
-/// The files before a task, its events (none if the opening is the task), and the events after it
-/// is done again, which change nothing. Then the number of the task's calls of the log, and of the
-/// database: for a commit 42 and 60, and two and one for each page that it changes.
+/// The files, the task's events, later events, and the calls of the log and of the database.
+/// Without events, the task is the opening. A commit has 42 and 60 calls, and 2 and 1 for each
+/// page.
 pub(crate) struct Trial(
     pub Beginning,
     pub &'static [Event],
@@ -71,12 +70,10 @@ impl Beginning {
     }
 }
 
-/// The bytes of the files after a task that doesn't fail.
 fn after(rt: &impl Host, bytes: &Bytes, work: Work) -> Bytes {
     Bytes::of_files(rt, &do_over(rt, bytes, NEVER, work).files)
 }
 
-/// The number of replies before the first that differs from the wanted one.
 fn alike(replies: &[String], wanted: &[String]) -> usize {
     let mut alike = 0;
     for (reply, text) in replies.iter().zip(wanted) {
@@ -89,8 +86,8 @@ fn alike(replies: &[String], wanted: &[String]) -> usize {
 }
 
 impl Trial {
-    /// Returns the expected lines of files with a club, whose tables have this version. The lines
-    /// are its rows, the replies to the repeated task and to later events, and the rows then.
+    /// The lines are the rows, the replies to the repeated task and to later events, and the new
+    /// rows.
     fn lines(&self, rt: &impl Host, club: &Club, version: Version) -> Vec<String> {
         let Trial(_, task, then, _) = self;
         let mut lines = lines_of(rt, club, version);
@@ -101,8 +98,7 @@ impl Trial {
         lines
     }
 
-    /// The expected lines of files with each club that the task goes through, from the first one
-    /// on.
+    /// The club before the task comes first, then the club after each event.
     fn clubs(&self, rt: &impl Host) -> Vec<Vec<String>> {
         let Trial(beginning, task, _, _) = self;
         let mut club = beginning.club(rt);
@@ -118,9 +114,7 @@ impl Trial {
         clubs
     }
 
-    /// The numbers of the first and the last of the clubs that may be found after a number of
-    /// events; `None` if the database wasn't opened. After an event that failed this may also be
-    /// the club from after it.
+    /// Returns the numbers of the first and the last club that the files may hold.
     fn may_be_found(&self, done: Option<usize>) -> (usize, usize) {
         let task = self.1;
         match done {
@@ -131,14 +125,11 @@ impl Trial {
         }
     }
 
-    /// The lines of files of these bytes: their rows, the replies to the task again and to the
-    /// events after it, and the rows then.
     fn found_in(&self, rt: &impl Host, bytes: &Bytes) -> Vec<String> {
         let found = do_over(rt, bytes, NEVER, Work::Inspects(self.1, self.2));
         found.lines.expect(rt, "a database")
     }
 
-    /// Ends the test unless the club is whole wherever one of the files fails.
     pub fn holds(&self, rt: &impl Host) {
         let wanted = replies(rt, &mut self.0.club(rt), self.1);
         let mut crashes = Crashes {
@@ -157,9 +148,7 @@ impl Trial {
     }
 }
 
-/// A task with the files before it, the lines of each club that it goes through, and the replies to
-/// its events. The digests are of the files that it left and were tried, each with the number of
-/// events done.
+/// `tried` has a digest of each tried content of the files with the number of done events.
 #[derive(Drop)]
 struct Crashes<'a> {
     trial: &'a Trial,
@@ -170,8 +159,7 @@ struct Crashes<'a> {
 }
 
 impl Crashes<'_> {
-    /// The number of the task's events that were done, by its replies; `None` if the database
-    /// wasn't opened. At the next event, if there is one, the desk failed.
+    /// Returns the number of done events, or `None` if no store opened the database.
     fn done_by(&self, rt: &impl Host, replies: &Option<Vec<String>>) -> Option<usize> {
         let Some(replies) = replies else {
             return None;
@@ -184,8 +172,7 @@ impl Crashes<'_> {
         Some(done)
     }
 
-    /// Ends the test unless the files that are left in this case hold one of the clubs that may be
-    /// found, and after the task again the club after it. Returns whether it wasn't tried before.
+    /// Returns whether these files are tried for the first time.
     fn expect_left(
         &mut self,
         rt: &impl Host,
@@ -211,8 +198,7 @@ impl Crashes<'_> {
         true
     }
 
-    /// Reopens the files with what wasn't synced, without it, and once for each way that is tried
-    /// of keeping a part of it; not at all if they were left so at another stop.
+    /// The same files aren't tried again at another stop.
     fn expect_each_left(
         &mut self,
         rt: &impl Host,
@@ -231,8 +217,7 @@ impl Crashes<'_> {
         }
     }
 
-    /// Does the task on files of which one stops there, and reopens what is left of them. Returns
-    /// whether the file had calls left: then it didn't stop.
+    /// Returns whether the file had calls left, which means that it didn't fail.
     fn survives(&mut self, rt: &impl Host, stop: Stop) -> bool {
         let work = do_over(rt, &self.bytes, stop, Work::Serves(self.trial.1, &[]));
         let done = self.done_by(rt, &work.lines);
@@ -243,7 +228,7 @@ impl Crashes<'_> {
         work.has_calls_left
     }
 
-    /// The number of the task's calls of one file, which fails at each of them in turn.
+    /// The file fails at each of its calls in turn.
     fn calls_of(&mut self, rt: &impl Host, part: Part) -> u64 {
         self.tried.clear();
         for calls in 0..1_000u64 {

@@ -13,9 +13,9 @@ use test_kit::roots::ROOT;
 #[derive(Clone, Copy)]
 pub(crate) enum Event {
     Gives(PlainCommand),
-    /// The request of these bytes, at a moment, by `Desk::ask`.
+    /// A moment, and a request for `Desk::ask`.
     Asks(&'static str, &'static str),
-    /// The request of these bytes, at a moment, by `answer`.
+    /// A moment, and a request for `answer`.
     Exchanges(&'static str, &'static str),
 }
 
@@ -42,7 +42,6 @@ pub(crate) fn reply_text(rt: &impl Host, reply: &Reply) -> String {
     String::from_utf8(bytes).ok().expect(rt, "a text")
 }
 
-/// The text of an answer to the office: `done`, the signature of a pass, or the fault.
 pub(crate) fn office_text(rt: &impl Host, reply: &OfficeReply) -> String {
     match reply {
         OfficeReply::Done => text(rt, format!(in rt.alloc(); "done")),
@@ -59,7 +58,6 @@ pub(crate) fn words_in<'a>(rt: &impl Host, bytes: &'a str) -> Words<'a> {
     }
 }
 
-/// The reply of `answer` to a request's bytes. It must write the reply and nothing else.
 fn exchange<S: ClubStore>(rt: &impl Host, desk: &mut Desk<S>, at: &str, bytes: &str) -> String {
     let mut face = Face::new(rt.alloc()).expect(rt, "a face");
     let mut reader = ReadInlet::new(bytes.as_bytes());
@@ -86,7 +84,6 @@ fn reply<S: ClubStore>(rt: &impl Host, desk: &mut Desk<S>, event: &Event) -> Str
     }
 }
 
-/// Plays two lists of events at a desk over a store. Returns the replies and the store.
 pub(crate) fn replies_over<S: ClubStore>(
     rt: &impl Host,
     store: S,

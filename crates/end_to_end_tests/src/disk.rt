@@ -5,7 +5,6 @@ use crate::recorded::Recorded;
 use sqlite::Files;
 use sqlite_disk::{Disk, Fuse};
 
-/// A file that fails after a number of calls.
 pub(crate) type Stops = Fuse<Recorded>;
 
 #[derive(Clone, Copy)]
@@ -14,7 +13,7 @@ pub(crate) enum Part {
     Database,
 }
 
-/// The file that fails, and the number of calls before it does.
+/// `part` fails after this number of calls.
 #[derive(Clone, Copy)]
 pub(crate) struct Stop {
     pub part: Part,
@@ -40,7 +39,6 @@ impl Bytes {
         }
     }
 
-    /// All that is in the files, synced or not.
     pub fn of_files(rt: &impl Host, files: &Files<Stops>) -> Bytes {
         Bytes {
             log: Vec::from_slice(rt.alloc(), &files.log.inner().bytes).expect(rt, "memory"),
@@ -48,7 +46,6 @@ impl Bytes {
         }
     }
 
-    /// Files with these bytes. One of them fails at `stop`.
     pub fn files(&self, rt: &impl Host, stop: Stop) -> Files<Stops> {
         let (log_calls, db_calls) = match stop.part {
             Part::Log => (stop.calls, u64::MAX),
@@ -63,7 +60,6 @@ impl Bytes {
     }
 }
 
-/// Whether this file can still be called.
 pub(crate) fn has_calls_left(files: &mut Files<Stops>, part: Part) -> bool {
     let file = match part {
         Part::Log => &mut files.log,

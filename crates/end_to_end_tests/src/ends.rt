@@ -5,10 +5,9 @@ ghost use Rattle.std.specs.Prelude.{◌≤◌, length};
 use club_http::MAX_REPLY_LEN;
 use std::io::{self, ErrorKind, Read, Write};
 
-/// More bytes than any request has.
 pub(crate) const WHOLE: usize = 65_536;
 
-/// Gives a request, at most `step` bytes a call. After its end it gives none, or fails.
+/// After the request's end, a read returns no byte or fails.
 #[derive(Drop)]
 pub(crate) struct Giver<'a> {
     pub left: &'a [u8],
@@ -42,7 +41,7 @@ impl Read for Giver<'_> {
     }
 }
 
-/// Takes a reply, at most `step` bytes a call. At its limit it fails or, if it stalls, takes none.
+/// At its limit, a write fails or, if it stalls, takes no byte.
 #[derive(Drop)]
 pub(crate) struct Taker {
     bytes: [u8; MAX_REPLY_LEN],
@@ -66,12 +65,10 @@ impl Taker {
         }
     }
 
-    /// Takes a whole reply in one call.
     pub fn whole() -> Taker {
         Taker::new(MAX_REPLY_LEN, MAX_REPLY_LEN, false)
     }
 
-    /// Takes the first bytes, as many as there is room for. Returns their number.
     pub fn take(&mut self, bytes: &[u8]) -> usize
         ensures { result ≤ length bytes.now }
     {

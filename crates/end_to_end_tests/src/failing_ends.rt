@@ -9,19 +9,16 @@ use test_kit::exchanges::{BAD_REQUEST, BOOK_7, BOOKED_7};
 use test_kit::join;
 use test_kit::passes::AMY_V2;
 
-/// The bytes of the booking's reply.
 const REPLY_LEN: usize = 133;
 
 const _: () = prove!(BOOKED_7.len() == REPLY_LEN);
 
-/// The booking with a number of bytes after it, and the bytes that each call gives and takes. Then
-/// the number of bytes that aren't read, and of the calls of the reader and of the writer.
+/// The bytes after the booking, of each read and of each write. Then unread bytes, reads and
+/// writes.
 #[derive(Clone, Copy)]
 struct Whole(usize, usize, usize, usize, u64, u64);
 
-/// The 203 bytes of the request are read to the last one, however few a call gives. The reader
-/// fails at any later call. Bytes after a request are read with it, up to the buffer's end, and
-/// change nothing. A writer that takes a byte a call gets the whole reply.
+/// The request has 203 bytes. Bytes after a request are read up to the buffer's end.
 static WHOLE_ONES: [Whole; 8] = [
     Whole(0, 1, MAX_REPLY_LEN, 0, 203, 1),
     Whole(0, 2, MAX_REPLY_LEN, 0, 102, 1),
@@ -53,8 +50,7 @@ fn whole_exchanges(rt: HostRuntime) {
     }
 }
 
-/// The booking, cut at each byte. If the input ends there it is a bad request. If the reader fails
-/// nothing is written. The desk is unchanged.
+/// An input that ends early gets a bad request, and a failed read gets no byte.
 struct CutInput;
 
 impl Fixture for CutInput {
@@ -77,8 +73,7 @@ fn cut_input(rt: HostRuntime) {
     play(&rt, &CutInput);
 }
 
-/// A writer that fails or stalls after `len` bytes: it gets the first bytes of the reply, and the
-/// booking is kept.
+/// The writer gets a prefix of the reply, and the booking is kept.
 #[derive(Clone, Copy)]
 struct ShortWriter {
     len: usize,

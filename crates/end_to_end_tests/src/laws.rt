@@ -22,9 +22,7 @@ fn remove(rt: &HostRuntime, path: &str) {
     }
 }
 
-/// Calls each law at stores over the files at two paths, which are made if missing, and at one in
-/// memory. Only this function names the stores' types, because the proof of each function that does
-/// takes a minute.
+/// Only this function names the stores' types, because each proof with these types takes a minute.
 fn call_laws(rt: &HostRuntime, test: &impl Abort, first: &str, second: &str) {
     let Ok(before) = Store::open_file(rt, first, Unknown) else {
         panic!(test; "no store opens at {first}");

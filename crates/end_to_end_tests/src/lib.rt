@@ -1,6 +1,4 @@
-//! End-to-end tests. Exchanges go from a request's bytes to the reply's, at a desk over tables in
-//! memory. In crashes a task runs at a desk over two files, and one file fails at each of its calls
-//! in turn. A store reopens the files and must find the club.
+//! End-to-end tests: exchanges from bytes to bytes, and crashes at each call of a file.
 #![tactic(auto)]
 
 #[cfg(test)]

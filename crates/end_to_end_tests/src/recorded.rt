@@ -1,5 +1,5 @@
-//! A file in memory that keeps each change since its last sync, so that a test can lose or tear it.
-//! As the program assumes of a real file, a torn write leaves each byte old or new.
+//! A file in memory that keeps each change since its last sync, for tests that lose or tear
+//! changes. A torn write leaves each byte old or new.
 
 ghost use Rattle.std.specs.Prelude.{◌≡◌, ◌∷◌, length, true, false, refl, reverse, map, is_ok, OnOk};
 ghost use Rattle.std.specs.Prelude.{OnErr};
@@ -12,7 +12,7 @@ use sqlite_disk::{Disk, Tally, digest_of};
 use std::alloc::{AllocError, Global};
 use std::io;
 
-/// A write of bytes at an offset or, without an offset, a new length.
+/// Without `at`, the change is a new length.
 #[derive(Drop)]
 pub(crate) struct Change {
     pub at: Option<usize>,
@@ -24,7 +24,7 @@ pub(crate) struct Change {
 #[derive(Drop)]
 pub(crate) struct Recorded {
     pub bytes: Vec<u8>,
-    /// The bytes at the last sync, and the changes since then, the oldest first.
+    /// The bytes at the last sync, and the changes since that sync.
     pub synced: Vec<u8>,
     pub synced_digest: u64,
     pub changes: Vec<Change>,
@@ -34,7 +34,6 @@ pub(crate) struct Recorded {
 }
 
 impl Recorded {
-    /// A file with these bytes, which are synced.
     pub fn of(alloc: Global, bytes: &[u8]) -> Result<Recorded, AllocError> {
         Ok(Recorded {
             bytes: Vec::from_slice(alloc, bytes)?,

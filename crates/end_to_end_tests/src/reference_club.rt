@@ -1,4 +1,4 @@
-//! The reference machine's club: its replies to events, and the rows that its tables have then.
+//! The reference machine's replies to events, and the rows that the tables must have.
 
 use crate::desk::{Event, moment, office_text, reply_text, words_in};
 use crate::expect::{Host, push, text};
@@ -11,7 +11,6 @@ use club_values::{Name, Slot};
 use test_kit::roots::ROOT;
 use test_kit::signed_pass;
 
-/// Which tables a file has.
 #[derive(Clone, Copy, PartialEq, Eq)]
 pub(crate) enum Version {
     None,
@@ -24,7 +23,6 @@ fn name(rt: &impl Host, text: &str) -> Name {
     Name::read(text.as_bytes()).expect(rt, "a name")
 }
 
-/// The reply to a request under the pass of `amy-1` that is signed under the first root.
 fn ask(rt: &impl Host, club: &mut Club, at: &str, bytes: &str) -> String {
     let pass = signed_pass(rt.alloc(), Some(name(rt, "amy-1")), ROOT, &[]);
     let words = Words {
@@ -99,7 +97,6 @@ fn place(rt: &impl Host, slot: &Slot) -> String {
     text(rt, format!(in rt.alloc(); "{facility} {day} {hour}"))
 }
 
-/// Adds a booking, and its slot unless the booking is cancelled.
 fn add_booking(rt: &impl Host, lines: &mut Vec<String>, club: &Club, booking: &Booking) {
     let (key, number, guests) = (&booking.key, booking.number.get(), booking.guests.get());
     let (charge, left, refund) = (booking.charge, booking.left, booking.refund);
@@ -113,8 +110,7 @@ fn add_booking(rt: &impl Host, lines: &mut Vec<String>, club: &Club, booking: &B
     }
 }
 
-/// Adds a slot's taken places and whether it is closed, unless its line is there. No member is
-/// called `nobody`, so the count covers all members.
+/// No member is called `nobody`, so the count includes all members.
 fn add_slot(rt: &impl Host, lines: &mut Vec<String>, club: &Club, slot: &Slot) {
     let all = club.outside(&name(rt, "nobody"), Some(*slot));
     let (place, closed, taken) = (place(rt, slot), u8::from(all.closed), all.taken);
@@ -142,7 +138,6 @@ fn add_rows(rt: &impl Host, lines: &mut Vec<String>, club: &Club) {
     }
 }
 
-/// The sorted lines of a club's tables in this version. Tables of version 1 have no older roots.
 pub(crate) fn lines_of(rt: &impl Host, club: &Club, version: Version) -> Vec<String> {
     let mut lines = Vec::new(rt.alloc());
     match version {

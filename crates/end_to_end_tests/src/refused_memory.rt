@@ -1,6 +1,5 @@
 //! Exchanges in which an allocation is refused. `tests/desk/refused_memory_tests.py` refuses each
-//! in turn, those of the fixture too. A test ends with out of memory if the refused allocation was
-//! before or after the tested exchange.
+//! allocation in turn. A test ends with out of memory if the exchange doesn't make the allocation.
 
 use crate::expect::{Host, expect_case};
 use crate::fixture::{Fixture, KEPT, NOT_YET, Served, Step, play, with_pass};
@@ -8,8 +7,7 @@ use club_core::ClubStore;
 use test_kit::exchanges::{ACCOUNT, BOOK_7, BOOKED_7, UNAVAILABLE};
 use test_kit::passes::{AMY_JSON, AMY_V1, AMY_V2};
 
-/// The booking by an exchange, under a pass. If it gets its reply, the booking is kept. If it gets
-/// unavailable, nothing has changed, and the booking is served when it is sent again.
+/// After a reply, the booking is kept. After unavailable, the desk serves a second try.
 #[derive(Clone, Copy)]
 struct Exchange(&'static str);
 
@@ -25,7 +23,7 @@ impl Fixture for Exchange {
         for Step(asked, want) in &KEPT {
             let request = with_pass(rt, asked, self.0);
             let taker = front.written_to(rt, request.as_bytes());
-            // The one refused allocation fell here.
+            // The refused allocation was in this exchange.
             if taker.written_bytes() == UNAVAILABLE.as_bytes() {
                 panic!(rt; "Memory");
             }
@@ -49,8 +47,7 @@ const THIRD_PARTY_CAVEAT: &str =
     "HTTP/1.1 400 Bad Request\r\nContent-Type: application/json\r\nContent-Length: 39\r\n\
     Connection: close\r\n\r\n{\"fault\":7,\"text\":\"third-party caveat\"}";
 
-/// Texts that are no passes, and the reply: amy's, cut; and with a third party's caveat and a
-/// signature of zero bytes. Each gets its fault whichever allocation is refused, unless it is JSON.
+/// Each text gets its fault whichever allocation is refused, because none is JSON.
 static FAULTS: [(&str, &str); 4] = [
     (
         "MDAxN2xvY2F0aW9uIGNsdWItZGVzawowMDE5aWRlbnRpZmllciBrZXk6YW15LTEKMDAyZnNpZ25hdHVyZSAOxT68x\

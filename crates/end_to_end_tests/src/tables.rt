@@ -3,8 +3,7 @@
 use crate::expect::{Host, push, text};
 use sqlite::{Alter, Connection, Row};
 
-/// The name of each table, and the statement that returns a line for each row. It leaves out slots
-/// that are open and that nobody has booked.
+/// The statements leave out open slots that nobody has booked.
 static TABLES: [(&str, &str); 7] = [
     ("desk", "SELECT 'desk ' || version FROM desk"),
     (
@@ -37,7 +36,6 @@ static TABLES: [(&str, &str); 7] = [
     ),
 ];
 
-/// The line for a missing table.
 pub(crate) fn none_of(rt: &impl Host, table: &str) -> String {
     text(rt, format!(in rt.alloc(); "no {table}"))
 }
@@ -55,7 +53,6 @@ fn add_rows(rt: &impl Host, lines: &mut Vec<String>, rows: &[Row]) {
     }
 }
 
-/// Each row of each table, sorted.
 pub(crate) fn lines_in<S: Alter>(rt: &impl Host, connection: &mut Connection<S>) -> Vec<String> {
     let mut lines = Vec::new(rt.alloc());
     for (table, statement) in &TABLES {

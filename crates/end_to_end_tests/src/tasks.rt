@@ -19,12 +19,10 @@ const BOOK_ROOM: Event = Asks(NOON, BOOK_8);
 
 const SHOW: Event = Asks(NOON, ACCOUNT);
 
-/// The club of the fixture, and the same after the booking.
 const FRESH: Beginning = Made(&[]);
 
 const BOOKED: Beginning = Made(&[BOOK]);
 
-/// By `Desk::ask`.
 static BOOKS: Trial = Trial(FRESH, &[BOOK], &[SHOW], [54, 66]);
 
 #[test]
@@ -34,7 +32,6 @@ fn books_whole_or_not_at_all(rt: HostRuntime) {
 
 const EXCHANGE: Event = Exchanges(NOON, BOOK_7);
 
-/// By `answer`.
 static EXCHANGES: Trial = Trial(FRESH, &[EXCHANGE], &[Exchanges(NOON, ACCOUNT)], [54, 66]);
 
 #[test]
@@ -49,7 +46,7 @@ fn cancels_whole_or_not_at_all(rt: HostRuntime) {
     CANCELS.holds(&rt);
 }
 
-/// The second commit writes where the first one made room, so one sync must do.
+/// The second commit writes where the first commit made room, so one sync must do.
 static BOOKS_AND_CANCELS: Trial = Trial(FRESH, &[BOOK, CANCEL], &[SHOW], [58, 66]);
 
 #[test]
@@ -68,7 +65,6 @@ fn adds_a_key_whole_or_not_at_all(rt: HostRuntime) {
 
 const CLOSE_AT_19: Event = Gives(CloseSlot(COURT_AT_19));
 
-/// While the slot before it is booked.
 static CLOSES: Trial = Trial(BOOKED, &[CLOSE_AT_19], &[], [46, 62]);
 
 #[test]
@@ -82,7 +78,6 @@ const CLOSED: Beginning = Made(&[CLOSE_AT_18, CLOSE_AT_19]);
 
 const OPEN_AT_19: Event = Gives(OpenSlot(COURT_AT_19));
 
-/// While the slot before it stays closed.
 static OPENS: Trial = Trial(CLOSED, &[OPEN_AT_19], &[CLOSE_AT_18], [44, 61]);
 
 #[test]
@@ -92,7 +87,7 @@ fn opens_a_slot_or_not(rt: HostRuntime) {
 
 const DEBIT: Event = Gives(Debit("amy", 9_400));
 
-/// It takes all that the booking leaves, so that a second debit is refused.
+/// The debit takes all points that the booking leaves, so a second debit is refused.
 static DEBITS: Trial = Trial(BOOKED, &[DEBIT], &[BOOK], [44, 61]);
 
 #[test]
@@ -102,7 +97,7 @@ fn debits_a_member_or_not(rt: HostRuntime) {
 
 const SET_FACILITY: Event = Gives(SetFacility("court-1", 3, 100, 9, 20));
 
-/// It leaves as many places as the slot has persons.
+/// The facility keeps exactly as many places as the slot has persons.
 static SETS_A_FACILITY: Trial = Trial(BOOKED, &[SET_FACILITY], &[BOOK], [44, 61]);
 
 #[test]
@@ -112,7 +107,7 @@ fn sets_a_facility_whole_or_not_at_all(rt: HostRuntime) {
 
 const CANCEL_BOOKING: Event = Gives(CancelBooking("amy-1", 7));
 
-/// A second one changes nothing, and the member's own cancellation gets the whole charge.
+/// The member's own cancellation gets the whole charge.
 static CANCELS_FOR_A_MEMBER: Trial = Trial(
     BOOKED,
     &[CANCEL_BOOKING],
@@ -127,7 +122,7 @@ fn cancels_for_a_member_whole_or_not_at_all(rt: HostRuntime) {
 
 const SET_QUOTA: Event = Gives(SetQuota("amy", 1));
 
-/// Below the number of open bookings, which stay.
+/// Open bookings beyond the new quota stay.
 static SETS_A_QUOTA: Trial = Trial(Made(&[BOOK, BOOK_ROOM]), &[SET_QUOTA], &[BOOK], [44, 61]);
 
 #[test]
@@ -151,10 +146,9 @@ fn makes_all_tables_or_none(rt: HostRuntime) {
     MAKES_TABLES.holds(&rt);
 }
 
-/// Two bookings. The second is cancelled.
 const TWICE: &[Event] = &[BOOK, BOOK_ROOM, Asks(LATER, CANCEL_8)];
 
-/// The tables are changed when they are opened.
+/// The opening changes the tables.
 static MIGRATES: Trial = Trial(First(TWICE), &[], &[BOOK, BOOK_ROOM, SHOW], [52, 56]);
 
 #[test]

@@ -1,5 +1,4 @@
-//! The contents that a crash may leave in two files: each change since the last sync is kept, lost
-//! or torn.
+//! The contents that a crash may leave: each change since the last sync is kept, lost or torn.
 
 use crate::disk::{Bytes, Stops};
 use crate::expect::{Host, push};
@@ -11,19 +10,17 @@ use sqlite_disk::digest_of;
 pub(crate) enum Survival {
     Kept,
     Lost,
-    /// The first half of a write's bytes is kept.
     FirstHalf,
-    /// All of a write's bytes but the last one are kept.
     AllButOne,
     LastHalf,
     EverySecond,
 }
 
-/// The survivals of the changes before one of them, of that one, and of those after it.
+/// The survivals of earlier changes, of one change, and of later changes.
 #[derive(Clone, Copy)]
 pub(crate) struct Survivals(Survival, Survival, Survival);
 
-/// The survivals that are tried for the newest change of a file.
+/// The newest change of a file is tried with all these rows.
 static TRIED: [Survivals; 9] = [
     Survivals(Survival::Kept, Survival::Lost, Survival::Kept),
     Survivals(Survival::Kept, Survival::FirstHalf, Survival::Kept),
@@ -43,8 +40,7 @@ static TRIED: [Survivals; 9] = [
 /// Each other change is tried with one of this many first rows, by turns.
 const BY_TURNS: usize = 6;
 
-/// Survivals of the changes of two files, around the change of this number. The log's changes come
-/// first.
+/// The number of a change, and the survivals around it. The log's changes come first.
 #[derive(Clone, Copy)]
 pub(crate) struct Case(pub usize, pub Survivals);
 
@@ -56,11 +52,10 @@ pub(crate) const KEPT: Case = Case(0, ALL_KEPT);
 
 pub(crate) const LOST: Case = Case(0, ALL_LOST);
 
-/// Any byte: it fills the gap before a write past the end of a file.
+/// This byte fills the gap before a write past the end of a file.
 const GARBAGE: u8 = 0xA5;
 
 impl Survival {
-    /// Whether the byte at `place` in a write of this length is kept.
     fn keeps(self, place: usize, len: usize) -> bool {
         match self {
             Survival::Kept => true,
@@ -72,7 +67,7 @@ impl Survival {
         }
     }
 
-    /// The survival of a change of this length: a single byte is kept or lost, not torn.
+    /// A single byte is kept or lost, not torn.
     fn of_len(self, len: usize) -> Survival {
         match len {
             1 if self.keeps(0, 1) => Survival::Kept,
@@ -94,7 +89,6 @@ impl Survival {
 }
 
 impl Case {
-    /// The survival of the change of this number.
     fn survival(&self, number: usize, change: &Change) -> Survival {
         let Case(torn, Survivals(before, own, after)) = *self;
         let survival = if number < torn {
@@ -108,7 +102,6 @@ impl Case {
     }
 }
 
-/// Writes a byte at an index, and fills a gap before it.
 fn put(rt: &impl Host, file: &mut Vec<u8>, index: usize, byte: u8) {
     match file.get_mut(index) {
         Some(place) => *place = byte,
@@ -127,7 +120,6 @@ fn write_part(rt: &impl Host, file: &mut Vec<u8>, at: usize, bytes: &[u8], survi
     }
 }
 
-/// The length of a file after a change of length that may be torn.
 fn torn_len(old: usize, new: usize, survival: Survival) -> usize {
     match survival {
         Survival::Kept => new,
@@ -136,7 +128,6 @@ fn torn_len(old: usize, new: usize, survival: Survival) -> usize {
     }
 }
 
-/// Applies to a file what is left of a change.
 fn make(rt: &impl Host, file: &mut Vec<u8>, change: &Change, survival: Survival) {
     match (change.at, survival) {
         (_, Survival::Lost) => {}
@@ -149,7 +140,7 @@ fn make(rt: &impl Host, file: &mut Vec<u8>, change: &Change, survival: Survival)
     }
 }
 
-/// What is left of a file whose first change has this number.
+/// The file's first change has the number `first`.
 fn left_of(rt: &impl Host, file: &Recorded, first: usize, case: &Case) -> Vec<u8> {
     let mut bytes = Vec::from_slice(rt.alloc(), &file.synced).expect(rt, "memory");
     for (place, change) in file.changes.iter().enumerate() {
@@ -167,13 +158,11 @@ pub(crate) fn left(rt: &impl Host, files: &Files<Stops>, case: &Case) -> Bytes {
     }
 }
 
-/// The number of changes since the last syncs of the files.
 pub(crate) fn changes_in(files: &Files<Stops>) -> usize {
     let (log, db) = (files.log.inner(), files.db.inner());
     log.changes.len().saturating_add(db.changes.len())
 }
 
-/// The survivals that are tried for a change: all for the newest of its file, else one, by turns.
 pub(crate) fn tried_of(files: &Files<Stops>, number: usize, turn: usize) -> &'static [Survivals] {
     let next = number.saturating_add(1);
     if next == files.log.inner().changes.len() || next == changes_in(files) {
@@ -183,7 +172,6 @@ pub(crate) fn tried_of(files: &Files<Stops>, number: usize, turn: usize) -> &'st
     &TRIED[row..row + 1]
 }
 
-/// Extends a digest by what is left of a file whose first change has this number.
 fn digest_with(digest: u64, file: &Recorded, first: usize, case: &Case) -> u64 {
     let mut digest = digest_of(digest ^ file.synced_digest, &[]);
     for (place, change) in file.changes.iter().enumerate() {
@@ -195,7 +183,7 @@ fn digest_with(digest: u64, file: &Recorded, first: usize, case: &Case) -> u64 {
     digest
 }
 
-/// A digest of what is left of the files. It doesn't build their bytes.
+/// The digest is computed without the bytes of the files.
 pub(crate) fn digest_of_left(key: u64, files: &Files<Stops>, case: &Case) -> u64 {
     let (log, db) = (files.log.inner(), files.db.inner());
     let digest = digest_with(key, log, 0, case);

@@ -7,17 +7,16 @@ use crate::tables::lines_in;
 use club_store::Store;
 use sqlite::{Alter, Connection, Files, Options};
 
-/// A task over a database that is opened before it and closed after it.
 #[derive(Clone, Copy)]
 pub(crate) enum Work {
     Runs(&'static [&'static str]),
-    /// A desk is opened, and answers the events of two lists.
+    /// A desk answers the events of both lists.
     Serves(&'static [Event], &'static [Event]),
-    /// The same, between two readings of each row of each table.
+    /// A desk answers both lists between two readings of all rows.
     Inspects(&'static [Event], &'static [Event]),
 }
 
-/// The replies of a desk over the database, or `None` if no store adopts it.
+/// Returns `None` if no store adopts the database.
 fn replies_of_desk<S: Alter + Drop>(
     rt: &impl Host,
     connection: Connection<S>,
@@ -33,7 +32,6 @@ fn replies_of_desk<S: Alter + Drop>(
     }
 }
 
-/// Does a task over a database. Returns its lines of output, or `None` if no store adopts it.
 fn do_work<S: Alter + Drop>(
     rt: &impl Host,
     mut connection: Connection<S>,
@@ -57,9 +55,7 @@ fn do_work<S: Alter + Drop>(
     }
 }
 
-/// Does a task over the database in these files. Returns its lines of output, or `None` if the
-/// database wasn't opened, and the files. Only this function names the files' type, because the
-/// proof of each function that does takes half a minute.
+/// Only this function names the files' type, because each proof with that type takes half a minute.
 fn over_files(
     rt: &impl Host,
     files: Files<Stops>,
@@ -80,17 +76,15 @@ fn over_files(
     }
 }
 
-/// The result of a task over two files.
 #[derive(Drop)]
 pub(crate) struct Done {
-    /// The lines of output, or `None` if the database wasn't opened.
+    /// `None` if no store opened the database.
     pub lines: Option<Vec<String>>,
-    /// Whether the file that may fail didn't.
+    /// Whether the file that may fail didn't fail.
     pub has_calls_left: bool,
     pub files: Files<Stops>,
 }
 
-/// Does a task over the database in files of these bytes. One of them fails at `stop`.
 pub(crate) fn do_over(rt: &impl Host, bytes: &Bytes, stop: Stop, work: Work) -> Done {
     let (lines, mut files) = over_files(rt, bytes.files(rt, stop), work);
     Done {
