@@ -1,5 +1,3 @@
-//! Tests of `passtool`'s commands.
-
 mod bad_arguments;
 mod doubles;
 mod failing;

@@ -14,7 +14,6 @@ fn output_of_fault(rt: &impl Host, fault: &Fault) -> Output {
     }
 }
 
-// What arguments ask for.
 fn asked<'a>(
     rt: &impl Host,
     arguments: &'a [&'a str],
@@ -22,7 +21,6 @@ fn asked<'a>(
     read_job(rt.alloc(), arguments)
 }
 
-// The status and the line of the fault of arguments that are refused.
 pub(super) fn output_of(rt: &impl Host, line: &str) -> Output {
     let arguments = arguments_of(rt, line);
     match asked(rt, arguments.as_slice()) {
@@ -31,14 +29,13 @@ pub(super) fn output_of(rt: &impl Host, line: &str) -> Output {
     }
 }
 
-// The arguments of a line are refused so.
 fn expect_refused(rt: &impl Host, line: &str, end: &End) {
     expect_end(rt, &output_of(rt, line), end, line);
 }
 
 const BAD_VALUE: End = Begins(3, "bad value");
 
-// The first arguments of a command. After a colon come the rests, each with one bad value.
+// Arguments, then a colon and endings. Each ending has one bad value.
 static BAD_VALUES: [&str; 18] = [
     "add-member|F|: Amy|5 |5 amybobcydideeveflogushalfi|5 amy| amy|+5 amy|5x amy|1000000000 \
     amy|0000000005",
@@ -64,7 +61,6 @@ static BAD_VALUES: [&str; 18] = [
     ": add-key|F|K|bob|--root-stdin rotate-key|F|k|never|--root-stdin",
 ];
 
-// Values with a space.
 static SPACED: [&str; 4] = [
     "add-member|F|amy| 5",
     "add-facility|F|court 1|court|4|200|8|22",
@@ -72,7 +68,7 @@ static SPACED: [&str; 4] = [
     "show-slot|F|court 1|2026-05-01|18",
 ];
 
-// Roots of no byte, of 15 bytes, of 16 with half a byte more or with another letter, of 65 bytes.
+// Roots of 0 bytes, of 15, of 16 and a half, of 16 with a wrong digit, and of 65.
 static BAD_ROOTS: [&str; 5] = [
     "",
     "000102030405060708090a0b0c0d0e",
@@ -82,7 +78,6 @@ static BAD_ROOTS: [&str; 5] = [
     000000000000000000000000000000000000000000000000000000000000000000",
 ];
 
-// A moment before the first.
 const TOO_EARLY: &str = "rotate-key|F|k|000102030405060708090a0b0c0d0e0f|1999-12-31T23:59";
 
 fn expect_ends_refused(rt: &impl Host, row: &str) {
@@ -116,7 +111,6 @@ fn bad_values(rt: HostRuntime) {
 
 static OTHER_FORMS: [&str; 5] = ["", "v3", "V1", "JSON", "v1 "];
 
-// A line before a form is refused by the line about this form.
 fn expect_other_form(rt: &impl Host, before: &str, form: &str) {
     let line = format!(in rt.alloc(); "{before}|--form|{form}").expect(rt, "memory");
     let output = output_of(rt, line.as_str());
@@ -134,8 +128,7 @@ fn bad_forms(rt: HostRuntime) {
     }
 }
 
-// Lines with bars between their arguments. `pause` was a command of some versions. A root is given
-// once, by its argument or by the input.
+// Earlier versions had `pause`. A root comes from an argument or from the input, not from both.
 const BAD_ARGUMENTS: &str = "frob help|frob add-member|--version add-member add-member|F|amy \
     add-member|F|amy|5|6 add-member|F|-amy|5 add-member|F|amy|-5 add-member|F|amy|5|--form|v1 \
     credit|F debit|F|amy debit|F|amy|-1 set-quota|F|amy add-facility|F|court-1|court|4|200|8 \
@@ -159,7 +152,7 @@ fn arguments_that_clap_refuses(rt: HostRuntime) {
     }
 }
 
-// The text that clap writes in Rust.
+// `clap` writes this text in Rust.
 const NOT_TEXT: End = Prints(
     2,
     "error: invalid UTF-8 was detected in one or more arguments\n\nUsage: clubdesk <COMMAND>\n\nFor more information, try '--help'.\n",
@@ -171,7 +164,6 @@ fn arguments_that_are_no_text(rt: HostRuntime) {
     expect_end(&rt, &output_of_fault(&rt, &fault), &NOT_TEXT, "no text");
 }
 
-// Lines that show help, with bars between their arguments.
 const HELP: &str =
     "--help help help|serve help|show-account help|show-slot add-facility|-h --version -V";
 
@@ -183,7 +175,6 @@ fn help_of(rt: &impl Host, line: &str) -> String {
     }
 }
 
-// The text that is shown names the program.
 #[test]
 fn help(rt: HostRuntime) {
     for line in HELP.split(' ') {
@@ -195,7 +186,6 @@ fn help(rt: HostRuntime) {
 const COMMANDS: &str = "add-member credit debit set-quota add-facility set-facility add-key \
     revoke-key rotate-key close-slot open-slot cancel-booking sheet serve show-account show-slot";
 
-// The help of a command has an example of it.
 fn expect_example(rt: &impl Host, command: &str) {
     let line = format!(in rt.alloc(); "{command}|--help").expect(rt, "memory");
     let text = help_of(rt, line.as_str());

@@ -1,4 +1,4 @@
-//! Long paths, roots, numbers and words: arguments are read, or refused, whatever memory they take.
+//! Long paths, roots, numbers and words.
 
 use super::bad_arguments::output_of;
 use super::tasks::expect_asked;
@@ -13,7 +13,6 @@ fn text_of(rt: &impl Host, pieces: &[Piece]) -> String {
 
 static PATH: [Piece; 2] = [(1_999, "./"), (1, "aa")];
 
-// What comes before the path and after it, and what the arguments ask for.
 static WITH_A_PATH: [(&str, &str, &str); 3] = [
     ("sheet|", "|2026-05-01", "sheet 2026-05-01"),
     (
@@ -46,7 +45,6 @@ fn takes_numbers_of_each_length(rt: HostRuntime) {
     }
 }
 
-// A root of so many bytes is read, and so is a command with it.
 fn takes_root(rt: &impl Host, len: usize) {
     let text = text_of(rt, &[(len, "a7")]);
     let root = root_of(text.as_str()).expect(rt, "a root");
@@ -63,7 +61,6 @@ fn takes_roots_of_each_length(rt: HostRuntime) {
     }
 }
 
-// What comes before a word of 1,000 letters, and how the arguments are refused.
 static BEFORE_A_LONG_WORD: [(&str, End); 6] = [
     ("", Begins(2, "error: unrecognized subcommand 'wwwwwwww")),
     (

@@ -8,7 +8,7 @@ use command_line::{ArgumentsFault, Asked, read_job};
 use std::alloc::AllocError;
 use std::fmt::Write;
 
-// The arguments of a line, split at bars, after the program's name.
+// Bars separate the arguments.
 pub(crate) fn arguments_of<'a>(rt: &impl Host, line: &'a str) -> Vec<&'a str> {
     let mut arguments = Vec::from_array(rt.alloc(), ["clubdesk"]).expect(rt, "memory");
     for argument in line.split('|') {
@@ -69,7 +69,6 @@ fn work_text(rt: &impl Host, work: &Work<'_>) -> String {
     output
 }
 
-// The arguments of a line ask for this, over this file.
 pub(super) fn expect_asked(rt: &impl Host, line: &str, file: &str, want: &str) {
     let arguments = arguments_of(rt, line);
     let asked: Result<Asked<Job<'_>>, ArgumentsFault<()>> = read_job(
@@ -85,7 +84,7 @@ pub(super) fn expect_asked(rt: &impl Host, line: &str, file: &str, want: &str) {
     }
 }
 
-// Lines, and what they ask for over the file `F`. Scenarios have commands that are carried out.
+// The file is `F`. Scenarios have commands that are carried out.
 static TASKS: [&str; 30] = [
     "debit|F|amy|500 asks for Debit { member: \"amy\", points: 500 }",
     "set-facility|F|court-1|4|250|8|21 \
@@ -109,12 +108,11 @@ static TASKS: [&str; 30] = [
     asks for rotate amy-1 000102030405060708090a0b0c0d0e0f until 2026-04-25T00:00 V2",
     "rotate-key|--form|json|F|k|000102030405060708090a0b0c0d0e0f|2099-12-31T23:59 \
     asks for rotate k 000102030405060708090a0b0c0d0e0f until 2099-12-31T23:59 Json",
-    // A root of 64 bytes.
+    // The root has 64 bytes.
     "add-key|F|k|bob|ffffffffffffffffffffffffffffffffffffffffffffffffffffffffffffffff\
     ffffffffffffffffffffffffffffffffffffffffffffffffffffffffffffffff \
     asks for add k of bob ffffffffffffffffffffffffffffffffffffffffffffffffffffffffffffffff\
     ffffffffffffffffffffffffffffffffffffffffffffffffffffffffffffffff V2",
-    // With `--root-stdin` the argument of the root is left out.
     "add-key|F|k|bob|--root-stdin asks for add k of bob by input V2",
     "add-key|--root-stdin|--form=v1|F|k|bob asks for add k of bob by input V1",
     "rotate-key|F|k|2026-04-25T00:00|--root-stdin \

@@ -5,7 +5,6 @@ use crate::expect::{Host, expect_eq};
 use test_kit::End::{Begins, Prints};
 use test_kit::form_line;
 
-// The last is of 65 bytes.
 static BAD_ROOTS: [&str; 5] = [
     "",
     "0",
@@ -31,7 +30,6 @@ fn refuses_bad_roots(rt: HostRuntime) {
 
 static OTHER_FORMS: [&str; 6] = ["", "v3", "V1", "JSON", "v1 ", "binary"];
 
-// A line before a form is refused by the line about this form.
 fn expect_other_form(rt: &impl Host, before: &str, form: &str) {
     let line = format!(in rt.alloc(); "{before}{form}").expect(rt, "memory");
     let output = unread_output_of(rt, line.as_str());
@@ -48,7 +46,7 @@ fn refuses_other_forms(rt: HostRuntime) {
     }
 }
 
-// Lines with bars between their arguments; the first has none.
+// Bars separate the arguments, and the first line has no argument.
 const BAD_ARGUMENTS: &str = " frob help|frob mint mint|--root|zz mint|--id|k mint|--root|zz|--id \
     mint|--root|00|--id|a|--id|b mint|--root|00|--id|k|-x show|more show|--form|v1 narrow \
     narrow|--any narrow|--any|--any|x narrow|-x convert convert|--form convert|v1 verify \
@@ -67,7 +65,6 @@ fn expect_help(rt: &impl Host, line: &str, part: &str) {
     assert!(rt; output.text.as_str().contains(part), "{line}: {output:?}");
 }
 
-// Lines that show the help of a command.
 const HELP: &str =
     "help|mint mint|--help show|-h narrow|--help convert|--help verify|--root|ROOT|--help";
 
@@ -95,7 +92,7 @@ fn help_of_narrow_shows_the_caveats(rt: HostRuntime) {
     for caveat in CAVEATS.split('|') {
         expect_help(&rt, "narrow|-h", caveat);
     }
-    // Each is understood: what is refused is the text of the pass.
+    // Each caveat is understood, so the pass is refused.
     let caveats = CAVEATS;
     let line = format!(in rt.alloc(); "narrow|{caveats}").expect(&rt, "memory");
     expect(&rt, line.as_str(), b"!", &MALFORMED);

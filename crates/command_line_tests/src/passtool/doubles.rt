@@ -3,23 +3,21 @@
 use std::alloc::Global;
 use std::io::{self, ErrorKind, Read, Write};
 
-/// Gives one byte a read, and takes one byte a write. Signals interrupt it before each call.
 #[derive(Drop)]
 pub(crate) struct Slow<'a> {
-    /// The bytes that it still gives; then its reads fail, or it is at its end.
+    /// The bytes of later reads, and whether a read after these bytes fails.
     pub(crate) left: &'a [u8],
     pub(crate) fails: bool,
-    /// The bytes that it took, how many it takes, and whether it can be flushed then.
+    /// The written bytes, the room for them, and whether a flush succeeds.
     pub(crate) taken: Vec<u8>,
     pub(crate) room: usize,
     pub(crate) flushes: bool,
-    /// The signals before each call, and how many of them came.
+    /// The signals before each call, and the signals since the last call.
     pub(crate) signals: u8,
     came: u8,
 }
 
 impl<'a> Slow<'a> {
-    /// Gives these bytes and takes any, with a signal before each.
     pub(crate) fn new(alloc: Global, left: &'a [u8]) -> Slow<'a> {
         Slow {
             left,
@@ -32,7 +30,6 @@ impl<'a> Slow<'a> {
         }
     }
 
-    /// Fails at the end of these bytes.
     pub(crate) fn failing(alloc: Global, left: &'a [u8]) -> Slow<'a> {
         let mut slow = Slow::new(alloc, left);
         slow.fails = true;

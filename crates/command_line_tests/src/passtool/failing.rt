@@ -1,4 +1,4 @@
-//! Readers that give pieces, are interrupted or fail, and writers that are interrupted or fail.
+//! Failing or interrupted readers and writers, and readers that give pieces.
 
 use super::doubles::Slow;
 use super::runs::*;
@@ -19,7 +19,6 @@ fn fails_after(rt: &impl Host, line: &str, left: &[u8]) {
     expect_end(rt, &output, &FAILED, line);
 }
 
-// A reader that fails at once, amidst a pass or after it fails the run, and nothing is written.
 fn fails_with_reader(rt: &impl Host, line: &str) {
     let (half, _) = TEXT.as_bytes().split_at(90);
     fails_after(rt, line, b"");
@@ -36,11 +35,10 @@ fn fails_with_its_reader(rt: HostRuntime) {
     }
 }
 
-// The line of a run, its input, and the text that it writes with a line feed.
+// A line, its input, and its output without the line feed.
 type Run = (&'static str, &'static str, &'static str);
 
-// A run whose writer has room for this front of its text and no more, and flushes or fails to: it
-// ends so, and has written that front.
+// The writer has room for `front` alone.
 fn expect_taken(rt: &impl Host, (line, input, _): &Run, front: &[u8], flushes: bool, end: &End) {
     let mut writer = Slow::new(rt.alloc(), b"");
     writer.room = front.len();
@@ -51,8 +49,7 @@ fn expect_taken(rt: &impl Host, (line, input, _): &Run, front: &[u8], flushes: b
     expect_eq(rt, &writer.taken.as_slice(), &front);
 }
 
-// Each writer that is too small for the text of a run fails it. A large enough one doesn't, and one
-// that fails to flush fails after it has taken all.
+// A writer with enough room fails only if it can't flush.
 fn fails_with_writer(rt: &impl Host, run: &Run) {
     let text = run.2;
     let line = format!(in rt.alloc(); "{text}\n").expect(rt, "memory");

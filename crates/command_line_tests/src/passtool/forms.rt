@@ -12,7 +12,6 @@ static ANSWERED: [Row; 4] = [
     (NARROW, BARE_TEXT, Writes(TEXT)),
 ];
 
-// No command reports out of memory when memory is available.
 #[test]
 fn answers_with_ample_memory(rt: HostRuntime) {
     expect_rows(&rt, &ANSWERED);
@@ -23,8 +22,7 @@ fn expect_text(rt: &impl Host, line: &str, input: &str, text: &'static str) {
     expect(rt, line, input.as_bytes(), &Writes(text));
 }
 
-// Texts of a pass: with an empty location, without one, in JSON, without caveats and version, and
-// that in base64.
+// The first text has an empty location, and the others have none. The last text is base64.
 static OF_KEYID: [&str; 5] = [
     "AgEAAgVrZXlpZAAABiB83ueSURxbxvUoSFgF3-myTnheKOKpkwH51xHGCeOO9w",
     "AgIFa2V5aWQAAAYgfN7nklEcW8b1KEhYBd_psk54XijiqZMB-dcRxgnjjvc",
@@ -33,17 +31,15 @@ static OF_KEYID: [&str; 5] = [
     "eyJpIjoia2V5aWQiLCJzNjQiOiJmTjdua2xFY1c4YjFLRWhZQmRfcHNrNTRYaWppcVpNQi1kY1J4Z25qanZjIn0",
 ];
 
-// The known pass in JSON, with its names in another order.
 const REORDERED: &str =
     "{\"v\":2,\"l\":\"http://mybank/\",\"i\":\"we used our secret key\",\"c\":[{\"i\":\"test = caveat\"}],\"s64\":\"GXusegRK8zMyhluSZuJtSTvdZopmDkTYjOGpmMI9vWc\"}";
 
-// A pass whose identifier is the byte 0xff.
+// The identifier is the byte 0xff.
 const OTHER_BYTES: &str = "AgIB_wAABiB83ueSURxbxvUoSFgF3-myTnheKOKpkwH51xHGCeOO9w";
 
 const OTHER_BYTES_JSON: &str =
     "{\"c\":[],\"i64\":\"_w\",\"s64\":\"fN7nklEcW8b1KEhYBd_psk54XijiqZMB-dcRxgnjjvc\",\"v\":2}";
 
-// An empty location is left out.
 #[test]
 fn converts_every_text_of_a_pass(rt: HostRuntime) {
     for input in &OF_KEYID {
@@ -54,24 +50,20 @@ fn converts_every_text_of_a_pass(rt: HostRuntime) {
     expect_text(&rt, TO_JSON, OTHER_BYTES, OTHER_BYTES_JSON);
 }
 
-// The known pass with two caveats.
 const NARROWED_TWICE: &str =
     "MDAxY2xvY2F0aW9uIGh0dHA6Ly9teWJhbmsvCjAwMjZpZGVudGlmaWVyIHdlIHVzZWQgb3VyIHNlY3JldCBrZXkKMDAxNmNpZCB0ZXN0ID0gY2F2ZWF0CjAwMTRjaWQgZ3Vlc3RzIDw9IDIKMDAxNWNpZCBraW5kID0gY291cnQKMDAyZnNpZ25hdHVyZSAf_pg3glc9WpwOTs7pKp9ObqBoKVAQvPENbBgmZL4UYwo";
 
-// The pass of `BARE_TEXT` with the caveat `-x`.
 const DASHED_TEXT: &str =
     "MDAxY2xvY2F0aW9uIGh0dHA6Ly9teWJhbmsvCjAwMjZpZGVudGlmaWVyIHdlIHVzZWQgb3VyIHNlY3JldCBrZXkKMDAwYmNpZCAteAowMDJmc2lnbmF0dXJlIH5yFLJImuHOPzWujMWYmtw37uVf1cHSu9BEnMhq071KCg";
 
 static KNOWN: [&str; 3] = [TEXT, V2_TEXT, JSON_TEXT];
 
-// The known pass with the caveat `weekday = fri`, in each form.
 static ON_FRIDAYS: [&str; 3] = [
     "MDAxY2xvY2F0aW9uIGh0dHA6Ly9teWJhbmsvCjAwMjZpZGVudGlmaWVyIHdlIHVzZWQgb3VyIHNlY3JldCBrZXkKMDAxNmNpZCB0ZXN0ID0gY2F2ZWF0CjAwMTZjaWQgd2Vla2RheSA9IGZyaQowMDJmc2lnbmF0dXJlIOCJPKhxcZk4uV_uzhE34LHxO85T7Ga7-rsgg_EtqqKICg",
     "AgEOaHR0cDovL215YmFuay8CFndlIHVzZWQgb3VyIHNlY3JldCBrZXkAAg10ZXN0ID0gY2F2ZWF0AAINd2Vla2RheSA9IGZyaQAABiDgiTyocXGZOLlf7s4RN-Cx8TvOU-xmu_q7IIPxLaqiiA",
     "{\"c\":[{\"i\":\"test = caveat\"},{\"i\":\"weekday = fri\"}],\"i\":\"we used our secret key\",\"l\":\"http://mybank/\",\"s64\":\"4Ik8qHFxmTi5X-7OETfgsfE7zlPsZrv6uyCD8S2qoog\",\"v\":2}",
 ];
 
-// A pass is written in the form in which it came.
 #[test]
 fn narrows_in_the_form_it_came_in(rt: HostRuntime) {
     expect_text(&rt, "narrow|guests <= 2|kind = court", TEXT, NARROWED_TWICE);
@@ -82,19 +74,16 @@ fn narrows_in_the_form_it_came_in(rt: HostRuntime) {
 }
 
 static MINTED: [(&str, End); 3] = [
-    // A pass of the desk, as the office makes it.
     (
         "mint|--root|00112233445566778899aabbccddeeff|--id|key:amy-1|--location|club-desk",
         Writes(AMY_V2),
     ),
-    // Without a form and a location.
     (
         "mint|--id|key:amy-1|kind = court|--root|00FF",
         Writes(
             "AgIJa2V5OmFteS0xAAIMa2luZCA9IGNvdXJ0AAAGICfWuQ_cMZP6886vBgHq1h-9kfS-piIzi-4GOPexX2IH",
         ),
     ),
-    // Any caveat.
     (
         "mint|--root|ROOT|--id|we used our secret key|--location=http://mybank/|--form=v1|--|-x",
         Writes(DASHED_TEXT),
@@ -106,7 +95,6 @@ fn mints_passes(rt: HostRuntime) {
     expect_unread(&rt, &MINTED);
 }
 
-// The passes of keys with names of 1 and of 24 letters, in each form.
 static OF_1_LETTER: [&str; 3] = [
     "MDAxN2xvY2F0aW9uIGNsdWItZGVzawowMDE1aWRlbnRpZmllciBrZXk6YQowMDJmc2lnbmF0dXJlINUNOO5RwGYyFrLLxURCWimOR2Ke7JygR9qsvDKEn0veCg",
     "AgEJY2x1Yi1kZXNrAgVrZXk6YQAABiDVDTjuUcBmMhayy8VEQlopjkdinuycoEfarLwyhJ9L3g",
@@ -140,8 +128,7 @@ fn prints_passes_of_short_and_long_names(rt: HostRuntime) {
 const SHOWN_OF_24_LETTERS: &str =
     "form v2\nlocation club-desk\nidentifier key:abcdefghijklmnopqrstuvwx\nsignature 13654785468fc9bde999880544c76535d53ad07d6bcb6312fddf4394b895f171";
 
-// A backslash is doubled, and other bytes are shown in hexadecimal. The location has a backslash, a
-// line feed, 0x7f and a space, the identifier is 0x00, the caveat a letter in UTF-8.
+// The location has a backslash, a line feed, 0x7f and a space, and the identifier is 0x00.
 const ODD: &str = "AgEHYVxiCn9-IAIBAAACAsOpAAAGIHze55JRHFvG9ShIWAXf6bJOeF4o4qmTAfnXEcYJ4473";
 
 const SHOWN_ODD: &str =

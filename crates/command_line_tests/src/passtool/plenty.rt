@@ -1,4 +1,4 @@
-//! Passes of 64 caveats, long caveats and words, and slow pipes: a run has memory for each.
+//! Passes of 64 caveats, long caveats and words, and slow pipes.
 
 use super::doubles::Slow;
 use super::runs::*;
@@ -10,8 +10,8 @@ use test_kit::{End, Output, Piece, join};
 
 const VERIFY: &str = "verify|--root|00112233445566778899aabbccddeeff";
 
-// Amy's pass with caveats `guests <= 49` in each form, by a program of another language. Its text
-// up to the first caveat, a further caveat, and the text after 63 and after 64 of them.
+// An independent program computed these texts of amy's pass. Each entry has the text up to the
+// first caveat, a further caveat, and the ends after 63 and 64 caveats.
 type Guests = [&'static str; 4];
 
 static GUESTS: [Guests; 3] = [
@@ -54,7 +54,6 @@ fn expect_text(rt: &impl Host, line: &str, input: &str, want: &str) {
     expect_case(rt, input, &output.text.strip_suffix('\n'), &Some(want));
 }
 
-// A text is signed, and converted to each form.
 fn is_converted(rt: &impl Host, text: &str) {
     expect_text(rt, VERIFY, text, "signed");
     for (form, of) in FORMS.iter().zip(&GUESTS) {
@@ -82,7 +81,6 @@ const GUESTS_64: Piece = (64, "|guests <= 1");
 
 const MINT: Piece = (1, "mint|--root|ROOT|--id|we used our secret key");
 
-// The line of a run in pieces, its input, and how it ends.
 static ADDED: [(&[Piece], &str, End); 4] = [
     (&[(1, "narrow"), GUESTS_64], TEXT, TOO_MANY),
     (&[(1, "narrow"), GUESTS_64], BARE_TEXT, Begins(0, "")),
@@ -98,7 +96,7 @@ fn adds_no_sixty_fifth_caveat(rt: HostRuntime) {
     }
 }
 
-// Amy's pass with a caveat of 256 bytes in each form, by the same program.
+// An independent program computed these passes with a caveat of 256 bytes.
 static OF_LONG: [&str; 3] = [
     "MDAxN2xvY2F0aW9uIGNsdWItZGVzawowMDE5aWRlbnRpZmllciBrZXk6YW15LTEKMDEwOWNpZCAtLS0tLS0tLS0tLS0tLS0tIC0tLS0tLS0tLS0tLS0tLS0gLS0tLS0tLS0tLS0tLS0tLSAtLS0tLS0tLS0tLS0tLS0tIC0tLS0tLS0tLS0tLS0tLS0gLS0tLS0tLS0tLS0tLS0tLSAtLS0tLS0tLS0tLS0tLS0tIC0tLS0tLS0tLS0tLS0tLS0gLS0tLS0tLS0tLS0tLS0tLSAtLS0tLS0tLS0tLS0tLS0tIC0tLS0tLS0tLS0tLS0tLS0gLS0tLS0tLS0tLS0tLS0tLSAtLS0tLS0tLS0tLS0tLS0tIC0tLS0tLS0tLS0tLS0tLS0gLS0tLS0tLS0tLS0tLS0tLSAtCjAwMmZzaWduYXR1cmUg0EYA3QeW9E_rlyXJ4RF9vkes1fuayd1HMFzy7zTp_ysK",
     "AgEJY2x1Yi1kZXNrAglrZXk6YW15LTEAAoACLS0tLS0tLS0tLS0tLS0tLSAtLS0tLS0tLS0tLS0tLS0tIC0tLS0tLS0tLS0tLS0tLS0gLS0tLS0tLS0tLS0tLS0tLSAtLS0tLS0tLS0tLS0tLS0tIC0tLS0tLS0tLS0tLS0tLS0gLS0tLS0tLS0tLS0tLS0tLSAtLS0tLS0tLS0tLS0tLS0tIC0tLS0tLS0tLS0tLS0tLS0gLS0tLS0tLS0tLS0tLS0tLSAtLS0tLS0tLS0tLS0tLS0tIC0tLS0tLS0tLS0tLS0tLS0gLS0tLS0tLS0tLS0tLS0tLSAtLS0tLS0tLS0tLS0tLS0tIC0tLS0tLS0tLS0tLS0tLS0gLQAABiDQRgDdB5b0T-uXJcnhEX2-R6zV-5rJ3UcwXPLvNOn_Kw",
@@ -118,7 +116,6 @@ fn narrows_by_a_long_caveat(rt: HostRuntime) {
     }
 }
 
-// A pipe with two signals before each call.
 fn with_signals<'a>(rt: &impl Host, left: &'a str) -> Slow<'a> {
     let mut slow = Slow::new(rt.alloc(), left.as_bytes());
     slow.signals = 2;
@@ -137,7 +134,6 @@ fn goes_on_after_two_signals_in_a_row(rt: HostRuntime) {
 
 const VERIFY_LONGEST: &str = "verify|--root|00";
 
-// A run that mints a pass with an identifier of `len` bytes, under a root of one zero byte.
 fn minted(rt: &impl Host, len: usize) -> Output {
     let line = text_of(rt, &[(1, "mint|--root|00|--id|"), (len, "k")]);
     unread_output_of(rt, line.as_str())
@@ -158,7 +154,7 @@ fn reads_the_longest_line_byte_by_byte(rt: HostRuntime) {
 
 const TOO_LONG: End = Prints(3, "fault 1: too long");
 
-// Bytes after the 8,192 characters of a pass, and how `verify` ends. It takes one line feed off.
+// A pass of 8,192 characters comes before these bytes. `verify` removes one line feed.
 static BEHIND: [(&str, End); 6] = [
     ("", Writes("signed")),
     ("\n", Writes("signed")),
@@ -168,7 +164,7 @@ static BEHIND: [(&str, End); 6] = [
     ("x", TOO_LONG),
 ];
 
-// With the other parts of the pass 6,104 bytes make 6,144 in V2, and 8,192 characters.
+// An identifier of 6,104 bytes makes a pass of 8,192 characters in V2.
 #[test]
 fn takes_no_text_above_the_limit(rt: HostRuntime) {
     expect_end(&rt, &minted(&rt, 6_105), &TOO_LONG, "6,105 bytes");
@@ -180,7 +176,6 @@ fn takes_no_text_above_the_limit(rt: HostRuntime) {
     }
 }
 
-// The line before a word of 1,000 letters, and how a run ends.
 static BEFORE_A_LONG_WORD: [(&str, End); 7] = [
     ("", Begins(2, "error: unrecognized subcommand 'wwwwwwww")),
     ("show|", Begins(2, "error: unexpected argument 'wwwwwwww")),

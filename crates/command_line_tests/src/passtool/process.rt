@@ -1,5 +1,4 @@
-//! Processes of `passtool`: all of their arguments count, and how they end. The signature was
-//! computed by a program of another language.
+//! Processes of `passtool`: their arguments, statuses and lines.
 
 use super::doubles::Slow;
 use super::runs::*;
@@ -10,7 +9,7 @@ use std::fmt::Write;
 use std::io::Read;
 use test_kit::Process;
 
-/// The status of a process, and what it wrote on its standard output and on its standard error.
+/// The status, the standard output and the standard error.
 type Ended = (u8, String, String);
 
 fn end_of(rt: &impl Host, arguments: &[&[u8]], input: &mut impl Read) -> Ended {
@@ -21,10 +20,9 @@ fn end_of(rt: &impl Host, arguments: &[&[u8]], input: &mut impl Read) -> Ended {
     (status, written, process.into_printed())
 }
 
-/// The line of a process, its input, its status and its text.
+/// A line, its input, the status, and the output or the fault.
 type Row = (&'static str, &'static str, u8, &'static str);
 
-// The text of clap ends its lines itself.
 const MORE: &str =
     "error: unexpected argument 'more' found\n\nUsage: passtool show\n\nFor more information, try '--help'.\n";
 
@@ -54,7 +52,6 @@ const SHOWN: &[&[u8]] = &[b"passtool", b"show"];
 
 const NO_TEXT_SHOWN: &[&[u8]] = &[b"passtool", b"show", b"\xff"];
 
-// An answer is written, and the line of a fault is printed.
 fn expect_ended(rt: &impl Host, (status, written, printed): Ended, want: (u8, &str)) {
     expect_eq(rt, &status, &want.0);
     let (text, nothing) = if status < 2 {
@@ -88,7 +85,6 @@ fn ends_with_a_status_and_a_line(rt: HostRuntime) {
     expect_ended(&rt, ended, (7, "input or output failed\n"));
 }
 
-// More arguments than any command takes, of lengths up to a thousand.
 #[test]
 fn is_given_all_its_arguments(rt: HostRuntime) {
     let mut texts = Vec::new(rt.alloc());
@@ -111,7 +107,7 @@ fn is_given_all_its_arguments(rt: HostRuntime) {
 
 const CAVEATS: usize = 64;
 
-// The chain of HMACs over as many caveats.
+// An independent program computed the chain of HMACs over the caveats.
 const SIGNATURE: &str = "1d7296b54ce52b5364014b69c70c04b77d341727a54806f18dbc39a8fdbcb9eb";
 
 #[test]

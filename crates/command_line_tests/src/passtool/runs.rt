@@ -1,5 +1,5 @@
-//! Runs of the program over memory, and how they end. The pass and its root are those of
-//! libmacaroons' documentation; other values were computed by a program of another language.
+//! Runs of the program over memory. The pass and its root come from libmacaroons' documentation. A
+//! program in another language computed the other values.
 
 use super::doubles::Slow;
 use crate::expect::{Host, expect_end, expect_eq};
@@ -12,8 +12,7 @@ use test_kit::Output;
 const ROOT: &str =
     "74686973206973206f757220737570657220736563726574206b65793b206f6e6c792077652073686f756c64206b6e6f77206974";
 
-// The location http://mybank/, the identifier "we used our secret key" and the caveat
-// "test = caveat", signed under the root: in V1, V2 and JSON.
+// The caveat `test = caveat` of the identifier `we used our secret key`, at http://mybank/.
 pub(crate) const TEXT: &str =
     "MDAxY2xvY2F0aW9uIGh0dHA6Ly9teWJhbmsvCjAwMjZpZGVudGlmaWVyIHdlIHVzZWQgb3VyIHNlY3JldCBrZXkKMDAxNmNpZCB0ZXN0ID0gY2F2ZWF0CjAwMmZzaWduYXR1cmUgGXusegRK8zMyhluSZuJtSTvdZopmDkTYjOGpmMI9vWcK";
 
@@ -23,26 +22,21 @@ pub(crate) const V2_TEXT: &str =
 pub(crate) const JSON_TEXT: &str =
     "{\"c\":[{\"i\":\"test = caveat\"}],\"i\":\"we used our secret key\",\"l\":\"http://mybank/\",\"s64\":\"GXusegRK8zMyhluSZuJtSTvdZopmDkTYjOGpmMI9vWc\",\"v\":2}";
 
-// What `show` prints of it in V1, before its line feed.
 pub(crate) const SHOWN: &str =
     "form v1\nlocation http://mybank/\nidentifier we used our secret key\ncaveat 1 test = caveat\nsignature 197bac7a044af33332865b9266e26d493bdd668a660e44d88ce1a998c23dbd67";
 
-// The pass without its caveat, in V1.
 pub(crate) const BARE_TEXT: &str =
     "MDAxY2xvY2F0aW9uIGh0dHA6Ly9teWJhbmsvCjAwMjZpZGVudGlmaWVyIHdlIHVzZWQgb3VyIHNlY3JldCBrZXkKMDAyZnNpZ25hdHVyZSDj2eApCFJsTAA5rhURQRXZf91ovyujebNCqvD2F9BVLwo";
 
-// The location http://example.org/, the identifier "keyid" and no caveats, of an unknown root: in
-// V1 and V2.
+// The root of this pass without caveats is unknown.
 pub(crate) const OTHER_TEXT: &str =
     "MDAyMWxvY2F0aW9uIGh0dHA6Ly9leGFtcGxlLm9yZy8KMDAxNWlkZW50aWZpZXIga2V5aWQKMDAyZnNpZ25hdHVyZSB83ueSURxbxvUoSFgF3-myTnheKOKpkwH51xHGCeOO9wo";
 
 pub(crate) const OTHER_V2: &str =
     "AgETaHR0cDovL2V4YW1wbGUub3JnLwIFa2V5aWQAAAYgfN7nklEcW8b1KEhYBd_psk54XijiqZMB-dcRxgnjjvc";
 
-// The names of the forms, in the order of texts.
 pub(crate) static FORMS: [&str; 3] = ["v1", "v2", "json"];
 
-// The line of each command.
 pub(crate) const VERIFY: &str = "verify|--root|ROOT";
 
 pub(crate) const SHOW: &str = "show";
@@ -64,11 +58,9 @@ pub(crate) const MALFORMED: End = Prints(3, "fault 2: malformed");
 
 pub(crate) const TOO_MANY: End = Prints(3, "fault 4: too many caveats");
 
-/// The line of a run, its input, and how it ends.
 pub(crate) type Row = (&'static str, &'static str, End);
 
-/// The arguments of a line, split at bars, after the program's name. `ROOT` stands for the root of
-/// the known pass.
+/// Bars separate the arguments. `ROOT` stands for the root of the known pass.
 pub(crate) fn arguments_of<'a>(rt: &impl Host, line: &'a str) -> Vec<&'a str> {
     let mut arguments = Vec::from_array(rt.alloc(), ["passtool"]).expect(rt, "memory");
     if line.is_empty() {
@@ -99,7 +91,7 @@ pub(crate) fn ended_by<R: Read, W: Write>(
     }
 }
 
-/// A run of the program, which writes nothing before a fault.
+/// Fails if the run writes anything before a fault.
 pub(crate) fn output_of<R: Read>(rt: &impl Host, line: &str, reader: &mut R) -> Output {
     let arguments = arguments_of(rt, line);
     let mut written = Vec::new(rt.alloc());
@@ -115,12 +107,11 @@ pub(crate) fn output_of<R: Read>(rt: &impl Host, line: &str, reader: &mut R) -> 
     output
 }
 
-/// A run that reads no input.
+/// The run fails if it reads its input.
 pub(crate) fn unread_output_of(rt: &impl Host, line: &str) -> Output {
     output_of(rt, line, &mut Slow::failing(rt.alloc(), b""))
 }
 
-/// A run on this input ends so.
 pub(crate) fn expect(rt: &impl Host, line: &str, input: &[u8], end: &End) {
     let mut reader = input;
     expect_end(rt, &output_of(rt, line, &mut reader), end, line);
@@ -132,7 +123,6 @@ pub(crate) fn expect_rows(rt: &impl Host, rows: &[Row]) {
     }
 }
 
-/// Each of these runs reads no input, and ends so.
 pub(crate) fn expect_unread(rt: &impl Host, rows: &[(&str, End)]) {
     for (line, end) in rows {
         expect_end(rt, &unread_output_of(rt, line), end, line);

@@ -67,7 +67,7 @@ fn refuses_third_party_caveats_in_each_form(rt: HostRuntime) {
     }
 }
 
-// `OTHER_V2` in the standard alphabet, in both, and with a last bit set.
+// `OTHER_V2` in the standard alphabet, in both alphabets, and with a last bit set.
 const STANDARD: &str =
     "AgETaHR0cDovL2V4YW1wbGUub3JnLwIFa2V5aWQAAAYgfN7nklEcW8b1KEhYBd/psk54XijiqZMB+dcRxgnjjvc";
 
@@ -77,7 +77,6 @@ const MIXED: &str =
 const BITS_LEFT: &str =
     "AgETaHR0cDovL2V4YW1wbGUub3JnLwIFa2V5aWQAAAYgfN7nklEcW8b1KEhYBd/psk54XijiqZMB+dcRxgnjjvd";
 
-// A run whose input has more after its text.
 static MORE: [(&str, Row); 8] = [
     ("\n", (VERIFY, TEXT, Prints(0, "signed\n"))),
     ("\n\n", (VERIFY, TEXT, MALFORMED)),
