@@ -14,7 +14,7 @@ fn converts_passes_of_short_and_long_names(rt: HostRuntime) {
     convert(&rt, &OF_24_LETTERS);
 }
 
-// V2 with an empty location. It is a packet of V1, and left out of V2 and JSON.
+// V1 has a packet for an empty location, and V2 and JSON leave out the location.
 #[test]
 fn leaves_an_empty_location_out(rt: HostRuntime) {
     convert(&rt, &UNLOCATED);
@@ -22,8 +22,7 @@ fn leaves_an_empty_location_out(rt: HostRuntime) {
     is_written(&rt, &read_in(&rt, Form::V2, written), &UNLOCATED);
 }
 
-// JSON of the pass that has an identifier alone, without what may be left out, plainly and in
-// base64.
+// JSON without optional members, plainly and in base64.
 static SHORT: [&str; 3] = [
     "{\"i\":\"keyid\",\"s64\":\"fN7nklEcW8b1KEhYBd_psk54XijiqZMB-dcRxgnjjvc\"}",
     "eyJpIjoia2V5aWQiLCJzNjQiOiJmTjdua2xFY1c4YjFLRWhZQmRfcHNrNTRYaWppcVpNQi1kY1J4Z25qanZjIn0",
@@ -37,14 +36,12 @@ fn reads_the_short_text(rt: HostRuntime) {
     }
 }
 
-// A caveat of a third party, plainly and in base64.
 const THIRD_PARTY: &[u8] =
     b"{\"c\":[{\"i\":\"a\",\"v\":\"b\"}],\"i\":\"keyid\",\"s64\":\"fN7nklEcW8b1KEhYBd_psk54XijiqZMB-dcRxgnjjvc\"}";
 
 const THIRD_PARTY_IN_BASE64: &[u8] =
     b"eyJjIjpbeyJpIjoiYSIsImwiOiIifV0sImkiOiJrZXlpZCIsInM2NCI6ImZON25rbEVjVzhiMUtFaFlCZF9wc2s1NFhpamlxWk1CLWRjUnhnbmpqdmMifQ";
 
-// These, what has no form, and too long a text.
 static REFUSED: [Refused; 8] = [
     (&[(1, THIRD_PARTY)], FormFault::ThirdParty),
     (&[(1, THIRD_PARTY_IN_BASE64)], FormFault::ThirdParty),

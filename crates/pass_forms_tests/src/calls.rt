@@ -1,5 +1,4 @@
-//! The tested calls without their contracts, which the tests don't need: a test over them is proved
-//! in a fraction of the time.
+//! The tested calls without contracts. A test over them is proved in a fraction of the time.
 
 use pass_forms::{Form, FormFault, MAX_BYTES, Pass, Unwrapped, V1Fields, V2Fields};
 use std::alloc::Global;

@@ -5,11 +5,9 @@ use crate::rows::{Host, expect_eq};
 use crate::v1::{BARE_FIELDS, KNOWN_FIELDS, ROOT};
 use pass_mac::{Chain, derive, same};
 
-// A key, a text and their HMAC.
 type Mac = (&'static [u8], &'static [u8], &'static [u8; 32]);
 
-// The cases of RFC 4231, section 4, but for the one whose output is cut off. Then keys around the
-// length of a block, by an independent program: a longer one is hashed.
+// RFC 4231, section 4. Then an independent program's values for keys around a block's length.
 static CASES: [Mac; 9] = [
     (
         &[0x0b; 20],
@@ -58,7 +56,7 @@ static CASES: [Mac; 9] = [
     ),
 ];
 
-// Case 5 of RFC 4231, whose output is cut off after 16 bytes.
+// Case 5 of RFC 4231 has only 16 bytes of output.
 const FRONT: &[u8] = b"\xa3\xb6\x16\x74\x73\x10\x0e\xe0\x6e\x0c\x79\x6c\x29\x55\x55\x2b";
 
 #[test]
@@ -85,7 +83,7 @@ fn expect_same(rt: &impl Host, a: &[u8; 32], b: &[u8; 32], alike: bool) {
     expect_eq(rt, &same(a, b), &alike, &(a, b));
 }
 
-// The derivation matters: under the root itself the signature is another.
+// Under the root itself, without derivation, the signature differs.
 #[test]
 fn chain_resumes_from_a_signature_or_a_key(rt: HostRuntime) {
     let (bare, known) = (&BARE_FIELDS, &KNOWN_FIELDS);

@@ -1,10 +1,9 @@
-//! What is taken off round the bytes of a pass.
+//! The forms and the base64 around the bytes of a pass.
 
 use crate::calls::unwrap_text;
 use crate::rows::{Host, Piece, expect_eq, join};
 use pass_forms::{Form, FormFault, MAX_BYTES, decode_base64};
 
-// The bytes of a V2 pass of location `http://example.org/` and identifier `keyid`.
 const PASS: &[u8] = b"\x02\x01\x13http://example.org/\x02\x05keyid\x00\x00\x06\x20\
     \x7c\xde\xe7\x92\x51\x1c\x5b\xc6\xf5\x28\x48\x58\x05\xdf\xe9\xb2\
     \x4e\x78\x5e\x28\xe2\xa9\x93\x01\xf9\xd7\x11\xc6\x09\xe3\x8e\xf7";
@@ -16,14 +15,12 @@ static SPELLINGS: [&[u8]; 4] = [
     b"AgETaHR0cDovL2V4YW1wbGUub3JnLwIFa2V5aWQAAAYgfN7nklEcW8b1KEhYBd/psk54XijiqZMB+dcRxgnjjvc=",
 ];
 
-// A text in JSON, whether it is plain, and its bytes.
 static OBJECTS: [(&[u8], bool, &[u8]); 3] = [
     (b"{}", true, b"{}"),
     (b"{\xff", true, b"{\xff"),
     (b"e30", false, b"{}"),
 ];
 
-// A text wraps these bytes in this form, plainly or in base64.
 fn wraps(rt: &impl Host, text: &[u8], form: Form, plain: bool, bytes: &[u8]) {
     let mut room = [1; MAX_BYTES];
     let unwrapped = unwrap_text(text, &mut room).expect(rt, "a form");
@@ -46,7 +43,6 @@ fn json_is_plain_or_in_base64(rt: HostRuntime) {
     }
 }
 
-// The form of a text, and the number of its bytes.
 fn outcome(text: &[u8]) -> Result<(Form, usize), FormFault> {
     let mut room = [1; MAX_BYTES];
     let unwrapped = unwrap_text(text, &mut room)?;
@@ -54,11 +50,11 @@ fn outcome(text: &[u8]) -> Result<(Form, usize), FormFault> {
 }
 
 static OTHER_TEXTS: [&[u8]; 8] = [
-    // Both alphabets, too much padding, a last bit set.
+    // Both alphabets, too much padding, and a last bit set.
     b"AgETaHR0cDovL2V4YW1wbGUub3JnLwIFa2V5aWQAAAYgfN7nklEcW8b1KEhYBd_psk54XijiqZMB+dcRxgnjjvc",
     b"AgETaHR0cDovL2V4YW1wbGUub3JnLwIFa2V5aWQAAAYgfN7nklEcW8b1KEhYBd_psk54XijiqZMB-dcRxgnjjvc==",
     b"AgETaHR0cDovL2V4YW1wbGUub3JnLwIFa2V5aWQAAAYgfN7nklEcW8b1KEhYBd_psk54XijiqZMB-dcRxgnjjvd",
-    // Too little padding, padding alone, nothing, white space, bytes that are no text.
+    // Too little padding, padding alone, no text, white space, and bytes that are no UTF-8.
     b"Zg=",
     b"=",
     b"",
@@ -77,7 +73,7 @@ fn refuses_other_texts(rt: HostRuntime) {
     expect_outcomes(&rt, &OTHER_TEXTS, Err(FormFault::Malformed));
 }
 
-// Base64 of one byte each: `09af`, and 1, 3, `/:A` and "`g|".
+// Base64 of the bytes `0`, `9`, `a` and `f`, then of the bytes next to hexadecimal digits.
 static V1_BYTES: [&[u8]; 4] = [b"MA", b"OQ", b"YQ", b"Zg=="];
 
 static OTHER_BYTES: [&[u8]; 8] = [b"AQ", b"Aw", b"Lw", b"Og", b"QQ", b"YA", b"Zw", b"fA"];
@@ -90,7 +86,6 @@ fn first_byte_decides_the_form(rt: HostRuntime) {
     expect_eq(&rt, &outcome(b"ew"), &Ok((Form::Json, 1)), &"a brace");
 }
 
-// A text in pieces, and its form and number of bytes.
 static LONG: [(&[Piece], Result<(Form, usize), FormFault>); 4] = [
     (&[(8192, b"A")], Err(FormFault::Malformed)),
     (&[(8193, b"A")], Err(FormFault::TooLong)),
@@ -105,8 +100,7 @@ fn reads_up_to_8192_bytes(rt: HostRuntime) {
     }
 }
 
-// A text, and what it is base64 of: RFC 4648's vectors, in each alphabet, with padding and without,
-// and texts that are no base64.
+// RFC 4648's vectors in each alphabet and padding, then texts that are no base64.
 static DECODED: [(&[u8], Option<&[u8]>); 13] = [
     (b"", Some(b"")),
     (b"Zg", Some(b"f")),

@@ -10,7 +10,6 @@ use pass_forms::FormFault::{Malformed, ThirdParty, TooLong, TooMany};
 
 const OPEN: Piece = (1, b"{");
 
-// The end of an object after another member, and a text of 65 bytes.
 const REST: Piece = (
     1,
     b",\"i\":\"keyid\",\"s64\":\"fN7nklEcW8b1KEhYBd_psk54XijiqZMB-dcRxgnjjvc\"}",
@@ -21,14 +20,12 @@ const SHORT: Piece = (
     b"{\"i\":\"keyid\",\"s64\":\"fN7nklEcW8b1KEhYBd_psk54XijiqZMB-dcRxgnjjvc\"}",
 );
 
-// The pass of libmacaroons' README in another order, and with an empty caveat after its own.
 const IN_OTHER_ORDER: &[u8] =
     b"{\"v\":2,\"l\":\"http://mybank/\",\"i\":\"we used our secret key\",\"c\":[{\"i\":\"test = caveat\"}],\"s64\":\"GXusegRK8zMyhluSZuJtSTvdZopmDkTYjOGpmMI9vWc\"}";
 
 const WITH_AN_EMPTY_CAVEAT: &[u8] =
     b"{\"c\":[{\"i\":\"test = caveat\"},{\"i\":\"\"}],\"i\":\"we used our secret key\",\"l\":\"http://mybank/\",\"s64\":\"GXusegRK8zMyhluSZuJtSTvdZopmDkTYjOGpmMI9vWc\",\"v\":2}";
 
-// A signature that is text.
 const SIGNED_BY_TEXT: &[u8] =
     b"{\"v\":2,\"i\":\"keyid\",\"s\":\"0123456789abcdef0123456789abcdef\"}";
 
@@ -63,8 +60,7 @@ const GUESTS: &[u8] = b"guests <= 1";
 
 const CAVEAT: &[u8] = b",{\"i\":\"guests <= 1\"}";
 
-// The longest text, with white space after it. 127 arrays and objects in one another, which is all
-// that `serde_json` reads, under a name whose last value counts. The most caveats.
+// `serde_json` reads at most 127 arrays and objects in one another.
 static AT_THE_LIMITS: [Row; 3] = [
     (&[SHORT, (8127, b" ")], KEYID_FIELDS),
     (
@@ -80,7 +76,7 @@ static AT_THE_LIMITS: [Row; 3] = [
     ),
 ];
 
-// With 65 caveats another fault comes before too many.
+// Other faults come before too many caveats.
 static BEYOND_THE_LIMITS: [Refused; 5] = [
     (&[SHORT, (8128, b" ")], TooLong),
     (
@@ -106,7 +102,6 @@ fn reads_up_to_the_limits(rt: HostRuntime) {
     are_refused(&rt, Form::Json, &BEYOND_THE_LIMITS);
 }
 
-// Bytes of a signature, one too few.
 const SIGNED_SHORT: &[u8] =
     b"{\"i\":\"keyid\",\"s64\":\"fN7nklEcW8b1KEhYBd_psk54XijiqZMB-dcRxgnjjg\"}";
 
@@ -129,7 +124,6 @@ fn refuses_other_texts(rt: HostRuntime) {
     are_refused(&rt, Form::Json, &OTHER_TEXTS);
 }
 
-// Members next to a good identifier and a good signature.
 static ODD_MEMBERS: [&[u8]; 18] = [
     b"\"v\":1",
     b"\"v\":2.0",
@@ -165,8 +159,7 @@ fn refuses_other_members(rt: HostRuntime) {
     are_refused_between(&rt, Form::Json, around, &THIRD_PARTIES, ThirdParty);
 }
 
-// The member of the identifier, and its bytes: base64, the last of equal names, escapes and UTF-8
-// as they are.
+// Base64, the last of equal names, escapes, and UTF-8.
 static IDENTIFIERS: [(&[u8], &[u8]); 6] = [
     (b"\"i64\":\"_w\"", b"\xff"),
     (b"\"i\":\"a\",\"i\":\"b\"", b"b"),

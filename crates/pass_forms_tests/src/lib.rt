@@ -1,5 +1,4 @@
-//! Tests of passes as bytes and texts: signature chains, V1, V2 and JSON, and the envelope of a
-//! text.
+//! Tests of passes as bytes and texts.
 #![tactic(auto)]
 
 #[cfg(test)]

@@ -5,10 +5,8 @@ use crate::rows::{Fields, Host, Piece, expect_eq, expect_pass, join};
 use pass_forms::{Field, FieldSource, Form, FormFault, Pass};
 use pass_json::JsonFields;
 
-/// A pass in pieces, and what it says.
 pub(crate) type Row = (&'static [Piece], Fields<'static>);
 
-/// Bytes that are no pass, in pieces, and their fault.
 pub(crate) type Refused = (&'static [Piece], FormFault);
 
 fn expect_next<'a, S: FieldSource<'a>>(rt: &impl Host, fields: &mut S, want: Option<Field<'a>>) {
@@ -26,8 +24,7 @@ fn expect_fields<'a, S: FieldSource<'a>>(rt: &impl Host, fields: &mut S, want: &
     expect_next(rt, fields, None);
 }
 
-// The fields come, and come again from a second source, which was made before the first one was
-// gone over.
+// The second source is made before the first source is read.
 fn expect_fields_twice<'a, S: FieldSource<'a> + Drop>(
     rt: &impl Host,
     fields: &mut S,
@@ -38,7 +35,7 @@ fn expect_fields_twice<'a, S: FieldSource<'a> + Drop>(
     expect_fields(rt, &mut others, want);
 }
 
-// The fields of bytes that are read without memory, as JSON can't be.
+// JSON can't be read without memory.
 fn walks<'a>(rt: &impl Host, form: Form, bytes: &'a [u8], want: &Fields<'a>) {
     match form {
         Form::V1 => expect_fields_twice(rt, &mut open_v1(bytes).expect(rt, "fields"), want),
@@ -70,7 +67,6 @@ pub(crate) fn are_read(rt: &impl Host, form: Form, rows: &[Row]) {
     }
 }
 
-// Opening and reading answer this fault both.
 fn is_refused(rt: &impl Host, form: Form, bytes: &[u8], fault: FormFault) {
     let want = Some(fault);
     let opened = match form {
@@ -82,14 +78,12 @@ fn is_refused(rt: &impl Host, form: Form, bytes: &[u8], fault: FormFault) {
     expect_eq(rt, &read(rt.alloc(), form, bytes).err(), &want, &bytes);
 }
 
-/// Each of these is refused with its fault.
 pub(crate) fn are_refused(rt: &impl Host, form: Form, rows: &[Refused]) {
     for (pieces, fault) in rows {
         is_refused(rt, form, &join(rt, pieces), *fault);
     }
 }
 
-/// A pass is refused with this fault when one of these is between its parts.
 pub(crate) fn are_refused_between(
     rt: &impl Host,
     form: Form,
@@ -102,7 +96,6 @@ pub(crate) fn are_refused_between(
     }
 }
 
-/// A pass of so many bytes is refused when it is cut short anywhere.
 pub(crate) fn is_refused_cut_short(rt: &impl Host, form: Form, pieces: &[Piece], len: usize) {
     let bytes = join(rt, pieces);
     expect_eq(rt, &bytes.len(), &len, &form);

@@ -1,13 +1,10 @@
-//! Passes that are read and written in each form, also if an allocation is refused.
-//! `tests/desk/refused_memory_tests.py` refuses each in turn, and none after it: a second call is
-//! given what it asks for.
+//! `tests/desk/refused_memory_tests.py` refuses each allocation in turn, so a second call succeeds.
 
 use crate::calls::{read_any, write_any};
 use crate::rows::{Host, expect_eq};
 use crate::texts::{BARE, EXAMPLE, FORMS, KNOWN};
 use pass_forms::{Form, FormFault, Pass};
 
-/// The pass of a text that is read in this form, by the second call if the first is out of memory.
 pub(crate) fn read_in(rt: &impl Host, form: Form, text: &str) -> Pass {
     let found = match read_any(rt.alloc(), text.as_bytes()) {
         Err(FormFault::Memory) => read_any(rt.alloc(), text.as_bytes()),
@@ -18,7 +15,6 @@ pub(crate) fn read_in(rt: &impl Host, form: Form, text: &str) -> Pass {
     pass
 }
 
-// The text of a pass, by the second call if the first is out of memory.
 fn written_text(rt: &impl Host, form: Form, pass: &Pass) -> String {
     let text = match write_any(rt.alloc(), form, pass) {
         Err(FormFault::Memory) => write_any(rt.alloc(), form, pass),
@@ -27,14 +23,12 @@ fn written_text(rt: &impl Host, form: Form, pass: &Pass) -> String {
     text.expect(rt, "a text")
 }
 
-/// The pass is written as these texts.
 pub(crate) fn is_written(rt: &impl Host, pass: &Pass, texts: &[&str; 3]) {
     for (form, text) in FORMS.iter().zip(texts) {
         expect_eq(rt, &written_text(rt, *form, pass).as_str(), text, form);
     }
 }
 
-/// Each text is read in its form, and its pass is written in every form.
 pub(crate) fn convert(rt: &impl Host, texts: &[&str; 3]) {
     for (form, text) in FORMS.iter().zip(texts) {
         is_written(rt, &read_in(rt, *form, text), texts);

@@ -1,15 +1,13 @@
-//! What the rows of the tests are made of, and what a row expects.
+//! Rows of tests, and assertions.
 
 use pass_forms::Pass;
 use std::fmt::Debug;
 use std::process::Abort;
 
-/// Ends a test, and allocates.
 pub(crate) trait Host: Abort + AllocGlobal {}
 
 impl<R: Abort + AllocGlobal> Host for R {}
 
-/// Ends the test of this row unless the values are equal.
 pub(crate) fn expect_eq<T: PartialEq + Debug>(
     rt: &impl Abort,
     outcome: &T,
@@ -57,7 +55,6 @@ pub(crate) fn expect_pass(rt: &impl Abort, pass: &Pass, want: &Fields<'_>) {
     expect_caveats(rt, pass.caveats(), want);
 }
 
-/// A pass with no location, this identifier and `caveat_count` empty caveats.
 pub(crate) fn pass_of(rt: &impl Host, identifier: &[Piece], caveat_count: usize) -> Pass {
     let mut caveats = Vec::new(rt.alloc());
     for _ in 0..caveat_count {

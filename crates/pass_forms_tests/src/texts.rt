@@ -2,10 +2,9 @@
 
 use pass_forms::Form;
 
-/// The forms of these texts, in their order.
 pub(crate) static FORMS: [Form; 3] = [Form::V1, Form::V2, Form::Json];
 
-/// The pass of libmacaroons' README, and the same without its caveat.
+/// The pass of libmacaroons' README.
 pub(crate) static KNOWN: [&str; 3] = [
     "MDAxY2xvY2F0aW9uIGh0dHA6Ly9teWJhbmsvCjAwMjZpZGVudGlmaWVyIHdlIHVzZWQgb3VyIHNlY3JldCBrZXkKMDAxNmNpZCB0ZXN0ID0gY2F2ZWF0CjAwMmZzaWduYXR1cmUgGXusegRK8zMyhluSZuJtSTvdZopmDkTYjOGpmMI9vWcK",
     "AgEOaHR0cDovL215YmFuay8CFndlIHVzZWQgb3VyIHNlY3JldCBrZXkAAg10ZXN0ID0gY2F2ZWF0AAAGIBl7rHoESvMzMoZbkmbibUk73WaKZg5E2IzhqZjCPb1n",
@@ -18,21 +17,19 @@ pub(crate) static BARE: [&str; 3] = [
     "{\"c\":[],\"i\":\"we used our secret key\",\"l\":\"http://mybank/\",\"s64\":\"49ngKQhSbEwAOa4VEUEV2X_daL8ro3mzQqrw9hfQVS8\",\"v\":2}",
 ];
 
-/// A pass of location `http://example.org/` and identifier `keyid`.
 pub(crate) static EXAMPLE: [&str; 3] = [
     "MDAyMWxvY2F0aW9uIGh0dHA6Ly9leGFtcGxlLm9yZy8KMDAxNWlkZW50aWZpZXIga2V5aWQKMDAyZnNpZ25hdHVyZSB83ueSURxbxvUoSFgF3-myTnheKOKpkwH51xHGCeOO9wo",
     "AgETaHR0cDovL2V4YW1wbGUub3JnLwIFa2V5aWQAAAYgfN7nklEcW8b1KEhYBd_psk54XijiqZMB-dcRxgnjjvc",
     "{\"c\":[],\"i\":\"keyid\",\"l\":\"http://example.org/\",\"s64\":\"fN7nklEcW8b1KEhYBd_psk54XijiqZMB-dcRxgnjjvc\",\"v\":2}",
 ];
 
-/// A pass of identifier `keyid` alone, with a signature of equal bytes.
 pub(crate) static UNLOCATED: [&str; 3] = [
     "MDAwZWxvY2F0aW9uIAowMDE1aWRlbnRpZmllciBrZXlpZAowMDJmc2lnbmF0dXJlIAcHBwcHBwcHBwcHBwcHBwcHBwcHBwcHBwcHBwcHBwcHCg",
     "AgIFa2V5aWQAAAYgBwcHBwcHBwcHBwcHBwcHBwcHBwcHBwcHBwcHBwcHBwc",
     "{\"c\":[],\"i\":\"keyid\",\"s64\":\"BwcHBwcHBwcHBwcHBwcHBwcHBwcHBwcHBwcHBwcHBwc\",\"v\":2}",
 ];
 
-/// The passes of keys with names of 1 and of 24 letters, by an independent program.
+/// An independent program computed the passes of these keys.
 pub(crate) static OF_1_LETTER: [&str; 3] = [
     "MDAxN2xvY2F0aW9uIGNsdWItZGVzawowMDE1aWRlbnRpZmllciBrZXk6YQowMDJmc2lnbmF0dXJlINUNOO5RwGYyFrLLxURCWimOR2Ke7JygR9qsvDKEn0veCg",
     "AgEJY2x1Yi1kZXNrAgVrZXk6YQAABiDVDTjuUcBmMhayy8VEQlopjkdinuycoEfarLwyhJ9L3g",

@@ -7,8 +7,7 @@ use pass_forms::FormFault::{Malformed, ThirdParty, TooLong, TooMany};
 use pass_forms::{Field, FieldSource, Form, is_signed_by};
 use pass_mac::Chain;
 
-// The known pass of libmacaroons' README, in packets: the part before its caveat, the caveat,
-// and what follows it.
+// The pass of libmacaroons' README, in packets.
 const BEFORE: Piece = (
     1,
     b"001clocation http://mybank/\n0026identifier we used our secret key\n",
@@ -21,7 +20,6 @@ const AFTER: Piece = (
     b"002fsignature \x19\x7b\xac\x7a\x04\x4a\xf3\x33\x32\x86\x5b\x92\x66\xe2\x6d\x49\x3b\xdd\x66\x8a\x66\x0e\x44\xd8\x8c\xe1\xa9\x98\xc2\x3d\xbd\x67\n",
 );
 
-/// What the known pass says.
 pub(crate) const KNOWN_FIELDS: Fields<'static> = Fields {
     location: b"http://mybank/",
     identifier: b"we used our secret key",
@@ -29,14 +27,12 @@ pub(crate) const KNOWN_FIELDS: Fields<'static> = Fields {
     signature: b"\x19\x7b\xac\x7a\x04\x4a\xf3\x33\x32\x86\x5b\x92\x66\xe2\x6d\x49\x3b\xdd\x66\x8a\x66\x0e\x44\xd8\x8c\xe1\xa9\x98\xc2\x3d\xbd\x67",
 };
 
-/// The same without the caveat.
 pub(crate) const BARE_FIELDS: Fields<'static> = Fields {
     caveats: &[],
     signature: b"\xe3\xd9\xe0\x29\x08\x52\x6c\x4c\x00\x39\xae\x15\x11\x41\x15\xd9\x7f\xdd\x68\xbf\x2b\xa3\x79\xb3\x42\xaa\xf0\xf6\x17\xd0\x55\x2f",
     ..KNOWN_FIELDS
 };
 
-/// The root of the known pass.
 pub(crate) const ROOT: &[u8] = b"this is our super secret key; only we should know it";
 
 static KNOWN: [Piece; 3] = [BEFORE, CAVEAT, AFTER];
@@ -45,7 +41,7 @@ const X: &[u8] = b"x";
 
 static READ: [Row; 4] = [
     (&[BEFORE, CAVEAT, AFTER], KNOWN_FIELDS),
-    // The length of a packet rules, so its data may look like a packet.
+    // A packet's length decides, so its data may look like a packet.
     (
         &[BEFORE, (1, b"0014cid x\n000acid y\n"), AFTER],
         Fields {
@@ -53,7 +49,6 @@ static READ: [Row; 4] = [
             ..KNOWN_FIELDS
         },
     ),
-    // The most caveats.
     (
         &[BEFORE, (64, b"000acid x\n"), AFTER],
         Fields {
@@ -61,7 +56,7 @@ static READ: [Row; 4] = [
             ..KNOWN_FIELDS
         },
     ),
-    // An empty location is a location; every packet is there, and a caveat may be empty too.
+    // All packets are present, and their data may be empty.
     (
         &[(1, b"000elocation \n0010identifier \n0009cid \n"), AFTER],
         Fields {
@@ -100,8 +95,6 @@ static THIRD_PARTIES: [&[u8]; 3] = [
 
 const MANY: Piece = (65, b"000acid x\n");
 
-// A byte more, long texts, and too many caveats: alone, before a byte more and with a third
-// party's.
 static REFUSED: [Refused; 6] = [
     (&[BEFORE, CAVEAT, AFTER, (1, b"0")], Malformed),
     (&[(8193, b"0")], TooLong),
@@ -119,7 +112,6 @@ fn shows_each_fault(rt: HostRuntime) {
     are_refused_between(&rt, Form::V1, around, &THIRD_PARTIES, ThirdParty);
 }
 
-// Whether the pass of these bytes is signed under a root, by its fields.
 fn is_signed(bytes: &[u8], root: &[u8]) -> bool {
     let Ok(mut fields) = open_v1(bytes) else {
         return false;

@@ -5,7 +5,6 @@ use crate::rows::{Fields, Piece};
 use pass_forms::Form;
 use pass_forms::FormFault::{Malformed, ThirdParty, TooLong, TooMany};
 
-// A header with a location and without, and what follows the caveats.
 const HEADER: Piece = (1, b"\x02\x01\x13http://example.org/\x02\x05keyid\x00");
 
 const KEYID: Piece = (1, b"\x02\x02\x05keyid\x00");
@@ -15,7 +14,6 @@ const AFTER: Piece = (
     b"\x00\x06\x20\x7c\xde\xe7\x92\x51\x1c\x5b\xc6\xf5\x28\x48\x58\x05\xdf\xe9\xb2\x4e\x78\x5e\x28\xe2\xa9\x93\x01\xf9\xd7\x11\xc6\x09\xe3\x8e\xf7",
 );
 
-/// The fields of a pass of identifier `keyid` alone.
 pub(crate) const KEYID_FIELDS: Fields<'static> = Fields {
     location: b"",
     identifier: b"keyid",
@@ -35,7 +33,6 @@ static READ: [Row; 8] = [
             ..KEYID_FIELDS
         },
     ),
-    // The caveats are between the identifier and the signature.
     (
         &[KEYID, (1, b"\x02\x01x\x00\x02\x00\x00"), AFTER],
         Fields {
@@ -43,13 +40,13 @@ static READ: [Row; 8] = [
             ..KEYID_FIELDS
         },
     ),
-    // The header's location may be empty, which is the same as left out.
+    // An empty location is the same as no location.
     (
         &[(1, b"\x02\x01\x00\x02\x05keyid\x00"), AFTER],
         KEYID_FIELDS,
     ),
     (&[KEYID, AFTER], KEYID_FIELDS),
-    // A length of 127 takes one byte, of 128 and 200 two.
+    // A length of 127 takes one byte, and a length of 128 takes two.
     (
         &[(1, b"\x02\x02\x7f"), (127, b"x"), (1, b"\x00"), AFTER],
         Fields {
@@ -71,7 +68,6 @@ static READ: [Row; 8] = [
             ..KEYID_FIELDS
         },
     ),
-    // The most caveats.
     (
         &[KEYID, (64, b"\x02\x0bguests <= 1\x00"), AFTER],
         Fields {
@@ -102,15 +98,12 @@ static THIRD_PARTIES: [&[u8]; 2] = [b"\x02\x01x\x04\x00\x00", b"\x01\x00\x02\x01
 const MANY: Piece = (65, b"\x02\x0bguests <= 1\x00");
 
 static REFUSED: [Refused; 8] = [
-    // A byte more.
     (&[HEADER, AFTER, (1, b"\x00")], Malformed),
-    // A length that isn't in its shortest spelling, one without an end, one of a byte too many.
+    // A longer spelling of a length, a length without an end, and a wrong length.
     (&[(1, b"\x02\x02\x85\x00keyid\x00"), AFTER], Malformed),
     (&[(1, b"\x02\x02"), (10, b"\xff"), AFTER], Malformed),
     (&[(1, b"\x02\x02\x06keyid"), AFTER], Malformed),
-    // A long one.
     (&[(8193, b"\x02")], TooLong),
-    // Too many caveats: alone, before a byte more and with a third party's.
     (&[KEYID, MANY, AFTER], TooMany),
     (&[KEYID, MANY, AFTER, (1, b"\x00")], Malformed),
     (

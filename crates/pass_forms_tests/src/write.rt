@@ -14,7 +14,6 @@ fn mint_known(rt: &impl Host, want: &Fields<'_>) -> Pass {
     pass
 }
 
-// The known pass, made under its root.
 fn known_pass(rt: &impl Host) -> Pass {
     let mut pass = mint_known(rt, &BARE_FIELDS);
     narrow(rt.alloc(), &mut pass, b"test = caveat").expect(rt, "memory");
@@ -35,7 +34,6 @@ fn expect_text(rt: &impl Host, form: Form, pass: &Pass, want: &str) {
     expect_eq(rt, &text.as_str(), &want, &form);
 }
 
-// No call reports out of memory when memory is available.
 #[test]
 fn answers_with_ample_memory(rt: HostRuntime) {
     let pass = known_pass(&rt);
@@ -44,7 +42,6 @@ fn answers_with_ample_memory(rt: HostRuntime) {
     }
 }
 
-// The pass is written in JSON as this text, which is read as the same pass.
 fn is_written_in_json(rt: &impl Host, pass: &Pass, text: &str) {
     expect_text(rt, Form::Json, pass, text);
     let back = read(rt.alloc(), Form::Json, text.as_bytes()).expect(rt, "the pass of its text");
@@ -53,7 +50,6 @@ fn is_written_in_json(rt: &impl Host, pass: &Pass, text: &str) {
     expect_eq(rt, &back.signature(), &pass.signature(), &"a signature");
 }
 
-// JSON texts, and the one text as which their pass is written.
 static JSON: [(&str, &str); 2] = [
     (
         "{\"i\":\"keyid\",\"s64\":\"fN7nklEcW8b1KEhYBd_psk54XijiqZMB-dcRxgnjjvc\"}",
@@ -73,7 +69,7 @@ fn writes_one_text(rt: HostRuntime) {
     }
 }
 
-// RFC 8259's short escapes, `\u` for the other control bytes, and all else as it is.
+// RFC 8259 has short escapes. Other control bytes get `\u`.
 #[test]
 fn writes_escapes(rt: HostRuntime) {
     let identifier: &[Piece] = &[(
@@ -85,14 +81,13 @@ fn writes_escapes(rt: HostRuntime) {
     is_written_in_json(&rt, &pass_of(&rt, identifier, 0), text);
 }
 
-// The length of a pass's text, and of the identifier and the caveats that are read in it.
+// The lengths of the text and of the identifier, and the number of caveats.
 type Lens = (usize, usize, usize);
 
-// A form, the identifier's length and the number of empty caveats of a pass, and its lengths.
 type Row = (Form, usize, usize, Result<Lens, FormFault>);
 
-// 6,144 bytes make 8,192 characters of base64. Next to the identifier a pass without caveats takes
-// 77 bytes in V1, 40 in V2 and 73 in JSON. Too many comes before too long.
+// Without its identifier, a pass has 77 bytes in V1, 40 in V2 and 73 in JSON. Base64 makes 8,192
+// characters of 6,144 bytes.
 static LENS: [Row; 16] = [
     (Form::V1, 6067, 0, Ok((8192, 6067, 0))),
     (Form::V1, 6068, 0, Err(FormFault::TooLong)),
