@@ -1,5 +1,4 @@
-//! Tests of the answers to successful commands, of the texts of a refusal and a root, and of how
-//! long an older root is good.
+//! Answers to commands, the texts of values, and the time of an older root.
 
 use crate::expect::{Host, expect_eq};
 use crate::values::{key, moment, name, root};
@@ -12,7 +11,7 @@ use test_kit::moments::{BEFORE_UNTIL, UNTIL};
 use test_kit::roots::{ROOT, SECOND_ROOT};
 use test_kit::{COURT_AT_18, minutes};
 
-/// A command, and the root in its answer if the command adds a key or replaces a root.
+/// A command, and the root in its answer.
 static DONE: [(PlainCommand, Option<&[u8]>); 8] = [
     (RevokeKey("amy-1"), None),
     (OpenSlot(COURT_AT_18), None),
@@ -65,7 +64,6 @@ fn prints_no_root(rt: HostRuntime) {
     }
 }
 
-/// Whether the key was rotated, a moment, and whether the older root is good at that moment.
 static OLDER: [(bool, &str, bool); 3] = [
     (true, BEFORE_UNTIL, true),
     (true, UNTIL, false),

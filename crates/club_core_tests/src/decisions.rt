@@ -1,5 +1,4 @@
-//! Tests of the facts that caveats check, and of a decision in a state that no club reaches. The
-//! key `amy-1` belongs to amy, who has quota 5 and 10,000 points. The facility is `court-1`.
+//! The facts that caveats check, and a decision in a state that no club reaches.
 
 use crate::expect::{Host, expect_eq};
 use crate::values::{booking, facility, key, moment, slot};
@@ -38,7 +37,7 @@ fn recorded(rt: &impl Host) -> View {
     }
 }
 
-/// Returns a view that has only the key. The member's name is in the key's row.
+/// The member's name is in the key's row.
 fn bare(rt: &impl Host) -> View {
     View {
         member: amy(0, 0).expect(rt, "a member"),
@@ -47,10 +46,9 @@ fn bare(rt: &impl Host) -> View {
     }
 }
 
-/// The moment, and the first of the reasons to refuse the booking.
 static ORDER: [(&str, Refusal); 2] = [(NOON, Refusal::SlotClosed), (START, Refusal::NotBookable)];
 
-/// The slot is closed and full at once. No club reaches this state.
+/// No club has a slot that is closed and full at once.
 #[test]
 fn order_of_refusals(rt: HostRuntime) {
     let view = View {
@@ -79,7 +77,6 @@ fn account(rt: &impl Host) -> Ask {
     }
 }
 
-/// Returns a booking under number 7 that costs `owed` points.
 fn booking_for(rt: &impl Host, owed: u64) -> Ask {
     Ask {
         action: Action::Book,
@@ -112,7 +109,7 @@ fn a_bare_view(rt: HostRuntime) {
     expect_eq(&rt, &of_key, &bare(&rt), &"bare");
 }
 
-/// A booking is new only if it isn't on record and its facility is known.
+/// A booking is new only if it isn't recorded and its facility is known.
 #[test]
 fn new_bookings(rt: HostRuntime) {
     expect_eq(&rt, &fresh(&rt).books_anew(), &true, &"fresh");

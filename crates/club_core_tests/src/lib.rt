@@ -1,5 +1,4 @@
-//! Tests of caveats, of a club's rows, of the facts that caveats check, and of the reference
-//! machine. Scenarios have the replies to single requests and commands.
+//! Tests of caveats, of a club's rows, and of the reference machine.
 #![tactic(auto)]
 
 #[cfg(test)]

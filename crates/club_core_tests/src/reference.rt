@@ -1,5 +1,4 @@
-//! Tests of the reference machine: a member's part of a club, copies of a club, and many requests.
-//! Scenarios have its other replies.
+//! A member's part of a club, copies of a club, and many requests.
 
 use crate::expect::{Host, expect_eq};
 use crate::values::{moment, name, slot};
@@ -15,7 +14,7 @@ use test_kit::{
     COURT_AT_18, FIXTURE, FRIDAY, PlainCommand, PlainReply, PlainRequest, PlainSlot, signed_pass,
 };
 
-/// The key of a pass, a request at noon under this pass, and the expected reply.
+/// The key of a pass, a request at noon, and the reply.
 type Step = (&'static str, PlainRequest, PlainReply);
 
 fn words(rt: &impl Host, key: &str, asked: &PlainRequest) -> Words {
@@ -26,8 +25,7 @@ fn words(rt: &impl Host, key: &str, asked: &PlainRequest) -> Words {
     }
 }
 
-/// Ends the test unless the club gives these replies in this order. If `others` is `Some`, the club
-/// is a member's part, and `others` states how other members use each slot.
+/// With `others`, the club is a member's part, and `others` is the use of slots by other members.
 fn plays(rt: &impl Host, club: &mut Club, others: Option<SlotUse>, steps: &[Step]) {
     for (row, (key, asked, want)) in steps.iter().enumerate() {
         let (words, at) = (words(rt, key, asked), moment(rt, NOON));
@@ -54,13 +52,11 @@ fn fixture_club(rt: &impl Host) -> Club {
     club
 }
 
-/// Ends the test unless `held` has the slot's number of persons, and whether it is closed.
 fn expect_use(rt: &impl Host, slot: &SlotUse, held: (u32, bool)) {
     expect_eq(rt, &(slot.taken, slot.closed), &held, &"a slot");
 }
 
-/// Ends the test unless amy's part gives these replies, and `held` states how others use the court
-/// at 18. Without a slot, that use must be empty.
+/// `held` is the use of the court at 18 by other members.
 fn part_plays(rt: &impl Host, club: &Club, held: (u32, bool), steps: &[Step]) {
     let amy = name(rt, "amy");
     let nothing = club.outside(&amy, None);
@@ -83,7 +79,7 @@ const AFTER: Step = ("amy-1", ACCOUNT, ACCOUNT_AFTER);
 
 const AMY_CANCELS: Step = ("amy-1", CANCEL_7, CANCELLED_7);
 
-/// The reply if bob has already booked one place of the slot.
+/// Bob has already booked one place of the slot.
 const AMY_FILLS: Step = ("amy-1", BOOK_7, FILLED_BY_7);
 
 #[test]
@@ -96,7 +92,6 @@ fn a_part_sees_what_others_hold(rt: HostRuntime) {
 
 const IT_IS_CLOSED: Step = ("amy-1", BOOK_7, PlainReply::Refused(Refusal::SlotClosed));
 
-/// The value `others` tells a part whether the slot is closed, or open again.
 #[test]
 fn opens_a_slot_for_all(rt: HostRuntime) {
     let mut club = fixture_club(&rt);
@@ -115,7 +110,6 @@ fn a_duplicate_is_independent(rt: HostRuntime) {
     plays(&rt, &mut club, None, &[AFTER]);
 }
 
-/// Returns a booking of one place of `court-1`, a request for the account, and the cancellation.
 fn booked_and_cancelled(day: u16, hour: u8, booking: u32) -> [Step; 3] {
     let place = PlainSlot {
         day,
@@ -132,7 +126,6 @@ fn booked_and_cancelled(day: u16, hour: u8, booking: u32) -> [Step; 3] {
     ]
 }
 
-/// Amy books one place of `court-1` in each open hour of fifteen days, and cancels each booking.
 #[test]
 fn answers_a_long_list(rt: HostRuntime) {
     let mut club = fixture_club(&rt);

@@ -1,4 +1,4 @@
-//! Tests that parse a club's rows from columns, and refuse columns outside their limits.
+//! Rows parsed from columns, and columns outside their limits.
 
 use crate::expect::expect_eq;
 use crate::values::{booking, facility};
@@ -14,7 +14,6 @@ static NUMBERS: [(u32, bool); 4] = [
     (1_000_000_000, false),
 ];
 
-/// A number of guests, and the number of persons with the member, or `None` beyond the limit.
 static GUESTS: [(u8, Option<u8>); 2] = [(49, Some(50)), (50, None)];
 
 static ROOT_LENGTHS: [(usize, bool); 4] = [(15, false), (16, true), (64, true), (65, false)];
@@ -41,7 +40,6 @@ fn limits(rt: HostRuntime) {
     }
 }
 
-/// The columns of a member, and whether they are within their limits.
 static MEMBERS: [(&[u8], i64, i64, bool); 4] = [
     (b"amy", 999_999_999, 99, true),
     (b"amy", 1_000_000_000, 99, false),
@@ -76,7 +74,6 @@ const CANCELLED: PlainBooking = PlainBooking {
     ..BOOKING_7
 };
 
-/// Whether booking 7 is cancelled, its refund, and the booking that its columns are parsed to.
 static BOOKINGS: [(i64, i64, Option<PlainBooking>); 4] = [
     (0, 0, Some(BOOKING_7)),
     (0, 1, None),

@@ -1,4 +1,4 @@
-//! Typed values that tests make from plain values. The key `amy-1` of amy has the first root.
+//! Typed values that tests make from plain values.
 
 use crate::expect::Host;
 use club_rows::{Booking, Facility, Key, Root};

@@ -1,4 +1,4 @@
-//! Tests of spend limits above what requests can spend, and of the faults of caveats.
+//! Spend limits above what requests can spend, and the faults of caveats.
 
 use super::calls::{answer, fault_at};
 use crate::expect::{Host, expect_eq};
@@ -8,8 +8,7 @@ use pass_caveats::{Ask, CaveatFault};
 use test_kit::COURT_AT_18;
 use test_kit::moments::NOON;
 
-/// Returns a request to book `court-1` on 2026-05-01 at 18 for two guests, made on 2026-04-20 at
-/// noon. Its key has already spent `spent` points.
+/// Returns a booking of `court-1` at noon by a key that has already spent `spent` points.
 fn booking(rt: &impl Host, spent: u64) -> Ask {
     Ask {
         action: Action::Book,
@@ -22,7 +21,7 @@ fn booking(rt: &impl Host, spent: u64) -> Ask {
     }
 }
 
-/// The points that the key has spent, a caveat, and whether the caveat allows the booking.
+/// The spent points, a caveat, and whether the caveat allows the booking.
 static SPENT: [(u64, &str, bool); 4] = [
     (999_999_399, "spend <= 999999999", true),
     (999_999_399, "spend <= 999999998", false),
@@ -38,7 +37,7 @@ fn limits_of_points(rt: HostRuntime) {
     }
 }
 
-// Caveats, and the fault of each if it is the second caveat of a pass.
+// The fault of each caveat as the second caveat of a pass.
 static SECOND: [(&str, Option<CaveatFault>); 2] = [
     ("shoe = red", Some(CaveatFault::NotUnderstood(2))),
     ("weekday = fri", None),

@@ -1,5 +1,4 @@
-//! Wrappers of the tested functions, without contracts. The tests don't need the contracts, and
-//! their proofs are much faster without them.
+//! The tested functions without contracts, because the tests' proofs are faster without contracts.
 
 use club_values::{Action, Day, Hour, Kind, Moment, Name};
 use pass_caveats::{Ask, CaveatFault};
@@ -40,7 +39,7 @@ pub(crate) fn read_action(text: &[u8]) -> Option<Action> {
     Action::read(text)
 }
 
-// Returns whether the caveat allows a request, or `None` if the text isn't a known caveat.
+// Returns `None` if the text isn't a known caveat.
 pub(crate) fn answer(text: &str, ask: &Ask) -> Option<bool> {
     let caveat = pass_caveats::read(text.as_bytes())?;
     Some(pass_caveats::allows(&caveat, ask))

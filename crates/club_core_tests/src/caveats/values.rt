@@ -8,7 +8,6 @@ use club_values::digits::{read_digits, read_number, read_two, two_digits};
 use club_values::{Day, Hour, Moment, Name, Weekday};
 use test_kit::COURT_AT_18;
 
-/// Returns whether a text is parsed to a name that has the same text.
 fn is_name_again(text: &str) -> bool {
     match Name::read(text.as_bytes()) {
         Some(name) => name.as_str() == text && name.as_bytes() == text.as_bytes(),
@@ -36,7 +35,7 @@ fn names(rt: HostRuntime) {
     }
 }
 
-/// Checks the day's text and number, and that its number and its date convert back to it.
+/// The day's number and date must convert back to the day.
 fn is_day(rt: &impl Host, day: Day, text: &str, number: u16) {
     expect_eq(rt, &day.number(), &number, &text);
     expect_eq(rt, &day.text().as_slice(), &text.as_bytes(), &text);
@@ -108,8 +107,7 @@ static MOMENTS: [(&str, Option<u32>); 9] = [
 
 static NO_MOMENTS: [u32; 2] = [15_778_079, 68_374_080];
 
-/// Checks the moment's text and number. The number must convert back to the moment, and so must the
-/// pair of day and minute.
+/// The moment's number, and its day and minute, must convert back to the moment.
 fn is_moment(rt: &impl Host, moment: Moment, text: &str, number: u32) {
     expect_eq(rt, &moment.number(), &number, &text);
     expect_eq(rt, &moment.text().as_slice(), &text.as_bytes(), &text);
@@ -207,7 +205,6 @@ fn digits_of_a_fixed_width(rt: HostRuntime) {
     expect_eq(&rt, &text_of(b"07"), &"07", &"ASCII");
 }
 
-/// A text, and the values that `read_number` and `read_digits` return for it.
 static NUMBERS: [(&str, Option<u32>, Option<u32>); 9] = [
     ("0", Some(0), Some(0)),
     ("7", Some(7), Some(7)),
