@@ -1,6 +1,6 @@
 use std::fmt::Debug;
 use std::process::Abort;
-use test_kit::{End, Output};
+use test_kit::{End, Output, Piece, join};
 
 pub(crate) trait Host: Abort + AllocGlobal {}
 
@@ -22,4 +22,8 @@ pub(crate) fn expect_case<T: PartialEq + Debug>(
 
 pub(crate) fn expect_end(rt: &impl Abort, output: &Output, end: &End, line: &str) {
     assert!(rt; end.fits(output), "{line}: {output:?}, and not {end:?}");
+}
+
+pub(crate) fn text_of(rt: &impl Host, pieces: &[Piece]) -> String {
+    join(rt.alloc(), pieces).expect(rt, "memory")
 }

@@ -2,24 +2,15 @@
 
 use super::bad_arguments::output_of;
 use super::tasks::expect_asked;
-use crate::expect::{Host, expect_case, expect_end};
+use crate::expect::{Host, expect_case, expect_end, text_of};
 use clubdesk_arguments::root_of;
 use test_kit::End::{self, Begins};
-use test_kit::{Piece, join};
-
-fn text_of(rt: &impl Host, pieces: &[Piece]) -> String {
-    join(rt.alloc(), pieces).expect(rt, "memory")
-}
+use test_kit::Piece;
 
 static PATH: [Piece; 2] = [(1_999, "./"), (1, "aa")];
 
-static WITH_A_PATH: [(&str, &str, &str); 3] = [
+static WITH_A_PATH: [(&str, &str, &str); 2] = [
     ("sheet|", "|2026-05-01", "sheet 2026-05-01"),
-    (
-        "add-member|",
-        "|amy|5",
-        "AddMember { name: \"amy\", quota: 5 }",
-    ),
     (
         "serve|",
         "|--port|8080|--count|7|--at|2026-05-01T12:00",
@@ -63,10 +54,7 @@ fn takes_roots_of_each_length(rt: HostRuntime) {
 
 static BEFORE_A_LONG_WORD: [(&str, End); 6] = [
     ("", Begins(2, "error: unrecognized subcommand 'wwwwwwww")),
-    (
-        "sheet|F|2026-05-01|",
-        Begins(2, "error: unexpected argument 'wwwwwwww"),
-    ),
+    ("sheet|F|x|", Begins(2, "error: unexpected argument 'w")),
     ("sheet|F|", Begins(3, "bad value")),
     ("add-key|F|k|bob|", Begins(3, "bad value")),
     ("credit|F|amy|", Begins(3, "bad value")),

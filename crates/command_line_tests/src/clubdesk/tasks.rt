@@ -85,10 +85,7 @@ pub(super) fn expect_asked(rt: &impl Host, line: &str, file: &str, want: &str) {
 }
 
 // The file is `F`. Scenarios have commands that are carried out.
-static TASKS: [&str; 30] = [
-    "debit|F|amy|500 asks for Debit { member: \"amy\", points: 500 }",
-    "set-facility|F|court-1|4|250|8|21 \
-    asks for SetFacility { name: \"court-1\", places: 4, price: 250, opens: 8, shuts: 21 }",
+static TASKS: [&str; 22] = [
     "set-facility|F|b|51|10000|9|8 \
     asks for SetFacility { name: \"b\", places: 51, price: 10000, opens: 9, shuts: 8 }",
     "cancel-booking|F|amy-1|000000001 \
@@ -96,7 +93,6 @@ static TASKS: [&str; 30] = [
     "set-quota|F|amy|8 asks for SetQuota { member: \"amy\", quota: 8 }",
     "debit|F|amy|999999999 asks for Debit { member: \"amy\", points: 999999999 }",
     "credit|F|amy|000000000 asks for Credit { member: \"amy\", points: 0 }",
-    "credit|F|amy|999999999 asks for Credit { member: \"amy\", points: 999999999 }",
     "credit|F|amy|000000017 asks for Credit { member: \"amy\", points: 17 }",
     "add-key|F|k|bob|000102030405060708090a0b0c0d0e0f \
     asks for add k of bob 000102030405060708090a0b0c0d0e0f V2",
@@ -108,15 +104,7 @@ static TASKS: [&str; 30] = [
     asks for rotate amy-1 000102030405060708090a0b0c0d0e0f until 2026-04-25T00:00 V2",
     "rotate-key|--form|json|F|k|000102030405060708090a0b0c0d0e0f|2099-12-31T23:59 \
     asks for rotate k 000102030405060708090a0b0c0d0e0f until 2099-12-31T23:59 Json",
-    // The root has 64 bytes.
-    "add-key|F|k|bob|ffffffffffffffffffffffffffffffffffffffffffffffffffffffffffffffff\
-    ffffffffffffffffffffffffffffffffffffffffffffffffffffffffffffffff \
-    asks for add k of bob ffffffffffffffffffffffffffffffffffffffffffffffffffffffffffffffff\
-    ffffffffffffffffffffffffffffffffffffffffffffffffffffffffffffffff V2",
     "add-key|F|k|bob|--root-stdin asks for add k of bob by input V2",
-    "add-key|--root-stdin|--form=v1|F|k|bob asks for add k of bob by input V1",
-    "rotate-key|F|k|2026-04-25T00:00|--root-stdin \
-    asks for rotate k by input until 2026-04-25T00:00 V2",
     "rotate-key|--form|json|--root-stdin|--|F|k|2099-12-31T23:59 \
     asks for rotate k by input until 2099-12-31T23:59 Json",
     "show-account|F|amy-1 asks for show amy-1 by the clock",
@@ -126,13 +114,10 @@ static TASKS: [&str; 30] = [
     asks for show Slot { facility: \"court-1\", day: Day { number: 20574 }, \
     hour: Hour { number: 18 } }",
     "serve|F|--port|0|--count|1 asks for serve 0 1 by the clock for 10",
-    "serve|F|--log|--port|0|--count|1 asks for serve 0 1 by the clock for 10 with a log",
     "serve|F|--port=65535|--count|1000000|--zone=EST5 \
     asks for serve 65535 1000000 by the clock for 10",
     "serve|--port|08080|--count=2|F|--zone=CET-1CEST,M3.5.0,M10.5.0/3 \
     asks for serve 8080 2 by the clock for 10",
-    "serve|F|--port|0|--count|1|--at|2026-04-20T12:00 \
-    asks for serve 0 1 at 2026-04-20T12:00 for 10",
     "serve|F|--port|0|--count|1|--patience|1 asks for serve 0 1 by the clock for 1",
     "serve|--patience=03600|F|--port|0|--count|1|--at|2026-04-20T12:00|--log \
     asks for serve 0 1 at 2026-04-20T12:00 for 3600 with a log",

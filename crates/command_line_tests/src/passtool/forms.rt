@@ -3,20 +3,6 @@
 use super::runs::*;
 use crate::expect::Host;
 use test_kit::End::{self, Begins, Writes};
-use test_kit::passes::AMY_V2;
-
-static ANSWERED: [Row; 4] = [
-    (VERIFY, TEXT, Writes("signed")),
-    (SHOW, TEXT, Writes(SHOWN)),
-    (TO_V1, TEXT, Writes(TEXT)),
-    (NARROW, BARE_TEXT, Writes(TEXT)),
-];
-
-#[test]
-fn answers_with_ample_memory(rt: HostRuntime) {
-    expect_rows(&rt, &ANSWERED);
-    expect_unread(&rt, &[(MINT, Writes(V2_TEXT))]);
-}
 
 fn expect_text(rt: &impl Host, line: &str, input: &str, text: &'static str) {
     expect(rt, line, input.as_bytes(), &Writes(text));
@@ -73,11 +59,7 @@ fn narrows_in_the_form_it_came_in(rt: HostRuntime) {
     }
 }
 
-static MINTED: [(&str, End); 3] = [
-    (
-        "mint|--root|00112233445566778899aabbccddeeff|--id|key:amy-1|--location|club-desk",
-        Writes(AMY_V2),
-    ),
+static MINTED: [(&str, End); 2] = [
     (
         "mint|--id|key:amy-1|kind = court|--root|00FF",
         Writes(
@@ -142,14 +124,8 @@ fn shows_passes(rt: HostRuntime) {
 
 static NOT_UNDERSTOOD: [(&str, End); 3] = [
     ("narrow|test = caveat", Begins(5, "caveat 1 not understood")),
-    (
-        "narrow|guests <= 1|shoe = red|x",
-        Begins(5, "caveat 2 not understood"),
-    ),
-    (
-        "narrow|--|guests <= 1|--any",
-        Begins(5, "caveat 2 not understood"),
-    ),
+    ("narrow|guests <= 1|x", Begins(5, "caveat 2 not understood")),
+    ("narrow|--|--any", Begins(5, "caveat 1 not understood")),
 ];
 
 #[test]

@@ -38,12 +38,7 @@ static ROWS: [Row; 8] = [
     (SHOW, "!", 3, "fault 2: malformed\n"),
     ("verify|--root|zz", TEXT, 6, "bad root\n"),
     ("narrow|shoe = red", "!", 5, "caveat 1 not understood\n"),
-    (
-        "narrow|guests <= 1|shoe = red",
-        TEXT,
-        5,
-        "caveat 2 not understood\n",
-    ),
+    ("narrow|guests <= 1|x", TEXT, 5, "caveat 2 not understood\n"),
     ("show|more", TEXT, 2, MORE),
     ("convert|--form|v3", "!", 2, OTHER_FORM),
 ];

@@ -27,18 +27,10 @@ fn refuses_every_cut(rt: HostRuntime) {
     }
 }
 
-static NO_PASSES: [&[u8]; 13] = [
+static NO_PASSES: [&[u8]; 7] = [
     // A byte after the signature, in V1 and in V2.
     b"MDAxY2xvY2F0aW9uIGh0dHA6Ly9teWJhbmsvCjAwMjZpZGVudGlmaWVyIHdlIHVzZWQgb3VyIHNlY3JldCBrZXkKMDAxNmNpZCB0ZXN0ID0gY2F2ZWF0CjAwMmZzaWduYXR1cmUgGXusegRK8zMyhluSZuJtSTvdZopmDkTYjOGpmMI9vWcKeA",
     b"AgETaHR0cDovL2V4YW1wbGUub3JnLwIFa2V5aWQAAAYgfN7nklEcW8b1KEhYBd_psk54XijiqZMB-dcRxgnjjvcA",
-    // A length of two bytes where one is enough.
-    b"AgKFAGtleWlkAAAGIHze55JRHFvG9ShIWAXf6bJOeF4o4qmTAfnXEcYJ4473",
-    // A packet of three bytes.
-    b"MDAwMzAwMGVsb2NhdGlvbiAKMDAxMWlkZW50aWZpZXIgawowMDJmc2lnbmF0dXJlIHze55JRHFvG9ShIWAXf6bJOeF4o4qmTAfnXEcYJ4473Cg",
-    b"{\"i\":\"keyid\",\"s64\":\"fN7nklEcW8b1KEhYBd_psk54XijiqZMB-dcRxgnjjvc\",\"v\":1}",
-    b"{\"i\":\"keyid\",\"s64\":\"fN7nklEcW8b1KEhYBd_psk54XijiqZMB-dcRxgnjjvc\",\"x\":2}",
-    b"{\"c\":null,\"i\":\"keyid\",\"s64\":\"fN7nklEcW8b1KEhYBd_psk54XijiqZMB-dcRxgnjjvc\"}",
-    b"{\"c\":[{\"i\":\"c\",\"v64\":\"dg\"}],\"i\":\"k\",\"s64\":\"fN7nklEcW8b1KEhYBd_psk54XijiqZMB-dcRxgnjjvc\",\"x\":1}",
     b"{}",
     b"!",
     b"\n",
@@ -67,25 +59,16 @@ fn refuses_third_party_caveats_in_each_form(rt: HostRuntime) {
     }
 }
 
-// `OTHER_V2` in the standard alphabet, in both alphabets, and with a last bit set.
+// `OTHER_V2` in the standard alphabet.
 const STANDARD: &str =
     "AgETaHR0cDovL2V4YW1wbGUub3JnLwIFa2V5aWQAAAYgfN7nklEcW8b1KEhYBd/psk54XijiqZMB+dcRxgnjjvc";
 
-const MIXED: &str =
-    "AgETaHR0cDovL2V4YW1wbGUub3JnLwIFa2V5aWQAAAYgfN7nklEcW8b1KEhYBd_psk54XijiqZMB+dcRxgnjjvc";
-
-const BITS_LEFT: &str =
-    "AgETaHR0cDovL2V4YW1wbGUub3JnLwIFa2V5aWQAAAYgfN7nklEcW8b1KEhYBd/psk54XijiqZMB+dcRxgnjjvd";
-
-static MORE: [(&str, Row); 8] = [
+static MORE: [(&str, Row); 5] = [
     ("\n", (VERIFY, TEXT, Prints(0, "signed\n"))),
     ("\n\n", (VERIFY, TEXT, MALFORMED)),
     ("", (TO_V1, OTHER_V2, Writes(OTHER_TEXT))),
     ("", (TO_V1, STANDARD, Writes(OTHER_TEXT))),
-    ("", (TO_V1, MIXED, MALFORMED)),
-    ("", (TO_V1, BITS_LEFT, MALFORMED)),
     ("=", (TO_V1, STANDARD, Writes(OTHER_TEXT))),
-    ("==", (TO_V1, STANDARD, MALFORMED)),
 ];
 
 #[test]
@@ -96,11 +79,7 @@ fn takes_one_line_feed_either_alphabet_and_right_padding(rt: HostRuntime) {
     }
 }
 
-static LENGTHS: [(usize, End); 3] = [
-    (8192, MALFORMED),
-    (8193, Prints(3, "fault 1: too long")),
-    (9000, Prints(3, "fault 1: too long")),
-];
+static LENGTHS: [(usize, End); 2] = [(8192, MALFORMED), (8193, Prints(3, "fault 1: too long"))];
 
 #[test]
 fn refuses_a_text_that_is_too_long(rt: HostRuntime) {
