@@ -20,10 +20,7 @@ static DONE: [(PlainCommand, Option<&[u8]>); 8] = [
     (Debit("amy", 1), None),
     (SetFacility("court-1", 4, 200, 8, 22), None),
     (AddKey("amy-1", "amy", ROOT), Some(ROOT)),
-    (
-        RotateKey("amy-1", SECOND_ROOT, minutes::UNTIL),
-        Some(SECOND_ROOT),
-    ),
+    (RotateKey("amy-1", ROOT, minutes::UNTIL), Some(ROOT)),
 ];
 
 fn answer(rt: &impl Host, bytes: &Option<&[u8]>) -> OfficeAnswer {

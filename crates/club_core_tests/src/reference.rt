@@ -1,4 +1,4 @@
-//! A member's part of a club, copies of a club, and many requests.
+//! A member's part of a club, and copies of a club.
 
 use crate::expect::{Host, expect_eq};
 use crate::values::{moment, name, slot};
@@ -10,9 +10,7 @@ use test_kit::replies::{
 };
 use test_kit::requests::{ACCOUNT, BOOK_2, BOOK_7, CANCEL_7};
 use test_kit::roots::ROOT;
-use test_kit::{
-    COURT_AT_18, FIXTURE, FRIDAY, PlainCommand, PlainReply, PlainRequest, PlainSlot, signed_pass,
-};
+use test_kit::{COURT_AT_18, FIXTURE, PlainCommand, PlainReply, PlainRequest, signed_pass};
 
 /// The key of a pass, a request at noon, and the reply.
 type Step = (&'static str, PlainRequest, PlainReply);
@@ -108,33 +106,4 @@ fn a_duplicate_is_independent(rt: HostRuntime) {
     let mut other = club.duplicate().expect(&rt, "memory");
     plays(&rt, &mut other, None, &[AMY_CANCELS, BEFORE]);
     plays(&rt, &mut club, None, &[AFTER]);
-}
-
-fn booked_and_cancelled(day: u16, hour: u8, booking: u32) -> [Step; 3] {
-    let place = PlainSlot {
-        day,
-        hour,
-        ..COURT_AT_18
-    };
-    let booked = PlainReply::Booked("amy-1", booking, 200, 3);
-    let account = PlainReply::AccountShown(9_800, 1, 200);
-    let cancelled = PlainReply::Cancelled("amy-1", booking, 200);
-    [
-        ("amy-1", PlainRequest::Book(place, booking, 0), booked),
-        ("amy-1", ACCOUNT, account),
-        ("amy-1", PlainRequest::Cancel(place, booking), cancelled),
-    ]
-}
-
-#[test]
-fn answers_a_long_list(rt: HostRuntime) {
-    let mut club = fixture_club(&rt);
-    let mut booking = 0u32;
-    for day in FRIDAY..FRIDAY + 15 {
-        for hour in 8..22 {
-            booking = booking.saturating_add(1);
-            let steps = booked_and_cancelled(day, hour, booking);
-            plays(&rt, &mut club, None, &steps);
-        }
-    }
 }

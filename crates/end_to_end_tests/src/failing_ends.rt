@@ -19,10 +19,9 @@ const _: () = prove!(BOOKED_7.len() == REPLY_LEN);
 struct Whole(usize, usize, usize, usize, u64, u64);
 
 /// The request has 203 bytes. Bytes after a request are read up to the buffer's end.
-static WHOLE_ONES: [Whole; 8] = [
+static WHOLE_ONES: [Whole; 7] = [
     Whole(0, 1, MAX_REPLY_LEN, 0, 203, 1),
     Whole(0, 2, MAX_REPLY_LEN, 0, 102, 1),
-    Whole(0, 7, MAX_REPLY_LEN, 0, 29, 1),
     Whole(0, WHOLE, MAX_REPLY_LEN, 0, 1, 1),
     Whole(1, 200_000, MAX_REPLY_LEN, 0, 1, 1),
     Whole(1_000, 200_000, MAX_REPLY_LEN, 0, 1, 1),

@@ -13,7 +13,7 @@ pub(crate) enum Survival {
     FirstHalf,
     AllButOne,
     LastHalf,
-    EverySecond,
+    Odd,
 }
 
 /// The survivals of earlier changes, of one change, and of later changes.
@@ -26,15 +26,11 @@ static TRIED: [Survivals; 9] = [
     Survivals(Survival::Kept, Survival::FirstHalf, Survival::Kept),
     Survivals(Survival::Kept, Survival::AllButOne, Survival::Kept),
     Survivals(Survival::Kept, Survival::LastHalf, Survival::Kept),
-    Survivals(Survival::Kept, Survival::EverySecond, Survival::Kept),
+    Survivals(Survival::Kept, Survival::Odd, Survival::Kept),
     Survivals(Survival::Lost, Survival::Kept, Survival::Kept),
     Survivals(Survival::Kept, Survival::Kept, Survival::Lost),
-    Survivals(Survival::Lost, Survival::EverySecond, Survival::Lost),
-    Survivals(
-        Survival::EverySecond,
-        Survival::EverySecond,
-        Survival::EverySecond,
-    ),
+    Survivals(Survival::Lost, Survival::Odd, Survival::Lost),
+    Survivals(Survival::Odd, Survival::Odd, Survival::Odd),
 ];
 
 /// Each other change is tried with one of this many first rows, by turns.
@@ -63,7 +59,7 @@ impl Survival {
             Survival::FirstHalf => place < len / 2,
             Survival::AllButOne => place < len.saturating_sub(1),
             Survival::LastHalf => place >= len / 2,
-            Survival::EverySecond => place % 2 == 1,
+            Survival::Odd => place % 2 == 1,
         }
     }
 
@@ -83,7 +79,7 @@ impl Survival {
             Survival::FirstHalf => 2,
             Survival::AllButOne => 3,
             Survival::LastHalf => 4,
-            Survival::EverySecond => 5,
+            Survival::Odd => 5,
         }
     }
 }

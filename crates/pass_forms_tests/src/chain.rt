@@ -8,7 +8,7 @@ use pass_mac::{Chain, derive, same};
 type Mac = (&'static [u8], &'static [u8], &'static [u8; 32]);
 
 // RFC 4231, section 4. Then an independent program's values for keys around a block's length.
-static CASES: [Mac; 9] = [
+static CASES: [Mac; 8] = [
     (
         &[0x0b; 20],
         b"Hi There",
@@ -38,11 +38,6 @@ static CASES: [Mac; 9] = [
         &[0xaa; 131],
         b"This is a test using a larger than block-size key and a larger than block-size data. The key needs to be hashed before being used by the HMAC algorithm.",
         b"\x9b\x09\xff\xa7\x1b\x94\x2f\xcb\x27\x63\x5f\xbc\xd5\xb0\xe9\x44\xbf\xdc\x63\x64\x4f\x07\x13\x93\x8a\x7f\x51\x53\x5c\x3a\x35\xe2",
-    ),
-    (
-        &[0xaa; 63],
-        b"Hi There",
-        b"\xb1\x76\x40\x55\x84\xdf\x87\xdb\x50\x8a\xee\x7e\x8d\x9e\xf1\x14\x82\xcc\xa9\x2e\xfc\x74\xd9\x94\xf5\x93\xa7\xe2\x12\x07\xce\xf1",
     ),
     (
         &[0xaa; 64],

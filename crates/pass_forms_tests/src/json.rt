@@ -26,8 +26,7 @@ const IN_OTHER_ORDER: &[u8] =
 const WITH_AN_EMPTY_CAVEAT: &[u8] =
     b"{\"c\":[{\"i\":\"test = caveat\"},{\"i\":\"\"}],\"i\":\"we used our secret key\",\"l\":\"http://mybank/\",\"s64\":\"GXusegRK8zMyhluSZuJtSTvdZopmDkTYjOGpmMI9vWc\",\"v\":2}";
 
-const SIGNED_BY_TEXT: &[u8] =
-    b"{\"v\":2,\"i\":\"keyid\",\"s\":\"0123456789abcdef0123456789abcdef\"}";
+const SIGNED_BY_TEXT: &[u8] = b"{\"i\":\"keyid\",\"s\":\"0123456789abcdef0123456789abcdef\"}";
 
 static READ: [Row; 4] = [
     (&[(1, IN_OTHER_ORDER)], KNOWN_FIELDS),
@@ -54,19 +53,20 @@ fn reads_passes(rt: HostRuntime) {
     are_read(&rt, Form::Json, &READ);
 }
 
+const NAME: Piece = (1, b"{\"i\":");
+
 const CAVEATS: Piece = (1, b"{\"c\":[{\"i\":\"guests <= 1\"}");
 
 const GUESTS: &[u8] = b"guests <= 1";
 
 const CAVEAT: &[u8] = b",{\"i\":\"guests <= 1\"}";
 
+const THIRD_PARTY: Piece = (1, b",{\"i\":\"x\",\"v64\":\"\"}]");
+
 // `serde_json` reads at most 127 arrays and objects in one another.
 static AT_THE_LIMITS: [Row; 3] = [
     (&[SHORT, (8127, b" ")], KEYID_FIELDS),
-    (
-        &[(1, b"{\"i\":"), (126, b"["), (126, b"]"), REST],
-        KEYID_FIELDS,
-    ),
+    (&[NAME, (126, b"["), (126, b"]"), REST], KEYID_FIELDS),
     (
         &[CAVEATS, (63, CAVEAT), (1, b"]"), REST],
         Fields {
@@ -79,21 +79,10 @@ static AT_THE_LIMITS: [Row; 3] = [
 // Other faults come before too many caveats.
 static BEYOND_THE_LIMITS: [Refused; 5] = [
     (&[SHORT, (8128, b" ")], TooLong),
-    (
-        &[(1, b"{\"i\":"), (127, b"["), (127, b"]"), REST],
-        Malformed,
-    ),
+    (&[NAME, (127, b"["), (127, b"]"), REST], Malformed),
     (&[CAVEATS, (64, CAVEAT), (1, b"]"), REST], TooMany),
     (&[CAVEATS, (64, CAVEAT), (1, b",{}]"), REST], Malformed),
-    (
-        &[
-            CAVEATS,
-            (64, CAVEAT),
-            (1, b",{\"i\":\"x\",\"v64\":\"\"}]"),
-            REST,
-        ],
-        ThirdParty,
-    ),
+    (&[CAVEATS, (64, CAVEAT), THIRD_PARTY, REST], ThirdParty),
 ];
 
 #[test]
@@ -102,8 +91,7 @@ fn reads_up_to_the_limits(rt: HostRuntime) {
     are_refused(&rt, Form::Json, &BEYOND_THE_LIMITS);
 }
 
-const SIGNED_SHORT: &[u8] =
-    b"{\"i\":\"keyid\",\"s64\":\"fN7nklEcW8b1KEhYBd_psk54XijiqZMB-dcRxgnjjg\"}";
+const SIGNED_SHORT: &[u8] = b"{\"i\":\"k\",\"s64\":\"fN7nklEcW8b1KEhYBd_psk54XijiqZMB-dcRxgnjjg\"}";
 
 const WITHOUT_IDENTIFIER: &[u8] = b"{\"s64\":\"fN7nklEcW8b1KEhYBd_psk54XijiqZMB-dcRxgnjjvc\"}";
 
@@ -124,17 +112,15 @@ fn refuses_other_texts(rt: HostRuntime) {
     are_refused(&rt, Form::Json, &OTHER_TEXTS);
 }
 
-static ODD_MEMBERS: [&[u8]; 18] = [
+static ODD_MEMBERS: [&[u8]; 16] = [
     b"\"v\":1",
     b"\"v\":2.0",
-    b"\"v\":2e0",
     b"\"v\":-2",
     b"\"v\":null",
     b"\"v\":\"2\"",
     b"\"i64\":\"_w\"",
     b"\"c\":null",
     b"\"c\":[{\"l\":\"x\"}]",
-    b"\"c\":{}",
     b"\"c\":[\"a\"]",
     b"\"c\":[{\"i\":\"a\",\"i64\":\"_w\"}]",
     b"\"x\":1",
@@ -172,13 +158,10 @@ static IDENTIFIERS: [(&[u8], &[u8]); 6] = [
     (b"\"i64\":\"//4=\"", b"\xff\xfe"),
 ];
 
-const SIGNED: Piece = (
-    1,
-    b",\"s64\":\"fN7nklEcW8b1KEhYBd_psk54XijiqZMB-dcRxgnjjvc\"}",
-);
+const SIGNED: &[u8] = b",\"s64\":\"fN7nklEcW8b1KEhYBd_psk54XijiqZMB-dcRxgnjjvc\"}";
 
 fn identifies(rt: &impl Host, member: &'static [u8], identifier: &[u8]) {
-    let text = join(rt, &[OPEN, (1, member), SIGNED]);
+    let text = join(rt, &[OPEN, (1, member), (1, SIGNED)]);
     let pass = read(rt.alloc(), Form::Json, &text).expect(rt, "a pass");
     expect_eq(rt, &pass.identifier(), &identifier, &member);
 }

@@ -9,6 +9,8 @@ const HEADER: Piece = (1, b"\x02\x01\x13http://example.org/\x02\x05keyid\x00");
 
 const KEYID: Piece = (1, b"\x02\x02\x05keyid\x00");
 
+const EMPTY_LOCATION: Piece = (1, b"\x02\x01\x00\x02\x05keyid\x00");
+
 const AFTER: Piece = (
     1,
     b"\x00\x06\x20\x7c\xde\xe7\x92\x51\x1c\x5b\xc6\xf5\x28\x48\x58\x05\xdf\xe9\xb2\x4e\x78\x5e\x28\xe2\xa9\x93\x01\xf9\xd7\x11\xc6\x09\xe3\x8e\xf7",
@@ -25,7 +27,7 @@ static KNOWN: [Piece; 2] = [HEADER, AFTER];
 
 const GUESTS: &[u8] = b"guests <= 1";
 
-static READ: [Row; 8] = [
+static READ: [Row; 7] = [
     (
         &[HEADER, AFTER],
         Fields {
@@ -40,11 +42,7 @@ static READ: [Row; 8] = [
             ..KEYID_FIELDS
         },
     ),
-    // An empty location is the same as no location.
-    (
-        &[(1, b"\x02\x01\x00\x02\x05keyid\x00"), AFTER],
-        KEYID_FIELDS,
-    ),
+    (&[EMPTY_LOCATION, AFTER], KEYID_FIELDS),
     (&[KEYID, AFTER], KEYID_FIELDS),
     // A length of 127 takes one byte, and a length of 128 takes two.
     (
@@ -58,13 +56,6 @@ static READ: [Row; 8] = [
         &[(1, b"\x02\x02\x80\x01"), (128, b"x"), (1, b"\x00"), AFTER],
         Fields {
             identifier: &[b'x'; 128],
-            ..KEYID_FIELDS
-        },
-    ),
-    (
-        &[(1, b"\x02\x02\xc8\x01"), (200, b"x"), (1, b"\x00"), AFTER],
-        Fields {
-            identifier: &[b'x'; 200],
             ..KEYID_FIELDS
         },
     ),
@@ -97,6 +88,8 @@ static THIRD_PARTIES: [&[u8]; 2] = [b"\x02\x01x\x04\x00\x00", b"\x01\x00\x02\x01
 
 const MANY: Piece = (65, b"\x02\x0bguests <= 1\x00");
 
+const THIRD_PARTY: &[u8] = b"\x02\x01x\x04\x01y\x00";
+
 static REFUSED: [Refused; 8] = [
     (&[HEADER, AFTER, (1, b"\x00")], Malformed),
     // A longer spelling of a length, a length without an end, and a wrong length.
@@ -106,10 +99,7 @@ static REFUSED: [Refused; 8] = [
     (&[(8193, b"\x02")], TooLong),
     (&[KEYID, MANY, AFTER], TooMany),
     (&[KEYID, MANY, AFTER, (1, b"\x00")], Malformed),
-    (
-        &[KEYID, MANY, (1, b"\x02\x01x\x04\x01y\x00"), AFTER],
-        ThirdParty,
-    ),
+    (&[KEYID, MANY, (1, THIRD_PARTY), AFTER], ThirdParty),
 ];
 
 #[test]

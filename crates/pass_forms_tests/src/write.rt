@@ -88,20 +88,17 @@ type Row = (Form, usize, usize, Result<Lens, FormFault>);
 
 // Without its identifier, a pass has 77 bytes in V1, 40 in V2 and 73 in JSON. Base64 makes 8,192
 // characters of 6,144 bytes.
-static LENS: [Row; 16] = [
+static LENS: [Row; 13] = [
     (Form::V1, 6067, 0, Ok((8192, 6067, 0))),
     (Form::V1, 6068, 0, Err(FormFault::TooLong)),
-    (Form::V1, 8193, 0, Err(FormFault::TooLong)),
     (Form::V1, 0, 65, Err(FormFault::TooMany)),
     (Form::V1, 9000, 65, Err(FormFault::TooMany)),
     (Form::V2, 6104, 0, Ok((8192, 6104, 0))),
     (Form::V2, 6105, 0, Err(FormFault::TooLong)),
-    (Form::V2, 8193, 0, Err(FormFault::TooLong)),
     (Form::V2, 0, 65, Err(FormFault::TooMany)),
     (Form::V2, 9000, 65, Err(FormFault::TooMany)),
     (Form::Json, 8119, 0, Ok((8192, 8119, 0))),
     (Form::Json, 8120, 0, Err(FormFault::TooLong)),
-    (Form::Json, 8193, 0, Err(FormFault::TooLong)),
     (Form::Json, 0, 64, Ok((648, 0, 64))),
     (Form::Json, 0, 65, Err(FormFault::TooMany)),
     (Form::Json, 9000, 65, Err(FormFault::TooMany)),

@@ -43,12 +43,10 @@ fn is_day(rt: &impl Host, day: Day, text: &str, number: u16) {
     expect_eq(rt, &Day::from_date(day.date()), &Some(day), &text);
 }
 
-static DAYS: [(&str, Option<u16>); 14] = [
+static DAYS: [(&str, Option<u16>); 12] = [
     ("2000-01-01", Some(10957)),
     ("2000-02-29", Some(11016)),
-    ("2000-03-01", Some(11017)),
     ("2024-02-29", Some(19782)),
-    ("2026-05-01", Some(20574)),
     ("2026-12-31", Some(20818)),
     ("2099-12-31", Some(47481)),
     ("1999-12-31", None),
