@@ -5,11 +5,13 @@ use crate::expect::{Runtime, expect_row, join};
 use test_kit::Piece;
 
 /// A text, and whether a complete request is its prefix.
-static WHOLE: [(&str, bool); 9] = [
+static WHOLE: [(&str, bool); 11] = [
     ("", false),
     ("GET /account HTTP/1.1\r\n\r", false),
     ("GET /account HTTP/1.1\r\n\r\nGET", true),
     ("GET /account HTTP/1.1\n\n", false),
+    ("GET /account HTTP/1.1\r\n\n", false),
+    ("GET /account HTTP/1.1\r\n\r\r\n", false),
     // An invalid head needs no further bytes.
     ("\r\n\r\n", true),
     ("GET\r\n\r\n", true),

@@ -10,10 +10,13 @@ use desk_server::Office;
 use std::test::Fail;
 
 /// The number of bytes that a server gets, and a row. The row's end is the server's answer.
-static HANDED: [(usize, &str); 7] = [
+static HANDED: [(usize, &str); 10] = [
     // A zero byte follows each of `5`, no root, `clubdesk`, `add-member`, `club`, `amy` and `5`.
     (34, "add-member amy 5 => 0 done\n"),
     (34, "add-member amy 5 => 1 refused: exists"),
+    (29, "debit amy 5 => 0 done\n"),
+    (33, "set-quota amy 5 => 0 done\n"),
+    (49, "open-slot court-1 2026-05-01 18 => 0 done\n"),
     (34, "sheet 2026-05-02 => 0 Day sheet 2026-05-02\n"),
     (34, "sheet 2026-05-02 => 4 out of memory"),
     (34, "revoke-key amy-1 => 8 no answer"),

@@ -14,7 +14,7 @@ const BERLIN: &str = "CET-1CEST,M3.5.0,M10.5.0/3";
 /// A zone's rule, the seconds since the start of 1970, and the moment.
 type Shown = (&'static str, i64, Option<&'static str>);
 
-static SHOWN: [Shown; 13] = [
+static SHOWN: [Shown; 15] = [
     ("UTC0", 1_777_658_459, Some("2026-05-01T18:00")),
     (
         "EST5EDT,M3.2.0,M11.1.0",
@@ -26,6 +26,8 @@ static SHOWN: [Shown; 13] = [
     ("UTC0", 946_684_800, Some("2000-01-01T00:00")),
     (BERLIN, 946_681_199, None),
     (BERLIN, 946_681_200, Some("2000-01-01T00:00")),
+    ("EST5", 946_684_800, None),
+    ("EST5", 946_702_800, Some("2000-01-01T00:00")),
     ("UTC0", 4_102_444_799, Some("2099-12-31T23:59")),
     ("UTC0", 4_102_444_800, None),
     (BERLIN, 4_102_441_199, Some("2099-12-31T23:59")),
