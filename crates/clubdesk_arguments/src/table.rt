@@ -214,7 +214,11 @@ const ROTATE_KEY_ARGUMENTS: &[Argument] = &[
 const SERVE_ARGUMENTS: &[Argument] = &[
     FILE,
     Argument::Needed("port", "P", "The port, 0 to 65535; 0 takes any free port"),
-    Argument::Needed("count", "N", "The number of connections to serve, 1 to 1000000"),
+    Argument::Needed(
+        "count",
+        "N",
+        "The number of connections to serve, 1 to 1000000",
+    ),
     ZONE,
     AT,
     Argument::Or(

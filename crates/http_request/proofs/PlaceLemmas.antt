@@ -40,7 +40,6 @@ SpellsSlot facility day hour slot =
     IsSlot slot × (facility ≡ slot.facility) × (day ≡ day_text slot.day) × (hour ≡ two_digits slot.hour)
 
 module _ (names : ReadsNames) (days : ReadsDays) (texts : IsTextOfDay) (hours : ReadsHours) (numbers : ReadsNumbers) where
-
   number_found : (n : ℕ) → IsBookingNumber n → number_of_text (decimal n) ≡ Some n
   unfolding number_of_text
   number_found n h =

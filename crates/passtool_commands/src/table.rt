@@ -66,10 +66,7 @@ const MINT_ARGUMENTS: &[Argument] = &[
 ];
 
 const NARROW_ARGUMENTS: &[Argument] = &[
-    Argument::Flag(
-        "any",
-        "Allows caveats that the desk doesn't understand",
-    ),
+    Argument::Flag("any", "Allows caveats that the desk doesn't understand"),
     Argument::NeededPositionals("caveat", "CAVEAT", CAVEAT_HELP),
 ];
 

@@ -90,7 +90,6 @@ all_zip values P Q gives (r ∷ rows) (x ∷ xs) same all =
     (gives same.0.0 x (subst Q same.0.1 all.0), all_zip values P Q gives rows xs same.1 all.1)
 
 module _ {db : Database} {rows : Rows} (holds_rows : HoldsRows db rows) where
-
   pub members_apart : (xs : List MemberRow) (x : MemberRow) → rows.members ≡ xs ++ x ∷ []
       → AllByRecursion (λ (y : MemberRow). bytes_eq x.member.name y.member.name ≡ false) xs
   unfolding first_key
