@@ -4,6 +4,13 @@ use crate::prelude::*;
 use crate::refusing::Refusing;
 use pass_forms::MAX_TEXT;
 
+/// The number of the first call that fails, and the fault of the store.
+#[derive(Clone, Copy)]
+struct Failure {
+    first: usize,
+    fault: StoreFault,
+}
+
 fn failing_desk<S: ClubStore>(
     rt: &impl Host,
     desk: Desk<S>,
