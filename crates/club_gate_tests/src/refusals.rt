@@ -46,11 +46,15 @@ impl Fixture for Failure {
 }
 
 #[test]
-fn reports_failures(rt: HostRuntime) {
+fn reports_refused_memory(rt: HostRuntime) {
     let fault = StoreFault::Memory;
     play(&rt, &Failure { first: 1, fault });
+}
+
+// A booking makes seven calls, and the last one writes.
+#[test]
+fn reports_refused_storage(rt: HostRuntime) {
     let fault = StoreFault::Storage;
-    // A booking makes seven calls, and the last one writes.
     for first in 2..=7 {
         play(&rt, &Failure { first, fault });
     }
