@@ -1,17 +1,18 @@
 #!/usr/bin/env python3
-"""A client of the desk, with Python's standard library: books, repeats, cancels and shows.
+"""A client of the desk, written with Python's standard library.
 
     client.py book FACILITY DAY HOUR GUESTS   books under a number that it draws
-    client.py cancel NUMBER                   cancels the booking of that number
+    client.py cancel NUMBER                   cancels the booking with this number
     client.py repeat                          sends again each request that has no reply yet
     client.py list                            shows the bookings on record
     client.py show FACILITY DAY HOUR          shows a slot
     client.py account                         shows the account
 
-DESK is the desk's address (by default http://127.0.0.1:8080), and PASS is the file with the pass (by default pass).
-The client writes each booking and cancellation to the file RECORD (by default record) before it sends them, and then the reply. It sends
-a request again for PATIENCE seconds (by default 60). It prints replies. It ends with status 1 after a refusal, and with 3 if no reply came.
-After status 3, `repeat` finishes the request.
+The variable DESK has the desk's address (by default http://127.0.0.1:8080). PASS names the file with the pass (by default pass).
+Before the client sends a booking or cancellation, it writes the request to the file RECORD (by default record). The client also writes the
+reply to this file. If no reply comes, the client sends the request again for PATIENCE seconds (by default 60). The client prints each
+reply. The client ends with status 1 after a refusal, and with status 3 if no reply came. After status 3, the command `repeat` finishes
+the request.
 """
 import fcntl
 import json
@@ -28,19 +29,19 @@ TIMEOUT, FIRST_PAUSE, LONGEST_PAUSE = 10, 0.05, 5  # seconds
 
 
 class NoReply(Exception):
-    """No reply came, or the reply wasn't from the desk, or the desk was unavailable."""
+    """Reports that no reply came, that the reply wasn't from the desk, or that the desk was unavailable."""
 
 
 class Record:
-    """Bookings by number, in a file that gets a line for each request and reply."""
+    """Keeps bookings by number in a file. Each request and each reply adds a line to the file."""
 
     def __init__(self, path):
         self.bookings = {}
         self.file = open(path, "a+b")
-        fcntl.flock(self.file, fcntl.LOCK_EX)  # one program at a time
+        fcntl.flock(self.file, fcntl.LOCK_EX)  # only one program at a time uses the file
         self.file.seek(0)
         text = self.file.read()
-        # If a request's line is truncated, the request was never sent. If a reply's line is truncated, the reply comes again.
+        # If a request's line is truncated, the request was never sent. If a reply's line is truncated, a repeated request gets the reply again.
         self.file.truncate(text.rfind(b"\n") + 1)
         for line in text.splitlines(keepends=True):
             if line.endswith(b"\n"):
@@ -52,20 +53,20 @@ class Record:
         booking.update(line.get("words", {}))
 
     def keep(self, **line):
-        """Adds a line. It is on the disk once this returns."""
+        """Adds a line, and returns when the line is on the disk."""
         self.file.write(json.dumps(line).encode() + b"\n")
         self.file.flush()
         os.fsync(self.file.fileno())
         self._add(line)
 
     def unfinished(self):
-        """Returns numbers and actions of the requests without a reply."""
+        """Returns the number and the action of each request without a reply."""
         return [(number, action) for number, booking in self.bookings.items()
                 for action in ("book", "cancel") if action in booking and booking[action] is None]
 
 
 class Client:
-    """Sends requests to the desk. Each method returns the reply as a dict; a refusal has a `fault`."""
+    """Sends requests to the desk. A reply is a dict, and the dict of a refusal has a `fault`."""
 
     def __init__(self, address, text, record, patience=60):
         self.address, self.text, self.record, self.patience = address, text, record, patience
@@ -89,7 +90,7 @@ class Client:
         return reply
 
     def _ask(self, method, path, body=None):
-        """Sends a request until the desk replies; no request has an effect twice."""
+        """Sends a request until the desk replies. A repeated request has no second effect."""
         end, pause = time.monotonic() + self.patience, FIRST_PAUSE
         while True:
             try:
@@ -112,7 +113,7 @@ class Client:
         return reply
 
     def book(self, facility, day, hour, guests):
-        """Books under a new number. If another program with a pass of this key used the number, draws another number."""
+        """Books under a new random number. Draws a new number if another program with a pass of the same key used the number."""
         while True:
             number = random.randint(1, LARGEST_NUMBER)
             if number in self.record.bookings:
@@ -124,14 +125,14 @@ class Client:
                 return reply
 
     def cancel(self, number):
-        """Cancels a booking on record. If the booking request has no reply yet, first sends it again."""
+        """Cancels a booking on record. If the booking has no reply yet, first sends the request for the booking again."""
         if self.record.bookings[number]["book"] is None:
             self._finish(number, "book")
         self.record.keep(number=number, action="cancel")
         return self._finish(number, "cancel")
 
     def repeat(self):
-        """Finishes each request without a reply; returns the replies."""
+        """Sends each request without a reply again, and returns the replies."""
         return [self._finish(number, action) for number, action in self.record.unfinished()]
 
     def show(self, facility, day, hour):

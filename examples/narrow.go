@@ -1,7 +1,7 @@
 // Narrows passes in V1, V2 or JSON with the package macaroon.v2: narrow CAVEAT.. < passes
 //
-// Reads passes, one per line, and prints each with the new caveats after its old ones, in the same form. Needs Debian's golang-go and
-// golang-gopkg-macaroon.v2-dev. Build it with
+// Reads one pass per line. Prints each pass in the same form, with the new caveats after the old caveats. The program needs the Debian
+// packages golang-go and golang-gopkg-macaroon.v2-dev. Build the program with
 //
 //	GO111MODULE=off GOPATH=/usr/share/gocode go build narrow.go
 package main
@@ -18,7 +18,7 @@ import (
 	"gopkg.in/macaroon.v2"
 )
 
-// narrow returns the pass with the caveats added.
+// narrow returns a pass with more caveats.
 func narrow(text string, caveats []string) (string, error) {
 	var pass macaroon.Macaroon
 	isJSON := strings.HasPrefix(text, "{")

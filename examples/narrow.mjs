@@ -1,13 +1,13 @@
 // Narrows passes in V2 with Web Crypto: node narrow.mjs CAVEAT.. < passes
 //
-// Reads passes, one per line, and prints each with the new caveats after its old ones. It needs no secret:
-// the signature of a pass is the key that signs its next caveat. A browser can run the functions unchanged, without the imports.
+// Reads one pass per line, and prints each pass with the new caveats after the old caveats. The program needs no secret:
+// the signature of a pass is the key that signs the next caveat. A browser can run the functions unchanged if the imports are removed.
 import { readFileSync } from "node:fs";
 import { webcrypto } from "node:crypto";
 
 const { subtle } = globalThis.crypto ?? webcrypto;
 
-// A V2 pass ends with a byte that ends its caveats, and a signature field: type, length, 32 bytes.
+// The bytes before the signature of a V2 pass: the end of the caveats, then the type and length of the signature's field.
 const END = [0x00, 0x06, 0x20];
 
 const unbase64 = (text) =>
@@ -16,7 +16,7 @@ const base64 = (bytes) =>
   btoa(String.fromCharCode(...bytes))
     .replaceAll("+", "-").replaceAll("/", "_").replaceAll("=", "");
 
-// Encodes a number with seven bits per byte, the lowest seven first. All bytes but the last have the top bit set.
+// Encodes a number with seven bits per byte, lowest bits first. Each byte except the last byte has its top bit set.
 const varint = (number) =>
   number < 128 ? [number] : [(number % 128) + 128, ...varint(Math.floor(number / 128))];
 
@@ -26,7 +26,7 @@ async function hmac(key, data) {
   return new Uint8Array(await subtle.sign("HMAC", signer, data));
 }
 
-// Returns the pass with the caveats added. The key that signs each caveat is the previous signature.
+// Returns the pass with the new caveats. The key that signs a caveat is the signature before that caveat.
 export async function narrow(text, caveats) {
   const raw = unbase64(text);
   if (raw[0] !== 0x02 || String(raw.subarray(-35, -32)) !== String(END)) {

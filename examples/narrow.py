@@ -1,26 +1,26 @@
 #!/usr/bin/env python3
 """Narrows passes in V2 with Python's standard library: narrow.py CAVEAT.. < passes
 
-Reads passes, one per line, and prints each with the new caveats after its old ones. Needs no secret: the
-signature of a pass is the key that signs its next caveat.
+Reads one pass per line, and prints each pass with the new caveats after the old caveats. The program needs no
+secret: the signature of a pass is the key that signs the next caveat.
 """
 import hmac
 import sys
 from base64 import urlsafe_b64decode, urlsafe_b64encode
 
-# A V2 pass ends with a byte that ends its caveats, and a signature field: type, length, 32 bytes.
+# The bytes before the signature of a V2 pass: the end of the caveats, then the type and length of the signature's field.
 END = b"\x00\x06\x20"
 
 
 def varint(number):
-    """Encodes a number with seven bits per byte, the lowest seven first. All bytes but the last have the top bit set."""
+    """Encodes a number with seven bits per byte, lowest bits first. Each byte except the last byte has its top bit set."""
     if number < 128:
         return bytes([number])
     return bytes([number % 128 + 128]) + varint(number // 128)
 
 
 def narrow(text, caveats):
-    """Returns the pass with the caveats added. The key that signs each caveat is the previous signature."""
+    """Returns the pass with the new caveats. The key that signs a caveat is the signature before that caveat."""
     raw = urlsafe_b64decode(text + "=" * (-len(text) % 4))
     if raw[:1] != b"\x02" or raw[-35:-32] != END:
         raise ValueError("not a pass in V2")

@@ -1,8 +1,8 @@
 #!/usr/bin/env python3
 """Narrows passes in V1, V2 or JSON with pymacaroons: narrow_pymacaroons.py CAVEAT.. < passes
 
-Reads passes, one per line, and prints each with the new caveats after its old ones, in the same form.
-Needs Debian's python3-pymacaroons.
+Reads one pass per line. Prints each pass in the same form, with the new caveats after the old caveats.
+The program needs the Debian package python3-pymacaroons.
 """
 import sys
 
@@ -11,7 +11,7 @@ from pymacaroons.serializers import BinarySerializer, JsonSerializer
 
 
 def narrow(text, caveats):
-    """Returns the pass with the caveats added."""
+    """Returns the pass with the new caveats."""
     form = JsonSerializer() if text.startswith("{") else BinarySerializer()
     macaroon = Macaroon.deserialize(text, form)
     for caveat in caveats:

@@ -1,10 +1,11 @@
 /*
  * clubpass: passes for C.
  *
- * A pass is a macaroon without third-party caveats. It has an identifier, caveats that each narrow
- * what the pass allows, and a signature. Making a pass needs the root. Anybody who has a pass can
- * add a caveat, and nobody can remove one. This library reads passes in three forms, writes them,
- * narrows them, and tells whether a root signed them. The forms are those of libmacaroons.
+ * A pass is a macaroon without third-party caveats. A pass has an identifier, caveats and a
+ * signature. Each caveat narrows the requests that the pass allows. Making a pass needs the root.
+ * Anybody who has a pass can add a caveat to the pass, and nobody can remove a caveat. This library
+ * reads, writes and narrows passes in the three forms of libmacaroons. The library also tests
+ * whether a root signed a pass.
  *
  *     #include <clubpass.h>
  *
@@ -14,17 +15,21 @@
  *
  * Rules of every call:
  *
- * - A `clubpass` is a plain object of about 8 KiB. The caller allocates it on the stack, in another
- *   struct or on the heap, with its type's alignment. No call frees it, and an assignment copies
- *   it. Set it to CLUBPASS_INIT, or to zeros, before its first use. Don't read its members.
- * - Bytes are passed as a pointer and a length. The pointer must not be NULL, even for a length of
- *   0. A length must be below 2^63, and the memory of the whole length must be the caller's.
+ * - A `clubpass` is a plain object of about 8 KiB. The caller allocates the object on the stack, in
+ *   another struct or on the heap, with the alignment of the type. No call frees an object, and an
+ *   assignment copies the object. Before its first use, set an object to CLUBPASS_INIT or to zeros.
+ *   Don't read the members of an object.
+ * - A call takes bytes as a pointer and a length. The pointer must not be NULL, even for a length
+ *   of 0. A length must be below 2^63, and the caller must own the memory of the whole length.
  * - Memory that a call writes must not overlap memory that the same call reads or writes by
  *   another argument.
  * - No call keeps a pointer, has a state of its own, prints or aborts. Calls in different threads
- *   share no data: two threads may use one object at the same time if both only read it.
- * - Any byte is allowed, also 0. A text needs no NUL at its end, and the library writes none.
- * - Only clubpass_read and clubpass_write use the heap. They free that memory before they return.
+ *   share no data. Two threads may use an object at the same time if both threads only read the
+ *   object.
+ * - Bytes may have any value, including 0. A text needs no NUL at its end, and the library writes
+ *   no NUL.
+ * - Only clubpass_read and clubpass_write use the heap. Both calls free their memory of the heap
+ *   before they return.
  */
 #ifndef CLUBPASS_H
 #define CLUBPASS_H
@@ -54,25 +59,25 @@ enum {
     CLUBPASS_MAX_NAME = 24         /* the name of a facility */
 };
 
-/* The result of a call: done, or its first fault. */
+/* The result of a call: success, or the first fault that applies. */
 typedef enum clubpass_fault {
-    CLUBPASS_OK = 0,               /* done */
+    CLUBPASS_OK = 0,               /* success */
     CLUBPASS_TOO_LONG = 1,         /* a text would have more than CLUBPASS_MAX_TEXT bytes */
-    CLUBPASS_MALFORMED = 2,        /* the text is no pass */
-    CLUBPASS_THIRD_PARTY = 3,      /* a caveat is a third party's */
+    CLUBPASS_MALFORMED = 2,        /* the text isn't a pass */
+    CLUBPASS_THIRD_PARTY = 3,      /* a caveat is a third-party caveat */
     CLUBPASS_TOO_MANY = 4,         /* more than CLUBPASS_MAX_CAVEATS caveats */
-    CLUBPASS_MEMORY = 5,           /* out of memory, or of the object's room */
+    CLUBPASS_MEMORY = 5,           /* out of memory, or the object has no room */
     CLUBPASS_SHORT_BUFFER = 6,     /* the buffer is too short; *len is the length that it needs */
-    CLUBPASS_NO_CAVEAT = 7,        /* the pass has no caveat of this index */
+    CLUBPASS_NO_CAVEAT = 7,        /* the pass has no caveat with this index */
     CLUBPASS_NO_FORM = 8,          /* no form has this number */
-    CLUBPASS_BAD_ASK = 9,          /* a value of the ask is out of its range */
-    CLUBPASS_NOT_UNDERSTOOD = 10,  /* a caveat is no line of the language */
+    CLUBPASS_BAD_ASK = 9,          /* a value of the ask is out of range */
+    CLUBPASS_NOT_UNDERSTOOD = 10,  /* a caveat isn't a line of the caveat language */
     CLUBPASS_DENIED = 11           /* a caveat denies the ask */
 } clubpass_fault;
 
 /* The forms of a text. V1 and V2 are written in base64 (RFC 4648, URL-safe, without padding). */
 typedef enum clubpass_form_number {
-    CLUBPASS_NO_TEXT = 0,          /* of an empty object */
+    CLUBPASS_NO_TEXT = 0,          /* the object is empty */
     CLUBPASS_V1 = 1,               /* libmacaroons' packets */
     CLUBPASS_V2 = 2,               /* libmacaroons' binary form */
     CLUBPASS_JSON = 3              /* libmacaroons' V2 JSON */
@@ -96,29 +101,30 @@ typedef struct clubpass {
 #endif
 
 /*
- * Reads a pass from a text in any form: JSON, or base64 of V1, V2 or JSON. The text has no line
- * feed at its end.
+ * Reads a pass from a text in any form: JSON, or base64 of V1, V2 or JSON. The text must not
+ * have a line feed at its end.
  *
- * Returns CLUBPASS_OK if the text is a pass. Otherwise it returns the first of these that applies:
- * CLUBPASS_TOO_LONG, CLUBPASS_MALFORMED, CLUBPASS_THIRD_PARTY, CLUBPASS_TOO_MANY. It returns
- * CLUBPASS_MEMORY only if the heap runs out, since the object has room for every valid text. After
- * a fault the object is empty: it has no fields, and a signature of zeros.
+ * Returns CLUBPASS_OK if the text is a pass. Otherwise the call returns the first fault in this
+ * list that applies: CLUBPASS_TOO_LONG, CLUBPASS_MALFORMED, CLUBPASS_THIRD_PARTY,
+ * CLUBPASS_TOO_MANY. The call returns CLUBPASS_MEMORY only if the heap runs out, since the object
+ * has room for every valid text. After a fault the object is empty. An empty object has no fields,
+ * and a signature of zeros.
  */
 CLUBPASS_CHECK
 clubpass_fault clubpass_read(const uint8_t *text, size_t text_len, clubpass *pass);
 
-/* Returns the number of the form that the pass was read from; CLUBPASS_V2 for a minted pass. */
+/* Returns the form that the pass was read from, or CLUBPASS_V2 for a minted pass. */
 CLUBPASS_NONNULL
 clubpass_form_number clubpass_form(const clubpass *pass);
 
 /*
- * Copies the location, the identifier, or the caveat of this index (from 0) to the front of a
- * buffer of `room` bytes, and sets *len to its length.
+ * Copies the location, the identifier, or the caveat with an index (from 0) to the front of a
+ * buffer of `room` bytes. The rest of the buffer is unchanged. The call sets *len to the length of
+ * the copied part, and returns CLUBPASS_OK. The location is an unsigned hint.
  *
- * Returns CLUBPASS_OK, or CLUBPASS_SHORT_BUFFER if the part is longer than the buffer. Then the
- * buffer is unchanged, and *len is the length that it needs. Returns CLUBPASS_NO_CAVEAT, with *len
- * 0, if the pass has no such caveat. The rest of the buffer is unchanged. The location is an
- * unsigned hint.
+ * Returns CLUBPASS_SHORT_BUFFER if the part is longer than the buffer. Then the buffer is
+ * unchanged, and *len is the length that the part needs. Returns CLUBPASS_NO_CAVEAT, with *len 0,
+ * if the pass has no caveat with this index.
  */
 CLUBPASS_CHECK
 clubpass_fault clubpass_location(const clubpass *pass, uint8_t *out, size_t room, size_t *len);
@@ -137,14 +143,15 @@ CLUBPASS_NONNULL
 void clubpass_signature(const clubpass *pass, uint8_t *out);
 
 /*
- * Writes the text of a pass in a form, a clubpass_form_number, to the front of a buffer of `room`
- * bytes, and sets *len to its length. A text has at most CLUBPASS_MAX_TEXT bytes.
+ * Writes the text of a pass to the front of a buffer of `room` bytes. `form` is the
+ * clubpass_form_number of the text. The call sets *len to the length of the text, and returns
+ * CLUBPASS_OK. A text has at most CLUBPASS_MAX_TEXT bytes. After a fault the buffer is unchanged.
  *
- * Returns CLUBPASS_OK, or CLUBPASS_SHORT_BUFFER if the text is longer than the buffer; then *len is
- * the length that it needs. The other faults set *len to 0. CLUBPASS_TOO_LONG: the text in this
- * form would be longer than CLUBPASS_MAX_TEXT. CLUBPASS_NO_FORM: no form has this number.
- * CLUBPASS_MEMORY: the heap refused one of the call's allocations. Any pass can have this fault,
- * since the call first copies the pass. After a fault the buffer is unchanged.
+ * - CLUBPASS_SHORT_BUFFER: the text is longer than the buffer. *len is the length of the text.
+ * - CLUBPASS_TOO_LONG: the text in this form would be longer than CLUBPASS_MAX_TEXT. *len is 0.
+ * - CLUBPASS_NO_FORM: no form has this number. *len is 0.
+ * - CLUBPASS_MEMORY: the heap refused an allocation of the call. *len is 0. This fault is possible
+ *   for any pass, since the call first copies the pass.
  */
 CLUBPASS_CHECK
 clubpass_fault clubpass_write(const clubpass *pass, uint32_t form, uint8_t *out, size_t room,
@@ -154,7 +161,7 @@ clubpass_fault clubpass_write(const clubpass *pass, uint32_t form, uint8_t *out,
  * Makes a new pass without caveats, signed under a root of any length.
  *
  * Returns CLUBPASS_OK, or CLUBPASS_MEMORY if the location and the identifier together have more
- * than CLUBPASS_ROOM bytes. Then the object is empty.
+ * than CLUBPASS_ROOM bytes. After CLUBPASS_MEMORY the object is empty.
  */
 CLUBPASS_CHECK
 clubpass_fault clubpass_mint(const uint8_t *root, size_t root_len, const uint8_t *location,
@@ -162,11 +169,14 @@ clubpass_fault clubpass_mint(const uint8_t *root, size_t root_len, const uint8_t
                              size_t identifier_len, clubpass *pass);
 
 /*
- * Adds a caveat of any bytes to a pass, and signs it without the root.
+ * Adds a caveat of any bytes to a pass, and signs the caveat without the root.
  *
- * Returns CLUBPASS_OK, CLUBPASS_TOO_MANY if the pass already has CLUBPASS_MAX_CAVEATS caveats, else
- * CLUBPASS_MEMORY if the location, the identifier and all caveats together would have more than
- * CLUBPASS_ROOM bytes. After a fault the pass is unchanged.
+ * Returns CLUBPASS_OK, or the first fault in this list that applies. After a fault the pass is
+ * unchanged.
+ *
+ * - CLUBPASS_TOO_MANY: the pass already has CLUBPASS_MAX_CAVEATS caveats.
+ * - CLUBPASS_MEMORY: the location, the identifier and all caveats together would have more than
+ *   CLUBPASS_ROOM bytes.
  */
 CLUBPASS_CHECK
 clubpass_fault clubpass_narrow(clubpass *pass, const uint8_t *caveat, size_t caveat_len);
@@ -205,18 +215,19 @@ typedef struct clubpass_ask {
     uint32_t moment;               /* civil minutes since 1970-01-01T00:00, in 2000 to 2099 */
     uint16_t day;                  /* the slot's day: days since 1970-01-01, in 2000 to 2099 */
     uint8_t hour;                  /* the slot's hour, 0 to 23 */
-    uint8_t guests;                /* the guests of a booking, else 0 */
+    uint8_t guests;                /* the number of guests of a booking; 0 for any other action */
     uint8_t facility_len;          /* the length of the facility's name; 0 if there is no slot */
-    uint8_t facility[CLUBPASS_MAX_NAME]; /* a to z, 0 to 9 and -, the first not - */
+    uint8_t facility[CLUBPASS_MAX_NAME]; /* a to z, 0 to 9 and -; doesn't begin with - */
 } clubpass_ask;
 
 /*
- * Tests the caveats of a pass against a request, one after the other.
+ * Tests the caveats of a pass against a request, one after another. This call doesn't test the
+ * signature. The call ignores `day` and `hour` if there is no slot.
  *
  * Returns CLUBPASS_OK, with *number 0, if each caveat is understood and allows the request.
- * Otherwise it returns CLUBPASS_NOT_UNDERSTOOD or CLUBPASS_DENIED for the first other caveat, and
- * *number is that caveat's number, from 1. It returns CLUBPASS_BAD_ASK, with *number 0, if a value
- * is out of range. It ignores `day` and `hour` if there is no slot. It doesn't test the signature.
+ * Otherwise the call returns the fault of the first caveat that isn't understood or denies the
+ * request. The fault is CLUBPASS_NOT_UNDERSTOOD or CLUBPASS_DENIED, and *number is the number of
+ * the caveat, from 1. Returns CLUBPASS_BAD_ASK, with *number 0, if a value is out of range.
  */
 CLUBPASS_CHECK
 clubpass_fault clubpass_first_fault(const clubpass *pass, const clubpass_ask *ask,

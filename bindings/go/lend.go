@@ -1,4 +1,4 @@
-// Reads a pass, narrows it, and prints it and whether README's root signed it: lend < PASS.
+// Narrows a pass. Prints the narrowed pass, and whether README's root signed the pass: lend < PASS.
 package main
 
 import (

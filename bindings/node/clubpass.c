@@ -1,4 +1,4 @@
-/* The library of passes for Node.js, by its N-API. Functions take and return Buffers; an object is a Buffer of the size of `clubpass`. */
+/* The library of passes for Node.js, through Node-API. Functions take and return Buffers. An object is a Buffer of the size of `clubpass`. */
 #define NAPI_VERSION 8
 #include <clubpass.h>
 #include <node_api.h>
@@ -12,7 +12,7 @@ typedef struct {
 
 static uint8_t none[1];
 
-/* Reads `count` arguments, which must be Buffers. Returns false, with an exception, if one isn't. */
+/* Reads `count` arguments, which must be Buffers. Returns false, with an exception, if an argument isn't a Buffer. */
 static bool buffers(napi_env env, napi_callback_info info, size_t count, napi_value *values, bytes *into) {
     size_t given = count;
     napi_get_cb_info(env, info, &given, values, NULL, NULL);
@@ -28,7 +28,7 @@ static bool buffers(napi_env env, napi_callback_info info, size_t count, napi_va
     return true;
 }
 
-/* Returns the object of an argument, which must have the compiler's alignment. */
+/* Returns the object of an argument. The argument's memory must have the compiler's alignment. */
 static clubpass *object_of(napi_env env, bytes of) {
     if (of.len == sizeof(clubpass) && (uintptr_t)of.at % _Alignof(clubpass) == 0)
         return (clubpass *)(void *)of.at;
@@ -105,7 +105,7 @@ static napi_value is_caveat(napi_env env, napi_callback_info info) {
     return buffers(env, info, 1, values, given) ? truth(env, clubpass_is_caveat(given[0].at, given[0].len)) : NULL;
 }
 
-/* Takes an object and the number of a part: 0 is the location, 1 the identifier, 2 the signature, and from 3 on the caveats. */
+/* Takes an object and the number of a part. 0 is the location, 1 the identifier, 2 the signature, and 3 the first caveat. */
 static napi_value part(napi_env env, napi_callback_info info) {
     napi_value values[2] = {NULL, NULL};
     bytes given[1];
@@ -158,7 +158,7 @@ static napi_value caveat_count(napi_env env, napi_callback_info info) {
     return number(env, (uint32_t)clubpass_caveat_count(pass));
 }
 
-/* Reads an argument that must be a whole number, at most `most`. */
+/* Reads an argument that must be a whole number of at most `most`. */
 static bool whole_at(napi_env env, napi_value value, uint64_t most, uint64_t *into) {
     double found = -1;
     if (napi_get_value_double(env, value, &found) != napi_ok || !(found >= 0 && found < 9007199254740992.0))
@@ -167,7 +167,7 @@ static bool whole_at(napi_env env, napi_value value, uint64_t most, uint64_t *in
     return (double)*into == found && *into <= most;
 }
 
-/* Takes an object, a facility's name, and a request's numbers in the order below. Returns the numbers of the fault and the caveat. */
+/* Takes an object, a facility's name, and the numbers of a request in the order below. Returns the number of the fault and the number of the caveat. */
 static napi_value first_fault(napi_env env, napi_callback_info info) {
     enum { ACTION = 2, KIND, MOMENT, DAY, HOUR, GUESTS, OWED, SPENT, COUNT };
     static const uint64_t most[COUNT] = {0, 0, UINT32_MAX, UINT32_MAX, UINT32_MAX, UINT16_MAX, UINT8_MAX, UINT8_MAX, UINT64_MAX, UINT64_MAX};

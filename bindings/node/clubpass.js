@@ -1,5 +1,5 @@
 "use strict";
-// Reads, writes, narrows and verifies passes with the library libclubpass. This builds `clubpass.node`, next to this file, from clubpass.c:
+// Reads, writes, narrows and verifies passes with the library libclubpass. This command builds `clubpass.node` from clubpass.c, next to this file:
 //   gcc -shared -fPIC -o clubpass.node clubpass.c $(pkg-config --cflags --libs clubpass) -I/usr/include/node
 
 const library = require(process.env.CLUBPASS_NODE || "./clubpass.node");
@@ -13,7 +13,8 @@ const ACTIONS = { view: 1, book: 2, cancel: 3, account: 4 };
 const KINDS = { court: 1, boat: 2, room: 3 };
 const DENIED = 11;
 const MOMENT = { unit: 60_000, length: 16, rest: "Z" }, DAY = { unit: 86_400_000, length: 10, rest: "T00:00Z" };
-// Returns minutes since 1970 for a moment such as "2026-05-01T18:00", days for a date such as "2026-05-01", and NaN for any other text.
+// Returns the minutes since 1970 for a moment such as "2026-05-01T18:00". Returns the days since 1970 for a date such as "2026-05-01".
+// Returns NaN for any other text.
 const since1970 = (text, { unit, length, rest }) => {
   const at = new Date(`${text}${rest}`);
   return !Number.isNaN(at.getTime()) && at.toISOString().slice(0, length) === text ? at / unit : NaN;
@@ -34,7 +35,7 @@ const told = (answer) => {
   if (typeof answer === "number") throw new PassError(answer);
   return answer;
 };
-// Returns an object at the beginning of its own memory, and so aligned.
+// Returns an object in memory of its own. The object is aligned, since it is at the beginning of this memory.
 const object = () => Buffer.from(new ArrayBuffer(library.size));
 
 // No method changes a pass. A text is a string or a Buffer, and a root is a Buffer.
@@ -68,9 +69,10 @@ class Pass {
     return told(library.write(this.#object, FORMS[form] || 0)).toString();
   }
 
-  // Returns the first caveat that isn't understood or that denies a request, as { number, understood }, or null. A request is
-  // { action, moment }, with { facility, day, hour } if it has a slot, and { kind, guests, owed, spent } if they aren't 0.
-  // Moment and day are the club's local time, as "2026-05-01T18:00" and "2026-05-01". The signature isn't tested.
+  // Returns the first caveat that isn't understood or that denies a request, as { number, understood }. Returns null if there is no
+  // such caveat. This method doesn't test the signature. A request is { action, moment }. If the request has a slot, add
+  // { facility, day, hour }. Add each of { kind, guests, owed, spent } that isn't 0. Moment and day are the club's local time, as
+  // "2026-05-01T18:00" and "2026-05-01".
   firstFault({ action, moment, facility = "", day, hour = 0, kind, guests = 0, owed = 0, spent = 0 }) {
     const [fault, number] = library.firstFault(
       this.#object, Buffer.from(facility), ACTIONS[action] ?? 0, kind === undefined ? 0 : KINDS[kind] ?? -1, since1970(moment, MOMENT),

@@ -1,5 +1,5 @@
 "use strict";
-// Reads a pass, narrows it, and prints it and whether README's root signed it: node lend.js < PASS.
+// Narrows a pass. Prints the narrowed pass, and whether README's root signed the pass: node lend.js < PASS.
 
 const { Pass } = require("./clubpass.js");
 

@@ -1,4 +1,4 @@
-"""The wheel has a library of C in it and no code that is bound to a version of Python."""
+"""Builds the wheel, which contains a C library and works with every version of Python 3."""
 from setuptools import Distribution, setup
 from wheel.bdist_wheel import bdist_wheel
 

@@ -15,7 +15,7 @@ import (
 	"unsafe"
 )
 
-// A Fault says why a call failed. Its numbers are those of clubpass.h.
+// A Fault is the reason why a call failed. The numbers of faults are the numbers in clubpass.h.
 type Fault int
 
 const (
@@ -43,7 +43,7 @@ func (fault Fault) Error() string {
 	return fmt.Sprintf("fault %d", int(fault))
 }
 
-// A Form is one of the three forms of a text.
+// A Form is one of the three forms in which a text can encode a pass.
 type Form uint32
 
 const (
@@ -63,7 +63,7 @@ type Pass struct {
 
 var none [1]byte
 
-// at returns a pointer to the first byte. It is never nil, even if there are no bytes.
+// at returns a pointer to the first byte. The pointer is never nil, even if there are no bytes.
 func at(data []byte) *C.uint8_t {
 	if len(data) == 0 {
 		return (*C.uint8_t)(unsafe.Pointer(&none[0]))
@@ -104,7 +104,7 @@ func (pass Pass) Narrow(caveats ...string) (Pass, error) {
 	return pass, nil
 }
 
-// Verify returns whether the root signed the pass with its caveats. It doesn't test the caveats against a request.
+// Verify returns whether the root signed the pass with its caveats. Verify doesn't test the caveats against a request.
 func (pass *Pass) Verify(root []byte) bool {
 	return bool(C.clubpass_is_signed(&pass.object, at(root), C.size_t(len(root))))
 }
@@ -117,10 +117,10 @@ func (pass *Pass) Text(form Form) (string, error) {
 	return string(out[:length]), err
 }
 
-// Form returns the form of the text that the pass was read from; V2 for a new pass.
+// Form returns the form of the text that the pass was read from, or V2 for a new pass.
 func (pass *Pass) Form() Form { return Form(C.clubpass_form(&pass.object)) }
 
-// Location returns a hint about where the pass is valid. It isn't signed.
+// Location returns an unsigned hint about where the pass is valid.
 func (pass *Pass) Location() []byte {
 	out := make([]byte, C.CLUBPASS_ROOM)
 	var length C.size_t
@@ -180,8 +180,8 @@ const (
 	Room   Kind = C.CLUBPASS_ROOM_KIND
 )
 
-// An Ask has the values of a request that caveats restrict. Without a facility there is no slot, and Day and Hour are ignored.
-// Moment and Day are the club's local time, as they show it in their own zones.
+// An Ask has the values of a request that caveats restrict. Without a facility there is no slot, and calls ignore Day and Hour.
+// Moment and Day are the club's local time. A call takes the local time of each value in the value's own zone.
 type Ask struct {
 	Action      Action
 	Kind        Kind
@@ -224,9 +224,9 @@ func (ask *Ask) object() (C.clubpass_ask, bool) {
 	return made, true
 }
 
-// FirstFault tests the caveats one after the other. It returns 0 and nil if each allows the request. Otherwise it returns
-// the number, from 1, of the first caveat that doesn't, with NotUnderstood or Denied. It returns 0 and BadAsk if a value
-// of the request is out of range. It doesn't test the signature.
+// FirstFault tests the caveats one after another, but not the signature. If each caveat allows the request, FirstFault returns
+// 0 and nil. Otherwise FirstFault returns the number, from 1, of the first caveat that doesn't allow the request. The error is
+// then NotUnderstood or Denied. If a value of the request is out of range, FirstFault returns 0 and BadAsk.
 func (pass *Pass) FirstFault(ask Ask) (int, error) {
 	made, ok := ask.object()
 	if !ok {

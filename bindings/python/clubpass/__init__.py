@@ -87,9 +87,9 @@ class _AskObject(ctypes.Structure):
 
 def _load() -> ctypes.PyDLL:
     beside = Path(__file__).with_name("libclubpass.so.0")
-    # A call holds the interpreter's lock. A call takes microseconds, so releasing the lock would cost more, even with several threads.
+    # PyDLL keeps the interpreter's lock during a call. A call takes microseconds, and releasing the lock would cost more time.
     library = ctypes.PyDLL(os.environ.get("CLUBPASS_LIBRARY") or (str(beside) if beside.exists() else "libclubpass.so.0"))
-    # Each pass is passed as `byref` of an _Object. If its type were declared here, ctypes would test it at each call.
+    # Callers pass an _Object by `byref`. If the type of the argument were declared here, ctypes would test the type at each call.
     text, size, pass_at, length = ctypes.c_char_p, ctypes.c_size_t, ctypes.c_void_p, ctypes.POINTER(ctypes.c_size_t)
     code = ctypes.c_uint32
     for name, result, arguments in [
@@ -113,12 +113,13 @@ def _load() -> ctypes.PyDLL:
 
 
 _library = _load()
-# These two functions declare no argument types, since ctypes would test them at each call. Callers pass bytes, their `_length` and a `byref`.
+# clubpass_read and clubpass_is_signed declare no argument types, since ctypes would test the types at each call. Callers pass bytes, the
+# `_length` of the bytes, and a `byref`.
 _read: Callable[..., int] = _library.clubpass_read
 _is_signed: Callable[..., bool] = _library.clubpass_is_signed
 _length = lru_cache(1024)(ctypes.c_size_t.from_param)
 
-# Objects of deleted passes, for reuse: making a new object takes a third of the time of reading a pass.
+# Objects of deleted passes, for reuse. Making a new object would take a third of the time of reading a pass.
 _spare: deque[Any] = deque(maxlen=16)
 _new = object.__new__
 
@@ -132,7 +133,7 @@ def _bytes(value: Bytes) -> bytes:
 
 
 def _text(value: Bytes) -> bytes:
-    """Returns the bytes of a text. A str that UTF-8 can't encode becomes bytes that aren't UTF-8, and so neither a pass nor a caveat."""
+    """Returns the bytes of a text. A str that UTF-8 can't encode becomes bytes that aren't UTF-8. These bytes are neither a pass nor a caveat."""
     return value.encode("utf-8", "surrogatepass") if isinstance(value, str) else _bytes(value)
 
 
@@ -154,9 +155,9 @@ def is_caveat(text: Bytes) -> bool:
 
 @dataclass(frozen=True)
 class Ask:
-    """The values of a request that caveats restrict: `action` is view, book, cancel or account. Without a facility there is no slot.
+    """The values of a request that caveats restrict. `action` is view, book, cancel or account. Without a facility there is no slot.
 
-    `moment` is the club's local time. Its time zone, if it has one, is ignored.
+    `moment` is the club's local time. A call ignores the time zone of `moment`.
     """
 
     action: str
@@ -185,7 +186,7 @@ class Ask:
 
 @dataclass(frozen=True)
 class CaveatFault:
-    """The first caveat that isn't understood or that denies a request: its number, from 1, and which of the two it is."""
+    """The first caveat that isn't understood or that denies a request. `number` counts from 1. `understood` is true if the caveat denies."""
 
     number: int
     understood: bool
@@ -195,7 +196,7 @@ class CaveatFault:
 
 
 class Pass:
-    """A pass, with the form of the text that it was read from. `str` returns the pass's text in that form."""
+    """A pass, with the form of the text that it was read from. `str` returns the pass's text in the same form."""
 
     __slots__ = ("_at",)
     _at: Any  # its object, by reference
@@ -235,7 +236,7 @@ class Pass:
         return made
 
     def narrow(self, *caveats: Bytes) -> Pass:
-        """Returns the pass with these caveats added. Raises TooMany for more than 64 caveats, else NoRoom if the parts have more than 8,192 bytes."""
+        """Returns the pass with these caveats added. Raises TooMany for more than 64 caveats. Else raises NoRoom if the parts have more than 8,192 bytes."""
         made = _made(Pass)
         ctypes.memmove(made._at, self._at, _SIZE)
         for caveat in caveats:
@@ -244,13 +245,13 @@ class Pass:
         return made
 
     def verify(self, root: bytes) -> bool:
-        """Returns whether the root signed the pass with its caveats. It doesn't test the caveats against a request."""
+        """Returns whether the root signed the pass with its caveats. The call doesn't test the caveats against a request."""
         if not isinstance(root, bytes):
             raise _not_a_root(root)
         return _is_signed(self._at, root, _length(len(root)))
 
     def first_fault(self, ask: Ask) -> CaveatFault | None:
-        """Returns the first caveat that isn't understood or that denies the request, or None. It doesn't test the signature."""
+        """Returns the first caveat that isn't understood or that denies the request, or None. The call doesn't test the signature."""
         number = ctypes.c_size_t()
         code = _library.clubpass_first_fault(self._at, ctypes.byref(ask._object()), ctypes.byref(number))
         if code in _VERDICTS:
@@ -266,12 +267,12 @@ class Pass:
 
     @property
     def form(self) -> str:
-        """The form of the text that the pass was read from; v2 for a new pass."""
+        """The form of the text that the pass was read from, or v2 for a new pass."""
         return _FORM_NAMES[_library.clubpass_form(self._at)]
 
     @property
     def location(self) -> bytes:
-        """A hint about where the pass is valid. It isn't signed."""
+        """An unsigned hint about where the pass is valid."""
         return self._told(lambda *out: _library.clubpass_location(self._at, *out))
 
     @property
@@ -293,7 +294,7 @@ class Pass:
         return out.raw
 
     def _told(self, call: Callable[..., int]) -> bytes:
-        """Returns the bytes that a call writes. If a buffer of 1,024 bytes is too short, the call is repeated with a buffer of the length that it returned."""
+        """Returns the bytes that a call writes. Repeats the call with a longer buffer if a buffer of 1,024 bytes is too short."""
         room, length = 1024, ctypes.c_size_t()
         while True:
             out = ctypes.create_string_buffer(room)
