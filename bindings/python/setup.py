@@ -1,4 +1,4 @@
-"""Builds the wheel, which contains a C library and works with every version of Python 3."""
+"""Builds the wheel. The wheel contains a C library, and no code that depends on a version of Python."""
 from setuptools import Distribution, setup
 from wheel.bdist_wheel import bdist_wheel
 
