@@ -139,7 +139,7 @@ def promises_of(book):
 
 def named_as_computing():
     """Returns the computing definitions that promises rest on, according to docs/PROMISES.md."""
-    found = re.search(r"Promises rest on \w+ of these, (.*?), and on none of `specs/computed/`", PROMISES.read_text(encoding="utf-8"))
+    found = re.search(r"Promises rest on only \w+ computing functions: (.*?)\.", PROMISES.read_text(encoding="utf-8"))
     return set(re.findall(r"`(\w+)`", found[1])) if found else set()
 
 
