@@ -1,5 +1,5 @@
 #!/bin/sh
-# Mutants are refused, also those that the gate leaves out for time.
+# The check refuses all mutants, also those that the gate leaves out for time.
 #
 # If a mutant is proved, the test that its edit names must fail on it.
 #

@@ -1,5 +1,5 @@
 #!/usr/bin/env python3
-"""What the gate costs: seconds of processor for the proof, the tests and the edits of each crate.
+"""The gate's cost in processor seconds for the proof, the tests and the edits of each crate.
 
 Runs `rt ci` in a scratch clone of HEAD. Adds up the seconds of the compiler's processes for each crate's proof (with a program's builds),
 for its tests' proof and build, and for its must-fail edits. Last come the sums, the wall time, and the gate's own last line. The status is the

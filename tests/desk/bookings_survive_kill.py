@@ -1,5 +1,5 @@
 #!/usr/bin/env -S /usr/bin/python3 -B -m pytest -q -p no:cacheprovider
-"""Each acknowledged booking of 200 is in the file, once, though servers are killed meanwhile.
+"""Each acknowledged booking of 200 is in the file once, although servers are killed meanwhile.
 
 The same requests then get the same replies.
 

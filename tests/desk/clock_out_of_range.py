@@ -1,5 +1,5 @@
 #!/usr/bin/env -S /usr/bin/python3 -B -m pytest -q -p no:cacheprovider
-"""The server under a set clock, around the first and last minutes of 2000 to 2099.
+"""Under clocks around the first and last minutes of 2000 to 2099, the server answers, or ends with status 6.
 
 It serves at moments of the club; otherwise it ends with status 6 and the club is unchanged.
 

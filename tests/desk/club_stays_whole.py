@@ -1,5 +1,5 @@
 #!/usr/bin/env -S /usr/bin/python3 -B -m pytest -q -p no:cacheprovider
-"""Commands of `clubdesk` under refused memory, little storage and kills leave the club as it was, or are done.
+"""Under refused memory, little storage and kills, each command of `clubdesk` is done or leaves the club unchanged.
 
 Each allocation is refused in turn, also while passes are printed. After a fault nothing was written, and the club is unchanged. After a kill it
 is unchanged, or the command is done.

@@ -1,5 +1,5 @@
 #!/usr/bin/env python3
-"""Random requests, most of them wrong somewhere, and commands get the replies of the rules in Python.
+"""Random requests, most of them wrong, and commands get the replies of the rules in Python.
 
 The rules are those of `tests/reference`; each row and total is compared, too. `--self-test` finds planted faults of the rules.
 

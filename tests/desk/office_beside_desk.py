@@ -1,5 +1,5 @@
 #!/usr/bin/env -S /usr/bin/python3 -B -m pytest -q -x -s -p no:cacheprovider
-"""Two offices give 500 commands beside four clients with 5,000 requests: every answer and total is right.
+"""500 commands of two offices and 5,000 requests of four clients get right answers and totals.
 
 They stay right with kills, slow clients, stale doors and moved files. Prints how long commands and requests took.
 

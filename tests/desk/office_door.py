@@ -1,5 +1,5 @@
 #!/usr/bin/env -S /usr/bin/python3 -B -m pytest -q -p no:cacheprovider
-"""A running desk carries out only whole commands, once, whatever else comes through its door.
+"""A running desk carries out only complete commands, and each of them once, whatever else reaches its door.
 
 The test sends truncated, slow and foreign commands, with such senders and servers, and the real server keeps running. Some of it needs root.
 

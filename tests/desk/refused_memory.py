@@ -1,5 +1,5 @@
 #!/usr/bin/env -S /usr/bin/python3 -B -m pytest -q -p no:cacheprovider
-"""Each command of `passtool`, with each allocation refused in turn, is right or out of memory.
+"""Each command of `passtool` with a refused allocation is right or reports out of memory.
 
 It runs in each form. It ends with status 4 and no output, or as if nothing had been refused.
 """

@@ -1,5 +1,5 @@
 #!/usr/bin/env -S /usr/bin/python3 -B
-"""Tests with each allocation refused in turn: each call is right, or out of memory without a change.
+"""Each call in the tests with a refused allocation is right, or reports out of memory without a change.
 
 The tests read and write the known passes in each form, open a store in each way, and give each command of the office. They make the known
 booking by `Desk::ask`, `Desk::run` and `answer`.

@@ -1,5 +1,5 @@
 #!/usr/bin/env -S /usr/bin/python3 -B
-"""Each line of a scenario (docs/SCENARIOS.md) gets its stated answer, from the rules in Python and from `clubdesk`.
+"""Each line of a scenario (docs/SCENARIOS.md) gets its stated answer from the rules in Python and from `clubdesk`.
 
 The rules are those of `tests/reference`. The program runs over a file and a socket. Passes are in each of the three forms. `--self-test`
 finds eight planted faults of the rules.

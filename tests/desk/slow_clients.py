@@ -1,5 +1,5 @@
 #!/usr/bin/env -S /usr/bin/python3 -B -m pytest -q -p no:cacheprovider
-"""Clients that dawdle are cut off in time, and clients that send too much lose no reply.
+"""The server disconnects slow clients in time, and clients that send too much lose no reply.
 
 The clients after a slow one get their replies. Other clients send far more than a request before they read.
 

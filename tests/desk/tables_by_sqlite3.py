@@ -1,5 +1,5 @@
 #!/usr/bin/env -S /usr/bin/python3 -B -m pytest -q -p no:cacheprovider
-"""The file of `clubdesk` as SQLite's shell reads it, and the lists and corrections of docs/RUNNING.md.
+"""The shell of SQLite reads the file of `clubdesk`, and the lists and corrections of docs/RUNNING.md work.
 
 Files without a club, and rows outside their limits, are a storage fault.
 

@@ -1,5 +1,5 @@
 #!/usr/bin/env python3
-"""A club's year beside the rules in Python, with kills and both changes of summer time.
+"""A club's year, with kills and both changes of summer time, gets the replies of the rules in Python.
 
 The rules are those of `tests/reference`. Each reply, command and day sheet is compared, and each month's rows and totals. `--self-test`
 finds planted faults of the rules.

@@ -1,5 +1,5 @@
 #!/usr/bin/env -S /usr/bin/python3 -B -m pytest -q -p no:cacheprovider
-"""`tests/lint.py` finds foreign English, faulty subjects of commits and misspelt words, and passes what is plain.
+"""`tests/lint.py` finds foreign English, faulty subjects of commits and misspelt words, and passes plain text.
 
 It looks at added lines alone, and passes code. `tests/docs/sentences.py` draws the same sentences for the same seed.
 

@@ -1,5 +1,5 @@
 #!/bin/sh
-# pyflakes, shellcheck, gofmt and go vet have nothing to say, or the reason is noted in place.
+# pyflakes, shellcheck, gofmt and go vet complain only where the code states a reason.
 #
 # The shell scripts and bats files of tests/, bin/ and deploy/ are read by shellcheck, the Python there, in examples/ and in bindings/ by pyflakes.
 # The Go of tests/, examples/ and bindings/ is read if Debian's Go is there.

@@ -1,5 +1,5 @@
 #!/usr/bin/env -S /usr/bin/python3 -B -m pytest -q -p no:cacheprovider
-"""Each kind of reply of the server over a file, byte for byte, and docs/openapi.yaml, which describes them.
+"""Each kind of reply of the server over a file is right byte for byte, and docs/openapi.yaml describes it.
 
 The replies are those of the table in tests/lib/kinds.py. docs/openapi.yaml obeys the schema of OpenAPI 3.0, and each of its examples is such
 a reply.

@@ -1,5 +1,5 @@
 #!/usr/bin/env -S /usr/bin/python3 -B -m pytest -q -p no:cacheprovider
-"""`passtool` and the server agree with docs/vectors.json: passes, texts that are none, verdicts on caveats, replies to requests.
+"""`passtool` and the server agree with docs/vectors.json about passes, invalid texts, caveats and replies.
 
 Each pass in each form, texts that are read as the same pass, the verdict of each caveat on each request, each reply byte for byte.
 Commands of the office between requests print their lines. Python's standard library computes the signatures again, and pymacaroons writes V1

@@ -1,5 +1,5 @@
 #!/usr/bin/env -S /usr/bin/python3 -B
-"""The office by menu and questions, in English and German: each task of a week and of a season's start.
+"""The office's menu and questions, in English and German, do each task of a week and of a season's start.
 
 It runs at a terminal, and what each task changed is compared. Wants root, for a machine of its own (tests/lib/office_room.sh).
 

@@ -1,5 +1,5 @@
 #!/usr/bin/env -S /usr/bin/python3 -B
-"""Corrections by commands leave the server alone; killed at each step and given again, they are done once.
+"""Corrections by commands keep the server running, and are done once even if they are killed and repeated.
 
 Each is killed before and after each program that it runs, and while its output isn't taken. Then the same command is given again: the club is as
 after one command, and the book has both. A clubdesk command that outlives its correction holds up the next one. The rows of the copy before each

@@ -1,5 +1,5 @@
 #!/usr/bin/env -S /usr/bin/python3 -B
-"""`office` as clerks use it: commands, lists, corrections, restores, and what a hostile clerk may try.
+"""`office` does the clerks' commands, lists, corrections and restores, and resists a hostile clerk.
 
 Each is compared with the desk. So are its refusals, passes and the book. Wants root, for a machine of its own (tests/lib/office_room.sh).
 

@@ -1,5 +1,5 @@
 #!/usr/bin/env -S /usr/bin/python3 -B
-"""Commands, corrections, imports and restores of the office, killed at random moments, are done once or not at all.
+"""The office's commands, corrections, imports and restores, killed at random moments, are done once or not at all.
 
 They are killed beside a running desk, and no total is off. Wants root, for a machine of its own (tests/lib/office_room.sh).
 

@@ -1,5 +1,5 @@
 #!/usr/bin/env -S /usr/bin/python3 -B
-"""Each change of a club is in a copy elsewhere within a minute, and the copy brings a lost club back.
+"""Each change of a club is in a copy elsewhere within a minute, and the copy restores a lost club.
 
 The copies go by ssh or into a mounted folder, and are tested there. Wants root, for a machine of its own (tests/lib/office_room.sh).
 

@@ -1,5 +1,5 @@
 #!/usr/bin/env -S /usr/bin/python3 -B
-"""`office CLUB new-year` keeps balances, keys and slots to come, and a kill leaves the old club or the new one.
+"""`office CLUB new-year` keeps balances, keys and future slots, and a kill leaves the old or the new club.
 
 It follows a year of 1,500 requests, and the server answers the same before and after. Wants root, for a machine of its own
 (tests/lib/office_room.sh).

@@ -1,5 +1,5 @@
 #!/usr/bin/env -S /usr/bin/python3 -B
-"""`office` makes spare keys for lending, as many as the configuration says, once each.
+"""`office` makes spare keys for lending once each, and as many as the configuration says.
 
 An import, `add-member` and the menu's new member make them, under the configuration's names. A letter has their passes as a second half. A spare
 key pays with its member's points, has its own count, and can't reach its member's bookings. Wants root, for a machine of its own

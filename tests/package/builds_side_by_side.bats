@@ -1,5 +1,5 @@
 #!/usr/bin/env bats
-# `bin/proved` builds what is stale and nothing else; an interrupted build leaves no program that counts.
+# `bin/proved` builds only stale programs, and an interrupted build leaves no program that counts as built.
 #
 # It goes by the sources' checksum, and two calls build once.
 #

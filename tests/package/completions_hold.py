@@ -1,5 +1,5 @@
 #!/usr/bin/env -S /usr/bin/python3 -B -m pytest -q -p no:cacheprovider
-"""bash, zsh and fish complete the commands, options and values of `--help`, and nothing else.
+"""bash, zsh and fish complete exactly the commands, options and values of `--help`.
 
 Compares bin/completions in real shells with `--help` of both programs and of office. Each command offers its words with the typed prefix, its
 options and their values, and files for FILE; office has a club before its command, and offers the configured clubs.

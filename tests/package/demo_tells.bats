@@ -1,5 +1,5 @@
 #!/usr/bin/env bats
-# `bin/demo` prints tests/package/demo.told, and ends its server whatever happens.
+# `bin/demo` prints tests/package/demo.told, and always ends its server.
 #
 # It installs missing `curl` and `sqlite3` or names them. It ends even a server that doesn't listen, and after a signal.
 #

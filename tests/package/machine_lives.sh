@@ -1,5 +1,5 @@
 #!/bin/sh
-# Three commands set a club up on a fresh Debian, behind caddy; after its loss another machine serves it again.
+# Three commands set up a club on a fresh Debian behind caddy, and another machine can replace a lost machine.
 #
 # The club is served within five minutes. Its machine is lost with its disk, and within ten minutes the club serves again on another one. Wants
 # root.

@@ -1,5 +1,5 @@
 #!/bin/sh
-# `bin/package` makes the same bytes twice, and lintian has no complaint; the package's life in a fresh Debian.
+# `bin/package` makes the same bytes twice, lintian has no complaint, and the package works in a fresh Debian.
 #
 # Debian is made by debootstrap and booted by systemd-nspawn, with its own systemd and without a network but loopback. The lines for root of
 # docs/RUNNING.md are run there, from the installation to the restore. They cover the desk behind nginx with TLS, its timers and what they call,

@@ -1,5 +1,5 @@
 #!/usr/bin/env -S /usr/bin/python3 -B -m pytest -q -p no:cacheprovider
-"""`tests/run` passes, fails, skips and ends tests, and says which.
+"""`tests/run` passes, fails, skips and ends tests, and reports each result.
 
 It runs over a small tree of its own, by pytest and without it. A test that takes too long, or whose run is ended, is ended with all that it began.
 """

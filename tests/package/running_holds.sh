@@ -1,5 +1,5 @@
 #!/bin/sh
-# The claims of docs/RUNNING.md hold of installations, units, copies and a full disk.
+# The claims of docs/RUNNING.md about installations, units, copies and a full disk hold.
 #
 # Installations are complete or undone, and units forbid no call of the desk.
 #

@@ -1,5 +1,5 @@
 #!/usr/bin/env -S /usr/bin/python3 -B
-"""A club set up by the questions of `deploy/clubdesk-setup`, with repeats, stops and refusals.
+"""The questions of `deploy/clubdesk-setup` set up a club, with repeats, stops and refusals.
 
 It checks modes and owners, repeats and stops at each step, and the path to a first booking. Wants root (tests/lib/office_room.sh).
 

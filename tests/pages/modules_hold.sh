@@ -1,5 +1,5 @@
 #!/bin/sh
-# The pages are those that `bin/pages` makes from web/src, and the modules pass their tests.
+# `bin/pages` makes the pages from web/src, and their modules pass their tests.
 #
 # The modules' tests are in web/tests, for Node's runner.
 #

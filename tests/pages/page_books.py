@@ -1,5 +1,5 @@
 #!/usr/bin/env -S /usr/bin/python3 -B
-"""`web/book.html` books, cancels and lends at the real desk behind nginx, in three browsers, with lost requests, kills and hostile input.
+"""`web/book.html` books, cancels and lends behind nginx in three browsers, with lost requests, kills and hostile input.
 
 It runs in Debian's chromium, and in short in Firefox and WebKitGTK, against the desk over a file, by the stored configuration of nginx with TLS:
 - the day, a booking, a cancellation, the account, in English and German;

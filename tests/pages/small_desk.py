@@ -1,5 +1,5 @@
 #!/usr/bin/env -S /usr/bin/python3 -B -m pytest -q -p no:cacheprovider
-"""The small desk behind web/demo.html answers 8,000 random requests as the rules in Python do.
+"""The small desk of web/demo.html answers 8,000 random requests by the rules in Python.
 
 It is written in JavaScript, and serves four clubs.
 

@@ -1,5 +1,5 @@
 #!/usr/bin/env -S /usr/bin/python3 -B
-"""The server beside the same desk in C, Go and Python, over SQLite's library: same replies, and their times.
+"""Desks in C, Go and Python over SQLite's library give the server's replies, and their times are measured.
 
 Times are taken over 100 and 100,000 bookings, for a member with 10,000 of its own and for one with none. The desks are beside_c/desk.c, which is
 its own server; beside_go, with net/http and database/sql; and beside_flask.py, with Flask under gunicorn and one worker. They use the same file,

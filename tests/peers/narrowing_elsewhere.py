@@ -1,5 +1,5 @@
 #!/usr/bin/env -S /usr/bin/python3 -B
-"""1,000 passes, narrowed by Python's standard library, pymacaroons, Go's macaroon.v2 and Node.js, are those that `passtool` makes.
+"""The standard library of Python, pymacaroons, Go's macaroon.v2 and Node.js narrow 1,000 passes as `passtool` does.
 
 They are drawn by a fixed seed and narrowed by the programs of examples/: Python's standard library and Node.js in V2, pymacaroons and Go's
 macaroon.v2 in V1, V2 and JSON. V1 and V2 are compared byte for byte. JSON has several spellings, and pymacaroons writes an empty location in V2,

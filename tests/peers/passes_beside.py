@@ -1,5 +1,5 @@
 #!/usr/bin/env -S /usr/bin/python3 -B
-"""The library of passes beside libmacaroons and pymacaroons: times to read and verify a pass.
+"""The times of the library of passes, libmacaroons and pymacaroons to read and verify a pass.
 
 The pass has three caveats, and the time starts with its text.
 

@@ -1,5 +1,5 @@
 #!/usr/bin/env -S /usr/bin/python3 -B
-"""1,500 requests, half of them under passes that pymacaroons narrowed, get the replies of the rules in Python.
+"""1,500 requests, half of them under passes narrowed by pymacaroons, get the replies of the rules in Python.
 
 Passes are in V1, V2 and JSON.
 

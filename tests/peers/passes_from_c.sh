@@ -1,5 +1,5 @@
 #!/bin/sh
-# Each function of clubpass.h does what the header says, called from C.
+# Each function of clubpass.h, called from C, does what the header says.
 #
 # It is called on its happy path, at its limits and into each fault.
 #

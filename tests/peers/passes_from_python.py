@@ -1,5 +1,5 @@
 #!/usr/bin/env -S /usr/bin/python3 -B
-"""The library of passes says of 100,000 drawn and spoiled texts what `passtool` says, called from Python.
+"""The library of passes, called from Python, agrees with `passtool` on 100,000 random or damaged texts.
 
 The texts come from a seed: passes of any bytes in each form, with up to 64 caveats. Some are spoiled: bytes of the text, or of what it
 encodes, are changed, put in, taken out or doubled. Others are cut off, in another alphabet of base64, or have odd names in JSON. Each goes to

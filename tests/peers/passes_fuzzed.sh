@@ -1,5 +1,5 @@
 #!/bin/sh
-# libFuzzer finds no input at which a call of clubpass.h breaks what the header says.
+# libFuzzer finds no input that makes a call of clubpass.h break the promises of the header.
 #
 # For ten minutes, or for as many seconds as the first word says, with a process for each processor, AddressSanitizer and the target
 # tests/peers/passes_from_c/fuzz.c. It begins with the texts of docs/vectors.json, plain and without their base64, and with its caveats.

@@ -1,5 +1,5 @@
 #!/usr/bin/env -S /usr/bin/python3 -B -m pytest -q -p no:cacheprovider
-"""The library of passes agrees with docs/vectors.json from C, Python, Go and Node.js, and with libmacaroons and pymacaroons both ways.
+"""The library of passes agrees with docs/vectors.json from C, Python, Go and Node.js, and both ways with libmacaroons and pymacaroons.
 
 The vectors are each pass in each form, texts that are read as the same pass, texts that are none, and the verdict of each caveat on each request.
 Each pass is also minted and narrowed once more. libmacaroons and pymacaroons narrow and verify passes that the library mints, and the library

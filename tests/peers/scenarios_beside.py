@@ -1,5 +1,5 @@
 #!/usr/bin/env -S /usr/bin/python3 -B
-"""The desks in C and in Go of `tests/peers/beside.py` give the stated answers to the scenarios' lines that they know.
+"""The desks in C and Go of `tests/peers/beside.py` give the stated answers to the scenarios' lines that they know.
 
 They know views, bookings and accounts, under passes in V2 with four kinds of caveats.
 
