@@ -1,1 +1,1 @@
-"""The office of a club: what deploy/office runs."""
+"""The office of a club. deploy/office runs these modules."""

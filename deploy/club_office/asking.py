@@ -1,4 +1,4 @@
-"""Questions to a clerk at a terminal. Ctrl-C or the end of input leaves a question, before anything has changed."""
+"""Asks a clerk questions at a terminal. Ctrl-C or the end of input cancels a question before the command has changed anything."""
 
 import datetime
 import sys
@@ -7,7 +7,7 @@ import textwrap
 from club_office.reading import found, read_day, read_facilities, read_hours
 from club_office.texts import day_text, means, say
 
-# The most matches that are listed.
+# The most matches in a printed list.
 MOST_LISTED = 15
 BOOKABLE_DAYS = 60
 
@@ -29,7 +29,7 @@ def show_lines(lines):
 
 
 def ask(text):
-    """Returns the clerk's answer, without spaces at its ends."""
+    """Returns the clerk's answer without spaces at its ends."""
     try:
         return input(text).strip()
     except (EOFError, KeyboardInterrupt):
@@ -38,8 +38,8 @@ def ask(text):
 
 
 def confirms(question="shall"):
-    """Returns whether the answer to a question is yes. The prompt goes to standard output, and the answer comes from standard input, terminal or
-    not."""
+    """Returns whether the clerk answers a question with yes. The prompt goes to standard output. The answer comes from standard input, even if
+    standard input isn't a terminal."""
     print(say(question), end="", flush=True)
     try:
         return means("yes", sys.stdin.buffer.readline(100).decode(errors="replace"))
@@ -67,7 +67,7 @@ def chosen(typed, names, about=lambda name: ""):
 
 
 def until_read(prompt, read, fault):
-    """Asks until an answer can be read; an empty one leaves the question."""
+    """Asks until the clerk gives a readable answer. An empty answer cancels the question."""
     while True:
         answer = ask(f"{prompt}: ")
         if not answer:
@@ -79,7 +79,7 @@ def until_read(prompt, read, fault):
 
 
 def ask_name(prompt, names, about=lambda name: "", fitting=found):
-    """Lets the clerk choose one of the names by a part of it."""
+    """Lets the clerk choose one of the names by typing a part of it."""
     if not names:
         print("   " + say("none yet"))
         raise Back
@@ -100,7 +100,7 @@ def ask_day(prompt, today):
 
 
 def doubts(day, today):
-    """Returns what is odd about a day for a booking or a closure, or None for a future day that can be booked."""
+    """Returns what is odd about a day for a booking or a closure. Returns None if the day is in the future and can be booked."""
     if day < today:
         return say("is past", day=day_text(day))
     if day > today + datetime.timedelta(BOOKABLE_DAYS):

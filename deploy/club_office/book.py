@@ -1,4 +1,4 @@
-"""The book of commands, and the turns of commands that change a club."""
+"""Writes the book of commands, and gives turns to commands that change a club."""
 
 import fcntl
 import io
@@ -16,27 +16,27 @@ from club_office.copies import clear_unnamed
 from club_office.faults import STORAGE, Fault, fault, storage_failed
 from club_office.texts import say
 
-# The seconds that a command waits for another one, and a line waits for the journal.
+# The seconds that a command waits for another command's turn to end, and the seconds that a line waits for the journal.
 WAITS_FOR_TURN = 60
 WAITS_FOR_JOURNAL = 2
 JOURNAL = "/run/systemd/journal/socket"
-# The most bytes in a line, so that the journal and the file accept it whole.
+# The most bytes in a line. The journal and the file accept a line of this length whole.
 MOST_LINE = 8_000
 BEGUN = re.compile(r"(?s)20[0-9-]{8}T[0-9:]{8} \S+ \? .*")
-# A terminal sends these at Ctrl-Z, when it closes, and to background processes. These signals don't stop a command that has its turn.
+# A terminal sends these signals at Ctrl-Z, when it closes, and to background processes. These signals don't stop a command that has its turn.
 HELD_BACK = (signal.SIGTSTP, signal.SIGHUP, signal.SIGTTIN, signal.SIGTTOU)
 
 
 def clerk():
-    """Returns who gives the command: sudo's caller, or root."""
+    """Returns the name of the user who gives the command: sudo's caller, or root."""
     return os.environ.get("SUDO_USER") or os.environ.get("OFFICE_CLERK") or pwd.getpwuid(os.getuid()).pw_name
 
 
-# ---- Lines: in the system's journal; in a file if one is configured, if there is no journal, or if the journal doesn't take a line.
+# ---- Lines of the book. A line goes to a file if the configuration names one, if there is no journal, or if the journal doesn't take the line.
 
 
 def printable(text):
-    """Returns the text with a number for each letter that can't be printed, such as a line separator of any alphabet."""
+    """Returns the text with a number in place of each unprintable character, such as a line separator."""
     return "".join(it if it.isprintable() else f"\\x{ord(it):02x}" if ord(it) < 256 else f"\\u{ord(it):04x}" for it in text)
 
 
@@ -64,7 +64,7 @@ def write_line(club, line):
 
 
 def is_taken(club, line):
-    """Returns whether the journal took a line in time."""
+    """Returns whether the journal took a line before the timeout."""
     fields = {"MESSAGE": line, "PRIORITY": "6", "SYSLOG_IDENTIFIER": "clubdesk-office", "CLUBDESK_CLUB": club.name}
     with socket.socket(socket.AF_UNIX, socket.SOCK_DGRAM) as journal:
         journal.settimeout(WAITS_FOR_JOURNAL)
@@ -76,7 +76,7 @@ def is_taken(club, line):
 
 
 def add_line(path, line):
-    """Adds a line to a file, on a new line even if a full disk has truncated the last one."""
+    """Adds a line to a file. The line is a new line even if a full disk has truncated the file's last line."""
     book = os.open(path, os.O_RDWR | os.O_APPEND | os.O_CREAT, 0o600)
     try:
         end = os.lseek(book, 0, os.SEEK_END)
@@ -93,11 +93,11 @@ def add_line(path, line):
 
 
 class Turn:
-    """The turn of a command among those of a club that change something: a lock on FILE-orders.
+    """The turn of a command that changes a club: a lock on FILE-orders. Only one command has the turn at a time.
 
-    While a command runs, the file has its line, with a question mark as status. A line found there with the lock belongs to an interrupted
-    command, and goes into the book like that. Lines for standard error wait until the lock is released: a terminal or a pipe that takes nothing,
-    as after Ctrl-S, can't hold up a turn.
+    While a command runs, FILE-orders has the command's line for the book, with a question mark as status. A command may find a line in FILE-orders
+    when it gets the lock. That line belongs to an interrupted command, and goes into the book unchanged. Lines for standard error wait until the
+    command releases the lock. So a terminal that takes no output, as after Ctrl-S, doesn't block other commands.
     """
 
     def __init__(self, club):
@@ -136,8 +136,8 @@ class Turn:
         raise storage_failed("order under way", seconds=WAITS_FOR_TURN)
 
     def is_gained(self):
-        """Returns whether it got the lock. Signals are blocked, so nothing stops this process between taking the lock and ignoring
-        them."""
+        """Returns whether this process got the lock. This process blocks signals. So no signal stops it between taking the lock and ignoring the
+        signals."""
         signal.pthread_sigmask(signal.SIG_BLOCK, HELD_BACK)
         try:
             fcntl.flock(self.file, fcntl.LOCK_EX | fcntl.LOCK_NB)
@@ -159,8 +159,8 @@ class Turn:
         os.ftruncate(self.file, 0)
 
     def order(self, words, act):
-        """Runs a command by `does`, which returns its status, and writes its line into the book. A refused command gets a line too, and an
-        interrupted one a question mark."""
+        """Runs a command by calling `act`, which returns the command's status. Writes the command's line into the book. A refused command also gets
+        a line. The line of an interrupted command has a question mark."""
         moment, status = now(), "?"
         os.pwrite(self.file, (line_of(moment, "?", words) + "\n").encode(), 0)
         os.fsync(self.file)
@@ -196,7 +196,7 @@ def refuse(club, words, failure):
 
 
 def give_order(club, command, words, options=(), root=None):
-    """Runs a command of clubdesk in its own turn."""
+    """Runs a command of clubdesk in a turn of its own."""
     printed = []
 
     def act():

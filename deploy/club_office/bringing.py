@@ -1,5 +1,5 @@
-"""Restores a club from its place elsewhere after its machine is lost: configuration, newest tested copy, persons, reasons, season points, old
-years' files. Existing files stay, so it can be run again after any stop."""
+"""Restores a club from its other place after the loss of its machine. Restores the configuration, the newest tested copy, persons, reasons, season
+points, and old years' files. It leaves existing files unchanged, so a clerk can run it again after an interruption."""
 
 import grp
 import io
@@ -17,14 +17,14 @@ from club_office.places import BESIDE, NAME, OLD_YEAR, kept_in, place_of, given_
 from club_office.restoring import brought
 from club_office.texts import say
 
-# A file in the archive: its part and its name.
+# A file in the archive: the part of the archive, and the name within the part.
 MEMBER = re.compile(r"(conf|beside|titles|logo)/([A-Za-z0-9][A-Za-z0-9._-]{0,60})|clerks")
 MOST_BYTES = 50_000_000
 MOST_CLERKS = 100
 
 
 def read_beside(data):
-    """Returns the files of an archive by their names, without those that aren't a club's."""
+    """Returns the files of an archive by their names. Leaves out files that no club has."""
     found = {}
     try:
         with tarfile.open(fileobj=io.BytesIO(data)) as archive:
@@ -37,7 +37,7 @@ def read_beside(data):
 
 
 class Bringing:
-    """A club in its place elsewhere, and its destination. `said` is called with each path, and whether it was created or existed."""
+    """Restores a club from its other place. The restore calls `said` with each path, and with whether it created the file or found it."""
 
     def __init__(self, text, called, configurations, said):
         self.place = place_of(text)
@@ -52,7 +52,7 @@ class Bringing:
         beside = sorted(it.name for it in self.there if BESIDE.fullmatch(it.name))
         if not beside:
             raise refusal("place without conf", place=text)
-        # An older copy also gets the newest copy's archive.
+        # An older copy also gets the newest copy's archive, because the place keeps only the newest archive.
         self.files = read_beside(given_by(self.place, f"{self.copy}.tar" if f"{self.copy}.tar" in beside else beside[0], True))
         names = sorted(name.removeprefix("conf/").removesuffix(".conf") for name in self.files if re.fullmatch(r"conf/[a-z0-9][a-z0-9-]{0,23}\.conf", name))
         if len(names) != 1:
@@ -60,7 +60,7 @@ class Bringing:
         self.club = names[0]
 
     def put(self, path, data, mode, owner):
-        """Writes a complete file, unless a file has its name."""
+        """Writes a complete file, unless a file with this name exists."""
         if os.path.lexists(path):
             return self.said(path, False)
         made = f"{path}.new"
@@ -76,7 +76,7 @@ class Bringing:
         return self.said(path)
 
     def configuration(self):
-        """The configuration files, which clerks can read, except the health pass."""
+        """Writes the configuration files. Clerks can read them, except the pass for health checks."""
         os.makedirs(self.configurations, 0o755, exist_ok=True)
         for name, data in sorted(self.files.items()):
             part, _, called = name.partition("/")
@@ -103,7 +103,7 @@ class Bringing:
                 self.put(path, b"" if os.path.lexists(path) else given_by(self.place, it.name, True), 0o600, owner)
 
     def bring_club(self, file):
-        """Returns the newest tested copy, or the named one, after clubdesk has opened it."""
+        """Returns the newest tested copy, or the copy with a given name, after clubdesk has opened it."""
         if os.path.lexists(file):
             return self.said(file, False)
         made = f"{file}-brought"

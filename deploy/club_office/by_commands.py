@@ -1,4 +1,4 @@
-"""Corrections that the desk makes by clubdesk's commands: shown, confirmed, and given one after the other while the server runs."""
+"""Makes corrections by commands of clubdesk while the server runs: shows them, asks, and gives the commands one after the other."""
 
 import contextlib
 import sqlite3
@@ -17,26 +17,27 @@ from club_office.undoing import Record, broken_off, forget_undo, rows_edited, ro
 from club_office.values import date_of
 
 CORRECTIONS = ("set-quota", "debit", "set-facility", "reopen-slot", "cancel", "close", "rain", "leave")
-# These give only the commands that were shown and are still to do. The others are refused if the plan has changed by then.
+# These corrections give only the commands that the clerk has seen and that are still missing. Each other correction fails if its plan has changed
+# since the clerk saw it.
 LISTED = ("cancel", "close", "rain", "leave")
-# The most rounds in which a correction asks about slots that members booked meanwhile.
+# The most times that a correction asks about slots that members booked in the meantime.
 MOST_ROUNDS = 20
-# clubdesk's status if it doesn't know whether a command was done.
+# The status of clubdesk if it doesn't know whether the desk carried out a command.
 NO_ANSWER = 8
 # Columns of the tables `slots` and `members`.
 TAKEN, USED = 4, 3
 
 
 class BookedMeanwhile(Fault):
-    """Members booked slots that the clerk wasn't shown, so the next round asks about them."""
+    """Members booked slots after the clerk saw the plan, so the correction asks about them in its next round."""
 
 
 class RestDeclined(Fault):
-    """The clerk confirmed a round, but not the one after it."""
+    """The clerk confirmed one round, but not the next round."""
 
 
 def correct(club, words, planned, then):
-    """Shows a correction, asks, and has the desk carry out exactly that. Calls `then` at the end of each turn."""
+    """Shows a correction and asks the clerk. Then gives the desk exactly the commands that the clerk saw. Calls `then` at the end of each turn."""
     wants_file(club)
     it = Correction(club, words, planned, then)
     try:
@@ -46,20 +47,21 @@ def correct(club, words, planned, then):
         raise
     print(say("done"), flush=True)
     it.tell_concerned()
-    # This comes last: a clerk whose command was killed earlier saw no result, and gives it again.
+    # The record ends last, because a clerk whose command was killed saw no result and gives the command again.
     it.record.finish()
     return 0
 
 
 class Correction:
-    """A correction that was begun. The record is next to the club's file from the first command until it is done."""
+    """A correction that was begun. The record of the correction is next to the club's file from the first command until the correction is
+    complete."""
 
     def __init__(self, club, words, planned, then):
         self.club, self.words, self.planned, self.then = club, words, planned, then
         self.record = None
 
     def go_through(self):
-        """Shows, asks and carries out, until no slot is left that members booked meanwhile."""
+        """Shows the correction, asks and gives the commands, and repeats this until it has closed all slots that members booked in the meantime."""
         for _ in range(MOST_ROUNDS):
             shown = None if self.words.yes else self.asked()
             try:
@@ -70,7 +72,7 @@ class Correction:
         raise meanwhile
 
     def asked(self):
-        """Plans the correction on a copy, shows it, and asks. Returns the plan, or the reason for a refusal."""
+        """Plans the correction on a copy of the club, shows the plan, and asks. Returns the plan, or the reason for a refusal."""
         try:
             refuse_to_come(self.words)
             with snapshot(self.club) as db:
@@ -86,7 +88,8 @@ class Correction:
         return refusal("not confirmed")
 
     def plan(self, db, left):
-        """Plans the correction. `left` is the record of an earlier, interrupted run, if any. The plan may be empty only with a record."""
+        """Plans the correction. `left` is the record of an earlier, interrupted run, or None. The plan may be empty only if such a record
+        exists."""
         try:
             if left and self.words.command == "debit":
                 plan = plan_rest_of_debit(db, self.words, left)
@@ -101,7 +104,8 @@ class Correction:
         return plan
 
     def carry_out(self, shown):
-        """Takes a turn, and has the desk do what was shown. With --yes nothing was shown, so the desk does what is planned now."""
+        """Takes a turn, and gives the desk the commands that the clerk saw. With --yes the clerk saw no commands, so the desk gets the commands of
+        the current plan."""
         plans = []
 
         def act():
@@ -127,7 +131,8 @@ class Correction:
         refuse_to_come(self.words)
         left = broken_off(self.club, self.words)
         if left:
-            # The desk carries out commands one by one, so an earlier command of this correction is either done or dropped by now.
+            # The desk carries out one command at a time. So after this command, each earlier command of the correction is either carried out or
+            # dropped.
             self.give(turn, ["sheet", "2000-01-01"])
         try:
             with snapshot(self.club) as db:
@@ -148,7 +153,7 @@ class Correction:
             raise BookedMeanwhile(meanwhile.status, str(meanwhile), meanwhile.why)
 
     def agreed(self, plan, shown):
-        """Returns the commands to give: those of the plan that were shown."""
+        """Returns the commands to give: those commands of the plan that the clerk saw."""
         if shown is None:
             return [it.words for it in plan.orders]
         is_listed = self.words.command in LISTED
@@ -158,7 +163,7 @@ class Correction:
         return [it.words for it in plan.orders if it.words in listed]
 
     def keep(self, db, plan, words, left):
-        """Keeps a copy of the club from before the correction, and a record of the correction."""
+        """Keeps a copy of the club as it was before the correction, and a record of the correction."""
         orders = [it for it in plan.orders if it.words in words]
         rows = rows_edited(db, [edit for order in orders for edit in order.edits])
         refuse_unsound(rows)
@@ -168,7 +173,7 @@ class Correction:
         self.record.keep(rows, [list(it) for it in plan.cancelled if cancel_words(it) in words])
 
     def give_each(self, turn, words, is_first):
-        """Gives the desk commands, and returns the slots that couldn't be closed because members booked them meanwhile."""
+        """Gives the desk commands. Returns the slots that the desk couldn't close because members booked them in the meantime."""
         in_use = []
         for place, each in enumerate(words):
             try:
@@ -181,8 +186,8 @@ class Correction:
         return in_use
 
     def give(self, turn, words):
-        """Gives the desk a command, and returns whether it is done. The turn ends only after the command has ended, even if this process is
-        killed."""
+        """Gives the desk a command, and returns whether the desk carried it out. The turn ends only after the command has ended, even if a signal
+        kills this process."""
         done = run_clubdesk(self.club, words[0], words[1:], held=[turn.file])
         said = done.stderr.decode(errors="backslashreplace").strip()
         if done.returncode == 0 or (words[0], said) == ("close-slot", "refused: exists"):
@@ -191,12 +196,12 @@ class Correction:
             return False
         if done.returncode == REFUSED:
             raise Fault(REFUSED, f"{in_language(said)}: {' '.join(words)}")
-        # Another program may have killed it.
+        # Another program may have killed the command.
         status = done.returncode if 0 < done.returncode < 128 else NO_ANSWER
         raise fault(status, "command undone", order=" ".join(words), said=in_language(said) or f"status {done.returncode}")
 
     def look_again(self):
-        """Prints the bookings that members made since the copy and that don't fit the new hours. It stays."""
+        """Prints the bookings that members made after the copy and that aren't within the new hours. The new hours stay."""
         try:
             with snapshot(self.club) as db:
                 self.plan(db, None)
@@ -204,7 +209,8 @@ class Correction:
             print(say("booked meanwhile", slots=failure.why), file=sys.stderr)
 
     def give_names(self):
-        """Renames a leaving member and its keys in the file. If the member has booked meanwhile, returns these slots and does nothing."""
+        """Renames a leaving member and its keys in the file. If the member has booked in the meantime, returns the booked slots and changes
+        nothing."""
         try:
             with contextlib.closing(file_taken(self.club)) as db:
                 plan = self.plan(db, None)
@@ -221,7 +227,7 @@ class Correction:
         forget_person(self.club, self.words.member)
 
     def tell_concerned(self):
-        """Prints whom to tell about cancellations, by this run and interrupted ones; with --mail it mails them."""
+        """Prints whom to tell about cancellations by this run and by interrupted runs. With --mail it also mails these persons."""
         cancelled = [Booking(*it) for it in self.record.content["cancelled"]]
         show_concerned(self.club, [it.member for it in cancelled])
         if getattr(self.words, "mail", False):
@@ -229,7 +235,7 @@ class Correction:
 
 
 def refuse_unsound(rows):
-    """Refuses to take more from a total than it has, such as after a change by hand."""
+    """Refuses to take more from a total than the total has. A change by hand may have made the total too small."""
     for table, _, was, is_now in rows:
         if table == "slots" and is_now[TAKEN] < 0:
             raise refusal("nothing changed", why=say("taken off", facility=is_now[0], day=date_of(is_now[1]), hour=is_now[2], persons=-is_now[TAKEN]))

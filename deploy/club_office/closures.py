@@ -1,4 +1,4 @@
-"""Reasons for closed slots, which the page shows: lines in a file next to the club, each with a facility, a day, hours and a reason."""
+"""Keeps the reasons for closed slots, which the page shows. Each line of a file next to the club has a facility, a day, hours and a reason."""
 
 import json
 import os
@@ -20,7 +20,7 @@ def reason(word):
 
 
 def reasons_of(club):
-    """Returns the lines written so far, oldest first, or none if the file can't be read."""
+    """Returns the file's lines, oldest first, or none if the file isn't readable."""
     try:
         with open(club.file + "-reasons", encoding="utf-8") as file:
             return json.load(file)
@@ -29,7 +29,7 @@ def reasons_of(club):
 
 
 def add_reasons(club, words, today):
-    """Adds reasons for closed slots, and drops past ones."""
+    """Adds reasons for closed slots, and removes the reasons for past slots."""
     begin, end = words.hours
     more = [
         {"facility": facility, "day": day, "from": begin, "until": end, "why": words.why} for day in days_of(words) for facility in unique(words.facilities)
@@ -45,7 +45,7 @@ def add_reasons(club, words, today):
 
 
 def closures_of(db, reasons, today):
-    """Returns the hours closed from today on that have a reason, each with its newest one, in the page's form."""
+    """Returns the closed hours from today on that have a reason, in the page's form. Each hour has its newest reason."""
     why = {(it["facility"], it["day"], hour): it["why"] for it in reasons for hour in range(it["from"], it["until"])}
     found = []
     for facility, day, hour in db.execute("SELECT facility, day, hour FROM slots WHERE closed = 1 AND day >= ? ORDER BY facility, day, hour", [today]):

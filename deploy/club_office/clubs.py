@@ -1,4 +1,4 @@
-"""A club's configuration, the programs that the office runs, and the club's clock."""
+"""Reads a club's configuration and clock, and finds the programs that the office runs."""
 
 import collections
 import contextlib
@@ -19,11 +19,11 @@ from club_office.values import NAME, moment, moment_text
 # The program that the clerk started.
 SELF = os.path.realpath(sys.modules["__main__"].__file__ or "")
 class Club(collections.namedtuple("Club", "name file zone stop book back_ups settings")):
-    """A club on the machine. The names of the configuration's lines are in small letters in `lines`."""
+    """A club on the machine. `settings` has the lines of the configuration, with their names in small letters."""
 
     @property
     def is_old(self):
-        """Returns whether it is the file of an old year. It allows only lists."""
+        """Returns whether the club's file is the file of an old year. It allows only lists."""
         return "@" in self.name
 
     @property
@@ -44,7 +44,7 @@ class Club(collections.namedtuple("Club", "name file zone stop book back_ups set
 
 
 def settings(path):
-    """The lines `KEY=value` of a configuration; a value may be in quotes."""
+    """Returns the lines `KEY=value` of a configuration. A value may be in quotes."""
     found = {}
     with open(path, encoding="utf-8") as lines:
         for line in lines:
@@ -54,12 +54,13 @@ def settings(path):
     return found
 
 
-# The names of files that clubdesk or the office makes next to a club's file: its name with one of these endings, or with `-until-` and a day.
+# The files that clubdesk or the office makes next to a club's file. Each has the file's name with one of these endings, or with `-until-` and a
+# day.
 ENDINGS = ("-before", "-book", "-metrics", "-new", "-office", "-offsite", "-orders", "-people.csv", "-reasons", "-seasons", "-undo", "-wal")
 
 
 def is_beside(file, other):
-    """Returns whether a path is one of the files made next to a club's file."""
+    """Returns whether clubdesk or the office makes a file of this path next to a club's file."""
     ending = other.removeprefix(file) if other.startswith(file) else ""
     return ending in ENDINGS or ending.startswith("-until-")
 
@@ -72,14 +73,14 @@ def clubs_of(folder):
 
 
 def refuse_files_of_others(file, folder):
-    """Refuses a club if another club's file has the name of one of its own files, which would overwrite that file."""
+    """Refuses a club if one of its own files would overwrite another club's file."""
     for other, path in clubs_of(folder):
         if is_beside(file, path):
             raise refusal("file of another", path=path, club=other)
 
 
 def club_named(called, is_at_desk=False):
-    """Returns the club of this name, or for NAME@YEAR its file of an old year. From then on, the command's clock is in the club's zone."""
+    """Returns the club with a name. NAME@YEAR names the club's file of an old year. After this call, the command's clock is in the club's zone."""
     word, at, year = called.partition("@")
     if not NAME.fullmatch(word) or at and not re.fullmatch("20[0-9]{2}", year):
         raise bad_value("no club name", word=called)
@@ -101,8 +102,8 @@ def club_named(called, is_at_desk=False):
 
 
 def old_files(file):
-    """Returns the files of old years next to a club, oldest first, each with its last day. If two files have the same day,
-    the later one counts."""
+    """Returns the files of old years next to a club, oldest first, each with its last day. If two files have the same day, the later file
+    counts."""
     found = {}
     for path in sorted(glob.glob(glob.escape(file) + "-until-*"), key=lambda it: (os.stat(it).st_mtime_ns, it)):
         day = re.fullmatch(r".*-until-([0-9]{4}-[0-9]{2}-[0-9]{2})(-[0-9]+)?", path)
@@ -112,7 +113,7 @@ def old_files(file):
 
 
 def old_file(file, year):
-    """Returns the first file with a whole year, otherwise the last one with a part of it."""
+    """Returns the first file with the whole year, otherwise the last file with a part of the year."""
     found = old_files(file)
     whole = [path for day, path in found if day >= f"{year}-12-31"]
     part = [path for day, path in found if day.startswith(year)]
@@ -121,13 +122,13 @@ def old_file(file, year):
     return whole[0] if whole else part[-1]
 
 
-# The desk's side uses this path to find programs, and these environment variables.
+# The path on which the desk's side finds programs, and the environment variables that it keeps.
 PATH = "/usr/local/sbin:/usr/local/bin:/usr/sbin:/usr/bin:/sbin:/bin"
 KEPT = ("LANG", "LC_ALL", "LC_CTYPE", "LOGNAME", "OFFICE_CLERK", "SUDO_USER", "TERM", "COLUMNS", "USER")
 
 
 def forget_environment():
-    """Clears the environment, so that a clerk's variables can't choose a program or folder for the desk's side, whatever sudo passes on."""
+    """Clears the environment. So a clerk's variables can't choose a program or folder for the desk's side, even if sudo passes them on."""
     for each in set(os.environ) - set(KEPT):
         del os.environ[each]
     os.environ["PATH"] = PATH
@@ -135,7 +136,7 @@ def forget_environment():
 
 
 def program(variable, called):
-    """Returns a program's path: the variable's, otherwise the one that the shell finds."""
+    """Returns the path of a program. The path is in a variable, or the shell finds it."""
     found = os.environ.get(variable) or shutil.which(called, path=os.environ.get("PATH", "") + ":/usr/local/bin:/usr/bin")
     if not found:
         raise fault(STORAGE, "no program", path=called)
@@ -143,7 +144,7 @@ def program(variable, called):
 
 
 def back_up_program():
-    """Returns deploy/back_up, next to the folder of these modules."""
+    """Returns the path of deploy/back_up, which is next to the folder of these modules."""
     found = os.path.join(os.path.dirname(os.path.dirname(os.path.realpath(__file__))), "back_up")
     if not os.access(found, os.X_OK):
         raise fault(STORAGE, "no program", path=found)
@@ -151,7 +152,7 @@ def back_up_program():
 
 
 def now_of(words):
-    """Returns the minute of the club's clock, or that of --at."""
+    """Returns the current minute of the club's clock, or the minute of --at."""
     return clock() if getattr(words, "at", None) is None else words.at
 
 
@@ -160,19 +161,19 @@ def clock():
 
 
 def refuse_to_come(words):
-    """A correction at a future moment would treat future bookings as over."""
+    """At a future minute, a correction would treat future bookings as over."""
     if getattr(words, "at", None) is not None and words.at > clock():
         raise refusal("at is to come", at=moment_text(words.at), now=moment_text(clock()))
 
 
 def run_clubdesk(club, command, words, options=(), root=None, held=()):
-    """Starts a command of clubdesk on the club's file, and returns the process, which keeps the descriptors `kept` open."""
+    """Starts a command of clubdesk on the club's file. Returns the process, which keeps the descriptors `kept` open."""
     line = [program("CLUBDESK", "clubdesk"), command, *options, "--", club.file, *words]
     return subprocess.run(line, input=root, capture_output=True, check=False, stdin=None if root is not None else subprocess.DEVNULL, pass_fds=held)
 
 
 def clubdesk(club, command, words, options=(), root=None):
-    """Runs a command of clubdesk on the club's file; returns its status and output."""
+    """Runs a command of clubdesk on the club's file. Returns the command's status and output."""
     done = run_clubdesk(club, command, words, options, root)
     for said in done.stderr.decode(errors="backslashreplace").splitlines():
         print(in_language(said), file=sys.stderr, flush=True)
@@ -180,8 +181,9 @@ def clubdesk(club, command, words, options=(), root=None):
 
 
 def ended_by_itself(line, given=None, **how):
-    """Waits for a command to end; returns its status, and its output into a pipe. The command itself handles Ctrl-C, since a clerk's process
-    can't end sudo's. After Ctrl-C a reading command counts as interrupted; the status of any other command tells its result."""
+    """Waits until a command ends. Returns its status, and the output that it wrote into a pipe. clubdesk itself handles Ctrl-C, because a clerk's
+    process can't end sudo's process. A command that only reads counts as interrupted after Ctrl-C. The status of any other command tells its
+    result."""
     command = subprocess.Popen(line, **how)
     text, is_interrupted = given, False
     while True:
@@ -209,7 +211,7 @@ def wants_file(club):
 
 
 def desk_user(club):
-    """Returns the owner of the folder that holds the club's file."""
+    """Returns the owner of the folder that contains the club's file."""
     try:
         return pwd.getpwuid(os.stat(os.path.dirname(club.file)).st_uid)
     except (OSError, KeyError):

@@ -1,4 +1,4 @@
-"""The commands of the office, their arguments, and who carries each out."""
+"""Defines the commands of the office, their arguments, and the function that carries out each command."""
 
 import argparse
 import collections
@@ -59,7 +59,7 @@ class Words(argparse.ArgumentParser):
 
 
 class ShowVersion(argparse.Action):
-    """Prints the version of clubdesk, which is the office's too."""
+    """Prints the version of clubdesk, which is also the office's version."""
 
     def __call__(self, parser, *_):
         done = subprocess.run([program("CLUBDESK", "clubdesk"), "--version"], stdout=subprocess.PIPE, text=True, check=False)
@@ -68,11 +68,12 @@ class ShowVersion(argparse.Action):
 
 
 Command = collections.namedtuple("Command", "kind words help does")
-# The kinds of commands. clubdesk carries out changes, listings and passes. Other commands are corrections, or functions on a copy of the club,
-# on the club, or on the clerk's side. A command without help is internal: only the clerk's side calls it.
+# The kinds of commands. clubdesk itself carries out changes, listings and passes. A command of another kind is a correction or a function. A
+# function works on a copy of the club, on the club itself, or on the clerk's side. A command without a help text is internal: only the clerk's side
+# calls it.
 ORDER, LOOK, PASS, LIST, CORRECTION, DESK, COUNTER = "order look pass list correction desk counter".split()
 
-# The most words of a command, including its name, and the most bytes of each.
+# The most words of a command, including its name, and the most bytes of a word.
 MOST_WORDS = 200
 MOST_BYTES = 1_000
 AT = ("--at", {"metavar": "MOMENT", "type": moment, "help": "use this moment instead of the clock's"})
@@ -292,7 +293,7 @@ COMMANDS = {
 
 
 def words_of(given, is_desk):
-    """Parses a command line by the table of commands."""
+    """Parses a command line with the table of commands."""
     top = Words(prog="office", description="The office of a club, for clerks who are not root: office CLUB COMMAND [WORD ..].", epilog="office CLUB COMMAND --help shows the arguments of a command.")
     top.add_argument("--version", action=ShowVersion, nargs=0, help="print the program's name and version")
     top.add_argument("club", metavar="CLUB", help="a club that /etc/clubdesk/CLUB.conf describes")
@@ -309,7 +310,7 @@ def words_of(given, is_desk):
 
 
 def plain_words(words, command):
-    """Returns the arguments for clubdesk, in its order."""
+    """Returns the arguments for clubdesk, in the order that clubdesk needs."""
     return [getattr(words, place) for place, _ in command.words if not place.startswith("-")]
 
 
@@ -357,7 +358,7 @@ def at_desk(given):
 
 
 def keep_outputs(club, words):
-    """Writes the files next to the club that a correction changes: the reasons for closed slots, and the page's list."""
+    """Updates the files next to the club after a correction: the reasons for closed slots, and the page's list."""
     if words.command == "close" and words.why:
         outputs.keep_reasons(club, words)
     if words.command in ("set-facility", "close", "reopen-slot", "undo"):
@@ -388,7 +389,7 @@ def look(club, words, command):
 
 @contextlib.contextmanager
 def old_year_copied(club):
-    """Yields the club, or a copy of an old year's file, since clubdesk would change the file when it opens it."""
+    """Yields the club, or a copy of an old year's file. The copy is necessary because clubdesk would change the file when it opens it."""
     if not club.is_old:
         yield club
         return
@@ -397,7 +398,7 @@ def old_year_copied(club):
 
 
 def show_names(club, sheet):
-    """Prints the known persons behind the keys of a sheet."""
+    """Prints the known persons who own the keys on a sheet."""
     known = people.read_people(club)
     if not known:
         return
@@ -409,13 +410,13 @@ def show_names(club, sheet):
 
 
 def refuse_too_much(given):
-    """No clerk's command has this many words, and the book has no room for them."""
+    """No clerk's command has more words than this, and the book has no room for more."""
     if len(given) > MOST_WORDS or any(len(os.fsencode(it)) > MOST_BYTES for it in given):
         raise bad_value("too many words", words=MOST_WORDS, bytes=MOST_BYTES)
 
 
 def at_counter(given):
-    """The clerk's side: parses the typed words, reads and writes the clerk's own files, and passes the rest to the desk's side."""
+    """The clerk's side: parses the typed words, and reads and writes the clerk's own files. Passes all other work to the desk's side."""
     if given == ["help"]:
         given = ["--help"]
     if len(given) == 1 and not given[0].startswith("-") and is_terminal():
@@ -442,13 +443,14 @@ def at_counter(given):
 
 
 def each_hour(given, words):
-    """Expands a command: clubdesk's commands that take one hour become one command for each of several hours."""
+    """Expands a command. A command of clubdesk that takes one hour becomes one command for each of several hours."""
     read = read_hours(words.hour) if words.command in ("close-slot", "show-slot") and not words.hour.isdigit() else None
     return [[*given[:2], words.facility, words.day, f"{hour:02d}"] for hour in range(*read)] if read else [given]
 
 
 def carry_out_each(club, commands):
-    """Runs several commands until one isn't done. Lists them first, and prints those that weren't done."""
+    """Runs several commands, and stops at the first command that fails. Lists the commands first, and at the end prints the commands that it didn't
+    carry out."""
     lines, count = [shlex.join(["office", *it]) for it in commands], 0
     if COMMANDS[commands[0][1]].kind == ORDER:
         print(*lines, sep="\n", flush=True)
@@ -465,7 +467,7 @@ def carry_out_each(club, commands):
 
 
 def carry_out(club, given):
-    """Has the desk's side carry out a command."""
+    """Lets the desk's side carry out a command."""
     if os.geteuid() == desk_user(club).pw_uid:
         return at_desk(given)
     line, how = desk_line(club, given[1:])
@@ -473,7 +475,7 @@ def carry_out(club, given):
 
 
 def read_at_counter(given):
-    """Returns a command's words in the form that the desk's side takes. At a terminal it asks about odd ones."""
+    """Returns a command's words in the form that the desk's side takes. At a terminal it asks the clerk about odd words."""
     club, called, command = club_named(given[0]), given[1], COMMANDS[given[1]]
     reader = Reader(club, called)
     made = [*given[:2], *read_words(reader, command, given[2:])]
@@ -485,7 +487,7 @@ def read_at_counter(given):
 def main():
     given = sys.argv[1:]
     try:
-        # A word that isn't UTF-8 is printed with its bytes' numbers.
+        # Prints a word that isn't UTF-8 with the numbers of its bytes.
         sys.stdout.reconfigure(errors="backslashreplace")
         refuse_too_much(given)
         if given[:1] == ["--desk"]:

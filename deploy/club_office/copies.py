@@ -1,4 +1,4 @@
-"""Copies of a club: in memory for lists, from before a correction, and byte for byte."""
+"""Makes copies of a club: in memory for lists, before a correction, and byte for byte."""
 
 import contextlib
 import glob
@@ -18,15 +18,15 @@ from club_office.faults import storage_failed
 
 BACK_UPS_KEPT = 30
 MEMORY = "/dev/shm"
-# Inodes for the copy's folder, the copy, its log, and a few for others.
+# Inodes for the folder of the copy, the copy, its log, and a few more for other programs.
 FILES_FREE = 20
 
 
-# ---- Folders for a copy that is removed at once.
+# ---- Folders for temporary copies.
 
 
 def begun_at(process):
-    """Returns when a process began, in ticks, or None if there is no such process or it is a zombie."""
+    """Returns the time when a process began, in ticks. Returns None if there is no such process or it is a zombie."""
     try:
         with open(f"/proc/{process}/stat", encoding="utf-8", errors="replace") as stat:
             state, *rest = stat.read().rpartition(")")[2].split()
@@ -36,7 +36,7 @@ def begun_at(process):
 
 
 def clear_killed(home):
-    """Removes the folders of this user's processes that have ended. A folder's name tells its process."""
+    """Removes the folders of this user's processes that have ended. The name of a folder has the number of its process."""
     for stale in glob.glob(os.path.join(glob.escape(home), ".office-*")):
         owner = re.match(r"\.office-([0-9]+)-([0-9]+)-", os.path.basename(stale))
         with contextlib.suppress(OSError):
@@ -51,14 +51,15 @@ def clear_left(club):
 
 
 def homes(club, size=None):
-    """Returns the folders for copies of the club, or of a file of this size: in memory if there is room, and next to the club's file."""
+    """Returns the folders that may get copies of the club, or of a file of this size. The first is in memory if it has room, and the last has the
+    club's file."""
     beside = os.path.dirname(club.file)
     if size is None:
         size = sum(os.path.getsize(club.file + it) for it in ("", "-wal") if os.path.exists(club.file + it))
     found = [beside]
     if os.access(MEMORY, os.W_OK | os.X_OK):
         room = os.statvfs(MEMORY)
-        # The copy, its log, and the pages that SQLite copies from the log. A file system that doesn't count inodes reports 0.
+        # Room for the copy, its log, and the pages that SQLite copies from the log. A file system without a fixed number of inodes reports 0.
         if room.f_bavail * room.f_frsize > 3 * size + 1_000_000 and (room.f_files == 0 or room.f_favail > FILES_FREE):
             found.insert(0, MEMORY)
     return found
@@ -66,7 +67,7 @@ def homes(club, size=None):
 
 @contextlib.contextmanager
 def scratch(club, home=None):
-    """Yields a folder that is removed at the end, together with those that killed commands left."""
+    """Yields a folder, and removes it at the end. First removes the folders that killed commands left."""
     clear_left(club)
     prefix = f".office-{os.getpid()}-{begun_at('self')}-"
     with tempfile.TemporaryDirectory(prefix=prefix, dir=home or homes(club)[0], ignore_cleanup_errors=True) as folder:
@@ -75,7 +76,7 @@ def scratch(club, home=None):
 
 @contextlib.contextmanager
 def snapshot(club):
-    """Yields the current club in memory. back_up makes the copy in a temporary folder, which is removed at once."""
+    """Yields a copy of the current club in memory. back_up makes the copy in a temporary folder, and the folder is removed at once."""
     wants_file(club)
     memory = sqlite3.connect(":memory:", isolation_level=None)
     said = ""
@@ -102,7 +103,7 @@ def address(path, mode):
 
 
 def keep_before(club, db, command):
-    """Copies the club to FILE-before, which keeps the newest copies, before a correction; returns the copy's path."""
+    """Copies the club to the folder FILE-before before a correction, and returns the copy's path. The folder keeps only the newest copies."""
     folder = club.file + "-before"
     os.makedirs(folder, 0o700, exist_ok=True)
     called = time.strftime("%Y-%m-%dT%H-%M-%S-") + command
@@ -125,7 +126,7 @@ def keep_before(club, db, command):
 
 
 def name_new(made, path):
-    """Gives a file an unused name: this one, or this one with a number from 2 on. Returns the name."""
+    """Gives a file an unused name: the given name, or the name with a number from 2 on. Returns the name."""
     for number in itertools.count(1):
         named = path if number == 1 else f"{path}-{number}"
         if is_named(made, named):
@@ -134,7 +135,8 @@ def name_new(made, path):
 
 
 def is_named(made, path):
-    """Gives a file a name if the name is unused. On a disk without hard links it first creates an empty file, which the file replaces."""
+    """Gives a file a name if no other file has the name. On a disk without hard links, it first creates an empty file with the name. Then the file
+    replaces the empty file."""
     try:
         os.link(made, path)
     except FileExistsError:
@@ -167,14 +169,14 @@ def synced(path):
 
 
 def is_run(words):
-    """Returns whether another program succeeded. Its lines go to this program's standard error, which is held back during a turn."""
+    """Returns whether another program succeeded. The program's lines go to this program's standard error, which waits until the turn ends."""
     done = subprocess.run(words, check=False, stdin=subprocess.DEVNULL, stdout=subprocess.DEVNULL, stderr=subprocess.PIPE, text=True, errors="replace")
     print(done.stderr, end="", file=sys.stderr)
     return done.returncode == 0
 
 
 def copy_file(club, db, to):
-    """Copies the file and its log, byte for byte, in another process: if this one opened and closed the file, it would lose its locks."""
+    """Copies the file and its log, byte for byte, in another process. If this process opened and closed the file, it would lose its locks."""
     if db.execute("PRAGMA wal_checkpoint(TRUNCATE)").fetchone()[0]:
         raise storage_failed("log uncopied")
     place = next(path for path in [to, *(f"{to}-{more}" for more in range(2, 1000))] if not os.path.exists(path))
@@ -185,7 +187,7 @@ def copy_file(club, db, to):
 
 
 def lost_name(club):
-    """Returns an unused name for a file that is moved away."""
+    """Returns an unused name for a file that another file replaces."""
     called = f"{club.file}-lost-{time.strftime('%Y-%m-%dT%H-%M-%S')}"
     names = itertools.chain([called], (f"{called}-{more}" for more in itertools.count(2)))
     return next(it for it in names if not os.path.lexists(it) and not os.path.lexists(it + "-wal"))

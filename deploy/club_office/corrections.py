@@ -1,4 +1,4 @@
-"""Corrections that need the file: shown, confirmed, and carried out while no server has it."""
+"""Makes corrections that need the file: shows them, asks, and carries them out while no server has the file open."""
 
 import contextlib
 import sqlite3
@@ -19,7 +19,7 @@ WAITS_FOR_FILE = 20
 
 
 def correct(club, words, planned):
-    """Shows what a correction would do, asks, and does exactly that in one transaction."""
+    """Shows the effect of a correction, asks the clerk, and makes exactly the shown changes in one transaction."""
     shown = preview(club, words, planned)
     if not words.yes:
         show_lines(shown.all_lines())
@@ -36,7 +36,7 @@ def correct(club, words, planned):
 
 
 def preview(club, words, planned):
-    """Returns what a correction would do to the current club, from a copy. A refusal gets its line in the book."""
+    """Returns the effect of a correction on the current club, computed on a copy. The book gets a line for a refusal."""
     wants_file(club)
     try:
         refuse_to_come(words)
@@ -49,7 +49,7 @@ def preview(club, words, planned):
 
 
 def carry_out(club, words, planned, plans, shown):
-    """Carries out a correction on the club as it is now, or nothing if something else was shown. Adds the plan to the list of plans."""
+    """Carries out a correction on the club. If its effect differs from the shown effect, changes nothing. Adds the plan to the list of plans."""
     try:
         with contextlib.closing(file_taken(club)) as db:
             plan = planned(db, words, now_of(words))
@@ -71,13 +71,13 @@ def carry_out(club, words, planned, plans, shown):
 
 
 def file_taken(club):
-    """Yields a connection with exclusive use of the file. If a server has the file, its service stops the server, and restarts it after a
-    second. That server waits for the file until this connection ends, however it ends."""
+    """Yields a connection that has the file for itself. If a server has the file, the club's service stops the server, and restarts it after a
+    second. The restarted server waits for the file until this connection ends, even if a signal kills this process."""
     db = sqlite3.connect(address(club.file, "rw"), uri=True, timeout=0, isolation_level=None)
     try:
         db.execute("PRAGMA locking_mode = EXCLUSIVE")
         db.execute("PRAGMA foreign_keys = ON")
-        # Values that are removed from a row, such as a leaving member's name, are overwritten in the file.
+        # SQLite overwrites values in the file that it removes from a row, such as a leaving member's name.
         db.execute("PRAGMA secure_delete = ON")
         take(club, db)
     except BaseException:
@@ -106,7 +106,7 @@ def take(club, db):
 
 
 def ended(club):
-    """Stops the club's server; returns the service's message, such as that there is none."""
+    """Stops the club's server. Returns the message of the service, such as that no service exists."""
     try:
         done = subprocess.run(club.stop, stdin=subprocess.DEVNULL, capture_output=True, text=True, errors="replace", check=False, timeout=WAITS_FOR_FILE)
     except (OSError, subprocess.TimeoutExpired) as fault:
@@ -115,8 +115,7 @@ def ended(club):
 
 
 def change(db, plan, keep):
-    """Runs the statements of a plan in one transaction, and commits only if the club is still as sound as before. Calls `keep` just before the
-    commit."""
+    """Runs the statements of a plan in one transaction. Commits only if the club has no new faults. Calls `keep` just before the commit."""
     db.execute("BEGIN EXCLUSIVE")
     try:
         before, kept = faults(db), rows_kept(db, plan)

@@ -1,4 +1,4 @@
-"""The clerk's side of every command: it calls the desk's user by sudo, and handles the clerk's own files."""
+"""The clerk's side of every command. It calls the desk's user by sudo, and reads and writes the clerk's own files."""
 
 import contextlib
 import heapq
@@ -22,13 +22,13 @@ from club_office.spares import PASSES
 from club_office.texts import say
 
 
-# A past moment, so that a rotated key's older root has already expired.
+# A past minute, so that a rotated key's older root expires at once.
 LONG_AGO = "2000-01-01T00:00"
 
 
 def desk_line(club, words):
-    """Returns the words that run a command as the desk's user, and the options for its process. `--own` means that the club belongs to the
-    caller."""
+    """Returns the words that run a command as the desk's user, and the options for starting the process. `--own` means that the caller owns the
+    club."""
     user = desk_user(club)
     if os.geteuid() == user.pw_uid:
         return [sys.executable, "-I", SELF, "--own", club.name, *words], {}
@@ -41,14 +41,14 @@ def desk_line(club, words):
 
 
 def as_desk(club, words, given=None):
-    """Runs a command as the desk's user; returns its status and output."""
+    """Runs a command as the desk's user. Returns its status and output."""
     line, how = desk_line(club, words)
     return ended_by_itself(line, given, stdin=subprocess.DEVNULL if given is None else subprocess.PIPE, stdout=subprocess.PIPE, **how)
 
 
 def make_pass(club, words):
-    """Runs add-key or rotate-key. The root comes from an argument or from standard input, or is random. The pass goes to standard output, or to
-    a new file."""
+    """Runs add-key or rotate-key. An argument or standard input gives the root, otherwise the root is random. The pass goes to standard output, or
+    to a new file."""
     if words.command == "lost-pass":
         words.root, words.root_stdin, words.moment = None, False, LONG_AGO
     if words.root and words.root_stdin:
@@ -78,7 +78,7 @@ def make_pass(club, words):
 
 
 def lost_files(words):
-    """Returns the files of the lost pass: that of `to`, and the one where letters look for it. Other commands lose none."""
+    """Returns the files that may contain the lost pass: the file `to`, and the file where letters look for the pass. Other commands lose none."""
     found = []
     for path in (words.to, os.path.join(PASSES, words.key)) if words.command == "lost-pass" else ():
         with contextlib.suppress(OSError, ValueError, TypeError), open(path, encoding="ascii") as file:
@@ -87,7 +87,7 @@ def lost_files(words):
 
 
 def remove_lost(words, paths):
-    """Removes the files of a lost pass, so that no letter uses it, except a file that the new pass replaces."""
+    """Removes the files of a lost pass, so that no letter uses the pass. Leaves a file that the new pass replaces."""
     for path in paths:
         with contextlib.suppress(FileNotFoundError):
             os.unlink(path)
@@ -96,7 +96,7 @@ def remove_lost(words, paths):
 
 
 def read_book(club, words):
-    """Returns the lines of the book: those that the desk's user wrote to the system's journal, and those of the file."""
+    """Returns the lines of the book. The lines are in the system's journal, from the desk's user, and in the file."""
     status, text = as_desk(club, ["show-book"])
     found = [text]
     if status == 0 and is_in_journal(club):
@@ -109,7 +109,7 @@ def read_book(club, words):
         found.append(done.stdout)
     if status:
         return status
-    # Only line feeds end lines: a command may hold characters that other line readers treat as ends.
+    # Only line feeds end lines, because a command may contain characters that other line readers treat as line ends.
     lines = [each.split("\n")[:-1] for each in (text.decode(errors="backslashreplace") for text in found)]
     for line in heapq.merge(*lines, key=lambda line: line[:19]):
         if not words.word or words.word in line.split(" "):
@@ -124,7 +124,7 @@ def show_book(club):
 
 
 def ask_person(club, words):
-    """Asks for a member's personal data, and passes it on by standard input, never in an argument."""
+    """Asks for a member's personal data. Passes the data on by standard input, never in an argument."""
     status, text = as_desk(club, ["show-person", words.member])
     if status:
         return status
@@ -141,7 +141,7 @@ def ask_person(club, words):
 
 
 def write_report(club, words):
-    """Writes the board's page to a new file of the clerk, and as PDF if the machine has a browser."""
+    """Writes the board's page to a new file of the clerk, and also as PDF if the machine has a browser."""
     place = words.to or f"report-{words.year or time.strftime('%Y')}.html"
     if os.path.lexists(place):
         raise refusal("file there", path=place)
@@ -158,7 +158,8 @@ def write_report(club, words):
 
 
 def print_to_pdf(place):
-    """Prints the page as PDF with the machine's browser. Returns None if there is no browser, it fails, or a file got that name meanwhile."""
+    """Prints the page as PDF with a browser of the machine. Returns None if the machine has no browser, if the browser fails, or if a file got the
+    PDF's name in the meantime."""
     browser = shutil.which("chromium") or shutil.which("chromium-browser")
     made = os.path.splitext(place)[0] + ".pdf"
     if not browser or os.path.lexists(made):
@@ -176,7 +177,7 @@ def print_to_pdf(place):
 
 
 def written(path, text):
-    """Writes a complete file under a temporary name next to the final one, and returns that name."""
+    """Writes a complete file under a temporary name next to the final name. Returns the temporary name."""
     made = os.path.join(os.path.dirname(path) or ".", f".{os.path.basename(path)}.new")
     with contextlib.suppress(FileNotFoundError):
         os.unlink(made)
@@ -196,6 +197,6 @@ def write_new(path, text):
 
 
 def write_again(path, text):
-    """Replaces a file of ours with a complete new one."""
+    """Replaces one of the office's own files with a complete new file."""
     os.rename(written(path, text), path)
     synced(os.path.dirname(path) or ".")

@@ -1,4 +1,4 @@
-"""Failures of the office's commands."""
+"""Defines the failures of the office's commands."""
 
 from club_office.texts import say
 
@@ -6,7 +6,7 @@ REFUSED, USAGE, BAD_VALUE, STORAGE, OUTPUT = 1, 2, 3, 5, 7
 
 
 class Fault(Exception):
-    """Ends the command with a status and a line on standard error. `said` is the line without its prefix."""
+    """Ends the command with a status and a line on standard error. `said` is the line without the prefix."""
 
     def __init__(self, status, line, why=None):
         super().__init__(line)
@@ -15,7 +15,7 @@ class Fault(Exception):
 
 
 def fault(status, text, /, **values):
-    """A fault whose line comes from the tables of texts."""
+    """A fault with a line from the tables of texts."""
     return Fault(status, say(text, **values))
 
 
@@ -25,11 +25,12 @@ def refusal(text, /, **values):
 
 
 class NothingLeft(Fault):
-    """A refusal because everything is done already. If an interrupted command is given again and gets this refusal, it is complete."""
+    """A refusal because an earlier command has already made the whole change. If a clerk repeats an interrupted command and gets this refusal, the
+    change is complete."""
 
 
 class Doubtful(Fault):
-    """A refusal to continue an interrupted command. If it is given again, it starts from the beginning."""
+    """A refusal to continue an interrupted command. If a clerk repeats the command, it starts from the beginning."""
 
 
 def doubtful(text, /, **values):

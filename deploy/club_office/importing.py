@@ -1,4 +1,4 @@
-"""Imports members from a list: the plan for each row, the passes, and the desk's side of a row."""
+"""Imports members from a list. Plans each row, makes the passes, and carries out each row on the desk's side."""
 
 import collections
 import contextlib
@@ -38,10 +38,10 @@ def read_given():
 
 
 def import_row(club, words):
-    """Imports a row: member, credit, key and person, each only if it is missing. Prints the pass of a key that it makes.
+    """Imports a row: member, credit, key and person. Adds each of them only if it is missing. Prints the pass of a new key.
 
-    Standard input has the person, and the roots that this import drew for the key, newest last. A key with one of these roots was made
-    by this import, and its pass was never handed out, so the key gets the newest root.
+    Standard input has the person, and the roots that this import drew for the key. The newest root comes last. If a key has one of these roots,
+    this import made the key and nobody has its pass. So the key gets the newest root.
     """
     roots, person = read_given()
     passes = []
@@ -93,14 +93,14 @@ def refuse_twins(path, rows, columns=("member", "key")):
 
 
 def spare_rows(club, path, rows):
-    """Returns a row for each spare key of the members. These rows have no points, so nothing is credited twice."""
+    """Returns a row for each spare key of the members. These rows have no points, so no member gets a credit twice."""
     spares = [row._replace(points=0, key=key) for row in rows for key in spare_keys(club, row.member)]
     refuse_twins(path, [*rows, *spares], ["key"])
     return spares
 
 
 def import_members(club, words):
-    """Shows the plan for each row, asks, and gives the commands. Work of an earlier run isn't repeated."""
+    """Shows the plan for each row, asks the clerk, and gives the commands. Skips the rows that an earlier run completed."""
     rows, understood = rows_of(words)
     show_lines([understood])
     refuse_twins(words.file, rows)
@@ -130,7 +130,7 @@ def import_members(club, words):
 
 
 def refuse_spare_files(club, member):
-    """Refuses a new member if files with the names of its spare passes exist."""
+    """Refuses a new member if a file has the name of one of the member's spare passes."""
     keys = spare_keys(club, member) if NAME.fullmatch(member) else []
     for path in (os.path.join(PASSES, key) for key in keys):
         if os.path.lexists(path):
@@ -138,7 +138,7 @@ def refuse_spare_files(club, member):
 
 
 def make_spares(club, member, quota):
-    """Makes a new member's spare keys, each with its pass in the folder of passes."""
+    """Makes a new member's spare keys. Writes each key's pass to the folder of passes."""
     for key in spare_keys(club, member):
         try:
             os.makedirs(PASSES, 0o700, exist_ok=True)
@@ -149,7 +149,7 @@ def make_spares(club, member, quota):
 
 
 def already(club):
-    """Returns each member's credited points, and each key's member."""
+    """Returns the credited points of each member, and the member of each key."""
     status, text = as_desk(club, ["import-state"])
     if status:
         raise fault(status, "club unread")
@@ -174,13 +174,13 @@ def state(row, members, keys, folder):
 
 
 def mark_of(folder, key):
-    """Returns the mark: a file with the roots drawn for a key and the pass's digest. It exists from before the key's command until its pass has
-    its name."""
+    """Returns the path of a key's mark: a file with the roots drawn for the key, and the digest of its pass. The mark exists from before the
+    command that makes the key until the pass has its name."""
     return os.path.join(folder, f".{key}.roots")
 
 
 def read_mark(mark):
-    """Returns a mark's roots, and the digest of the pass made from the last root, if there is one."""
+    """Returns the roots in a mark, and the digest of the pass made from the last root. The digest is missing if no pass was made."""
     words = []
     with contextlib.suppress(FileNotFoundError), open(mark, encoding="ascii") as file:
         words = file.read().split()
@@ -192,14 +192,14 @@ def write_mark(mark, roots, digest=None):
 
 
 def row_fault(status, row, text, **values):
-    """Raises a row's fault, with its line number if it is from a list."""
+    """Raises a row's fault, with the line number if the row is from a list."""
     if row.line is None:
         return fault(status, text, **values)
     return refusal("at line", line=row.line, why=say(text, **values)) if status == REFUSED else fault(status, "at line", line=row.line, why=say(text, **values))
 
 
 def import_one(club, row, folder):
-    """Imports a row; its mark is removed once the pass has its name. A file of that name that another program made stays."""
+    """Imports a row, and removes its mark when the file of the pass has its final name. Leaves a file of that name that another program made."""
     place, mark = os.path.join(folder, row.key), mark_of(folder, row.key)
     taken = row_fault(REFUSED, row, "other's file", path=place)
     roots, digest = read_mark(mark)

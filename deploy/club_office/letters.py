@@ -1,4 +1,4 @@
-"""Letters: one file to print, with a sheet for each pass. A sheet has the link to the club's page, its QR code, and instructions."""
+"""Makes letters: one printable file with a sheet for each pass. A sheet has the link to the club's page, its QR code, and instructions."""
 
 import html
 import json
@@ -37,7 +37,7 @@ def code_of(link):
 
 
 def half(club, spares):
-    """Returns the half that a member cuts off and opens once: the spare passes, for lending."""
+    """Returns the half of a sheet that a member cuts off and opens once. It has the spare passes, for lending."""
     link = f"{club.site}/book.html#spare={';'.join(spares)}"
     return f"""<div class="half"><h2>{html.escape(say("letter lend title"))}</h2><p>{html.escape(say("letter lend"))}</p>
 {code_of(link)}
@@ -58,7 +58,7 @@ def sheet(club, name, key, text, spares):
 
 
 def passes_of(folder, keys):
-    """Returns the passes in a folder, or those of some keys, each with its key."""
+    """Returns the passes in a folder, or only the passes of some keys. Each pass comes with its key."""
     if not keys:
         try:
             keys = sorted(it for it in os.listdir(folder) if NAME.fullmatch(it))
@@ -83,7 +83,7 @@ def passes_of(folder, keys):
 
 
 def refuse_old(club, folder, texts):
-    """Refuses passes that their keys have since replaced: the desk refuses them now or soon."""
+    """Refuses passes that are out of date because their keys have newer passes. The desk refuses such passes now or soon."""
     status, text = as_desk(club, ["old-passes"], json.dumps(texts).encode())
     if status:
         raise fault(status, "club unread")
@@ -92,7 +92,7 @@ def refuse_old(club, folder, texts):
 
 
 def spares_of(club, names, texts):
-    """Removes the members' spare passes from the passes and returns them: they become the second half of each member's first sheet."""
+    """Removes the spare passes from the passes and returns them. They become the second half of each member's first sheet."""
     found = {}
     for key in list(texts):
         member = names.keys[key].member
@@ -102,7 +102,7 @@ def spares_of(club, names, texts):
 
 
 def letters(club, words, names_of):
-    """Writes the sheets of passes to one new file."""
+    """Writes the sheets of all passes to one new file."""
     if not re.fullmatch(r"https://[A-Za-z0-9.:/-]+", club.site):
         raise refusal("no site", club=club.name)
     if os.path.lexists(words.to):

@@ -1,4 +1,4 @@
-"""Lists of a club's rows, and a check of its totals."""
+"""Prints lists of a club's rows, and checks the club's totals."""
 
 import csv
 import re
@@ -10,7 +10,7 @@ from club_office.values import date_of, day, name
 
 
 def table(heads, rows, as_csv):
-    """Prints rows below their column heads, aligned or as CSV."""
+    """Prints rows below their column heads, in aligned columns or as CSV."""
     if as_csv:
         csv.writer(sys.stdout, lineterminator="\n").writerows([heads, *(map(unformed, row) for row in rows)])
     else:
@@ -18,7 +18,7 @@ def table(heads, rows, as_csv):
 
 
 def aligned(heads, rows):
-    """Formats rows and column heads as lines, with numbers aligned right."""
+    """Formats rows and column heads as lines. Numbers are aligned right."""
     words = {"no", "yes", "none", "court", "boat", "room"}
     cells = [[head(it) for it in heads], *([head(cell) if cell in words else str(cell) for cell in row] for row in rows)]
     widths = [max(len(row[column]) for row in cells) for column in range(len(heads))]
@@ -27,12 +27,12 @@ def aligned(heads, rows):
 
 
 def unformed(cell):
-    """Returns a cell that spreadsheets don't take for a formula."""
+    """Returns a cell in a form that no spreadsheet takes for a formula."""
     return f"'{cell}" if isinstance(cell, str) and cell[:1] in ("=", "+", "-", "@", "\t", "\r") else cell
 
 
 def with_names(heads, rows, people, column):
-    """Appends the members' full names to the rows, if any is known."""
+    """Appends the members' full names to the rows, if any full name is known."""
     if not people:
         return heads, rows
     return [*heads, "name"], [[*row, people[row[column]].name if row[column] in people else ""] for row in rows]
@@ -100,7 +100,7 @@ def list_bookings(db, words, now):
 
 
 def asked_of_bookings(db, what):
-    """Returns the column and value that select the bookings: of a day, a member or a facility."""
+    """Returns a column and a value that select the bookings of a day, a member or a facility."""
     if re.fullmatch(r"[0-9]{4}-[0-9]{2}-[0-9]{2}", what):
         return "day", day(what)
     name(what)
@@ -123,7 +123,7 @@ def list_money(db, words, _now):
 
 
 def list_faults(db, _words, _now):
-    """Checks that the totals are the sums of the bookings, and that the file is whole."""
+    """Checks that the totals are the sums of the bookings, and that the file isn't damaged."""
     found = sorted(faults(db))
     for line in found:
         print(line)
@@ -133,7 +133,7 @@ def list_faults(db, _words, _now):
 
 
 def faults(db):
-    """Returns sentences about faulty totals, references and limits, or an empty set for a sound club."""
+    """Returns sentences about wrong totals, references and limits, or an empty set for a sound club."""
     found = set()
     for member, used, spent in db.execute(
         """SELECT members.name, used, coalesce(sum(charge - refund), 0) AS spent

@@ -1,5 +1,6 @@
-"""Metrics of a club's desk in Prometheus' text format: requests by status and time, commands by status, the age of copies, sizes, the version.
-Requests are counted from the desk's log, and commands from the book. FILE-metrics has the counts, and the positions of the last lines read."""
+"""Writes metrics of a club's desk in Prometheus' text format. They count requests by status and time, and commands by status. They also give the
+age of copies, sizes, and the version. Counts the requests in the desk's log, and the commands in the book. FILE-metrics has the counts, and the
+positions of the last lines that the earlier run read."""
 
 import json
 import os
@@ -39,7 +40,7 @@ def keep_counts(club, counts):
 
 
 def journal_lines(counts, called, *match):
-    """Returns the journal's new lines; none on the first run, or if the journal no longer has the last line read."""
+    """Returns the journal's new lines. Returns none on the first run, or if the journal no longer has the last line that was read."""
     cursor = counts["cursors"].get(called)
     line = [program("JOURNALCTL", "journalctl"), "--quiet", "--no-pager", "--output=cat", "--show-cursor", *match]
     done = subprocess.run([*line, f"--after-cursor={cursor}" if cursor else "--lines=0"], capture_output=True, check=False, timeout=MOST_SECONDS)
@@ -65,7 +66,7 @@ def book_lines(club, counts):
             begin = counts["book"] if counts["book"] is not None and counts["book"] <= size else 0
             book.seek(begin)
             data = book.read()
-            # An incomplete line is read on the next run.
+            # The next run reads a line that is still incomplete.
             whole = data[: data.rfind(b"\n") + 1]
             counts["book"] = begin + len(whole)
             found += whole.decode(errors="replace").split("\n")
@@ -93,7 +94,7 @@ def count(club, counts):
 
 
 def ages(club):
-    """Returns the ages in seconds, by place, of the newest copy on this machine and of the newest one elsewhere."""
+    """Returns the ages of the newest copy on this machine and of the newest copy elsewhere, in seconds, by place."""
     found = {}
     nights = [it.moment for it in copies_of(club) if it.kind == "back-up"]
     if nights:
@@ -115,13 +116,13 @@ def version():
 
 
 class Text:
-    """Collects lines of the format, each labelled with the club's name."""
+    """Collects lines of the text format. Each line has the club's name as a label."""
 
     def __init__(self, club):
         self.club, self.lines = club.name, []
 
     def add(self, name, kind, about, *values):
-        """Adds a metric: its kind, its description, and each value with its name's suffix and its labels."""
+        """Adds a metric: its kind, its description, and its values. Each value has a suffix of the name, and labels."""
         self.lines += [f"# HELP clubdesk_{name} {about}", f"# TYPE clubdesk_{name} {kind}"]
         for end, labels, value in values:
             named = "".join(f',{it}="{text}"' for it, text in labels.items())

@@ -1,4 +1,4 @@
-"""Reads the list of an import, from a spreadsheet or another program: its encoding, its delimiter, its columns and its rows."""
+"""Reads the list of an import, which comes from a spreadsheet or another program. Finds the list's encoding, delimiter, columns and rows."""
 
 import codecs
 import collections
@@ -15,7 +15,7 @@ from club_office.values import MOST_CREDIT, name, number
 
 Row = collections.namedtuple("Row", "line written member quota points key person")
 MOST_BYTES = 2_000_000
-# Accepted column names, without accents and in small letters.
+# The accepted column names, without accents and in small letters.
 HEADS = {
     "name": ("name", "member", "mitglied", "full name", "anzeigename"),
     "surname": ("surname", "last name", "family name", "nachname", "familienname"),
@@ -54,7 +54,7 @@ def decoded(path, data, called):
 
 
 def columns_of(path, heads, given):
-    """Returns the meaning of the columns, by their names or by a map such as name=Player,points=Balance."""
+    """Returns the meaning of each column, found by its name or given by a map such as name=Player,points=Balance."""
     called = [plain(it) for it in heads]
     found = {}
     for what, names in HEADS.items():
@@ -72,14 +72,14 @@ def columns_of(path, heads, given):
 
 
 def cells_of(text):
-    """Returns a list's delimiter, and a reader of its rows."""
+    """Returns a list's delimiter, and a reader of the list's rows."""
     first = re.sub('"[^"]*"', "", text.lstrip("\n").split("\n", 1)[0])
     delimiter = max(",;\t", key=first.count)
     return delimiter, csv.reader(io.StringIO(text, newline=""), delimiter=delimiter, strict=True)
 
 
 def lacking(path):
-    """Returns which of quota and points no column has, after a check for other faults."""
+    """Returns which of the columns quota and points are missing. Checks for other faults first."""
     with contextlib.suppress(Fault, csv.Error):
         columns = columns_of(path, next(cells_of(text_of(path)[0])[1], []), None)
         return [it for it in ("quota", "points") if it not in columns]
@@ -87,7 +87,8 @@ def lacking(path):
 
 
 def rows_of(words):
-    """Returns a list's rows, all valid, and a sentence that says how the list was read. Raises a fault that names the first invalid line."""
+    """Returns the list's rows and a sentence that describes how the program read the list. All returned rows are valid. Raises a fault that names
+    the first invalid line."""
     path = words.file
     text, letters = text_of(path)
     delimiter, reader = cells_of(text)

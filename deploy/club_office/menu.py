@@ -1,5 +1,6 @@
-"""The office by questions: a menu of tasks in the order in which clerks need them. Each answer may be a part of a name, a day as `sa`, or hours
-as `15-17`. Each task runs a command of the office. The command is shown first, so that a clerk can learn to type it."""
+"""The menu of the office: a list of tasks, in the order in which clerks need them. Each task asks questions. An answer may be a part of a name, a
+day such as `sa`, or hours such as `15-17`. Each task runs a command of the office. The menu shows the command first, so that a clerk can learn to
+type it."""
 
 import collections
 import contextlib
@@ -29,7 +30,7 @@ Task = collections.namedtuple("Task", "group called words is_asked")
 
 
 class Office:
-    """A club with its names at the beginning of a task."""
+    """A club, with the names that it had when the task began."""
 
     def __init__(self, club, names):
         self.club = club
@@ -70,11 +71,11 @@ class Office:
         return str(ask_number(say("ask points"), 1, most))
 
 
-# ---- The tasks: what each asks, and the commands that it makes of the answers.
+# ---- The tasks: the questions of each task, and the commands that it makes of the answers.
 
 
 def key_of(office):
-    """Returns a member's unrevoked key; asks only if there are several."""
+    """Returns a member's key that isn't revoked. Asks only if the member has several such keys."""
     member = office.member()
     keys = [it for it, key in office.names.keys.items() if key.member == member and not key.revoked]
     if not keys:
@@ -84,7 +85,7 @@ def key_of(office):
 
 
 def free_key(office, member):
-    """Returns the next name for a member's key: amy-1, amy-2."""
+    """Returns the next unused name for a member's key, such as amy-1 or amy-2."""
     stem = member[:20].strip("-")
     return next(it for it in (f"{stem}-{number}" for number in range(1, 1000)) if it not in office.names.keys)
 
@@ -111,13 +112,13 @@ def new_member_words(office):
 
 
 def key_words(office, member, spares=()):
-    """Makes a member's new key, with its pass where letters look for it, and its letter with spare passes, if one can be made."""
+    """Makes a member's new key. Writes its pass where letters look for it, and a letter with the spare passes if the letter is possible."""
     key = free_key(office, member)
     return [["add-key", key, member, "--to", f"{PASSES}/{key}"], *letter_words(office, [key, *spares], f"letter-{key}")]
 
 
 def letter_words(office, keys, stem):
-    """Returns the command for a letter in a new file, or none if something for it is missing."""
+    """Returns the command for a letter in a new file, or None if a part of the letter is missing."""
     if not office.club.site or not shutil.which("qrencode"):
         return []
     names = itertools.chain([f"{stem}.html"], (f"{stem}-{number}.html" for number in itertools.count(2)))
@@ -129,7 +130,7 @@ def new_key_words(office):
 
 
 def lost_words(office):
-    """Makes a new pass, where letters look for it, and its letter."""
+    """Makes a new pass where letters look for it, and the letter for the pass."""
     key = key_of(office)
     return [["lost-pass", key, "--to", f"{PASSES}/{key}"], *letter_words(office, [key], f"letter-{key}-{office.today}")]
 
@@ -193,7 +194,7 @@ def new_facility_words(office):
 
 
 def import_words(_office):
-    """Asks for a list, and for the values that none of its columns has."""
+    """Asks for a list, and for values such as the quota that the list's columns don't give."""
     file = until_read(say("ask file"), lambda typed: typed if os.path.isfile(typed) else None, say("no such file"))
     most = {"quota": 99, "points": 1_000_000}
     return [["import", file, *(f"--{it}={ask_number(say(f'ask {it}'), 0, most[it])}" for it in lacking(file))]]
@@ -247,7 +248,7 @@ def restore_words(office):
 
 
 def log_words(office):
-    """Shows the whole book, or the lines with a word; a part of one member's name means that member."""
+    """Shows the whole book, or only the lines that contain a word. A part of one member's name means that member."""
     word = ask(say("ask word") + ": ")
     fits = found_members(word, office.names)
     return [["log", *(fits if len(fits) == 1 else [word] if word else [])]]
@@ -266,10 +267,10 @@ def with_points(command, most):
     return lambda office: [[command, office.member(), office.points(most)]]
 
 
-# The statuses of a command interrupted by Ctrl-C.
+# The statuses of a command that Ctrl-C interrupted.
 BROKEN_OFF = (130, -signal.SIGINT)
-# In a clerk's order. The last part says whether the menu asks before the command: it does if the command changes something and doesn't ask
-# itself.
+# In a clerk's order. The last part tells whether the menu asks before the command. The menu asks if the command changes something and doesn't ask
+# by itself.
 TASKS = [
     Task("group today", "task today", lambda office: [["bookings", str(office.today)]], False),
     Task("group today", "task sheet", lambda office: [["sheet", office.day()]], False),
@@ -314,7 +315,7 @@ TASKS = [
 
 
 def menu_lines():
-    """Prints the menu in two columns for a terminal of 80, each group below its heading."""
+    """Prints the menu in two columns on a terminal of 80 columns. Each group is below its heading."""
     blocks = []
     for number, task in enumerate(TASKS, 1):
         if not blocks or blocks[-1][0] != say(task.group):
@@ -332,7 +333,8 @@ def menu_lines():
 
 
 def tasks_named(answer):
-    """Returns the task with a number, or the tasks whose title matches: completely, by its beginning, by a word, or by letters in it."""
+    """Returns the task with a number, or the tasks whose title matches the text. A title matches completely, by its beginning, by a word, or by
+    letters in it."""
     if answer.isdigit():
         return [TASKS[int(answer) - 1]] if 0 < int(answer) <= len(TASKS) else []
     typed = plain(answer)
@@ -345,7 +347,7 @@ def tasks_named(answer):
 
 
 def task_named(answer):
-    """Returns the task that the clerk means, after a choice if several match, or None."""
+    """Returns the task that the clerk means, or None. Lets the clerk choose if several tasks match."""
     tasks = tasks_named(answer)
     if len(tasks) < 2:
         return tasks[0] if tasks else None
@@ -379,7 +381,7 @@ def carry_out(office, task):
 
 
 def menu(club, names):
-    """Asks for tasks until the clerk ends it. Returns the status."""
+    """Asks for tasks until the clerk leaves the menu. Returns the status."""
     with contextlib.suppress(ImportError):
         importlib.import_module("readline")  # so that a line can be edited
     office = Office(club, names)

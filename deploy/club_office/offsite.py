@@ -1,7 +1,7 @@
-"""Copies a club to another place within a minute of a change, with the files next to the club, so that it survives the loss of its machine.
+"""Copies a club, and the files next to it, to another place within a minute of a change. So the club survives the loss of its machine.
 
-A copy is made by back_up, opened by clubdesk, sent, and tested at the place. FILE-offsite says what was copied last, or since when and why
-copying has failed; deploy/check_health and deploy/metrics read it."""
+back_up makes a copy, and clubdesk opens it. Then the copy is sent to the place and tested there. FILE-offsite names the last copy. If copying
+fails, it has the reason and the time of the first failure. deploy/check_health and deploy/metrics read this file."""
 
 import glob
 import grp
@@ -18,13 +18,13 @@ from club_office.copies import homes, scratch
 from club_office.faults import STORAGE, Fault, fault
 from club_office.places import BESIDE, NAME, OLD_YEAR, kept_in, place_of, refuse_own_disk, remove, take
 
-# Seconds between two checks of the file, after a copy, and after a failure.
+# The seconds until the next check of the file: normally, after a copy, and after a failure.
 LOOKS, RESTS, RETRIES = 3, 15, 20
-# The tries for a copy while the files next to the club change.
+# The most tries for a copy while the files next to the club change.
 TRIES = 5
-# Seconds between two notes that the service is still checking.
+# The seconds between two notes that the service is still running.
 NOTES = 30
-# The files next to the club, by their suffixes.
+# The files next to the club, named by their suffixes.
 BESIDE_FILES = ("-people.csv", "-seasons", "-reasons", "-book")
 
 
@@ -33,7 +33,7 @@ def state_of(club):
 
 
 def read_state(club):
-    """Returns the lines of FILE-offsite by their first words."""
+    """Returns the lines of FILE-offsite, each by its first word."""
     try:
         with open(state_of(club), encoding="utf-8") as file:
             return {word: rest for word, _, rest in (line.rstrip("\n").partition(" ") for line in file)}
@@ -49,7 +49,7 @@ def write_state(club, state):
 
 
 def signature(paths):
-    """Returns a text that changes when one of these files does."""
+    """Returns a text that changes whenever one of these files changes."""
     found = []
     for path in paths:
         try:
@@ -60,11 +60,11 @@ def signature(paths):
     return ",".join(found)
 
 
-# ---- The files next to the club: its configuration, persons, reasons, the season's points, the clerks.
+# ---- The files next to the club: its configuration, persons, reasons, season points, and the clerks' names.
 
 
 def beside_paths(club):
-    """Returns the path of each file that goes with the copies, by its name in the archive."""
+    """Returns the path of each file that the archive takes, by the file's name in the archive."""
     folder = os.environ.get("OFFICE_CONF", "/etc/clubdesk")
     found = {f"conf/{os.path.basename(path)}": path for path in sorted(glob.glob(os.path.join(glob.escape(folder), f"{club.name}.*"))) if os.path.isfile(path) and os.access(path, os.R_OK)}
     found |= {f"beside/{end[1:]}": club.file + end for end in BESIDE_FILES if os.path.isfile(club.file + end)}
@@ -83,7 +83,7 @@ def clerks():
 
 
 def beside_of(club):
-    """Returns an archive of these files; the same files make the same bytes."""
+    """Returns an archive of these files. The same files always make the same bytes."""
     made = io.BytesIO()
     with tarfile.open(fileobj=made, mode="w", format=tarfile.USTAR_FORMAT) as archive:
         files = {name: open(path, "rb").read() for name, path in beside_paths(club).items()}
@@ -98,7 +98,7 @@ def beside_of(club):
 
 
 def made_copy(club, folder):
-    """Makes a copy of the current club and lets clubdesk open it."""
+    """Makes a copy of the current club, and opens the copy with clubdesk as a test."""
     copy, opened = os.path.join(folder, "copy"), os.path.join(folder, "opened")
     for line in ([back_up_program(), club.file, copy], ["cp", "--", copy, opened], [program("CLUBDESK", "clubdesk"), "sheet", "--", opened, "2000-01-01"]):
         done = subprocess.run(line, capture_output=True, text=True, errors="replace", check=False, stdin=subprocess.DEVNULL)
@@ -109,14 +109,14 @@ def made_copy(club, folder):
 
 
 def too_old(names, day):
-    """Returns the names of copies to remove: the rules for nightly copies apply, and of each past hour only the last copy stays."""
+    """Returns the names of copies to remove. The rules for nightly copies apply. Of each past hour, only the last copy stays."""
     rules = os.path.join(os.path.dirname(back_up_program()), "old_copies")
     done = subprocess.run([rules, "-", day], input="".join(f"{it}\n" for it in names), capture_output=True, text=True, check=True)
     return done.stdout.split()
 
 
 def made_together(club):
-    """Makes a copy and an archive of the same moment; repeats this while season points are being credited."""
+    """Makes a copy and an archive of the same moment. Tries again if a file next to the club has changed in the meantime."""
     for _ in range(TRIES):
         beside = beside_of(club)
         with scratch(club, homes(club)[0]) as folder:
@@ -127,8 +127,8 @@ def made_together(club):
 
 
 def copy_now(club, place, state):
-    """Copies the club and the files next to it if the place doesn't have them; returns the message about it. A copy gets its name after its
-    archive, so that the two with one name belong together."""
+    """Copies the club and the files next to it, if the place doesn't have them. Returns the message about the copy. A copy gets its name after the
+    archive has the same name. So a copy always has its archive."""
     refuse_own_disk(place, club.file)
     data, beside = made_together(club)
     digest, beside_digest = (hashlib.sha256(it).hexdigest() for it in (data, beside))
@@ -147,7 +147,7 @@ def copy_now(club, place, state):
 
 
 def keep_in_order(club, place, newest):
-    """Sends missing files of old years. Removes copies that are too old, and all archives but the newest."""
+    """Sends the files of old years that the place doesn't have. Removes copies that are too old, and all archives except the newest."""
     years = {path[len(club.file) + 1:]: path for path in glob.glob(glob.escape(club.file) + "-until-*")}
     years = {name: path for name, path in sorted(years.items()) if OLD_YEAR.fullmatch(name)}
     if newest is None and not years:
@@ -166,8 +166,8 @@ def keep_in_order(club, place, newest):
 
 
 def look(club, state, is_first):
-    """Checks once and copies changes. Returns whether the place has the current club. A fault is printed at the first check, and when it differs
-    from the last one."""
+    """Checks the club once, and copies it if it has changed. Returns whether the place has the current club. Prints a fault at the first check, and
+    again when it differs from the last fault."""
     where = club.settings["offsite"]
     seen = f"{where} " + signature([club.file, club.file + "-wal", *beside_paths(club).values()]) + f" {','.join(clerks())}"
     if state.get("of") == seen and "failing" not in state:
@@ -193,7 +193,7 @@ def look(club, state, is_first):
 
 
 def watch(club, named, is_once=False):
-    """Looks again and again. `named` reads the configuration again, so that changes count."""
+    """Looks again and again. `named` reads the configuration again, so that a changed configuration has an effect."""
     noted, before = 0.0, None
     state = read_state(club)
     while True:

@@ -1,4 +1,4 @@
-"""Outputs that the desk's side makes from a copy: a key's bookings in the page's form, the page's list of the club, the board's page."""
+"""Prints what the desk's side makes from a copy. This is a key's bookings in the page's form, the page's list of the club, or the board's page."""
 
 import datetime
 import os
@@ -32,7 +32,7 @@ def make_page(club, _words):
 
 
 def write_page(club):
-    """Rewrites club.json atomically in the configuration's folder PAGES; returns its path."""
+    """Rewrites club.json atomically in the folder PAGES of the configuration. Returns its path."""
     folder, zone = club.settings.get("pages"), club.settings.get("zone_name")
     if not folder or not zone:
         raise refusal("no pages", club=club.name)
@@ -59,7 +59,7 @@ def write_page(club):
 
 
 def is_as(place, text):
-    """Returns whether a file exists with this text."""
+    """Returns whether a file exists and contains exactly this text."""
     try:
         with open(place, "rb") as file:
             return file.read() == text.encode()
@@ -68,7 +68,7 @@ def is_as(place, text):
 
 
 def keep_reasons(club, words):
-    """Records the reasons for closed slots. If this fails, the slots stay closed."""
+    """Records the reasons for closed slots. If the recording fails, the slots stay closed without a reason."""
     try:
         add_reasons(club, words, clock() // 1440)
     except OSError as failure:
@@ -76,7 +76,8 @@ def keep_reasons(club, words):
 
 
 def page_again(club):
-    """Rebuilds the page's list after a change that it shows, if the club has pages. Even if this fails, the command counts as done."""
+    """Rebuilds the page's list after a change that the list shows, if the club has pages. The command succeeds even if the list can't be
+    rebuilt."""
     if not club.settings.get("pages"):
         return
     try:

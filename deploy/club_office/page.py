@@ -1,5 +1,5 @@
-"""club.json, which the booking page reads: the club's name and zone; its facilities with titles, kinds and hours; its contact, imprint, privacy
-page and logo."""
+"""Writes club.json for the booking page. It has the club's name, zone, contact, imprint, privacy page and logo, and its facilities with titles,
+kinds and hours."""
 
 import base64
 import json
@@ -10,12 +10,12 @@ from club_office.faults import STORAGE, fault, refusal
 from club_office.texts import say
 
 ZONES = "/usr/share/zoneinfo"
-# The most units of a title for the page, in JavaScript's UTF-16.
+# The most UTF-16 code units in a title on the page. JavaScript measures texts in these units.
 MOST_TITLE = 80
 
 
 def rule_of(zone, zones=ZONES):
-    """Returns a zone's POSIX rule: the last line of its file."""
+    """Returns a zone's POSIX rule, which is the last line of the zone's file."""
     if not re.fullmatch(r"[A-Za-z0-9_+-]+(/[A-Za-z0-9_+-]+)*", zone):
         raise refusal("no zone name", zone=zone)
     try:
@@ -26,15 +26,15 @@ def rule_of(zone, zones=ZONES):
 
 
 def wants_rule(zone, rule, zones=ZONES):
-    """Refuses a zone whose rule isn't the server's."""
+    """Refuses a zone if its rule isn't the server's rule."""
     found = rule_of(zone, zones)
     if found != rule:
         raise refusal("other zone", zone=zone, found=found, rule=rule)
 
 
 def titles_of(path, facilities):
-    """Reads the titles of facilities from a file with a line for each, such as `court-1 Court 1`. Refuses the first line of another form. It
-    ignores empty lines and those that begin with #."""
+    """Reads the titles of facilities from a file. Each line names one facility, such as `court-1 Court 1`. Refuses the first line that has another
+    form. Ignores empty lines and lines that begin with #."""
     try:
         with open(path, "rb") as file:
             lines = file.read().removeprefix(b"\xef\xbb\xbf").split(b"\n")
@@ -78,7 +78,7 @@ PICTURES = {".svg": "svg+xml", ".png": "png", ".jpg": "jpeg", ".jpeg": "jpeg", "
 
 
 def more_of(given):
-    """Returns contact, imprint, privacy page and logo from the settings; the logo's setting names a file."""
+    """Returns contact, imprint, privacy page and logo from the settings. The setting of the logo names a file."""
     found = {it: given[it] for it in MORE if given.get(it)}
     for it, value in found.items():
         if not value.isprintable() or len(value.encode("utf-16-le")) > 2 * MOST_SENTENCE:

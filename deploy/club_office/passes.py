@@ -1,4 +1,4 @@
-"""Reads texts of passes, as docs/PASSES.md describes them: which key a pass names, and whether the club still accepts it."""
+"""Reads texts of passes, as docs/PASSES.md describes them. Finds the key that a pass names, and whether the club still accepts the pass."""
 
 import base64
 import hmac
@@ -12,7 +12,7 @@ from club_office.texts import say
 
 MOST_BYTES = 50_000_000
 IDENTIFIER, VERIFIER, SIGNATURE = 2, 4, 6
-# V1's field names, with the numbers of the same fields in V2.
+# The field names of V1, each with the number of the same field in V2.
 KINDS = {b"location": 1, b"cl": 1, b"identifier": IDENTIFIER, b"cid": IDENTIFIER, b"vid": VERIFIER, b"signature": SIGNATURE}
 
 
@@ -47,7 +47,7 @@ def pass_of(name, root, *caveats):
 
 
 def packet(kind, data):
-    """Returns a field: its kind, its length in groups of seven bits, and its data."""
+    """Returns the bytes of a field: its type, its length in groups of seven bits, and its data."""
     length, size = b"", len(data)
     while size > 127:
         length, size = length + bytes([size & 127 | 128]), size >> 7
@@ -55,7 +55,7 @@ def packet(kind, data):
 
 
 def fields_of(data):
-    """Returns the fields of a V1 or V2 pass, each as kind and data."""
+    """Returns the fields of a V1 or V2 pass, each with its type and data."""
     return fields_of_v2(data) if data[:1] == b"\2" else fields_of_v1(data)
 
 
@@ -92,7 +92,7 @@ def is_signed(text, root):
 
 
 def list_old_passes(club, _words):
-    """Prints the keys whose passes, given on standard input, have been replaced."""
+    """Reads passes from standard input. Prints the keys that have newer passes."""
     try:
         texts = json.loads(sys.stdin.buffer.read(MOST_BYTES))
     except ValueError:

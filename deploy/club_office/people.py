@@ -1,5 +1,5 @@
-"""Persons: the members' full names, mail addresses and telephone numbers, in FILE-people.csv next to the club, with the club's mode and owner.
-None of this gets into the book, an argument of a process, or a copy of the club."""
+"""Keeps persons: the members' full names, mail addresses and telephone numbers. They are in FILE-people.csv next to the club, with the club's mode
+and owner. Personal data never gets into the book, an argument of a process, or a copy of the club."""
 
 import collections
 import contextlib
@@ -27,7 +27,7 @@ def people_of(club):
 
 
 def read_people(club):
-    """Returns each person by member name; none without a file."""
+    """Returns each person by the member's name. Returns none if there is no file."""
     with contextlib.suppress(FileNotFoundError), open(people_of(club), encoding="utf-8", newline="") as file:
         rows = csv.DictReader(file)
         return {row["member"]: Person(*(row.get(it) or "" for it in Person._fields)) for row in rows if row.get("member")}
@@ -47,7 +47,7 @@ def write_people(club, people):
 
 
 def person_of(values):
-    """Makes a person from typed or imported values, each of one line; anything else is a bad value."""
+    """Makes a person from typed or imported values. A value of several lines is a bad value."""
     found = Person(*(" ".join(str(values.get(it) or "").split()) for it in Person._fields))
     for it in found:
         if len(it) > MOST_LETTERS or not it.isprintable():
@@ -60,7 +60,7 @@ def person_of(values):
 
 
 def set_person(club, words):
-    """Stores a member's person from standard input, as JSON. The book has only the member's name."""
+    """Reads a member's person from standard input, as JSON, and stores it. The book has only the member's name."""
     wants_file(club)
     try:
         values = json.loads(sys.stdin.buffer.read(10_000))
@@ -116,8 +116,8 @@ def show_concerned(club, members):
 
 
 def mail_concerned(club, bookings, slot_text, record):
-    """Mails each of these persons their cancellations, with the machine's mailer. Prints who has no address, and which mails failed. A person in
-    the record gets no second mail."""
+    """Mails each affected person the person's cancellations, with the machine's mailer. Prints which persons have no address, and which mails
+    failed. A person whom the record names gets no second mail."""
     people, of_member = read_people(club), collections.defaultdict(list)
     for it in bookings:
         of_member[it.member].append(it)

@@ -1,5 +1,6 @@
-"""Bookings and cancellations for a member who calls. They are requests to the desk, like those of the member's page, under passes that the
-desk's side makes from a key's root and shows to nobody. The desk decides, and its refund rules apply."""
+"""Makes bookings and cancellations for a member who calls by telephone. They are requests to the desk, like requests of the member's page. The
+desk's side makes the passes for them from a key's root, and shows these passes to nobody. The desk decides about each request, and applies its
+rules for refunds."""
 
 import contextlib
 import http.client
@@ -18,14 +19,14 @@ from club_office.plans import slot_text
 from club_office.texts import in_language, say
 from club_office.values import date_of
 
-# The seconds that the desk may take for a reply, and the number of retries.
+# The timeout of the desk's reply in seconds, and the number of retries.
 PATIENCE = 15
 TRIES = 5
 OFFICE_KEY = "-office"
 
 
 def asked(club, method, path, text, body=None):
-    """Returns the status and body of the desk's reply. Retries if the desk is restarting; the same request is never done twice."""
+    """Returns the status and body of the desk's reply. Retries if the desk is restarting. The desk never carries out the same request twice."""
     failed = None
     for _ in range(TRIES):
         client = http.client.HTTPConnection("127.0.0.1", club.port, timeout=PATIENCE)
@@ -45,7 +46,7 @@ def asked(club, method, path, text, body=None):
 
 
 def answer(found):
-    """Returns the body of a served reply, or raises its refusal."""
+    """Returns the body of a reply to a served request, or raises the refusal."""
     status, body = found
     if status != 200:
         raise refusal("desk says", text=in_language(body.get("text")))
@@ -53,7 +54,7 @@ def answer(found):
 
 
 def office_key(db, member):
-    """Returns the key with which the office books for a member, and whether it exists."""
+    """Returns the name of the key with which the office books for a member, and whether the key exists."""
     wants_row(db, "members", member)
     for number in ("", *(f"-{it}" for it in range(2, 100))):
         name = member[: 24 - len(OFFICE_KEY) - len(number)].rstrip("-") + OFFICE_KEY + number
@@ -82,7 +83,7 @@ def path_of(words, hour, number=None):
 
 
 def book(club, words):
-    """Books the slot of each hour for a member, except slots that the office has already booked for the member."""
+    """Books a slot for a member in each of these hours. Skips slots that the office has already booked for the member."""
     wants_file(club)
     with said_at_the_end() as lines, Turn(club) as turn:
         key = make_key(club, turn, words.member, words.facility)
@@ -96,7 +97,7 @@ def book(club, words):
 
 
 def booked_by(club, words, key):
-    """Returns the hours that are booked under a key, each with its booking number."""
+    """Returns the hours that a key has booked, each with its booking number."""
     with snapshot(club) as db:
         return db.execute(
             """SELECT hour, min(number) FROM bookings
@@ -116,7 +117,7 @@ def refuse_booked(turn, words, key, there):
 
 @contextlib.contextmanager
 def said_at_the_end():
-    """Prints lines after the turn, even after a refusal, so that a closed pipe interrupts no command."""
+    """Prints lines after the turn, even after a refusal. So a closed pipe interrupts no command."""
     lines = []
     try:
         yield lines
@@ -125,8 +126,8 @@ def said_at_the_end():
 
 
 def each_hour(turn, words, hours, lines, act, total):
-    """Runs a command for each hour, until one is refused; `does` returns its points. For several hours it also prints the sum and the hours not
-    done."""
+    """Runs a command for each hour, until the desk refuses one. `does` returns the points of an hour. For several hours it also prints the sum of
+    the points, and the hours that are not done."""
     points = []
     try:
         for hour in hours:
@@ -141,7 +142,7 @@ def each_hour(turn, words, hours, lines, act, total):
 
 
 def order_of(words, hour):
-    """Returns the words of a command for one hour, for the book."""
+    """Returns the words of a command for one hour, as the book needs them."""
     if len(range(*words.hour)) == 1:
         return words.given
     line = [words.command, words.member, words.facility, date_of(words.day), str(hour)]
@@ -151,7 +152,7 @@ def order_of(words, hour):
 
 
 def put(club, words, hour, key, lines):
-    """Books an hour; returns the charge."""
+    """Books one hour, and returns its charge."""
     with snapshot(club) as db:
         (root,) = db.execute("SELECT root FROM keys WHERE name = ?", [key]).fetchone()
         (number,) = db.execute("SELECT coalesce(max(number), 0) + 1 FROM bookings WHERE pass_key = ? AND number < 900000000", [key]).fetchone()
@@ -163,14 +164,14 @@ def put(club, words, hour, key, lines):
 
 
 def cancel_for(club, words):
-    """Cancels a member's booking of each hour under the key that booked it, with the refund that the member would get."""
+    """Cancels a member's bookings in these hours, each under the key that booked it. The refund is the same as for a cancellation by the member."""
     wants_file(club)
     with said_at_the_end() as lines, Turn(club) as turn:
         return each_hour(turn, words, list(range(*words.hour)), lines, lambda hour: delete(club, words, hour, lines), "called off in all")
 
 
 def delete(club, words, hour, lines):
-    """Cancels an hour; returns the refund."""
+    """Cancels one hour, and returns its refund."""
     slot = slot_text(words.facility, words.day, hour)
     with snapshot(club) as db:
         wants_row(db, "members", words.member)

@@ -1,5 +1,5 @@
-"""Places for copies away from the club's disk: a folder on another machine, reached by ssh, or a mounted folder. A place can store a complete
-file and test it, list its files, and return a file. A place needs a shell and sha256sum, and sqlite3 to check a copy."""
+"""Stores copies away from the club's disk, in a folder on another machine that ssh reaches, or in a mounted folder. A place can store a complete
+file and test it, list its files, and return a file. A place needs a shell and sha256sum, and sqlite3 to test a copy."""
 
 import collections
 import os
@@ -11,19 +11,20 @@ from club_office.clubs import program
 from club_office.faults import STORAGE, bad_value, fault
 
 Place = collections.namedtuple("Place", "text host folder")
-# A file at the place: its size, its digest, and how it was tested: `whole` by SQLite, `sum` by its digest alone, or `no`.
+# A file at the place: its size, its digest, and its test. The test is `whole` by SQLite, `sum` by its digest alone, or `no`.
 Kept = collections.namedtuple("Kept", "name size sum tested")
 NAME = re.compile(r"20[0-9]{2}-[0-9]{2}-[0-9]{2}T[0-9]{6}Z")
-# The archive of the files next to the club, from the time of the copy with the same name.
+# The archive of the files next to the club. It is from the same time as the copy with its name.
 BESIDE = re.compile(NAME.pattern + r"[.]tar")
 OLD_YEAR = re.compile(r"until-[0-9]{4}-[0-9]{2}-[0-9]{2}(-[0-9]{1,3})?")
-# The seconds that a host may be silent, and that a file may take.
+# The timeout of a silent host, and the timeout of a file's transfer, in seconds.
 PATIENCE, MOST_SECONDS = 10, 300
 OPTIONS = (f"ConnectTimeout={PATIENCE}", "ServerAliveInterval=5", "ServerAliveCountMax=3", "LogLevel=ERROR")
-# The password is asked once: later calls share the first call's connection.
+# ssh asks for the password once, because later calls share the connection of the first call.
 ASKS = ("ControlMaster=auto", "ControlPersist=60", "ControlPath=~/.clubdesk-%C")
 
-# In each, $1 is the folder. A file has a temporary name until it is complete and tested. Its line is in the list before it gets its final name.
+# In each script, $1 is the folder. A file has a temporary name until it is complete and tested. The list gets the file's line before the file gets
+# its final name.
 TAKE = """set -eu
 umask 077
 [ "$5" = mounted ] || mkdir -p -- "$1"
@@ -73,7 +74,7 @@ def place_of(text):
 
 
 def refuse_own_disk(place, file):
-    """An unmounted folder would be on the very disk whose loss it must survive."""
+    """An unmounted folder would be on the club's own disk, so a copy in it wouldn't survive the loss of that disk."""
     if place.host is None:
         try:
             is_own = os.stat(place.folder).st_dev in (os.stat(os.path.dirname(file)).st_dev, os.stat("/").st_dev)
@@ -84,8 +85,8 @@ def refuse_own_disk(place, file):
 
 
 def run_there(place, script, *words, given=None, asks=False):
-    """Runs a script at the place, with its folder and further arguments; returns its output. With `asks`, ssh may ask for a password at the
-    terminal."""
+    """Runs a script at the place, with the place's folder and further arguments. Returns the script's output. If `asks` is true, ssh may ask for a
+    password at the terminal."""
     line = ["sh", "-c", script, "sh", place.folder, *words]
     if place.host:
         line = [program("SSH", "ssh"), *(it for option in (*OPTIONS, *(ASKS if asks else ("BatchMode=yes",))) for it in ("-o", option)), place.host, shlex.join(line)]
@@ -100,12 +101,12 @@ def run_there(place, script, *words, given=None, asks=False):
 
 
 def take(place, name, data, digest, kind):
-    """Stores a file at the place, and gives it its name once it is complete; returns how it was tested."""
+    """Stores a file at the place, and gives it its name when it is complete. Returns how the place tested the file."""
     return run_there(place, TAKE, name, digest, kind, "there" if place.host else "mounted", given=data).decode().strip()
 
 
 def kept_in(place, asks=False):
-    """Returns the files of the place, the oldest first."""
+    """Returns the files of the place, the oldest file first."""
     files, _, tested = run_there(place, LIST, asks=asks).decode(errors="replace").partition("--\n")
     sums = {words[0]: words[1:] for words in (line.split() for line in tested.splitlines()) if len(words) == 3}
     found = []
@@ -117,7 +118,7 @@ def kept_in(place, asks=False):
 
 
 def given_by(place, name, asks=False):
-    """Returns a file's bytes from the place."""
+    """Returns the bytes of a file at the place."""
     return run_there(place, GIVE, name, asks=asks)
 
 

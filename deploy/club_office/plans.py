@@ -1,4 +1,4 @@
-"""Plans of corrections: what each would change in the current club."""
+"""Plans corrections. A plan has the changes that a correction would make to the current club."""
 
 import collections
 
@@ -13,23 +13,23 @@ THURSDAY = 3
 Booking = collections.namedtuple("Booking", "key number facility day hour guests charge member")
 # A command of clubdesk, and its effect on the club's rows.
 Order = collections.namedtuple("Order", "words edits")
-# A row of a table by its key, with new values for some columns, and amounts to add to others.
+# A row of a table, named by its key, with new values for some columns and amounts to add to other columns.
 Edit = collections.namedtuple("Edit", "table key sets adds", defaults=({}, {}))
 
 
 class Plan:
-    """A correction: the lines shown to the clerk, and the clubdesk commands that carry it out. A correction on the file has SQL statements, with
-    their values and numbers of changed rows."""
+    """A correction: the lines that the clerk sees, and the clubdesk commands that carry it out. A correction of the file has SQL statements
+    instead, each with its values and the number of rows that it changes."""
 
     def __init__(self):
         self.lines = []
         self.orders = []
         self.changes = []
-        # Queries whose rows must be the same before and after.
+        # Queries that must return the same rows before and after the correction.
         self.keeps = []
         # The new name of a leaving member.
         self.new_name = None
-        # The path of a copy made before the change, or None.
+        # The path of a copy made before the correction, or None.
         self.copy_to = None
         # What the summary counts.
         self.cancelled, self.closed, self.opened, self.undone = [], 0, 0, 0
@@ -42,7 +42,7 @@ class Plan:
         self.lines.append(say(text, **values))
 
     def all_lines(self):
-        """Returns the lines, with a summary at the end if several bookings or slots change, or something is undone."""
+        """Returns the lines for the clerk. If several bookings or slots change, or the correction undoes something, the last line is a summary."""
         if len(self.cancelled) + self.closed + self.opened + self.undone < 2:
             return self.lines
         parts = [say("changes", count=self.undone)] if self.undone else []
@@ -62,7 +62,7 @@ class Plan:
         self.changes.append((rows, sql, values))
 
     def cancel(self, bookings):
-        """Plans cancellations with the whole refund, which free the places."""
+        """Plans to cancel bookings with the whole refund. The cancellations free the places."""
         for it in bookings:
             self.tell("cancels", slot=slot_text(it.facility, it.day, it.hour), persons=persons_text(it), points=it.charge, key=it.key, number=it.number, member=it.member)
             self.cancelled.append(it)
@@ -92,12 +92,12 @@ def persons_text(booking):
 
 
 def unique(lists):
-    """Returns the names of several lists without duplicates."""
+    """Returns the names in several lists, without duplicates."""
     return list(dict.fromkeys(name for names in lists for name in names))
 
 
 def bookings_of(db, condition, *values):
-    """Returns the bookings that aren't cancelled, in the order of their slots."""
+    """Returns the bookings that aren't cancelled, sorted by slot."""
     rows = db.execute(
         f"""SELECT pass_key, number, facility, day, hour, guests, charge, member FROM bookings JOIN keys ON keys.name = pass_key
             WHERE cancelled = 0 AND {condition} ORDER BY day, hour, facility, pass_key, number""",
@@ -121,7 +121,7 @@ def plan_debit(db, words, _now):
 
 
 def plan_rest_of_debit(db, words, left):
-    """Plans the rest of an interrupted debit, from the member's row in its record. Only the office changes a member's credits."""
+    """Plans the rest of an interrupted debit, from the member's row in the debit's record. Only the office changes the credits of a member."""
     wants_row(db, "members", words.member)
     (credited,) = db.execute("SELECT credited FROM members WHERE name = ?", [words.member]).fetchone()
     (was, is_now), = [[row[1] for row in rows] for table, _, *rows in left["rows"] if table == "members"]
@@ -131,7 +131,7 @@ def plan_rest_of_debit(db, words, left):
 
 
 def debit(db, member, points):
-    """Takes points back with as many commands as needed."""
+    """Takes points back with as many commands as necessary."""
     plan = Plan()
     (balance,) = db.execute("SELECT max(credited - used, 0) FROM members WHERE name = ?", [member]).fetchone()
     if points > balance:
@@ -167,7 +167,7 @@ def plan_facility(db, words, now):
 
 
 def refuse_unfit(db, facility, places, opens, shuts, now):
-    """The new hours must include every future booking. Even past slots need enough places: no slot of a sound club has more persons than
+    """The new hours must include every future booking. A past slot also needs enough places, because no slot of a sound club has more persons than
     places."""
     for it in bookings_of(db, "facility = ? AND day * 1440 + hour * 60 > ?", facility, now):
         if not opens <= it.hour < shuts:
@@ -213,7 +213,7 @@ def plan_cancel(db, words, now):
 
 
 def plan_close(db, words, _now):
-    """Closes slots on some days, and cancels their bookings."""
+    """Plans to close slots on some days and to cancel their bookings."""
     begin, end = words.hours
     plan = Plan()
     facilities, days = unique(words.facilities), days_of(words)
@@ -230,13 +230,13 @@ def plan_close(db, words, _now):
             close_hours(db, plan, facility, day, begin, end)
     if not plan.orders:
         raise nothing_left("all closed")
-    # Each slot is closed right after its bookings are cancelled, which leaves almost no time to book it in between.
+    # The desk closes each slot right after it cancels the slot's bookings. So members have almost no time to book the slot in between.
     plan.orders.sort(key=lambda it: (it.edits[-1].key[1:], it.edits[-1].key[0]))
     return plan
 
 
 def days_of(words):
-    """Returns the days to close: all days of a span, or only those of the given weekday."""
+    """Returns the days to close: all days of a span, or only the span's days with the given weekday."""
     found = [it for it in words.day if words.weekday is None or (it + THURSDAY) % 7 == words.weekday]
     if not found:
         raise refusal("no such weekday")
@@ -264,7 +264,8 @@ def plan_rain(db, words, _now):
 
 
 def plan_leave(db, words, now):
-    """Revokes a member's keys, cancels its future bookings and sets its quota to 0 by commands; then statements rename member and keys."""
+    """Revokes a member's keys, cancels its future bookings and sets its quota to 0 by commands. Then SQL statements rename the member and its
+    keys."""
     if not is_row(db, "members", words.member):
         raise nothing_left("no row members", name=words.member)
     plan = Plan()
@@ -277,7 +278,7 @@ def plan_leave(db, words, now):
     balance, quota = db.execute("SELECT max(credited - used, 0), quota FROM members WHERE name = ?", [words.member]).fetchone()
     if quota:
         plan.order(["set-quota", words.member, 0], Edit("members", (words.member,), {"quota": 0}))
-    # References are tested at the end of the transaction.
+    # SQLite tests references between rows at the end of the transaction.
     plan.change(-1, "PRAGMA defer_foreign_keys = ON")
     for place, (key, _) in enumerate(keys, 1):
         plan.tell("revokes", key=key, then=f"{new}-{place}")
@@ -290,13 +291,14 @@ def plan_leave(db, words, now):
 
 
 def free_number(db):
-    """Returns the name of a member who left: a number that is no member's name and begins no key's name."""
+    """Returns a name for a member who left. The name is a number that is no member's name, and no key's name begins with it."""
     taken = {row[0].split("-")[0] for row in db.execute("SELECT name FROM members UNION ALL SELECT name FROM keys")}
     return next(str(candidate) for candidate in range(1, 10**9) if str(candidate) not in taken)
 
 
 def plan_new_year(db, words, now, club):
-    """Removes bookings of days before a day from the file. For each key a cancelled booking with their total cost replaces them."""
+    """Removes the bookings of all days before a given day from the file. For each key, one cancelled booking with the bookings' total cost replaces
+    them."""
     before = now // 1440 if words.before is None else words.before
     if before > now // 1440:
         raise refusal("is to come", day=date_of(before))
@@ -325,7 +327,8 @@ def plan_new_year(db, words, now, club):
 
 
 def carry_forward(db, before):
-    """Returns the rows that keep the cost of a key's old bookings spent: cancelled bookings without a refund, under the highest free numbers."""
+    """Returns rows that keep the cost of a key's old bookings spent. They are cancelled bookings without a refund, under the highest free
+    numbers."""
     rows = []
     for key, cost, facility in db.execute(
         "SELECT pass_key, sum(charge - refund), min(facility) FROM bookings WHERE day < ? GROUP BY pass_key HAVING sum(charge - refund) > 0"

@@ -1,4 +1,5 @@
-"""Parses a clerk's input: parts of names, days, hours, several facilities. Each parser returns a value for the commands, or None."""
+"""Parses a clerk's input: parts of names, days, hours, several facilities. Each parser returns a value for the commands, or None if it can't parse
+the input."""
 
 import collections
 import datetime
@@ -8,8 +9,8 @@ import unicodedata
 from club_office.texts import MONTHS, WEEKDAYS
 
 LETTERS = {"ä": "ae", "ö": "oe", "ü": "ue", "ß": "ss", "æ": "ae", "ø": "oe", "å": "aa", "œ": "oe", "đ": "d", "ł": "l", "þ": "th", "ð": "d", "ı": "i", "ə": "e", "ħ": "h", "ŧ": "t", "ŋ": "n"}
-# The facts about a club that the parsers use. Members have credit, balance and quota. A key has its member, and is revoked or not. Facilities
-# have kind, hours, places and price. The members' known full names are there too.
+# The facts about a club that the parsers use. A member has its credit, balance and quota. A key has its member, and is revoked or not. A facility
+# has its kind, hours, places and price. `written` has the members' known full names.
 Names = collections.namedtuple("Names", "members keys facilities written")
 Member = collections.namedtuple("Member", "credited balance quota")
 Key = collections.namedtuple("Key", "member revoked")
@@ -17,23 +18,23 @@ Facility = collections.namedtuple("Facility", "kind opens shuts places price")
 
 
 def plain(text):
-    """Returns the text in small letters without accents, as used in names."""
+    """Returns the text in the form of names: in small letters without accents."""
     text = "".join(LETTERS.get(letter, letter) for letter in unicodedata.normalize("NFC", text.strip()).lower())
     return "".join(letter for letter in unicodedata.normalize("NFKD", text) if not unicodedata.combining(letter))
 
 
 def fitted(text, most):
-    """Makes a name from a text: small letters, digits and hyphens, at most `most` of them."""
+    """Makes a name of small letters, digits and hyphens from a text. The name has at most `most` characters."""
     return re.sub(r"[^a-z0-9]+", "-", plain(text)).strip("-")[:most].strip("-")
 
 
 def loose(text):
-    """Drops the e of an umlaut, so that `muller` is in `mueller`."""
+    """Drops the e of each umlaut, so that `muller` matches `mueller`."""
     return re.sub("([aou])e", r"\1", text)
 
 
 def found(typed, names):
-    """Returns the names that contain each typed part, or only the name that matches exactly."""
+    """Returns the names that contain each typed part. If one name matches exactly, returns only that name."""
     if typed in names:
         return [typed]
     parts = re.findall("[a-z0-9]+", plain(typed))
@@ -42,7 +43,7 @@ def found(typed, names):
     whole = "-".join(parts)
     if whole in names:
         return [whole]
-    # Matches the typed text, also with umlauts typed as plain vowels; if nothing matches, also with typed umlauts that the name lacks.
+    # First matches the typed text, where a plain vowel also matches an umlaut. If no name matches, a typed umlaut also matches a plain vowel.
     for made in (lambda text: text, loose):
         fits = [it for it in names if all(made(part) in made(it) or part in loose(it) for part in parts)]
         if fits:
@@ -51,7 +52,7 @@ def found(typed, names):
 
 
 def found_members(typed, names):
-    """Returns the members that the text may mean, by their names or their full names."""
+    """Returns the members that the text may mean, found by their names or their full names."""
     fits = found(typed, names.members)
     parts = re.findall("[a-z0-9]+", plain(typed))
     if typed in fits or not parts:
@@ -68,7 +69,7 @@ NEAR = {
 
 
 def read_day(text, today):
-    """Returns the day that a text means, given today, or None. A weekday or a day of a month means the next one, today included."""
+    """Returns the day that a text means on the day `today`, or None. A weekday or a day of a month means the next such day, perhaps today."""
     text = plain(text).rstrip(",")
     if text in NEAR:
         return today + datetime.timedelta(NEAR[text])
@@ -116,7 +117,7 @@ def next_of(today, day, month, year):
 
 
 def read_hours(text):
-    """Returns the first hour, and the one after the last, of a text such as 15-17, 15, 15:00-17:00 or 15 Uhr, or None."""
+    """Returns the first hour and the hour after the last, or None. The text is, for example, 15-17, 15, 15:00-17:00 or 15 Uhr."""
     text = re.sub(r"(:00|uhr|h)\b|\s", "", text.strip().lower()).replace("–", "-").replace("bis", "-").replace("to", "-")
     parts = re.fullmatch(r"([0-9]{1,2})(?:-([0-9]{1,2}))?", text)
     if not parts:
@@ -135,24 +136,24 @@ KINDS = {
 
 
 def is_all_of_a_kind(word, following):
-    """Returns whether two words mean the same, as `all courts`."""
+    """Returns whether two words mean all facilities of a kind, as `all courts` does."""
     return plain(word) in ALL and any(plain(following) in called for called in KINDS.values())
 
 
 def is_group(word):
-    """Returns whether a word stands for all facilities, or for those of a kind."""
+    """Returns whether a word means all facilities, or all facilities of a kind."""
     return plain(word) in ALL or any(plain(word) in called for called in KINDS.values())
 
 
 def read_facilities(text, facilities):
-    """Returns the facilities that a text means: `all`, those of a kind such as `courts`, or parts of names with commas or spaces between them.
-    Each part gives a list of matches; the caller decides if several match."""
+    """Returns the facilities that a text means. The text is `all`, a kind such as `courts`, or parts of names with commas or spaces between them.
+    Each part gives a list of matches. If a list has several matches, the caller chooses one."""
     words = [it for it in re.split(r"[\s,]+", text.strip()) if it]
     if all(plain(it) in ALL for it in words) and words:
         return [[it] for it in facilities]
     if len(words) > 1 and plain(words[0]) in ALL:
         words = words[1:]
-    # A single name with a space in it, such as `court 1`.
+    # One name may contain a space, as in `court 1`.
     whole = found(text, facilities) if "," not in text and not all(it in facilities for it in words) else []
     if len(whole) == 1:
         return [whole]

@@ -1,4 +1,4 @@
-"""The office's refusals, in English and German: a table with a line for each text."""
+"""The office's refusals in English and German, as a table with a line for each text."""
 
 REFUSALS = {
     "refused": ("refused: {why}", "abgelehnt: {why}"),
@@ -30,7 +30,7 @@ REFUSALS = {
         "more than {words} arguments, or one of more than {bytes} bytes",
         "mehr als {words} Argumente oder eines von mehr als {bytes} Bytes",
     ),
-    # The configuration, the club's file, programs.
+    # Refusals about the configuration, the club's file, and programs.
     "no such club": ("no club {word} is configured: there is no {path}", "kein Verein {word} ist eingerichtet: es gibt kein {path}"),
     "cannot be read": ("{path} can't be read: {fault}", "{path} lässt sich nicht lesen: {fault}"),
     "cannot be written": ("{path} can't be written: {fault}", "{path} lässt sich nicht schreiben: {fault}"),
@@ -167,7 +167,7 @@ REFUSALS = {
     "place of several": ("{place} has no configuration of one club", "{place} hat keine Einrichtung eines Vereins"),
     "other copy": ("{why}; --copy names another one", "{why}; --copy nennt eine andere"),
     "beside unread": ("what lay beside the club can't be read: {fault}", "die Dateien neben dem Verein lassen sich nicht lesen: {fault}"),
-    # Passes, files of the clerk.
+    # Refusals about passes, and about the clerk's files.
     "root or input": ("{command}: a ROOT, or --root-stdin", "{command}: eine WURZEL oder --root-stdin"),
     "file there": ("there is a file {path} already", "eine Datei {path} gibt es schon"),
     "file by now": ("there is a file {path} by now", "eine Datei {path} gibt es inzwischen"),
@@ -292,7 +292,7 @@ REFUSALS = {
     ),
     "page of before": ("the page still shows the club of before: {fault}", "die Seite zeigt noch den früheren Stand: {fault}"),
     "reason unwritten": ("the reason can't be written: {fault}", "der Grund lässt sich nicht schreiben: {fault}"),
-    # Totals that are off, by `check`.
+    # Texts of `check` about wrong totals.
     "used off": ("member {member}: used is {used}, its bookings cost {spent}", "Mitglied {member}: gebucht sind {used}, die Buchungen kosten {spent}"),
     "taken off": (
         "slot {facility} {day} {hour}: its bookings have {persons} persons more than taken",
@@ -305,7 +305,7 @@ REFUSALS = {
     "limit reference": ("reference to nothing: {row}", "Verweis auf nichts: {row}"),
 }
 
-# Fixed texts of clubdesk about a command, and of the desk about a request.
+# Fixed texts of clubdesk about a command, and fixed texts of the desk about a request.
 GERMAN = {
     "refused: exists": "abgelehnt: gibt es schon",
     "refused: unknown": "abgelehnt: gibt es nicht",

@@ -1,5 +1,5 @@
-"""The board's page: the use of a club's courts, boats and rooms in a year, compared with the year before. It is one HTML page without scripts,
-made from a copy of the club and its files of old years."""
+"""The board's page compares the use of a club's courts, boats and rooms in a year with the year before. The page is one HTML file without scripts.
+The office makes it from a copy of the club and from the club's files of old years."""
 
 import collections
 import contextlib
@@ -16,21 +16,21 @@ Booking = collections.namedtuple("Booking", "facility day hour persons charge re
 Facility = collections.namedtuple("Facility", "kind opens shuts")
 KINDS = ("court", "boat", "room")
 MOST_ACTIVE = 15
-# A row that `new-year` carries forward isn't a booking: it has a high number, and is cancelled without a refund.
+# A row that `new-year` carries forward isn't a booking. Such a row has a high number, and is cancelled without a refund.
 CARRIED = f"cancelled = 1 AND refund = 0 AND charge > 0 AND hour = 0 AND number > {MOST_NUMBER - 1_000_000}"
 
 
 class Use:
-    """The bookings and offered slots from a first day to a last one."""
+    """The bookings and offered slots of a span of days."""
 
     def __init__(self, first, last):
         self.first, self.last = first, last
         self.bookings, self.facilities, self.closed = [], {}, set()
 
     def add(self, db, since, until):
-        """Adds what a file has of the days after `since` and up to `last`, if they count."""
+        """Adds the bookings and offered slots of a file, for the days after `since` and up to `last`. Skips days outside the span."""
         least, most = (number_of(max(self.first, since + datetime.timedelta(1))), number_of(min(self.last, until)))
-        # A newer file's facts about a facility take precedence.
+        # Facts about a facility in a newer file replace the facts in an older file.
         for name, *about in db.execute("SELECT name, kind, opens, shuts FROM facilities ORDER BY rowid"):
             self.facilities.setdefault(name, Facility(*about))
         for facility, day, *rest in db.execute(
@@ -49,7 +49,7 @@ class Use:
         return {name: it for name, it in self.facilities.items() if it.kind == kind}
 
     def offered(self, facilities):
-        """Counts the bookable slots of these facilities, by weekday and hour."""
+        """Counts the bookable slots of some facilities, by weekday and hour."""
         days = collections.Counter((self.first + datetime.timedelta(it)).weekday() for it in range((self.last - self.first).days + 1))
         found = collections.Counter()
         for it in facilities.values():
@@ -63,11 +63,11 @@ class Use:
         return found
 
     def used(self, facilities):
-        """Counts the booked slots of these facilities, by weekday and hour."""
+        """Counts the booked slots of some facilities, by weekday and hour."""
         return collections.Counter((day.weekday(), hour) for name, day, hour in {(it.facility, it.day, it.hour) for it in self.held()} if name in facilities)
 
     def share(self, facilities):
-        """Returns the percentage of the offered slots that were used, or None if none was offered."""
+        """Returns the percentage of the offered slots that members used, or None if the club offered no slot."""
         offered = self.offered(facilities).total()
         return 100 * self.used(facilities).total() / offered if offered else None
 
@@ -77,7 +77,7 @@ def number_of(day):
 
 
 def use_of(club, db, first, last):
-    """Returns the use from a first to a last day; each day is in the club's file, or in the file of an old year."""
+    """Returns the use in a span of days. Each day is in the club's file, or in the file of an old year."""
     use, before, files = Use(first, last), datetime.date.min, [(datetime.date.fromisoformat(day), path) for day, path in old_files(club.file)]
     use.add(db, files[-1][0] if files else before, datetime.date.max)
     for until, path in files:
@@ -126,14 +126,14 @@ def table(heads, rows):
 
 
 def period(use):
-    """Returns a year, with its last day if it isn't over."""
+    """Returns the text of a year. If the year isn't over, the text includes the last counted day."""
     if (use.last.month, use.last.day) == (12, 31):
         return str(use.first.year)
     return say("report until", year=use.first.year, day=use.last.day, month=MONTHS[language()][use.last.month - 1])
 
 
 def totals(use):
-    """Returns the first table's rows for a year: pairs of a label and a number."""
+    """Returns the rows of the first table for a year, as pairs of a label and a number."""
     held = use.held()
     charged, refunded = sum(it.charge for it in use.bookings), sum(it.refund for it in use.bookings)
     numbers = [
@@ -160,7 +160,7 @@ def heat_map(use, kind):
                 cells.append('<td class="none">·</td>')
                 continue
             share = 100 * used[weekday, hour] / offered[weekday, hour]
-            # Dark letters still have a contrast of 5 to 1 on the darkest cell.
+            # Even on the darkest cell, dark letters have a contrast of 5 to 1.
             cells.append(f'<td style="background:hsl(156 59% {96 - share * 0.55:.0f}%)">{share:.0f}</td>')
         lines.append(f"<tr>{''.join(cells)}</tr>")
     heads = ["", *(it[:2] for it in WEEKDAYS[language()])]
@@ -200,7 +200,7 @@ def facilities_table(use, before):
 
 
 def members_table(use, has_names):
-    """Returns the members with the most bookings that took place, or only their ranks if names are left out."""
+    """Returns the members with the most bookings that took place. Returns only their ranks if the page leaves names out."""
     count, points = collections.Counter(it.member for it in use.held()), collections.Counter()
     for it in use.bookings:
         points[it.member] += it.charge - it.refund
@@ -232,7 +232,7 @@ def page(title, use, before, today, has_names):
 
 
 def report_of(club, db, year, today, has_names):
-    """Returns a year's page, compared with the same days of the year before. The current year ends today."""
+    """Returns the page of a year, compared with the same days of the year before. The current year ends with today."""
     last = min(datetime.date(year, 12, 31), today)
     before = datetime.date(year - 1, last.month, 28 if (last.month, last.day) == (2, 29) else last.day)
     use, then = use_of(club, db, datetime.date(year, 1, 1), last), use_of(club, db, datetime.date(year - 1, 1, 1), before)

@@ -1,4 +1,4 @@
-"""Restores: a copy replaces the club."""
+"""Restores a club: replaces it with a copy."""
 
 import calendar
 import collections
@@ -31,7 +31,7 @@ Copy = collections.namedtuple("Copy", "called kind path size moment tested")
 
 
 def copies_of(club):
-    """Returns the copies on this machine: nightly ones, which clubdesk has opened, and those from before corrections, which SQLite has
+    """Returns the copies on this machine: the nightly copies, which clubdesk has opened, and the copies from before corrections, which SQLite has
     tested."""
     found = []
     for folder, kind, tested in ((club.back_ups, "back-up", "opened"), (club.file + "-before", "before a correction", "whole")):
@@ -45,7 +45,8 @@ def copies_of(club):
 
 
 def copies_off_site(club):
-    """Returns the copies at the place of OFFSITE, or none without one. Prints a line if the place doesn't answer."""
+    """Returns the copies at the place of OFFSITE. Returns none if the configuration has no such place. Prints a line if the place doesn't
+    answer."""
     if not club.settings.get("offsite"):
         return []
     try:
@@ -58,7 +59,7 @@ def copies_off_site(club):
 
 
 def moment_of(called):
-    """Returns when a copy was made, from its name in UTC, or None for another kind of name."""
+    """Returns the time in a copy's name, which is in UTC, or None for a name without such a time."""
     try:
         return calendar.timegm(time.strptime(called, "%Y-%m-%dT%H%M%SZ"))
     except ValueError:
@@ -84,7 +85,7 @@ def list_copies(club, words):
 
 
 def copy_named(club, called):
-    """Returns the copy of this name, from this machine or otherwise from the place of OFFSITE."""
+    """Returns the copy with this name. Looks on this machine first, and then at the place of OFFSITE."""
     found = [it for it in copies_of(club) if it.called == called]
     found += [it for it in ([] if found else copies_off_site(club)) if it.called == called]
     if not found:
@@ -93,7 +94,7 @@ def copy_named(club, called):
 
 
 def brought(place, called, path, asks=False):
-    """Fetches a copy to a path. Its digest must be the one that it was sent with."""
+    """Fetches a copy to a path. The copy's digest must be the digest that was sent with it."""
     kept = next(it for it in kept_in(place, asks) if it.name == called)
     data = given_by(place, called, asks)
     if kept.sum and hashlib.sha256(data).hexdigest() != kept.sum:
@@ -105,7 +106,7 @@ def brought(place, called, path, asks=False):
 
 @contextlib.contextmanager
 def copy_opened(club, called):
-    """Yields a copy in memory. clubdesk has opened it, which may update its tables, and its totals match."""
+    """Yields a copy in memory, after checking its totals. clubdesk has opened the copy, which may update the copy's tables."""
     memory = sqlite3.connect(":memory:", isolation_level=None)
     found = copy_named(club, called)
     with scratch(club, homes(club, found.size)[0]) as folder:
@@ -127,7 +128,7 @@ def copy_opened(club, called):
 
 
 def what_changes(copy, db, now):
-    """Returns the changes that a restore would make, one per line, without past slots."""
+    """Returns the changes that a restore would make, one per line. Leaves out past slots."""
     members, then = (dict(it.execute("SELECT name, max(credited - used, 0) FROM members ORDER BY name")) for it in (db, copy))
     lines = [say("forgets member", name=it) for it in members if it not in then]
     lines += [say("has member", name=it) for it in then if it not in members]
@@ -163,13 +164,13 @@ def keys_changed(keys, then):
 
 
 def of_whom(lines):
-    """Returns the members whose bookings a restore changes, which are the last words of those lines."""
+    """Returns the members whose bookings a restore changes. Each name is the last word of such a line."""
     begin = [say(it, **dict.fromkeys(("slot", "persons", "points", "key", "number", "member"), "")).split()[0] for it in ("loses", "books again")]
     return [line.split()[-1] for line in lines if line.split()[0] in begin and "," in line]
 
 
 def restore(club, words):
-    """Restores a copy: shows the changes, asks, and does it. Keeps the old club."""
+    """Restores a copy: shows the changes, asks the clerk, and replaces the club. Keeps the old club."""
     shown = preview_of_copy(club, words)
     if not words.yes:
         show_lines(shown)
@@ -187,7 +188,7 @@ def restore(club, words):
 
 
 def preview_of_copy(club, words):
-    """Returns the changes that a restore would make to a copy of the club. A refusal gets its line in the book."""
+    """Returns the changes that a restore would make, computed on a copy of the club. The book gets a line for a refusal."""
     try:
         refuse_to_come(words)
         with copy_opened(club, words.copy) as copy:
@@ -203,8 +204,8 @@ def preview_of_copy(club, words):
 
 
 def put_in_place(club, words, lines, shown, lost):
-    """Replaces the club with a copy, unless other changes were shown. Adds the changes to `lines`, and the points that it takes away to
-    `lost`."""
+    """Replaces the club with a copy. If the changes differ from the shown changes, does nothing. Adds the changes to `lines`, and the points that
+    the restore takes away to `lost`."""
     try:
         with copy_opened(club, words.copy) as copy:
             lost |= points_lost(club, copy)
@@ -216,7 +217,7 @@ def put_in_place(club, words, lines, shown, lost):
 
 
 def write_over(club, words, copy, lines, shown):
-    """Writes a copy over the club's file in one transaction; replaces a file that is missing or that SQLite can't open."""
+    """Writes a copy over the club's file in one transaction. Replaces the file instead if it is missing or SQLite can't open it."""
     try:
         if not os.path.exists(club.file):
             raise sqlite3.DatabaseError(f"there is no file {club.file}")
@@ -228,12 +229,12 @@ def write_over(club, words, copy, lines, shown):
             raise storage_failed("nothing changed", why=fault) from None
         lines[:] = [say("file unread", fault=fault)]
         put_new_file(club, copy)
-        # A server that opened the old file meanwhile still has it under its other name.
+        # A server may have opened the old file in the meantime. It still uses that file under the file's other name.
         ended(club)
 
 
 def keep_or_put_away(club, db, words, copy, lines, shown):
-    """Keeps the current club before a restore: as before a correction, or byte for byte if it is damaged."""
+    """Keeps the current club before a restore. Keeps a copy as before a correction, or a copy byte for byte if the club is damaged."""
     try:
         lines += what_changes(copy, db, now_of(words))
         if shown is not None and lines != shown:
@@ -246,13 +247,13 @@ def keep_or_put_away(club, db, words, copy, lines, shown):
         lost = lost_name(club)
         for ending in ("", "-wal"):
             if os.path.exists(club.file + ending):
-                # Another process does this: if this one opened and closed the file, it would lose its locks.
+                # Another process makes this copy, because this process would lose its locks if it opened and closed the file.
                 if not is_run(["cp", "--", club.file + ending, lost + ending]):
                     raise storage_failed("unkept", path=club.file) from None
 
 
 def put_new_file(club, copy):
-    """Moves away a file that SQLite can't open, with its log, and puts a copy at its name."""
+    """Gives another name to a file that SQLite can't open, and to its log. Then gives the file's name to a copy."""
     made = club.file + "-new"
     with contextlib.suppress(FileNotFoundError):
         os.unlink(made)

@@ -1,6 +1,6 @@
-"""The season's points: a credit for every member under a name, given only once per name.
+"""Credits the season's points. Every member gets the credit under a given name only once.
 
-A line of FILE-seasons is written before and after each member's credit, so an interrupted run continues where it stopped."""
+The office writes a line of FILE-seasons before and after each member's credit. So an interrupted run continues where it stopped."""
 
 import collections
 import contextlib
@@ -22,7 +22,7 @@ def ledger_of(club):
 
 
 def steps_of(club, label):
-    """Returns each member's last step under a name, and the steps for all members together."""
+    """Returns the last step of each member under a name, and the steps for all members together."""
     found = {}
     try:
         with open(ledger_of(club), encoding="ascii") as lines:
@@ -40,8 +40,8 @@ def note(club, label, member, points, before, state):
 
 
 def wanted(club, words):
-    """Returns the members who still need the credit, each with the present total. Members who left, and members for screens, have a quota of
-    0."""
+    """Returns the members who still need the credit, each with its current total. A quota of 0 marks members who left, and members that exist only
+    for a screen."""
     steps = steps_of(club, words.label)
     if WHOLE in steps:
         raise refusal("given already", label=words.label, points=steps[WHOLE].points, members=steps[WHOLE].before)
@@ -61,7 +61,8 @@ def wanted(club, words):
 
 
 def credit_all(club, words):
-    """Credits each member who may book. After a stop it continues when given again; once all are done it is refused."""
+    """Credits each member who may book. An interrupted run continues when the clerk repeats the command. The office refuses the command when all
+    members have the credit."""
     wants_file(club)
     try:
         left, count = wanted(club, words)
@@ -84,7 +85,7 @@ def credit_all(club, words):
 
 
 def give(club, turn, words, member, credited):
-    """Credits a member, between two lines in the ledger."""
+    """Credits a member, and writes a line to the ledger before and after the credit."""
     note(club, words.label, member, words.points, credited, "begun")
     line = ["credit", member, str(words.points)]
     status = turn.order(line, lambda: clubdesk(club, line[0], line[1:])[0])
@@ -94,7 +95,7 @@ def give(club, turn, words, member, credited):
 
 
 def points_lost(club, copy):
-    """Returns the credits that a restore takes away: pairs of a name and a member."""
+    """Returns the credits that a restore takes away, as pairs of a credit's name and a member."""
     credited = dict(copy.execute("SELECT name, credited FROM members"))
     try:
         with snapshot(club) as db:
@@ -117,7 +118,7 @@ def labels_of(club):
 
 
 def forget_points(club, lost):
-    """Removes credits that a restore took away from the ledger, so that they can be given again. Wants the turn."""
+    """Removes from the ledger the credits that a restore took away, so that the office can give them again. Wants the turn."""
     if not lost:
         return
     labels, made = {label for label, _ in lost}, ledger_of(club) + ".new"

@@ -1,5 +1,4 @@
-"""Converts a command's words from a clerk's typing to the desk's form: parts of names at a terminal, days, hours, and several facilities in a
-word."""
+"""Converts a clerk's typed words to the desk's form. A word may be a part of a name at a terminal, a day, hours, or several facilities."""
 
 import contextlib
 import datetime
@@ -41,7 +40,7 @@ def print_names(db, words, _now):
 
 
 class Reader:
-    """Converts the words of one command. The club's names are read at most once."""
+    """Converts the words of one command. Reads the club's names at most once."""
 
     def __init__(self, club, called):
         self.club, self.called = club, called
@@ -60,7 +59,7 @@ class Reader:
         return word if found_day is None else self.echoed(word, str(found_day), day_text(found_day))
 
     def days(self, word):
-        """Converts a day, or two with .. between them."""
+        """Converts a day, or two days with .. between them."""
         return "..".join(map(self.day, word.split("..")))
 
     def hours(self, word):
@@ -68,7 +67,7 @@ class Reader:
         return f"{read[0]}-{read[1]}" if read and not re.fullmatch("[0-9]{1,2}", word) else word
 
     def hour(self, word):
-        """Converts an hour to clubdesk's form, or several hours."""
+        """Converts an hour, or several hours, to clubdesk's form."""
         read = None if word.isdigit() else read_hours(word)
         if not read:
             return word
@@ -84,7 +83,7 @@ class Reader:
         return self.one_of(word, lambda: found(word, self.names.facilities))
 
     def facilities(self, word):
-        """Converts a facility, or several with commas between them, a kind, or all."""
+        """Converts a facility, several facilities with commas between them, a kind, or all."""
         if not is_terminal() and not is_group(word):
             return word
         lists = read_facilities(word, self.names.facilities)
@@ -100,7 +99,8 @@ class Reader:
         return self.one_of(word, lambda: list(dict.fromkeys([*found_members(word, self.names), *found(word, self.names.facilities)])))
 
     def one_of(self, word, fitting):
-        """Returns the name that contains the word. Without a terminal the word must be the whole name, since nobody can choose."""
+        """Returns the name that contains the word. Without a terminal the word must be the whole name, because no clerk can choose among several
+        names."""
         if not is_terminal():
             return word
         fits = fitting()
@@ -117,13 +117,13 @@ class Reader:
             raise refusal("not confirmed") from None
 
     def echoed(self, word, read, text=None):
-        """Prints how a word was read, if it differs from the typed word. Other output comes from the command."""
+        """Prints how the office read a word, if the result differs from the typed word. The command itself prints all other output."""
         if read != word and is_terminal():
             print(f"{word}: {text or read}", file=sys.stderr)
         return read
 
 
-# A kind of word: its name, and its converter.
+# A kind of word, with its name and its converter.
 READS = {
     "MEMBER": Reader.member, "KEY": Reader.key, "FACILITY": Reader.facility, "FACILITIES": Reader.facilities, "DAY": Reader.day, "DAYS": Reader.days,
     "HOURS": Reader.hours, "HOUR": Reader.hour, "MEMBER|DAY|FACILITY": Reader.what,
@@ -133,7 +133,7 @@ MAKES_A_KEY = ("add-key", "letters")
 
 
 def places_of(command):
-    """The kinds of the words without a dash, in order, whether the last one repeats, and the options with a value."""
+    """The kinds of a command's words without a dash, in order. It also has whether the last kind repeats, and the options that take a value."""
     called, is_repeated, takes_value = [], False, set()
     for place, how in command.words:
         if place.startswith("-"):
@@ -145,7 +145,7 @@ def places_of(command):
 
 
 def read_words(reader, command, words):
-    """Returns a command's words in the desk's form; options stay unchanged, except for a day."""
+    """Returns a command's words in the desk's form. Of the options, only a day changes."""
     called, is_repeated, takes_value = places_of(command)
     made, place, option, is_over = [], 0, None, False
     for word, following in zip(words, [*words[1:], ""]):
@@ -167,24 +167,24 @@ def read_words(reader, command, words):
 
 
 def usual_points(names):
-    """Returns the median of the members' credits, without members who have none, or 0."""
+    """Returns the median of the members' credits, or 0. Leaves out members without credit."""
     credited = sorted(it.credited for it in names.members.values() if it.credited)
     return credited[len(credited) // 2] if credited else 0
 
 
-# Commands that close slots, with the position of the day among their words.
+# Commands that close slots, each with the position of the day among its words.
 DAY_AT = {"close": 0, "close-slot": 1}
 
 
 def without_options(command, words):
-    """Returns the words that are neither options nor their values."""
+    """Returns the words that are neither options nor values of options."""
     _, _, takes_value = places_of(command)
     return [it for before, it in zip(["", *words], words) if not it.startswith("--") and before not in takes_value]
 
 
 def confirms_odd(reader, command, words, is_order):
-    """Asks about odd input: a day that is over or far ahead, many points, or guessed names in a command that doesn't ask itself. For several
-    days it checks the first."""
+    """Asks the clerk about odd input if the command itself doesn't ask. Odd input is a past day, a day far ahead, many points, or a guessed name.
+    If a word has several days, checks only the first day."""
     odd, called = [], reader.called
     plain = without_options(command, words)
     with contextlib.suppress(KeyError, IndexError, ValueError):

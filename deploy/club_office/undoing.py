@@ -1,5 +1,5 @@
-"""Records the rows that the last correction changes, in a file next to the club, before the correction begins. So `undo` can restore the rows
-that nobody has changed since, and an interrupted correction can continue."""
+"""Records the rows that the last correction changes, in a file next to the club, before the correction begins. So `undo` can restore those rows
+that have not changed since. The record also lets an interrupted correction continue."""
 
 import contextlib
 import json
@@ -13,14 +13,15 @@ from club_office.texts import say
 from club_office.values import MOST_CREDIT
 
 TABLES = ("members", "facilities", "keys", "slots", "bookings", "old_roots")
-# The key columns of these tables; in other tables the first column is the key.
+# The key columns of these tables. In each other table the first column is the key.
 KEYS = {"slots": 3, "bookings": 2}
 # The columns of the tables that commands change.
 COLUMNS = {"members": ("name", "credited", "quota", "used"), "facilities": ("name", "kind", "places", "price", "opens", "shuts")}
-# Corrections that change more rows can't be undone. A new year keeps its own file, and can't be undone either.
+# A clerk can't undo a correction that changes more rows than this. A new year can't be undone either, because it replaces the file and keeps the
+# old one.
 MOST_ROWS = 5_000
 NOT_UNDONE = "new-year"
-# Options that don't change what a correction does to the club.
+# Options that don't affect the changes that a correction makes to the club.
 NOT_MEANT = ("--yes", "--mail")
 
 
@@ -41,8 +42,8 @@ def value_of(stored):
 
 
 def rows_changed(db):
-    """Returns the rows that differ from the copy attached as `before`: each row's table and rowid, then its old values and its new values.
-    None stands for the values of a missing row."""
+    """Returns the rows that differ from the copy attached as `before`. Each has its table and rowid, its old values and its new values. None stands
+    for the values of a missing row."""
     found = []
     for table in TABLES:
         was, is_now = (
@@ -61,7 +62,8 @@ def row_of(db, table, key):
 
 
 def rows_edited(db, edits):
-    """Returns the rows of a copy that the edits of commands change, in the form of `rows_changed`. A slot without a row has no rowid."""
+    """Returns the rows of a copy that the edits of commands change. They have the form of the result of `rows_changed`. A slot without a row has no
+    rowid."""
     found = {}
     for it in edits:
         columns, place = columns_of(db, it.table), (it.table, *it.key)
@@ -87,8 +89,8 @@ def forget_undo(club):
 
 
 def write_undo(club, db, words):
-    """Records the rows that a correction is about to commit. If the commit fails, no row has the recorded new values, and `undo`
-    refuses. An undo itself records nothing, so the record of the correction stays until the undo is committed."""
+    """Records the rows that a correction is about to commit. If the commit fails, no row has the recorded new values. Then `undo` refuses. An undo
+    doesn't record its own rows. So the correction's record stays until SQLite commits the undo."""
     if words.command == "undo":
         return
     rows = rows_changed(db)
@@ -98,7 +100,7 @@ def write_undo(club, db, words):
     write(club, content_of(words, rows, True)).close()
 
 
-# ---- The record of a correction that is made command by command: a line with its content, then lines about its progress.
+# ---- The record of a correction that consists of commands. The first line is the record's content, and later lines show the progress.
 
 DONE, MAILED = "done", "mailed "
 
@@ -108,7 +110,7 @@ def content_of(words, rows, is_done):
 
 
 def write(club, content):
-    """Replaces the last record with a new one, and returns the open file, for further lines."""
+    """Replaces the last record with a new record. Returns the open file, so that the caller can add lines."""
     made = undo_of(club) + ".new"
     file = open(made, "w", encoding="ascii")
     add(file, json.dumps(content))
@@ -118,14 +120,14 @@ def write(club, content):
 
 
 def add(file, line):
-    """Adds a line to a record, even if a newer correction has replaced it."""
+    """Adds a line to a record, even if a newer correction's record has replaced it."""
     file.write(line + "\n")
     file.flush()
     os.fsync(file.fileno())
 
 
 def read(club):
-    """Returns the content of the last record, or None if no record can be read."""
+    """Returns the content of the last record, or None if the record is missing or unreadable."""
     with contextlib.suppress(FileNotFoundError, ValueError), open(undo_of(club), encoding="ascii") as file:
         content, *more = file.read().split("\n")
         content = json.loads(content)
@@ -145,13 +147,13 @@ def meant(words):
 
 
 def broken_off(club, words):
-    """Returns the content of the last record if it is of this same correction and the correction isn't complete, otherwise None."""
+    """Returns the content of the last record if it belongs to this correction and the correction isn't complete. Otherwise returns None."""
     content = read(club)
     return content if content and not content["is_done"] and meant(content["words"]) == meant(words.given) else None
 
 
 class Record:
-    """The record of a running correction. `left` is the content of an interrupted run's record: an undo restores the rows of both."""
+    """The record of a running correction. `left` is the content of an interrupted run's record. An undo restores the rows of both runs."""
 
     def __init__(self, club, words, left):
         self.club, self.file = club, None
@@ -177,7 +179,7 @@ class Record:
 
 
 def with_sums(row, cancelled):
-    """Returns the row with new old sums: the present sums plus the cancelled bookings, since members may have booked between two runs."""
+    """Returns the row with new old sums: the current sums plus the cancelled bookings. Members may have booked between the two runs."""
     table, rowid, was, is_now = row
     if table == "slots":
         persons = sum(it[5] + 1 for it in cancelled if it[2:5] == is_now[:3])
@@ -189,13 +191,13 @@ def with_sums(row, cancelled):
 
 
 def row_place(row):
-    """Returns the table of a row with its key, or with its rowid if the key may change."""
+    """Returns the table of a row with the row's key. If the key may change, the row's rowid replaces the key."""
     table, rowid, was, is_now = row
     return (table, *(was or is_now)[: KEYS[table]]) if table in KEYS else (table, rowid)
 
 
 def rows_of_member(db, member):
-    """Returns the rows with the name of a member or of one of the member's keys, by table and rowid."""
+    """Returns the rows that contain the name of a member or of one of its keys, by table and rowid."""
     of_keys = "pass_key IN (SELECT name FROM keys WHERE member = ?)"
     tables = (("members", "name = ?"), ("keys", "member = ?"), ("bookings", of_keys), ("old_roots", of_keys))
     return {
@@ -209,14 +211,14 @@ def rows_of_member(db, member):
 
 
 def plan_undo(db, club):
-    """Plans the restoring of the last correction's rows. Refuses if a row has changed since. After an interrupted correction, rows that it
-    didn't reach are skipped."""
+    """Plans to restore the rows of the last correction. Refuses if a row has changed since the correction. Skips the rows that an interrupted
+    correction didn't reach."""
     it = read(club)
     if not it or it["rows"] is None or is_undo(it):
         raise refusal("no undo", club=club.name)
     plan = Plan()
     plan.tell("undoes", moment=it["moment"], words=" ".join(it["words"]))
-    # References are tested at the end of the transaction.
+    # SQLite tests references between rows at the end of the transaction.
     plan.change(-1, "PRAGMA defer_foreign_keys = ON")
     for table, rowid, was, is_now in it["rows"]:
         if rowid is None:  # the slot had no row before
@@ -247,7 +249,7 @@ def is_undo(content):
 
 
 def order_between(table, now, then):
-    """Returns the command that turns one row into another, and its edit, or None if no single command does."""
+    """Returns the command that turns one row into another, with the command's edit. Returns None if no single command does this."""
     columns = COLUMNS.get(table) if now and then else None
     changed = {it: after for it, before, after in zip(columns or (), now or (), then or ()) if before != after}
     if changed.keys() == {"quota"}:
@@ -260,7 +262,7 @@ def order_between(table, now, then):
 
 
 def row_undone(content):
-    """Returns the row that an undo changes, with its values before and after the undo, if one command can do it. Otherwise returns None."""
+    """Returns the row that an undo changes, with its values before and after the undo, if one command can restore it. Otherwise returns None."""
     rows = content["rows"] or [] if content else []
     if len(rows) != 1:
         return None
@@ -270,12 +272,12 @@ def row_undone(content):
 
 
 def is_by_command(club):
-    """Returns whether a command can undo the last correction, or continue its undo."""
+    """Returns whether a command can undo the last correction, or continue an interrupted undo of it."""
     return row_undone(read(club)) is not None
 
 
 def plan_undo_by_command(db, club):
-    """Plans the command that restores the only row of the last correction. Refuses if the row has changed since."""
+    """Plans the command that restores the last correction's only row. Refuses if the row has changed since the correction."""
     it = read(club)
     row = row_undone(it)
     if row is None:

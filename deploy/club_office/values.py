@@ -1,4 +1,4 @@
-"""Parsers of arguments. Each takes a word and returns its value, or raises a bad value."""
+"""Parsers of arguments. Each function takes a word and returns its value, or raises a bad value."""
 
 import datetime
 import re
@@ -8,8 +8,8 @@ from club_office.texts import WEEKDAYS
 
 
 NAME = re.compile(r"[a-z0-9][a-z0-9-]{0,23}")
-# The name of a copy: the moment of a nightly copy, in UTC, or the moment of a correction, in the club's zone, with the correction's command.
-# If two corrections fall in one second, the later one's copy has a number.
+# The name of a copy. A nightly copy's name is its moment in UTC. A correction's copy has the moment in the club's zone and the correction's
+# command. If two corrections happen in one second, the name of the second copy also has a number.
 COPY = re.compile(r"20[0-9]{2}-[0-9]{2}-[0-9]{2}T(?:[0-9]{6}Z|[0-9]{2}-[0-9]{2}-[0-9]{2}-[a-z-]+(?:-[0-9]{1,3})?)")
 EPOCH = datetime.date(1970, 1, 1)
 MOST_CHARGE = 499_950
@@ -43,7 +43,7 @@ def day(word):
 
 
 def days(word):
-    """Returns the days of one day, or of a span such as 2026-12-01..2027-03-31."""
+    """Returns the days of a word: one day, or a span such as 2026-12-01..2027-03-31."""
     first, dots, last = word.partition("..")
     begin, end = day(first), day(last if dots else first)
     if not begin <= end <= begin + 400:
@@ -59,7 +59,7 @@ def hours(word):
 
 
 def weekday(word):
-    """Returns the number of a weekday, counted from Monday. The word is the beginning of its name in a language of the office."""
+    """Returns the number of a weekday, counted from Monday. The word is the beginning of the weekday's name in a language of the office."""
     for language in WEEKDAYS.values():
         for place, called in enumerate(language):
             if len(word) > 1 and called.lower().startswith(word.lower()):
@@ -68,14 +68,14 @@ def weekday(word):
 
 
 def hour_or_hours(word):
-    """Returns the first hour and the hour after the last, for one hour or a span of hours."""
+    """Returns the first hour and the hour after the last. The word is one hour or a span of hours."""
     if re.fullmatch("[0-9]{1,2}", word) and int(word) < 24:
         return int(word), int(word) + 1
     return hours(word)
 
 
 def names(word):
-    """Returns the names of a list with commas."""
+    """Returns the names in a list with commas between them."""
     return [name(it) for it in word.split(",")]
 
 
