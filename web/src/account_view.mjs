@@ -83,7 +83,7 @@ async function copyText(text, place, copied, failed, field = null) {
   }
 }
 
-// ---- The record to another device
+// ---- Sending the record to another device
 
 export function showExport() {
   if (state.pass === null || state.key === null) return;
@@ -106,7 +106,7 @@ export function showExport() {
   put("export-qr-words", say("export-qr-none"));
 }
 
-// ---- The record from another device
+// ---- Receiving the record from another device
 
 async function importText(text, place) {
   const read = readRecord(text, Date.now());
@@ -127,7 +127,7 @@ async function importText(text, place) {
   put(place, words, ...(read.key === state.key ? [] : [" ", say("import-other-key", { key: read.key })]));
 }
 
-// A record that came in a link is added only after the member agrees.
+// Adds a record from a link to this browser's record, but only after the member agrees.
 export async function offerRecord(text, whenDone) {
   const read = readRecord(text, Date.now());
   if (state.store === null) return;
@@ -161,7 +161,8 @@ function lostFault(number, day) {
   return null;
 }
 
-// Returns whether the key used a number. A cancellation at a slot that no booking can have tells that, and changes nothing.
+// Returns whether the key has used a number. The function asks the desk to cancel a booking at a slot that can't exist. The desk's reply answers
+// the question, and no booking changes.
 async function isUsed(number) {
   const nowhere = { facility: "none-such", day: "2000-01-01", hour: 0 };
   if (denial("cancel", nowhere) > 0) return true; // the pass doesn't allow the question

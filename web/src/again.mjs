@@ -1,4 +1,4 @@
-// Actions on a booking other than cancelling: add it to the calendar, invite somebody, repeat it a week later, change it.
+// Actions on a booking other than cancelling it. They add the booking to the calendar, invite somebody, repeat it a week later, or change it.
 import { offerBooking, slotText } from "./booking_dialog.mjs";
 import { calendarText } from "./calendar.mjs";
 import { facilityOf, hoursOf, titleOf, whyClosed } from "./club.mjs";
@@ -14,7 +14,7 @@ import { NotStored } from "./sender.mjs";
 import { canSend, clubMoment, denial, state } from "./state.mjs";
 import { say } from "./words.mjs";
 
-// The buttons that a card has below "More".
+// The buttons below "More" on a booking's card.
 export function moreOf(entry, whenDone) {
   const isKnown = state.club !== null; // the list has the zone, which gives the beginning of a slot
   const isOwn = isKnown && entry.key === state.key && state.pass !== null && canSend();
@@ -45,7 +45,7 @@ function saveForCalendar(entry) {
   setTimeout(() => URL.revokeObjectURL(link.href), 60000);
 }
 
-// The text has day, hour and place, but neither the number nor the pass.
+// The invitation has the day, hour and place, but neither the booking's number nor the pass.
 async function invite(entry) {
   const words = placeText() === "" ? "invite-text" : "invite-text-at";
   const text = say(words, { facility: titleOf(state.club, entry.facility), time: slotText(entry), club: placeText() });
@@ -90,7 +90,7 @@ function whyNot(slot, view) {
   return view !== null && view.taken >= view.places ? say("cell-full") : null;
 }
 
-// ---- Change: a new booking, and then the cancellation of the old one
+// ---- Changing a booking: makes a new booking, and then cancels the old booking
 
 function offerChange(entry, whenDone) {
   const facility = facilityOf(state.club, entry.facility);
@@ -119,7 +119,7 @@ function offerChange(entry, whenDone) {
   ], whenDone);
 }
 
-// Before anything is sent, it shows the cost and the refund, and what happens if one of the two fails.
+// Before it sends a request, it shows the cost, the refund, and the result if one of the two requests fails.
 async function confirmChange(entry, slot, guests, whenDone) {
   const title = say("change-title", { facility: titleOf(state.club, entry.facility) });
   const found = await lookedUp(slot, title);
@@ -139,7 +139,7 @@ async function confirmChange(entry, slot, guests, whenDone) {
   ], whenDone);
 }
 
-// Returns an entry's result, once the desk's reply or a refusal of the pass decides it.
+// Returns the result of an entry as soon as the desk's reply, or a refusal of the pass, decides it.
 function decidedOf(entry) {
   return new Promise((done) => {
     state.sender.follow(entry, (now) => {

@@ -1,4 +1,5 @@
-// Keeps the page for times without a network, by a worker. Without a worker everything else still works.
+// Makes the page work without a network, by a service worker. If the browser has no service workers, the
+// rest of the page still works.
 
 let isAtHand = false;
 
@@ -7,7 +8,7 @@ export function opensOffline() {
   return isAtHand;
 }
 
-// The page's policy allows only one script to be a worker.
+// The page's policy allows only this script as a worker.
 function workerAddress() {
   const policy = globalThis.trustedTypes?.createPolicy("worker", { createScriptURL: () => "worker.js" });
   return policy === undefined ? "worker.js" : policy.createScriptURL("");
@@ -21,6 +22,6 @@ export async function keepPage(whenKept) {
     isAtHand = true;
     whenKept();
   } catch {
-    // The page works without it, and says so under Account.
+    // The page works without a worker, and tells the member so under Account.
   }
 }

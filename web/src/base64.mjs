@@ -1,4 +1,5 @@
-// Base64. Reads either alphabet, but only one in a text, and writes URL-safe text without padding.
+// Base64. Reads both alphabets of base64, but only one of them in a text. Writes URL-safe text
+// without padding.
 import { characters, quoted } from "./bytes.mjs";
 import { malformed } from "./pass_faults.mjs";
 
@@ -6,7 +7,7 @@ export function base64Of(bytes) {
   return btoa(characters(bytes)).replaceAll("+", "-").replaceAll("/", "_").replaceAll("=", "");
 }
 
-// `subject` names the text in a fault.
+// `subject` names the text in the message of a fault.
 export function bytesOfBase64(text, subject) {
   refuseStrayCharacters(text, subject);
   const letters = text.replace(/=+$/, "");

@@ -1,4 +1,4 @@
-// Booking and cancelling: the cost, one press, and the result.
+// Booking and cancelling: shows the cost, needs one press, and shows the result.
 import { facilityOf, titleOf, whyClosed } from "./club.mjs";
 import { hourText, startOf } from "./dates.mjs";
 import { closeDialog, isDialogOpen, openDialog } from "./dialog.mjs";
@@ -31,12 +31,12 @@ function closedText(slot) {
   return why === "" ? say("closed") : say("closed-why", { why });
 }
 
-// A note for a booking whose slot was closed later. The desk closes no slot in use, so the office cancelled the booking.
+// A note on a booking whose slot the office closed later. The desk refuses to close a slot in use, so the office has cancelled the booking.
 export function closedOwn(slot) {
   return element("p", "note", element("strong", "", closedText(slot)), " ", say("closed-own"));
 }
 
-// The reason why a slot is closed, and the contact.
+// Shows the reason why a slot is closed, and the club's contact.
 export function offerClosed(slot, whenDone) {
   const contact = state.club?.contact ?? "";
   openDialog(titleOf(state.club, slot.facility), [
@@ -46,7 +46,7 @@ export function offerClosed(slot, whenDone) {
   ], whenDone);
 }
 
-// Returns the most guests that the places and the pass allow.
+// Returns the greatest number of guests that the free places and the pass allow.
 function mostGuests(slot, view) {
   let most = view === null ? MOST_GUESTS : Math.min(MOST_GUESTS, view.places - view.taken - 1);
   while (most > 0 && isDenied(slot, view, most)) most -= 1;
@@ -124,7 +124,7 @@ function offerFirst(slot, view, title, isMeant, whenDone) {
   openDialog(title, [element("p", "slot-time", slotText(slot)), ...(about === "" ? [] : [element("p", "hint", about)]), places, stepper, facts, ...endNote(slot), outcome, element("div", "buttons", press)], whenDone);
 }
 
-// If a pass ends before the slot, it can't cancel the booking after its end.
+// A pass that ends before the slot can't cancel the booking after the pass's end.
 function endNote(slot) {
   const end = endOf(state.pass);
   if (end === null || end > startOf(slot)) return [];
@@ -147,7 +147,7 @@ function costFacts(view, guests) {
   return facts;
 }
 
-// Sends a listed booking without a known answer to the desk, with its own number and guests.
+// Sends a listed booking whose answer isn't known to the desk, with the booking's own number and guests.
 export function offerListed(entry, view, whenDone) {
   const facts = element("dl", "cost", ...costFacts(view, entry.guests));
   const outcome = element("div", "outcome-box");
@@ -166,7 +166,8 @@ export function offerListed(entry, view, whenDone) {
   ], whenDone);
 }
 
-// After a second, says that no answer has come yet, and after ten explains it. Returns a function that stops this.
+// Tells the member after a second that the desk hasn't answered yet, and explains the delay after ten seconds. Returns a function that stops these
+// messages.
 function waitingWords(outcome) {
   const begun = Date.now();
   outcome.replaceChildren(element("p", "sending", say("sending")));
@@ -182,7 +183,7 @@ function waitingWords(outcome) {
   return () => clearInterval(timer);
 }
 
-// `book` records the request; `again` enables the button again after a refusal; `done` removes the choices.
+// `book` records the request. `again` enables the button again after a refusal, and `done` removes the choices.
 async function sendBooking({ book, slot, view, outcome, press, whenDone, again, done }) {
   const end = waitingWords(outcome);
   try {
@@ -213,7 +214,7 @@ async function sendBooking({ book, slot, view, outcome, press, whenDone, again, 
   }
 }
 
-// From now on a press closes the dialog.
+// From now on, a press on the button closes the dialog.
 function finish(press) {
   const close = button("main wide-button", say("close"), closeDialog);
   const hadFocus = document.activeElement === press || document.activeElement === document.body;
@@ -280,7 +281,7 @@ function outcomeOfCancellation(entry) {
   return [element("p", "done", ...words), ...unsavedNote()];
 }
 
-// Formats the last moment of a full refund, such as "Fri 1 May, 18:00".
+// Formats the last moment for a full refund, such as "Fri 1 May, 18:00".
 export function fullRefundUntil(entry) {
   const until = new Date(Date.parse(`${startOf(entry)}Z`) - 86400000).toISOString();
   return { day: dayText(until.slice(0, 10)), time: until.slice(11, 16) };

@@ -1,4 +1,4 @@
-// The page on which a member looks, books and cancels.
+// The page on which a member looks at slots, books and cancels.
 import { lookAfterBookings, showBookings } from "./bookings_view.mjs";
 import { lookAtAccount, offerRecord, setUpAccount, showAccount, showExport, showLost, showPass } from "./account_view.mjs";
 import { askToPersist, lookWhetherPersists } from "./list_keeping.mjs";
@@ -91,7 +91,8 @@ function go(wanted) {
   }
 }
 
-// Called after the record changed, here or in another tab. If a request was answered, the account has changed too.
+// The page calls this after the record has changed, in this tab or in another tab. If the desk answered a request,
+// the account has also changed.
 async function refresh() {
   const open = openRequests();
   if (state.sender !== null) state.entries = await state.sender.entries();
@@ -112,7 +113,7 @@ function openRequests() {
 
 // ---- The pass
 
-// Called once a pass is there, the earlier one or another.
+// The page calls this when it has a pass, which may be the earlier pass or a new one.
 function begin() {
   view = "day";
   show();
@@ -135,7 +136,8 @@ function reportTrouble(fault) {
 
 // ---- What is loaded
 
-// Loads the club's list, or keeps the old one. Returns the key of the fault's text, or "".
+// Loads the club's list. If the load fails, keeps the old list. Returns the key of the fault's text, or "" if the
+// load succeeds.
 async function fetchClub() {
   if (location.protocol === "file:" && !isToTry()) return "club-missing";
   try {
@@ -171,7 +173,7 @@ async function openStore() {
   }
 }
 
-// A pause of the sender, which ends early when the network returns.
+// The sender pauses with this function. The pause ends early when the network returns.
 function pauseUntilOnline(milliseconds) {
   return Promise.race([paused(milliseconds), new Promise((done) => window.addEventListener("online", done, { once: true }))]);
 }

@@ -1,4 +1,5 @@
-// My bookings: the record's future and past bookings of the pass's key, with their actions.
+// My bookings: the future and past bookings in the record of the pass's key, with the actions on
+// each booking.
 import { moreOf } from "./again.mjs";
 import { closedOwn, fullRefundUntil, offerCancellation, offerListed, slotText } from "./booking_dialog.mjs";
 import { titleOf } from "./club.mjs";
@@ -32,7 +33,7 @@ export function showBookings(whenDone) {
   put("bookings-count", ...(count > 0 ? [String(count)] : []));
 }
 
-// The desk's count of the key's spent points tells whether the list is complete.
+// The number of spent points that the desk reports shows whether the list is complete.
 let doubtful = new Set(); // bookings that may have been cancelled elsewhere
 
 function showComparison(own, moment) {
@@ -79,7 +80,7 @@ function stateText(entry) {
   return now === "listed" ? listedText(entry) : say("state-booked");
 }
 
-// Shows a list's claims as claims.
+// Marks the claims of a list as claims.
 function listedText({ guests, listed }) {
   if (listed.refund !== undefined) return say("listed-cancelled", { count: listed.refund });
   if (listed.cancel) return say("listed-cancelling");
@@ -111,7 +112,7 @@ function whatCanBeDone(entry, whenDone) {
   return [...words, ...(buttons.length > 0 ? [element("div", "buttons", ...buttons)] : [])];
 }
 
-// The points come from the desk before a request that costs points is sent.
+// Before a request that costs points, the page asks the desk for the current points.
 async function askAbout(entry, whenDone) {
   try {
     const reply = denial("view", entry) > 0 ? null : await ask(state.text, "view", entry, 2);
@@ -156,7 +157,7 @@ function noteSlot(name, { taken, closed }) {
 
 let lookRound = 0; // numbers each check of the slots: results of an older check are dropped
 
-// Checks that the slots of bookings still hold them.
+// Checks whether the slots of these bookings still have the bookings' persons.
 export async function lookAfterBookings(whenDone) {
   const moment = clubMoment();
   if (moment === null || state.pass === null) return;

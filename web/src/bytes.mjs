@@ -4,7 +4,7 @@ export function bytesOf(text) {
   return new TextEncoder().encode(text);
 }
 
-// Decodes bytes as UTF-8; returns null if they aren't valid.
+// Decodes bytes as UTF-8. Returns null if they aren't valid UTF-8.
 export function textOf(bytes) {
   try {
     return new TextDecoder("utf-8", { fatal: true, ignoreBOM: true }).decode(bytes);
@@ -13,7 +13,7 @@ export function textOf(bytes) {
   }
 }
 
-// Returns a character for each byte, for patterns over arbitrary bytes.
+// Returns a text with a character for each byte, so that patterns can match arbitrary bytes.
 export function characters(bytes) {
   return Array.from(bytes, (byte) => String.fromCharCode(byte)).join("");
 }
@@ -22,7 +22,7 @@ export function joined(pieces) {
   return Uint8Array.from(pieces.flatMap((piece) => [...piece]));
 }
 
-// Formats bytes on one line, like `passtool show` does.
+// Formats bytes on one line, as `passtool show` does.
 export function shown(bytes) {
   return characters(bytes).replace(/[^ -~]|\\/g, (character) =>
     character === "\\" ? "\\\\" : "\\x" + character.charCodeAt(0).toString(16).padStart(2, "0"));

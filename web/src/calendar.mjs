@@ -1,12 +1,13 @@
-// A booking for a calendar (RFC 5545), with a reminder. Its times are in UTC, so that no calendar needs the club's zone.
+// Makes a calendar entry (RFC 5545) for a booking, with a reminder. The times in the entry are in UTC, so that the calendar doesn't need the club's
+// zone.
 import { bytesOf } from "./bytes.mjs";
 import { momentIn, startOf } from "./dates.mjs";
 
 const LONGEST_LINE = 75; // bytes
 const REMINDER = "-PT2H";
 
-// Returns the instant, in milliseconds, when the zone's wall clock first shows a moment. For a skipped moment it uses the offset from before the
-// change.
+// Returns the instant, in milliseconds, when the zone's wall clock first shows a moment. For a moment that the clock skips, it uses the offset from
+// before the clock change.
 export function instantOf(zone, moment) {
   const wanted = Date.parse(`${moment}Z`);
   const lead = (instant) => Date.parse(`${momentIn(zone, instant)}Z`) - instant;
@@ -22,7 +23,7 @@ function escaped(text) {
   return text.replace(/[\\;,]/g, "\\$&").replace(/\r?\n/g, "\\n");
 }
 
-// Folds a line into pieces of at most 75 bytes, without splitting a character.
+// Folds a line into pieces of at most 75 bytes. It never splits a character.
 function folded(line) {
   const pieces = [""];
   for (const letter of line) {
@@ -33,7 +34,7 @@ function folded(line) {
   return pieces.join("\r\n ");
 }
 
-// `title` is what, `place` where, `host` the page's; `now` in milliseconds.
+// `title` is the title of the booking, `place` its place, and `host` the page's host. `now` is the current time in milliseconds.
 export function calendarText({ entry, zone, title, place, host, now }) {
   const begins = instantOf(zone, startOf(entry));
   return [

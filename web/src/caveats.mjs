@@ -1,5 +1,5 @@
-// Caveats: each line that the desk understands, with its values and the requests that it allows. All are far shorter than the limit of 256
-// bytes.
+// Each line that the desk understands as a caveat, with its values and the requests that it allows. All these lines are far shorter than the limit
+// of 256 bytes.
 import { characters } from "./bytes.mjs";
 import { isDate, WEEKDAYS, weekdayOf } from "./dates.mjs";
 
@@ -9,7 +9,7 @@ const DATE = "20[0-9]{2}-[0-9]{2}-[0-9]{2}";
 export const KINDS = ["court", "boat", "room"];
 export const ACTIONS = ["view", "book", "cancel", "account"];
 
-// For each kind of line: its pattern, and a function from the match to its values, or null.
+// Each kind of line has a pattern, and a function that turns a match into the line's values or null.
 const LINES = {
   facility: [`facility = (${NAME}(?:,${NAME}){0,7})`, (names) => ({ facilities: [...new Set(names.split(","))] })],
   kind: [`kind = (${KINDS.join("|")})`, (kind) => ({ kind })],
@@ -23,7 +23,7 @@ const LINES = {
 };
 const PATTERNS = Object.entries(LINES).map(([name, [pattern, values]]) => ({ name, pattern: new RegExp(`^${pattern}$`), values }));
 
-// Matches a comma-separated list of some of the words, in their order.
+// Matches some of the words in their given order, with commas between them.
 function chosenWords(text, known) {
   const words = text.split(",");
   const inOrder = known.filter((word) => words.includes(word));
@@ -34,7 +34,7 @@ export function isName(value) {
   return typeof value === "string" && NAME_ONLY.test(value);
 }
 
-// Returns the caveat with its name and values, or null if the desk doesn't understand it.
+// Returns the caveat's name and values, or null if the desk doesn't understand the caveat.
 export function readCaveat(bytes) {
   const text = characters(bytes);
   for (const { name, pattern, values } of PATTERNS) {
@@ -46,9 +46,9 @@ export function readCaveat(bytes) {
   return null;
 }
 
-// Returns whether a caveat allows a request. A request has an action and a moment. For a slot it has a facility, its kind (null if the club has
-// none), day and hour. For a booking it has guests, the points owed, and the points that the key has spent. Unknown values are undefined and
-// never a reason to deny: the desk decides.
+// Returns whether a caveat allows a request. Each request has an action and a moment. A request for a slot also has a facility, its kind, a day and
+// an hour. The kind is null if the club has no such facility. A booking also has its number of guests, the points owed, and the points that the key
+// has spent. A value that the page doesn't know is undefined, and is never a reason to deny, because the desk decides.
 const TESTS = {
   facility: (caveat, { slot }) => slot !== undefined && caveat.facilities.includes(slot.facility),
   kind: (caveat, { slot }) => slot !== undefined && slot.kind === caveat.kind,
@@ -65,7 +65,8 @@ export function allows(caveat, ask) {
   return TESTS[caveat.name](caveat, ask);
 }
 
-// Returns the number, from 1, of the pass's first caveat that denies the request, or 0. A caveat that isn't understood denies.
+// Returns the number of the first caveat in the pass that denies the request, or 0. The first caveat of a pass has number 1. A caveat that the page
+// doesn't understand denies every request.
 export function firstDenial(pass, ask) {
   const place = pass.caveats.findIndex((bytes) => {
     const caveat = readCaveat(bytes);

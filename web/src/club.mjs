@@ -1,4 +1,4 @@
-// The club's list, club.json, which deploy/club_json makes. The desk's replies have neither its zone nor its hours.
+// The club's list is the file club.json, which deploy/club_json makes. The replies of the desk contain neither the club's zone nor its hours.
 import { isName, KINDS } from "./caveats.mjs";
 import { isDate, isZone } from "./dates.mjs";
 
@@ -25,7 +25,7 @@ function sentenceOr(value, otherwise = "") {
   return typeof value === "string" && value.length <= LONGEST_SENTENCE ? value : otherwise;
 }
 
-// Returns an address that is safe to link to, or "".
+// Returns the address if it is safe to link to, otherwise "".
 function addressOr(value) {
   return typeof value === "string" && /^https:\/\/[^\s"'<>\\]{1,300}$/.test(value) ? value : "";
 }
@@ -34,8 +34,8 @@ function pictureOr(value) {
   return typeof value === "string" && value.length <= LONGEST_LOGO && /^data:image\/(?:png|jpeg|webp|svg\+xml);base64,[A-Za-z0-9+/=]+$/.test(value) ? value : "";
 }
 
-// Reads a club from JSON, or returns null. It needs a zone and facilities. Other invalid parts count as missing: titles and sentences, reasons
-// for closed slots, contact, imprint and privacy pages, logo.
+// Reads a club from JSON. Returns null if it isn't a club. The club needs a zone and facilities. Each other part counts as missing if it is
+// invalid: titles and sentences, reasons for closed slots, contact, imprint and privacy pages, logo.
 export function readClub(value) {
   if (typeof value !== "object" || value === null || !isZone(value.zone) || !Array.isArray(value.facilities)) return null;
   if (!value.facilities.every(isFacility)) return null;
@@ -56,12 +56,12 @@ export function titleOf(club, name) {
   return facilityOf(club, name)?.title ?? name;
 }
 
-// Returns the office's reason for a closed slot, or "". Only the desk knows whether the slot is closed.
+// Returns the office's reason for closing a slot, or "". Only the desk knows whether the slot is still closed.
 export function whyClosed(club, { facility, day, hour }) {
   return club?.closures.find((each) => each.facility === facility && each.day === day && each.from <= hour && hour < each.until)?.why ?? "";
 }
 
-// Returns the hours when a facility's slots begin.
+// Returns the hours at which a facility's slots begin.
 export function hoursOf(facility) {
   return Array.from({ length: facility.shuts - facility.opens }, (_, place) => facility.opens + place);
 }

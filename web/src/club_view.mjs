@@ -1,4 +1,4 @@
-// The club on all pages: its logo, its contact, and links to its imprint and privacy page.
+// Shows the club on all pages: its logo, its contact, and the links to its imprint and privacy page.
 import { byName, element, put } from "./elements.mjs";
 import { say } from "./words.mjs";
 
@@ -6,7 +6,8 @@ export function linkTo(address, words) {
   return Object.assign(element("a", "", words), { href: address, rel: "noopener noreferrer", target: "_blank" });
 }
 
-// `club` may be null. Nobody can press a link on a wall screen, so `isOnWall` has its address in words.
+// `club` may be null. If `isOnWall` is true, the page writes each address in words, because nobody can
+// press a link on a wall screen.
 export function showClub(club, isOnWall = false) {
   const { logo = "", contact = "", imprint = "", privacy = "" } = club ?? {};
   byName("club-logo").hidden = logo === "";

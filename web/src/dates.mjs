@@ -1,5 +1,5 @@
-// Days, hours and minutes of the club's wall clock. Days are texts YYYY-MM-DD, moments texts YYYY-MM-DDTHH:MM. UTC is only used for counting:
-// time zones matter only in `momentIn`.
+// Days, hours and minutes on the club's wall clock. A day is a text YYYY-MM-DD, and a moment is a text YYYY-MM-DDTHH:MM. The functions use UTC only
+// for counting. Only `momentIn` uses time zones.
 
 export const WEEKDAYS = ["mon", "tue", "wed", "thu", "fri", "sat", "sun"];
 
@@ -42,7 +42,7 @@ function clockOf(zone) {
   return clocks.get(zone);
 }
 
-// Returns the moment on the zone's wall clock at an instant in milliseconds.
+// Returns the moment that the zone's wall clock shows at an instant, which is given in milliseconds.
 export function momentIn(zone, instant) {
   const parts = clockOf(zone).formatToParts(instant);
   const value = Object.fromEntries(parts.map((each) => [each.type, each.value]));

@@ -1,5 +1,5 @@
-// The day: facilities across, hours down. Each slot takes a request, at most six at a time. A narrow screen shows one facility, and its slots
-// are requested first.
+// The table of a day has a column for each facility and a row for each hour. The page sends a request for each slot, at most six at a time. A
+// narrow screen shows one facility, and the page requests that facility's slots first.
 import { facilityOf, hoursOf, titleOf, whyClosed } from "./club.mjs";
 import { offerBooking, offerClosed } from "./booking_dialog.mjs";
 import { firstDenial } from "./caveats.mjs";
@@ -76,7 +76,7 @@ export function showDay(wanted = day) {
   look();
 }
 
-// Today's past hours are folded away, unless the member has a booking in them.
+// Hides today's past hours, unless the member has a booking in these hours.
 function foldEarlier() {
   const moment = clubMoment();
   let count = 0;
@@ -99,7 +99,7 @@ function dayFault(facilities) {
   return [say("no-facilities"), ...(number > 0 ? [" ", limitText(number)] : [])];
 }
 
-// Returns the number of the first limit that denies every slot of the day, or 0.
+// Returns the number of the pass's first limit that denies every slot of the day, or 0.
 function limitOfDay() {
   const slots = state.club.facilities.flatMap(slotsOf).map(withKind);
   const denies = (caveat) => slots.every((slot) => firstDenial({ caveats: [caveat] }, { action: "view", moment: clubMoment(), slot }) > 0);
@@ -165,7 +165,7 @@ function slotButton(slot) {
 
 // ---- Cells
 
-// Returns a cell's class, its text, a line below it, and whether it can be pressed.
+// Returns the class of a cell, its text, the line below the text, and whether the member can press the cell.
 function looksOf({ slot, view, state: known }) {
   const moment = clubMoment();
   const mine = ownAt(slot, view);
@@ -211,7 +211,7 @@ export function showCells() {
   for (const cell of cells.values()) showCell(cell);
 }
 
-// Changes are drawn a few times a second, not with each reply.
+// The page draws changes a few times a second, instead of after each reply.
 const DRAWN_EVERY = 80; // milliseconds
 const changed = new Set();
 
@@ -251,7 +251,7 @@ function press(cell) {
 
 // ---- Looking
 
-// Requests each slot of the day that the pass shows and that isn't over.
+// Requests each slot of the day that the pass allows to see and that isn't over.
 export async function look() {
   round += 1;
   const mine = round;
@@ -280,7 +280,7 @@ export async function look() {
   showLooked();
 }
 
-// The facility that a narrow screen shows comes first, even if it is chosen while others are being requested.
+// The facility on a narrow screen comes first, even if the member chooses it while the page requests other slots.
 function chosenFirst() {
   waiting.sort((a, b) => (b.slot.facility === chosen) - (a.slot.facility === chosen));
 }
@@ -314,7 +314,7 @@ async function lookAt(cell, mine) {
   if (mine === round) showSoon(cell);
 }
 
-// A refusal of a slot is shown in its cell, and a refusal of the pass for the whole day.
+// A refusal of one slot appears in the slot's cell. A refusal of the pass appears for the whole day.
 function refused(cell, reply) {
   cell.state = "denied";
   if (reply.fault === CAVEAT_DENIES || reply.fault > CAVEAT_DENIES) return;
@@ -324,7 +324,7 @@ function refused(cell, reply) {
   put("day-fault", element("span", "", refusalText(reply)), button("", say("enter-another"), enterAnother));
 }
 
-// Loads again when the page is shown after a while.
+// Loads the day again when the member returns to the page after a while.
 export function lookWhenBack() {
   if (day === null || state.club === null || state.pass === null) return;
   if (isFinding) return;
@@ -354,7 +354,7 @@ function chooseBeside(step) {
   if (chips[place] !== undefined) choose(chips[place].dataset.facility);
 }
 
-// The arrow keys move between slots.
+// The arrow keys move the focus between slots.
 const ARROWS = { ArrowLeft: [-1, 0], ArrowRight: [1, 0], ArrowUp: [0, -1], ArrowDown: [0, 1] };
 
 function moveFocus(event) {

@@ -1,4 +1,4 @@
-// The booking page with a trial club inside the page.
+// The booking page, with a trial club inside the page.
 import { openClubToTry, passToTry } from "./demo_desk.mjs";
 import { startPage } from "./booking_page.mjs";
 import { keepPass, keepSpares, keptPasses, keptSpares } from "./keeping.mjs";

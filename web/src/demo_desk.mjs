@@ -1,5 +1,5 @@
-// A trial club: a small desk in the page answers its requests, and nothing is sent. Its stored data has separate names, so that it can't clash
-// with a club's.
+// A trial club. A small desk inside the page answers its requests, and the page sends nothing. The page stores the trial club's data under other
+// names than a real club's data.
 import { daysLater, hourText, momentIn } from "./dates.mjs";
 import { withName } from "./place.mjs";
 import { writePass } from "./pass.mjs";
@@ -31,7 +31,7 @@ function momentNow() {
   return momentIn(ZONE, Date.now());
 }
 
-// Others have booked some hours, the same ones for each day.
+// Other members have booked some hours. These hours are the same on each day.
 function othersBookings() {
   const today = momentNow().slice(0, 10);
   return Array.from({ length: OTHERS_ASK }, (_, place) => {
@@ -55,7 +55,7 @@ function keepBookings(bookings) {
   try {
     localStorage.setItem(KEPT, JSON.stringify(bookings));
   } catch {
-    // It is lost when the page is closed.
+    // The trial club is lost when the member closes the page.
   }
 }
 
@@ -69,7 +69,7 @@ function deskToTry() {
   });
 }
 
-// The office closed some hours of each second day.
+// The office has closed some hours of every second day.
 function closures() {
   const today = momentNow().slice(0, 10);
   return [1, 3, 5].map((count) => ({ facility: "court-2", day: daysLater(today, count), from: 16, until: 18, why: "Youth training" }));
@@ -97,7 +97,7 @@ function replyOf(status, body) {
   return new Response(JSON.stringify(body), { status, headers: { "Content-Type": "application/json", Date: new Date().toUTCString() } });
 }
 
-// Answers the page's requests to its origin.
+// Answers requests of the page to its own origin.
 function answerHere(desk) {
   return async (path, options = {}) => {
     if (path === "club.json") return replyOf(200, CLUB);

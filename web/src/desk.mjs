@@ -1,4 +1,4 @@
-// Requests to the desk, which is at the page's own origin.
+// Sends requests to the desk, which has the same origin as the page.
 import { hourText } from "./dates.mjs";
 import { NoReply, readReply, refuseTooMany } from "./replies.mjs";
 
@@ -7,7 +7,7 @@ const FIRST_PAUSE = 200;
 const LONGEST_PAUSE = 5000;
 const AT_ONCE = 6;
 
-// Method, path and body of each kind of request.
+// The method, path and body of each kind of request.
 export const REQUESTS = {
   view: ({ facility, day, hour }) => ["GET", `/slots/${facility}/${day}/${hourText(hour)}`],
   book: ({ number, guests, ...slot }) => ["PUT", `${REQUESTS.view(slot)[1]}/bookings/${number}`, JSON.stringify({ guests })],
@@ -15,7 +15,8 @@ export const REQUESTS = {
   account: () => ["GET", "/account"],
 };
 
-// The server's clock, which the proxy puts into each reply, minus this browser's, in milliseconds. Null until one came.
+// The time of the server's clock minus the time of this browser's clock, in milliseconds. The proxy puts the server's time into each reply. Null
+// until one came.
 let clockLead = null;
 
 export function serverTime() {
@@ -31,7 +32,7 @@ export function noteClock(response) {
   if (!Number.isNaN(date)) clockLead = date + 500 - Date.now(); // the field has whole seconds
 }
 
-// Asks once. Throws NoReply if no reply of the desk came.
+// Asks once. Throws NoReply if no reply of the desk comes.
 export async function exchange(pass, action, asked) {
   const [method, path, body] = REQUESTS[action](asked);
   const stop = new AbortController();
@@ -51,7 +52,7 @@ export async function exchange(pass, action, asked) {
   }
 }
 
-// Returns the random wait before a try, numbered from 1; the maximum doubles each time.
+// Returns a random wait before a try. Tries have numbers from 1, and the longest possible wait doubles with each try.
 export function pauseBefore(number, random = Math.random) {
   return random() * Math.min(FIRST_PAUSE * 2 ** (Math.max(1, number) - 1), LONGEST_PAUSE);
 }
@@ -62,7 +63,8 @@ export function paused(milliseconds) {
 
 const MOST_WAITS = 30;
 
-// Sends a request that changes nothing, up to a number of tries. A try that the proxy postponed doesn't count. Throws the last NoReply.
+// Sends a request that changes nothing. Repeats the request up to a number of tries. A try that the proxy postpones doesn't count. Throws the last
+// NoReply.
 export async function ask(pass, action, asked, tries = 4, waits = MOST_WAITS) {
   try {
     return await exchange(pass, action, asked);
@@ -77,8 +79,8 @@ export async function ask(pass, action, asked, tries = 4, waits = MOST_WAITS) {
   }
 }
 
-// Runs a task for each item, a few at once, until `goesOn` says to stop. It takes items from the front of the list, whose order may change
-// meanwhile.
+// Runs a task for each item, a few at a time. Stops when `goesOn` returns false. It takes the items from the front of the list. The order of the
+// list may change while the tasks run.
 export async function eachAtOnce(items, task, goesOn = () => true) {
   const work = async () => {
     while (items.length > 0 && goesOn()) await task(items.shift());

@@ -1,4 +1,5 @@
-// The page's only dialog. It opens in front, and at its end returns the focus to the element that opened it.
+// The page's only dialog. The dialog opens in front of the page. When it closes, the focus returns to the
+// element that opened it.
 import { button, byName, element } from "./elements.mjs";
 import { say } from "./words.mjs";
 
@@ -18,7 +19,8 @@ export function openDialog(title, content, whenClosed = () => {}) {
   heading.focus();
 }
 
-// The browser's own event comes later, when another dialog may be open, so everything is done here.
+// The browser's own event comes later, when another dialog may be open. So this function closes the dialog
+// completely.
 export function closeDialog() {
   const whenClosed = closed;
   closed = null;
@@ -37,18 +39,18 @@ export function setUpDialog() {
     event.preventDefault();
     closeDialog();
   });
-  // A second Escape closes it without a question.
+  // At a second Escape, the browser closes the dialog without asking the page.
   dialog.addEventListener("close", () => { if (!dialog.open && closed !== null) closeDialog(); });
-  // A press outside it does the same.
+  // A press outside the dialog also closes it.
   dialog.addEventListener("click", (event) => { if (event.target === dialog) closeDialog(); });
 }
 
-// Something to know.
+// Shows a message.
 export function tell(title, words) {
   return question(title, [words], say("close"), null);
 }
 
-// Asks a question with one or two answers; returns whether the first was given.
+// Asks a question with one or two answers. Returns whether the user chose the first answer.
 export function question(title, words, yes, no) {
   return new Promise((done) => {
     let answer = false;

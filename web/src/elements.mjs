@@ -1,11 +1,11 @@
-// Elements of the page. No text is ever parsed as HTML.
+// Elements of the page. The page never parses a text as HTML.
 import { say } from "./words.mjs";
 
 export function byName(id) {
   return document.getElementById(id);
 }
 
-// Makes an element with texts and other elements in it.
+// Makes an element that contains texts and other elements.
 export function element(name, className, ...content) {
   const made = document.createElement(name);
   if (className) made.className = className;
@@ -17,7 +17,8 @@ export function put(id, ...content) {
   byName(id).replaceChildren(...content);
 }
 
-// Puts named cards into a list. An unchanged card stays, with its focus and its opened parts.
+// Puts named cards into a list. A card that hasn't changed stays, together with its focus and its
+// open parts.
 export function putCards(id, cards) {
   const before = [...byName(id).children];
   const isSameList = before.length === cards.length && before.every((card, place) => card.dataset.name === cards[place].dataset.name);
@@ -38,7 +39,7 @@ export function button(className, words, press) {
   return made;
 }
 
-// Sets the texts of all elements that the page has from the beginning.
+// Sets the texts of all elements that are in the page from the beginning.
 export function sayAll(root = document) {
   for (const each of root.querySelectorAll("[data-say]")) each.textContent = say(each.dataset.say);
   for (const each of root.querySelectorAll("[data-label]")) each.setAttribute("aria-label", say(each.dataset.label));

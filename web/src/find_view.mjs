@@ -1,4 +1,5 @@
-// Finds a time: the facilities of a kind over a week at some hours, and the next day with a free one.
+// Finds a free time. Shows the facilities of a kind over a week at some hours, and finds the next day
+// with a free facility.
 import { offerBooking } from "./booking_dialog.mjs";
 import { KINDS } from "./caveats.mjs";
 import { hoursOf, titleOf } from "./club.mjs";
@@ -31,7 +32,7 @@ function kindsToFind() {
   return KINDS.filter((kind) => facilitiesOf(kind).some((facility) => hoursOf(facility).some((hour) => isToSee({ facility: facility.name, day: firstDay, hour }))));
 }
 
-// Returns whether, as far as the page knows, a slot can still be booked and the pass shows it.
+// Returns whether the pass shows a slot and members can still book it, as far as the page knows.
 function isToSee(slot) {
   const moment = clubMoment();
   return denial("view", slot) === 0 && !hasBegun(slot, moment) && !isTooFarAhead(slot, moment);
@@ -55,7 +56,7 @@ function isToBook(slot) {
   return hasRoom(slot) && !isDenied(slot, views.get(slotName(slot)), 0);
 }
 
-// For a pass that only looks, a slot with room counts as free.
+// If a pass can only look, a slot with a free place counts as free.
 function isFree(slot) {
   return isToBook(slot) || (hasRoom(slot) && denial("book", slot) > 0);
 }
@@ -64,9 +65,9 @@ function hasOwn(slot) {
   return liveAt(slot).some((entry) => stateOf(entry) !== "listed");
 }
 
-// ---- What is to be seen
+// ---- What the member sees
 
-// Shows seven days from a day on.
+// Shows seven days, beginning with a given day.
 export function showFind(day) {
   firstDay = day;
   search = { ...search, ...hoursOfLast(), ...keptSearch() };
@@ -83,7 +84,7 @@ export function showFind(day) {
   lookWeek();
 }
 
-// Without an earlier search it begins at the hour of the last booking.
+// If there was no earlier search, the search begins at the hour of the last booking.
 function hoursOfLast() {
   const hour = lastBooked()?.hour;
   return hour >= 0 && hour < 24 ? { from: hour, to: Math.min(hour + 2, 24) } : {};
@@ -185,7 +186,7 @@ async function lookWeek() {
   put("find-looked", refusal ?? say("looked", { time: clubTime() }));
 }
 
-// Checks day by day until one has a free slot, and shows the days from there.
+// Checks one day after the other until a day has a free slot. Shows the days from that day on.
 async function findNext() {
   if (endedContent().length > 0) {
     put("find-news", say("pass-ended"));

@@ -1,24 +1,24 @@
-// The two forms in bytes. V1: packets of a length, a key, a space, the data and a line feed. V2: fields of a type, a length and the data,
-// in sections that end with a zero byte.
+// The two binary forms of a pass. V1 consists of packets: a length, a key, a space, the data and a line feed. V2 consists of fields with a type, a
+// length and the data. Each section ends with a zero byte.
 import { base64Of } from "./base64.mjs";
 import { bytesOf, characters, joined, quoted, shown } from "./bytes.mjs";
 import { malformed, part } from "./pass_faults.mjs";
 
 const SIGNATURE_LENGTH = 32; // bytes
 
-// Reads bytes from the front.
+// Reads bytes from the front of an array.
 class Reader {
   constructor(bytes) {
     this.bytes = bytes;
     this.place = 0;
   }
 
-  // Returns the next byte without taking it; undefined at the end.
+  // Returns the next byte without taking it, or undefined at the end.
   peek() {
     return this.bytes[this.place];
   }
 
-  // `what` names the part of the pass where the bytes end too early, for a fault.
+  // If the bytes end too early, a fault names the missing part of the pass. `what` is this part.
   take(count, what, fault = "breaks-off") {
     if (count > this.bytes.length - this.place) malformed(fault, { part: what });
     this.place += count;
@@ -65,7 +65,7 @@ function expectedPacket(reader, key) {
   return packet.data;
 }
 
-// Only the length counts, so the data may hold any bytes.
+// The length alone decides where the data ends, so the data may contain any bytes.
 function nextPacket(reader, what) {
   const digits = reader.take(4, what);
   if (!/^[0-9a-f]{4}$/.test(characters(digits))) malformed("other-length", { found: quoted(shown(digits)), part: what });
@@ -129,7 +129,7 @@ function field(reader, type, what) {
   return malformed("something-else", { part: what });
 }
 
-// Returns the data, or null if the next field has another type.
+// Returns the data of the next field, or null if the field has another type.
 function optionalField(reader, type, what) {
   if (reader.peek() !== type) return null;
   reader.take(1, what);
@@ -141,7 +141,8 @@ function endSection(reader, what) {
   if (byte !== END_OF_SECTION) malformed("no-end", { part: what });
 }
 
-// Seven bits per byte, lowest first, with the top bit set on all but the last. Only the shortest encoding is accepted.
+// Reads a number with seven bits in each byte, the lowest bits first. The top bit is set in all bytes except the last. Accepts only the shortest
+// encoding of a number.
 function fieldLength(reader, what) {
   let length = 0;
   for (let shift = 0; shift <= 14; shift += 7) {

@@ -1,4 +1,5 @@
-// The part of the page's address after #: a pass, a list of bookings, spare passes, or the mark of the hall's screen, with or without a pass.
+// Reads the part of the page's address after #. The part is a pass, a list of bookings, spare passes, or the mark of the hall's screen. A pass may
+// follow the mark.
 import { textOfFragment } from "./pass.mjs";
 import { recordOfFragment } from "./record.mjs";
 
@@ -8,7 +9,7 @@ export function isScreen(fragment) {
   return SCREEN.test(fragment);
 }
 
-// Its kind, "none", "screen", "record", "spare" or "pass", and its text.
+// Returns the kind of the part ("none", "screen", "record", "spare" or "pass"), and its text.
 export function readFragment(fragment) {
   if (fragment.length < 2) return { kind: "none", text: "" };
   if (isScreen(fragment)) return { kind: "screen", text: textOfFragment(fragment.replace(/^#screen=?/, "#")) };

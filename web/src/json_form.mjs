@@ -1,5 +1,6 @@
-// The form in JSON. JSON.parse accepts texts that the desk refuses (lone surrogates, 2.0 for 2, numbers beyond any, any depth), so texts are
-// read here. A string is a string, an array an array, an object a Map, in which the last of equal names counts, and a number this:
+// The form in JSON. JSON.parse accepts texts that the desk refuses, such as lone surrogates, 2.0 for 2, huge numbers and any depth. So this module
+// reads the texts itself. A JSON string becomes a string, an array an array, and an object a Map. Of equal names in an object the last counts. A
+// number becomes this class:
 import { base64Of, bytesOfBase64 } from "./base64.mjs";
 import { bytesOf, quoted, shown, textOf } from "./bytes.mjs";
 import { checkedSignature } from "./forms.mjs";
@@ -53,7 +54,7 @@ class JsonReader {
     return values;
   }
 
-  // Reads comma-separated items between brackets.
+  // Reads the items between two brackets, with commas between them.
   items(close, depth, readItem) {
     if (depth > DEEPEST_JSON) this.refuse("json-depth", { most: DEEPEST_JSON });
     this.place += 1;
@@ -81,7 +82,7 @@ class JsonReader {
     return new JsonNumber(spelling);
   }
 
-  // No pass has these values, but an overwritten duplicate name may have had one.
+  // No valid pass has these values. But an object may have one under a duplicate name whose last value replaces it.
   word() {
     const word = this.match(/true|false|null/y);
     if (word === null) this.refuse("json-none");
@@ -155,7 +156,7 @@ function member(object, name, named) {
   return optionalMember(object, name, named) ?? malformed("json-missing", { subject: named(name) });
 }
 
-// Returns the bytes of the plain name's text, or of the `64` name, name's base64, or null without either.
+// Returns the bytes of the text under the plain name, or of the base64 under the name that ends with `64`. Returns null if the object has neither.
 function optionalMember(object, name, named) {
   const name64 = `${name}64`;
   if (object.has(name) && object.has(name64)) malformed("json-both", { subject: named(name), other: name64 });
@@ -168,7 +169,7 @@ function checkedText(value, subject) {
   return typeof value === "string" ? value : malformed("json-not-text", { subject });
 }
 
-// The names in the order of their bytes. JSON.stringify writes strings as the desk's writer does.
+// Writes the names in the order of their bytes. JSON.stringify writes strings in the same way as the desk.
 export function writeJson(pass) {
   return JSON.stringify(Object.fromEntries([
     ["c", pass.caveats.map((caveat) => Object.fromEntries([namedBytes("i", caveat)]))],

@@ -1,5 +1,5 @@
-// The browser's stored data other than the record: passes (for the page, the tab, or permanently), the screen's pass, and the language. A pass
-// from a link is kept only with the page's entry in the tab's history, until the member decides to keep it.
+// Keeps the browser's stored data except the record: passes (for the page, the tab, or permanently), the screen's pass, and the language. The page
+// keeps a pass from a link only in the page's entry of the tab's history, until the member decides to store it.
 
 import { splitGiven } from "./pass.mjs";
 import { placeName } from "./place.mjs";
@@ -15,7 +15,7 @@ function storageOf(forGood) {
   return forGood ? globalThis.localStorage : globalThis.sessionStorage;
 }
 
-// Returns whether the browser stored it.
+// Returns whether the browser stored the value.
 function keep(forGood, name, value) {
   try {
     storageOf(forGood).setItem(placeName(name), value);
@@ -37,11 +37,11 @@ function drop(forGood, name) {
   try {
     storageOf(forGood).removeItem(placeName(name));
   } catch {
-    // It kept nothing.
+    // The browser kept nothing.
   }
 }
 
-// Reads a list stored as JSON, and drops invalid items.
+// Reads a list that is stored as JSON. Drops its invalid items.
 function keptList(name, isRight) {
   try {
     const list = JSON.parse(kept(true, name) ?? "[]");
@@ -51,7 +51,7 @@ function keptList(name, isRight) {
   }
 }
 
-// ---- Permanently kept passes, each with a name, most recently used first
+// ---- Permanently stored passes. Each has a name, and the most recently used pass comes first
 
 export function plainName(text) {
   return text.replace(/\s+/g, " ").trim().slice(0, LONGEST_NAME);
@@ -66,12 +66,12 @@ export function keptPasses() {
   return keptList("passes", isKeptPass);
 }
 
-// Returns whether the limit of other kept passes is reached.
+// Returns whether the browser already stores the most other passes.
 export function isPassTooMany(text) {
   return keptPasses().filter((each) => each.text !== text).length >= MOST_PASSES;
 }
 
-// Adds a pass in front of the others, or renames it. Never removes another one.
+// Adds a pass in front of the others. If the pass is already stored, renames it. Never removes another pass.
 export function keepPass(text, name) {
   const others = keptPasses().filter((each) => each.text !== text);
   return !isPassTooMany(text) && keep(true, "passes", JSON.stringify([{ text, name }, ...others]));
@@ -85,7 +85,7 @@ export function dropPass(text) {
   if (passOfPage() === text) holdPass(null);
 }
 
-// ---- The pass of a tab and of a page
+// ---- The pass of a tab, and the pass of a page
 
 export function passOfTab() {
   return kept(false, "pass");
@@ -100,12 +100,12 @@ export function passOfPage() {
   return typeof pass === "string" ? pass : null;
 }
 
-// Cleans the address, and keeps a pass as long as the tab's history has the page.
+// Removes the pass from the address. Keeps the pass as long as the tab's history has the page.
 export function holdPass(text, end = "") {
   try {
     history.replaceState(text === null ? null : { pass: text }, "", location.pathname + end);
   } catch {
-    // The address of a page opened from a folder can't be changed.
+    // The browser can't change the address of a page that was opened from a folder.
   }
 }
 
@@ -119,12 +119,12 @@ function sparesWith(texts) {
   return [...new Set([...keptSpares(), ...texts])];
 }
 
-// Returns the number of spare passes to remove before these fit.
+// Returns how many spare passes the browser must remove before these passes fit.
 export function sparesTooMany(texts) {
   return Math.max(0, sparesWith(texts).length - MOST_PASSES);
 }
 
-// Keeps all of them or none.
+// Keeps all of these spare passes, or none of them.
 export function keepSpares(texts) {
   return sparesTooMany(texts) === 0 && keep(true, "spares", JSON.stringify(sparesWith(texts)));
 }
@@ -137,12 +137,12 @@ function isLoan(each) {
   return typeof each === "object" && each !== null && [each.given, each.says, each.spare].every((text) => typeof text === "string");
 }
 
-// A loan has the pass that was handed on, its sentence, and the spare pass that it is a part of, or "".
+// A loan has the pass that the member handed on, the sentence about it, and the spare pass that it narrows. The spare pass is "" if there is none.
 export function keptLoans() {
   return [...loansOfPage, ...keptList("loans", isLoan)].map(({ given, says, spare }) => ({ given, says, spare, ...splitGiven(given) }));
 }
 
-// Adds a loan. A loan that the browser can't store, or that exceeds the limit, is known until the page is left.
+// Adds a loan. The page keeps a loan that the browser can't store, or that exceeds the limit, until the member leaves the page.
 export function keepLoan({ given, says, spare }) {
   const loan = { given, says, spare };
   const others = keptList("loans", isLoan);
@@ -158,7 +158,7 @@ export function dropLoan({ given }) {
 
 // ---- The rest
 
-// By key, the numbers of the bookings in an exported list.
+// The numbers of the bookings in an exported list, by key.
 export function takenAlong(key) {
   return new Set(keptList(`taken ${key}`, Number.isInteger));
 }
@@ -167,7 +167,7 @@ export function noteTakenAlong(key, numbers) {
   keep(true, `taken ${key}`, JSON.stringify(numbers.slice(-MOST_NOTED)));
 }
 
-// The last search, and the facility and hour of the last booking; both may be from another club.
+// Returns the last search, and the facility and hour of the last booking. Both may come from another club.
 export function keptSearch() {
   const [found] = keptList("search", (each) => typeof each === "object" && each !== null && typeof each.kind === "string"
     && Number.isInteger(each.from) && Number.isInteger(each.to) && each.from >= 0 && each.from < each.to && each.to <= 24);

@@ -1,9 +1,10 @@
-// The page's language: the browser user's first supported one, until another is chosen.
+// The page's language. It is the first language of the browser's user that the page supports, until the user chooses another language.
 /* global WORDS */
 import { byName, element } from "./elements.mjs";
 import { language, languageFor, languages, say, useWords } from "./words.mjs";
 
-// Shows the page, by `sayPage`, in the language chosen earlier or the browser's, and offers the others. `keep` gets a language that is chosen.
+// Shows the page by calling `sayPage`, in the chosen language or in the browser's language. Offers the other languages. The function calls `keep`
+// with each language that the user chooses.
 export function offerLanguages(sayPage, before = null, keep = () => {}) {
   useWords(WORDS, "en");
   const field = byName("language");

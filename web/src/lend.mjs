@@ -6,12 +6,12 @@ import { Fault } from "./pass_faults.mjs";
 
 const MOST_SPENT = 999999999;
 
-// Returns a pass's understood caveats with a name.
+// Returns the caveats of a pass that have this name and that the page understands.
 export function caveatsOf(pass, name) {
   return pass.caveats.map(readCaveat).filter((caveat) => caveat !== null && caveat.name === name);
 }
 
-// Returns the moment when a pass ends, or null.
+// Returns the moment at which a pass ends, or null.
 export function endOf(pass) {
   const ends = caveatsOf(pass, "until").map(({ date, time }) => `${date}T${time}`).sort();
   return ends[0] ?? null;
@@ -25,18 +25,19 @@ export function lastDayOf(pass) {
   return time === "00:00" ? daysLater(day, -1) : day;
 }
 
-// Returns the most points that all bookings of its key may cost, or null.
+// Returns the most points that all bookings under the pass's key may cost, or null.
 export function limitOf(pass) {
   const limits = caveatsOf(pass, "spend").map(({ most }) => most);
   return limits.length > 0 ? Math.min(...limits) : null;
 }
 
-// Returns whether a pass allows a facility on some day and hour.
+// Returns whether a pass allows a facility on at least one day and hour.
 export function allowsFacility(pass, { name, kind }) {
   return caveatsOf(pass, "facility").every(({ facilities }) => facilities.includes(name)) && caveatsOf(pass, "kind").every((caveat) => caveat.kind === kind);
 }
 
-// Returns a loan's lines: for a kind or a facility, to look or to book, until a last day, for points beyond those already spent by the key.
+// Returns the lines of a loan. A loan is for a kind or a facility, to look or to book, until a last day. Its points come on top of the points that
+// the key has already spent.
 export function linesOf({ kind = "", facility = "", isToLook, last, points, spent }) {
   const lines = [];
   if (kind !== "") lines.push(`kind = ${kind}`);
@@ -57,13 +58,13 @@ export function passOrNull(text) {
   }
 }
 
-// Returns the spare passes, as texts, that have a current loan at a moment.
+// Returns the texts of the spare passes that have a loan at a moment.
 export function sparesLent(loans, moment) {
   const goesOn = (pass) => pass !== null && (endOf(pass) ?? "9999") > moment;
   return new Set(loans.filter(({ text, spare }) => spare !== "" && goesOn(passOrNull(text))).map(({ spare }) => spare));
 }
 
-// Returns the spare passes without a loan, in their order.
+// Returns the spare passes that have no loan at a moment, in the same order.
 export function freeSpares(spares, loans, moment) {
   const lent = sparesLent(loans, moment);
   return spares.filter((text) => !lent.has(text)).map((text) => ({ text, pass: passOrNull(text) })).filter(({ pass }) => pass !== null && keyName(pass) !== null);

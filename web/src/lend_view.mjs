@@ -1,4 +1,4 @@
-// Lends a part of a pass: asks what, how, until when and for how many points, then shows the link.
+// Lends a part of a pass. Asks what, how, until when and for how many points, then shows the link.
 import { titleOf } from "./club.mjs";
 import { KINDS, readCaveat } from "./caveats.mjs";
 import { daysLater, isDate } from "./dates.mjs";
@@ -25,7 +25,7 @@ const spentBy = new Map(); // the points spent under each spare pass, by its tex
 const unfit = new Set(); // the texts of spare passes that the desk refuses or that belong to another member
 let isMaking = false;
 
-// Returns the spare passes for a loan. Without the account, the page can't tell which are the same member's.
+// Returns the spare passes that the member can lend. Without the account, the page can't tell which spare passes belong to the same member.
 function sparesToLend() {
   if (denial("account") > 0) return [];
   return freeSpares(keptSpares(), keptLoans(), clubMoment()).filter(({ text }) => !unfit.has(text));
@@ -67,7 +67,7 @@ function valueOf(id) {
   return byName(id).querySelector("input:checked")?.value ?? "";
 }
 
-// Returns the choices, or the key of the text about a missing or wrong one.
+// Returns the member's choices. If a choice is missing or wrong, returns the key of the text about it.
 function chosenLoan() {
   const what = valueOf("lend-what");
   const last = valueOf("lend-until") === "other" ? byName("lend-day").value : valueOf("lend-until");
@@ -81,7 +81,7 @@ function chosenLoan() {
   };
 }
 
-// Describes the loan in a sentence, and mentions the limits of the narrowed pass, if it has any.
+// Describes the loan in a sentence. If the narrowed pass already has limits, the sentence mentions them.
 function loanText({ name, kind, facility, isToLook, last, points }, isOfOwn) {
   const what = kind !== "" ? say(`kinds-${kind}`) : facility !== "" ? titleOf(state.club, facility) : say("lend-everything");
   const loan = say(isToLook ? "lend-says-look" : "lend-says-book", {
@@ -114,7 +114,7 @@ function whyOwn() {
 
 // ---- Making it
 
-// Returns the account under a spare pass, or null if the desk refuses the pass or it is another member's.
+// Returns the account under a spare pass, or null if the desk refuses the pass or the pass belongs to another member.
 async function accountOfSpare(text, member) {
   const reply = await ask(text, "account", {}, 2);
   const isFit = reply.fault === undefined && reply.member === member;
@@ -122,8 +122,8 @@ async function accountOfSpare(text, member) {
   return isFit ? reply : null;
 }
 
-// Returns the pass to narrow with its key's spent points: a free spare pass of the member, otherwise the pass in use. Or returns the desk's
-// refusal of the latter.
+// Returns the pass to narrow, and the spent points of its key. The pass is a free spare pass of the member, otherwise the pass in use. If the desk
+// refuses the pass in use, returns this refusal.
 async function basisOf() {
   const own = denial("account") > 0 ? null : await ask(state.text, "account", {}, 2);
   if (own?.fault !== undefined) return { refusal: own };
@@ -156,7 +156,8 @@ async function lend(event) {
   }
 }
 
-// Makes a loan, shows it, and returns the text to show below. If no spare pass can be used after all, it first says so and makes nothing.
+// Makes a loan, shows it, and returns the text below it. If the member has no usable spare pass after all, it first tells the member so and makes
+// no loan.
 async function makeLoan(loan) {
   const wasOfOwn = sparesToLend().length === 0;
   const { pass, spent, spare, refusal } = loan.isToLook ? { pass: state.pass, spent: 0, spare: "" } : await basisOf();
@@ -230,14 +231,14 @@ function loanCard(loan) {
   const facts = [];
   if (isOver) facts.push(say("lend-over"));
   if (spent !== undefined && limit !== null) facts.push(say("lend-used", { spent: Math.max(0, spent - loan.spent), most: limit - loan.spent }));
-  // A current loan stays: its spare pass is lent.
+  // A current loan stays in the list, because its spare pass is lent.
   const press = isOver ? button("", say("remove"), () => { dropLoan(loan); showLend(); })
     : button("", say("lend-again"), () => showMade(loan.given, loan.says));
   return element("li", isOver ? "card cancelled" : "card booked", element("p", "", loan.says), element("p", "hint", facts.join(" \u00b7 ")),
     element("div", "buttons", press));
 }
 
-// Asks the desk for the points spent under each lent spare pass, and which others can be used.
+// Asks the desk for the points spent under each lent spare pass, and for the usable spare passes among the others.
 async function lookAfterLoans() {
   const lent = sparesLent(keptLoans(), clubMoment());
   for (const text of lent) {
@@ -252,7 +253,7 @@ async function lookAfterLoans() {
 
 // ---- Spare passes
 
-// Spare passes from a link are kept only after the member agrees.
+// Keeps the spare passes in a link only after the member agrees.
 export async function offerSpares(texts) {
   const passes = texts.map(passOrNull);
   if (passes.includes(null) || passes.some((pass) => keyName(pass) === null)) {
@@ -268,7 +269,7 @@ export async function offerSpares(texts) {
   showLend();
 }
 
-// Shows removable spare passes if more came than can be kept. A lent one stays.
+// Shows which spare passes the member can remove, if the link has more spare passes than the browser can keep. A lent spare pass stays.
 function makeRoom(texts, names) {
   const free = freeSpares(keptSpares(), keptLoans(), clubMoment() ?? "").filter(({ text }) => !texts.includes(text));
   const items = free.map(({ text, pass }) => {
@@ -315,7 +316,7 @@ export function setUpLend() {
   byName("lend-share").addEventListener("click", shareLoan);
 }
 
-// Summarizes a narrowed pass for its holder: what it allows, until when, and how many of its points are booked.
+// Summarizes a narrowed pass for its holder: its limits, its end, and how many of its points bookings have used.
 export function passSays(pass) {
   const parts = pass.caveats.map(shortText).filter((part) => part !== "");
   const limit = limitOf(pass);

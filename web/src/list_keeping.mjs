@@ -1,4 +1,4 @@
-// The member's list is only in this browser. The page asks the browser to keep it permanently, and reminds the member to save it.
+// Only this browser has the member's list. The page asks the browser to keep the list permanently, and reminds the member to save the list.
 import { byName, put } from "./elements.mjs";
 import { noteTakenAlong, takenAlong } from "./keeping.mjs";
 import { isLive } from "./record.mjs";
@@ -9,7 +9,7 @@ const REMINDED_FROM = 3; // bookings
 
 let persists = null; // whether the browser promised to keep the list; null if unknown
 
-// A browser asks its user, or decides by itself.
+// Some browsers ask the user, and others decide by themselves.
 export async function askToPersist() {
   if (persists === true) return;
   persists = await navigator.storage?.persist?.().catch(() => null) ?? null;

@@ -1,4 +1,4 @@
-// The page that narrows a pass. It sends nothing, and loads only the club's list, if a server has one.
+// The page that narrows a pass. The page sends nothing. It loads only the club's list, and only from a server that has one.
 import { bytesOf, shown } from "./bytes.mjs";
 import { readClub } from "./club.mjs";
 import { showClub } from "./club_view.mjs";
@@ -10,7 +10,8 @@ import { fact, faultContent, isAboutSlots, keyFacts, keyWarning, leavesOut, limi
 import { drawQr, qrWords } from "./qr_picture.mjs";
 import { say } from "./words.mjs";
 
-// ---- Choices: for each fieldset, by its id, the line that its fields make, or "" if they are empty, in the order of addition.
+// ---- The choices: for the id of each fieldset, the line that its fields make, or "" if they are empty. The lines have the order of their
+// addition.
 
 const CHOICES = {
   kind: kindLine,
@@ -72,10 +73,10 @@ const choices = byName("choices");
 const narrowButton = byName("narrow");
 const result = byName("result");
 
-// The pass read from the entered text, or null.
+// The pass in the entered text, or null.
 let pass = null;
 let club = null; // read from club.json, if it exists
-// Counts withdrawn results. Signing takes a moment, and input during it makes the result outdated.
+// Counts withdrawn results. Signing takes a moment. If the user changes the input during the signing, the result is outdated.
 let round = 0;
 
 function addressOf(text) {
@@ -99,7 +100,7 @@ function readGiven() {
   if (pass !== null) put("given-pass", ...passContent(pass, pass.caveats.length));
 }
 
-// Shows a pass: its key's name, and each of its limits. Those after the first `old` ones are marked as new.
+// Shows a pass with the name of its key and each of its limits. Marks the limits after the first `old` limits as new.
 function passContent(shownPass, old) {
   const { location, form } = shownPass;
   const where = location.length > 0 ? say("location-hint", { location: shown(location) }) : say("none");
@@ -111,7 +112,7 @@ function fieldsIn(id) {
   return [...byName(id).querySelectorAll("input, select")];
 }
 
-// Returns a fieldset's line, "" if it is empty, or null if it is wrong.
+// Returns the line of a fieldset, "" if the fieldset is empty, or null if its input is wrong.
 function chosenLine(id, form) {
   if (fieldsIn(id).some((field) => field.validity.badInput)) return null; // an incomplete date has no value
   const line = CHOICES[id](form);
@@ -123,7 +124,7 @@ function chosenLines() {
   return new Map(Object.keys(CHOICES).map((id) => [id, chosenLine(id, form)]));
 }
 
-// Shows below a fieldset what it adds. Faults are shown when the user leaves it or narrows, not at the first key.
+// Shows below a fieldset the line that it adds. Shows a fault only when the user leaves the fieldset or narrows the pass, not at the first key.
 function showChoice(id) {
   const line = chosenLine(id, new FormData(choices));
   put(`${id}-made`, ...(line ? [sentenceOf(bytesOf(line)), element("code", "", line)] : []));
@@ -146,12 +147,12 @@ function showWrong(id, isWrong) {
 
 function leaveChoice(event) {
   const fieldset = event.target.closest("fieldset");
-  // The button shows it too, and would move away from under a mouse.
+  // A press on the button shows the faults. If a fault appeared now, the button would move away from the mouse.
   if (fieldset === null || fieldset.contains(event.relatedTarget) || event.relatedTarget === narrowButton) return;
   showWrong(fieldset.id, chosenLine(fieldset.id, new FormData(choices)) === null);
 }
 
-// Returns the obstacle to narrowing and its place, or null.
+// Returns the reason why the pass can't be narrowed, and the place of the reason, or null.
 function obstacle(lines) {
   if (!canSign()) return { field: given, message: say("obstacle-sign") };
   if (pass === null) return { field: given, message: say("obstacle-pass") };
@@ -213,7 +214,7 @@ function clearResult() {
   for (const id of ["narrow-fault", "outcome", "narrowed-message", "address-message", "book-address-message"]) put(id);
 }
 
-// Returns notes to read before handing on this pass: titles with texts.
+// Returns the notes that the user should read before handing on this pass. Each note has a title and a text.
 function notesOn(narrower) {
   const { caveats } = narrower;
   if (caveats.some((caveat) => sentenceOf(caveat) === null)) return [[say("note-refused-title"), say("note-refused")]];
@@ -278,7 +279,7 @@ function toggleFacility(name) {
   field.dispatchEvent(new Event("input", { bubbles: true }));
 }
 
-// Marks the chosen facilities, also typed ones.
+// Marks the chosen facilities, including facilities whose names the user typed.
 function markFacilities() {
   const names = namesIn(byName("facility-names").value);
   for (const press of byName("club-facilities").querySelectorAll("button")) press.setAttribute("aria-pressed", String(names.includes(press.dataset.name)));
@@ -292,7 +293,7 @@ function fillHours() {
   byName("hours-to").append(...hours.slice(1).map((hour) => new Option(`${hour}:00`, hour)));
 }
 
-// Below each fieldset: the line it adds, and its fault, which a screen reader reads with its fields.
+// Adds two lines below each fieldset: the line that the fieldset adds to the pass, and its fault. A screen reader reads both with the fields.
 function addMessages(id) {
   const made = element("p", "made");
   made.id = `${id}-made`;
@@ -313,7 +314,7 @@ function takeFragment() {
   readGiven();
 }
 
-// Shows all texts, at the beginning or in another language. The user must make the result again.
+// Shows all texts of the page in the current language. The user must narrow the pass again after a change of the language.
 function sayPage() {
   sayAll();
   if (!canSign()) put("unsigned", element("strong", "", say("unsigned-title")), say("unsigned"));

@@ -1,6 +1,6 @@
-// A pass is a location, an identifier, caveats and a signature, all of them bytes, and the form that it is written in: v1, v2 or
-// json. A caveat is a line that narrows the pass. Each is signed with the signature before it, so any holder of a pass can add one without a
-// secret, and nobody can remove one.
+// A pass has a location, an identifier, caveats and a signature, which are all bytes. It also has the form of its text: v1, v2 or json. A caveat is
+// a line that narrows the pass. The signature before a caveat signs the caveat. So any holder of a pass can add a caveat without a secret, and
+// nobody can remove one.
 import { bytesOfBase64 } from "./base64.mjs";
 import { bytesOf, characters } from "./bytes.mjs";
 import { NAME } from "./caveats.mjs";
@@ -22,7 +22,7 @@ export function readPass(text) {
   return { form, location, identifier, caveats: caveats.map((caveat) => caveat.identifier), signature };
 }
 
-// The first byte tells the form. Spaces around a text, which copying adds, are dropped here.
+// The first byte of a text decides its form. Drops the spaces around a text, because copying may add spaces.
 function unwrapped(spaced) {
   const text = spaced.replace(/^[ \t\r\n]+|[ \t\r\n]+$/g, "");
   if (text.startsWith("{")) return { form: "json", bytes: bytesOf(text) };
@@ -49,7 +49,8 @@ function refuseManyCaveats(count, key) {
   if (count > MOST_CAVEATS) throw new Fault(TOO_MANY, key, { count, most: MOST_CAVEATS });
 }
 
-// Returns the text for a request's field. JSON may have line breaks and letters outside ASCII, so it is sent as V2 if that fits.
+// Returns the text of a pass for a request's field. A pass in JSON may have line breaks and letters outside ASCII. So the page sends it as V2 if V2
+// can encode it.
 export function sentText(pass, text) {
   if (pass.form !== "json" || !text.trim().startsWith("{")) return text.trim();
   try {
@@ -59,20 +60,20 @@ export function sentText(pass, text) {
   }
 }
 
-// Returns the name of a pass's key, or null if its identifier names none.
+// Returns the name of a pass's key, or null if the identifier doesn't name a key.
 export function keyName(pass) {
   const found = new RegExp(`^key:(${NAME})$`).exec(characters(pass.identifier));
   return found === null ? null : found[1];
 }
 
-// Returns the pass in pasted text, which may have a final line feed, or be an address with the pass after #.
+// Returns the pass in a pasted text. The text may end with a line feed, or be an address with the pass after #.
 export function pastedText(pasted) {
   const text = pasted.replace(/\n$/, "");
   return /^\s*(?:https?|file):\/\/[^#]*#/.test(text) ? textOfFragment(text.slice(text.indexOf("#"))) : text;
 }
 
-// A pass may come with the points that its key spent before the loan: `PASS;spent=N`. This number is only shown and not trusted: the desk
-// decides.
+// The text of a pass may also have the points that its key spent before the loan: `PASS;spent=N`. The page only shows this number. It doesn't trust
+// the number, because the desk decides.
 export function withSpent(text, spent) {
   return spent > 0 ? `${text};spent=${spent}` : text;
 }
@@ -82,7 +83,7 @@ export function splitGiven(given) {
   return found === null ? { text: given, spent: 0 } : { text: found[1], spent: Number(found[2]) };
 }
 
-// JSON is escaped in an address.
+// An address contains JSON in escaped form.
 export function textOfFragment(fragment) {
   try {
     return decodeURIComponent(fragment.slice(1));
@@ -97,13 +98,13 @@ export function canSign() {
   return globalThis.crypto?.subtle !== undefined;
 }
 
-// The new signature is the HMAC of the caveat, with the old signature as its key.
+// The new signature is the HMAC of the caveat, with the old signature as the key.
 async function extended(signature, caveat) {
   const key = await crypto.subtle.importKey("raw", signature, { name: "HMAC", hash: "SHA-256" }, false, ["sign"]);
   return new Uint8Array(await crypto.subtle.sign("HMAC", key, caveat));
 }
 
-// Returns the pass with these lines added in order.
+// Returns the pass after adding these lines in their order.
 export async function narrowed(pass, lines) {
   refuseManyCaveats(pass.caveats.length + lines.length, "too-many-would");
   const added = lines.map(bytesOf);

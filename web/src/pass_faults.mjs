@@ -1,5 +1,5 @@
-// The reasons why the desk refuses a text as a pass, in the order of the checks. A fault has a kind, and a sentence as the key of
-// the words' table with values; a value may itself be such a key.
+// The reasons why the desk refuses a text as a pass, in the order in which the desk checks them. A fault has a kind and a sentence. The sentence is
+// a key of the table of words, with values. A value may itself be such a key.
 
 export const LONGEST_TEXT = 8192; // bytes
 export const MOST_CAVEATS = 64;
@@ -22,7 +22,7 @@ export function malformed(key, values) {
   throw new Fault(MALFORMED, key, values);
 }
 
-// The subject of a sentence: the pass, a name in its JSON, a caveat, or a name in that.
+// The subject of a sentence about a fault: the pass, a name in its JSON, a caveat, or a name in the caveat's JSON.
 export const IT = { key: "subject-it" };
 
 export function itsName(name) {
@@ -37,7 +37,7 @@ export function caveatName(number, name) {
   return { key: "subject-caveats", values: { number, name } };
 }
 
-// The faulty part of a pass.
+// Names the part of the pass that has the fault.
 export function part(name) {
   return { key: `part-${name}` };
 }

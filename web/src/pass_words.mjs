@@ -1,4 +1,4 @@
-// Texts about a pass for people, on both pages.
+// Texts about passes for readers, which both pages use.
 import { characters, shown } from "./bytes.mjs";
 import { readCaveat } from "./caveats.mjs";
 import { daysLater, hourText } from "./dates.mjs";
@@ -6,7 +6,7 @@ import { element } from "./elements.mjs";
 import { keyName } from "./pass.mjs";
 import { dateText, listed, say } from "./words.mjs";
 
-// The sentence for each kind of line.
+// The sentence for each kind of caveat.
 const SENTENCES = {
   facility: ({ facilities }) => say("limit-only", { what: listed(facilities) }),
   kind: ({ kind }) => say("limit-only", { what: say(`kinds-${kind}`) }),
@@ -21,12 +21,12 @@ const SENTENCES = {
   actions: ({ words }) => say("limit-actions", { actions: listed(words.map((word) => say(`action-${word}`))) }),
 };
 
-// Midnight is shown as the end of the day before.
+// Shows midnight as the end of the day before.
 export function untilText(date, time) {
   return time === "00:00" ? say("limit-until-end", { day: dateText(daysLater(date, -1)) }) : say("limit-until", { day: dateText(date), time });
 }
 
-// Returns a caveat's sentence, or null if the desk doesn't understand the caveat.
+// Returns the sentence for a caveat, or null if the desk doesn't understand the caveat.
 export function sentenceOf(bytes) {
   const caveat = readCaveat(bytes);
   return caveat === null ? null : SENTENCES[caveat.name](caveat);
@@ -36,7 +36,7 @@ export function faultText(fault) {
   return say(fault.key, fault.values);
 }
 
-// Makes elements for title, message and advice.
+// Makes the elements for a fault's title, message and advice.
 export function faultContent(fault, title = say(`${fault.kind}-title`), advice = say(`${fault.kind}-advice`)) {
   return [element("strong", "", title), element("span", "", faultText(fault)), element("span", "", advice)];
 }
@@ -55,7 +55,7 @@ export function keyWarning(pass) {
   return [element("p", "note", element("strong", "", say("no-key-title")), " ", say("no-key"))];
 }
 
-// Makes a list of a pass's limits. Those after the first `old` ones are marked as new.
+// Makes a list of a pass's limits. Marks the limits after the first `old` limits as new.
 export function limitList(pass, old = pass.caveats.length) {
   const limits = element("ol", "limits", ...pass.caveats.map((caveat, index) => limitContent(caveat, index >= old)));
   limits.setAttribute("aria-label", say("limits"));
@@ -69,7 +69,7 @@ function limitContent(caveat, isNew) {
   return element("li", "", words, ...mark, element("code", "", shown(caveat) || say("empty")));
 }
 
-// Returns for understood lines whether one excludes an action, or allows only requests about a slot.
+// Returns whether an understood line excludes an action, or allows only requests about a slot.
 export function leavesOut(bytes, action) {
   const line = characters(bytes);
   return line.startsWith("actions = ") && !line.includes(action);

@@ -1,4 +1,4 @@
-// The passes of this browser: the one in use, the kept ones, and new ones.
+// The passes of this browser: the pass in use, the stored passes, and new passes.
 import { button, byName, element, put } from "./elements.mjs";
 import { readFragment } from "./fragment.mjs";
 import { dropPass, holdPass, isPassTooMany, keepForTab, keepPass, keptPasses, MOST_PASSES, passOfPage, passOfTab, plainName } from "./keeping.mjs";
@@ -20,7 +20,7 @@ export function isPassShown() {
   return state.pass !== null && !isEntering;
 }
 
-// Uses a pass that was pasted, kept or in a link. Throws a Fault if it isn't a pass.
+// Uses a pass that the member pasted, that the browser stored, or that a link contained. Throws a Fault if the text isn't a pass.
 function takePass(whole) {
   const { text, spent } = splitGiven(whole);
   const pass = readPass(text);
@@ -35,7 +35,7 @@ function takePass(whole) {
   keepTrouble = "";
 }
 
-// Returns a name that no other pass has.
+// Returns a name that no other stored pass has.
 function freeName(name) {
   const taken = new Set([...keptPasses().map((each) => each.name), ...used.values()]);
   for (let count = 1; ; count += 1) {
@@ -50,7 +50,7 @@ function showFault(fault, text) {
   byName("given").setAttribute("aria-invalid", "true");
 }
 
-// Uses the pass in a text; returns whether there was one.
+// Uses the pass in a text. Returns whether the text contained a pass.
 function wasTaken(text) {
   try {
     takePass(text);
@@ -61,8 +61,8 @@ function wasTaken(text) {
   }
 }
 
-// Uses the pass in the address, which is cleaned at once; otherwise the pass of this page or tab, or the one last used in this browser.
-// Returns the kind and text of anything else in the address: a list, or spare passes.
+// Uses the pass in the address, and removes it from the address at once. Without such a pass, uses the pass of this page or tab, or the pass that
+// this browser used last. If the address contains something else, returns its kind and text: a list or spare passes.
 export function findPass() {
   const { kind, text } = readFragment(location.hash);
   const held = passOfPage();
@@ -131,7 +131,7 @@ function useEntered(event) {
   page.begin();
 }
 
-// Keeps the pass in use in addition to the others.
+// Stores the pass in use in addition to the other passes.
 export function keepThis(name = state.name) {
   state.isKept = keepPass(state.given, name);
   if (state.isKept) {
@@ -145,12 +145,12 @@ export function keepThis(name = state.name) {
   return state.isKept;
 }
 
-// Says where the pass is kept, or why it couldn't be.
+// Describes where the browser keeps the pass, or why it can't keep it.
 export function keptText() {
   return say(state.isKept ? "pass-kept" : keepTrouble || "pass-not-kept", { count: MOST_PASSES });
 }
 
-// Forgets the pass in use. Another pass of this browser replaces it.
+// Forgets the pass in use. Another pass of this browser replaces the forgotten pass.
 export function forgetPass() {
   used.delete(state.given);
   dropPass(state.given);
@@ -172,14 +172,14 @@ function loseState() {
   isEntering = false;
 }
 
-// Called when another tab kept or forgot a pass.
+// The page calls this when another tab has stored or forgotten a pass.
 export function keptElsewhere() {
   const isThere = keptPasses().some((each) => each.text === state.given);
   if (state.isKept && !isThere) forgetPass();
   else page.show();
 }
 
-// ---- What is to be seen
+// ---- What the member sees
 
 export function passNotices() {
   if (!isPassShown()) return [];
@@ -198,14 +198,14 @@ export function passNotices() {
   return notices;
 }
 
-// Returns the text for a pass that has ended: when, and what to do. None where it hasn't.
+// Returns the text about a pass that has ended: its end, and what the member can do. Returns none if the pass hasn't ended.
 export function endedContent() {
   const end = state.pass === null || state.club === null ? null : endOf(state.pass);
   if (end === null || end > clubMoment()) return [];
   return [element("strong", "", say("pass-ended")), " ", untilText(...end.split("T")), " ", say("pass-ended-ask"), " ", button("", say("enter-another"), enterAnother)];
 }
 
-// Shows the passes to choose from, if there are several.
+// Shows the passes that the member can choose from, if the browser has several.
 export function showChoice() {
   const names = new Map([...keptPasses().map((each) => [each.text, each.name]), ...used]);
   byName("who-part").hidden = !isPassShown() || names.size < 2;
@@ -223,7 +223,7 @@ export function setUpPasses(whatPageDoes) {
   byName("who").addEventListener("change", (event) => choosePass(event.target.value));
 }
 
-// Shows the pass's name, which the member can change if the pass is kept.
+// Shows the name of the pass. The member can change the name if the browser stores the pass.
 export function nameField() {
   const field = element("input", "");
   Object.assign(field, { id: "pass-name", value: state.name, maxLength: 40, autocomplete: "off" });

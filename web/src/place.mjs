@@ -1,4 +1,4 @@
-// The names of a browser's stored data have another prefix for a trial club.
+// In a trial club, the names of the browser's stored data have another prefix.
 
 let beginning = "";
 

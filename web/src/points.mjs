@@ -1,4 +1,4 @@
-// Returns a booking's cost, and whether the pass is known to refuse it.
+// Returns the cost of a booking, and whether the pass refuses this cost as far as the page knows.
 import { denial } from "./state.mjs";
 
 // `view` is the desk's reply about the slot, or null if the pass doesn't show it.

@@ -1,11 +1,11 @@
-// QR codes (ISO/IEC 18004): a text's bytes as rows of dark and light modules, with error correction level L, which is enough for a screen.
+// QR codes (ISO/IEC 18004). A code has the bytes of a text as rows of dark and light modules. Its error correction level L is enough for a screen.
 
-// For each version up to 25 at level L: error correction codewords per block, and blocks.
+// The number of error correction codewords per block, and the number of blocks, for each version up to 25 at level L.
 const CORRECTION = [7, 10, 15, 20, 26, 18, 20, 24, 30, 18, 20, 24, 26, 30, 22, 24, 28, 30, 28, 28, 28, 28, 30, 30, 26];
 const BLOCKS = [1, 1, 1, 1, 1, 2, 2, 2, 2, 4, 4, 4, 4, 4, 6, 6, 6, 6, 7, 8, 8, 9, 9, 10, 12];
 const LARGEST_VERSION = 25;
 
-// The field of 256 elements, modulo x^8 + x^4 + x^3 + x^2 + 1: powers of 2, and their logarithms.
+// The field of 256 elements, modulo x^8 + x^4 + x^3 + x^2 + 1. The tables have the powers of 2, and the logarithms of the elements.
 const POWERS = [];
 const LOGARITHMS = [];
 for (let exponent = 0, power = 1; exponent < 255; exponent += 1) {
@@ -26,7 +26,7 @@ function alignmentPlaces(version) {
   return [6, ...Array.from({ length: count - 1 }, (_, place) => last - (count - 2 - place) * step)];
 }
 
-// Returns the number of a version's modules that carry bits.
+// Returns how many modules of a version carry bits of the text.
 function carriers(version) {
   const alignments = alignmentPlaces(version).length;
   const patterns = version === 1 ? 0 : (25 * alignments - 10) * alignments - 55;
@@ -41,7 +41,7 @@ function dataLength(version) {
   return codewords(version) - CORRECTION[version - 1] * BLOCKS[version - 1];
 }
 
-// Returns the smallest version for a number of bytes, or null.
+// Returns the smallest version that can contain a number of bytes, or null.
 function versionFor(count) {
   for (let version = 1; version <= LARGEST_VERSION; version += 1) {
     if (4 + (version < 10 ? 8 : 16) + 8 * count <= 8 * dataLength(version)) return version;
@@ -83,7 +83,7 @@ function remainder(data, divisor) {
   return rest;
 }
 
-// Interleaves the blocks' data and error correction.
+// Interleaves the data and the error correction of the blocks.
 function withCorrection(data, version) {
   const count = BLOCKS[version - 1];
   const divisor = generator(CORRECTION[version - 1]);
@@ -118,7 +118,7 @@ class Code {
     this.fixed[y][x] = true;
   }
 
-  // Draws a square around a place, dark by the distance from its centre.
+  // Draws a square around a place. The distance of a module from the centre decides whether the module is dark.
   square(x, y, reach, isDark) {
     for (let dy = -reach; dy <= reach; dy += 1) {
       for (let dx = -reach; dx <= reach; dx += 1) this.fix(x + dx, y + dy, isDark(Math.max(Math.abs(dx), Math.abs(dy))));
@@ -142,7 +142,7 @@ class Code {
     if (this.version >= 7) this.drawVersion();
   }
 
-  // Writes level L and the mask twice, with their own error correction.
+  // Writes level L and the mask twice. Each copy has its own error correction.
   drawFormat(mask) {
     const value = 1 << 3 | mask;
     let rest = value;
@@ -169,7 +169,7 @@ class Code {
     }
   }
 
-  // Fills columns of two from the right, alternately upwards and downwards.
+  // Fills pairs of columns from the right, alternately upwards and downwards.
   drawData(words) {
     let place = 0;
     for (let right = this.size - 1; right >= 1; right -= 2) {
@@ -193,7 +193,7 @@ class Code {
     return copy;
   }
 
-  // Returns the penalty: for runs and squares of one colour, finder-like patterns, and too much of one colour.
+  // Returns the penalty of a code. Runs and squares of one colour, patterns like the finder pattern, and too much of one colour add to the penalty.
   penalty() {
     const lines = [...this.rows, ...this.rows.map((_, x) => this.rows.map((row) => row[x]))].map((line) => line.map(Number).join(""));
     let points = 0;
@@ -212,7 +212,7 @@ class Code {
   }
 }
 
-// Returns the rows of a text's code, or null if it is too long for a code that a telephone can read from a screen.
+// Returns the rows of a text's code. Returns null if a telephone couldn't read such a long code from a screen.
 export function qrRows(text) {
   const bytes = new TextEncoder().encode(text);
   const version = versionFor(bytes.length);

@@ -1,11 +1,11 @@
-// A QR code as a drawing, dark on light in both colour schemes, with the margin that readers want.
+// Draws a QR code, dark on light in both colour schemes, with the margin that QR readers need.
 import { qrRows } from "./qr.mjs";
 
 const SPACE = "http://www.w3.org/2000/svg";
 const MARGIN = 4; // modules
 const DENSE = 90; // modules: a camera must come close to a code of this size
 
-// Null where the text is too long.
+// Returns null if the text is too long.
 export function drawQr(text, label) {
   const rows = qrRows(text);
   if (rows === null) return null;
@@ -22,7 +22,8 @@ export function drawQr(text, label) {
   return picture;
 }
 
-// Returns the key of the text below a link's picture; the picture is null if the link is too long.
+// Returns the key of the text below the picture of a link. The picture is null if the link is too
+// long.
 export function qrWords(picture) {
   if (picture === null) return "lend-qr-none";
   return picture.viewBox.baseVal.width > DENSE ? "lend-qr-dense" : "lend-qr";

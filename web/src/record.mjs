@@ -1,16 +1,16 @@
-// The record of bookings: the requests to the desk and its answers, with an entry for each booking. An entry has:
+// The record of bookings. It has an entry for each booking, with the requests to the desk and the desk's answers. An entry has:
 //
-// - key, number, facility, day, hour: its identity at the desk.
-// - guests: null if only number and slot are known.
-// - book: null while its PUT has no reply, else the reply; an empty object where somebody else has it.
-// - cancel: undefined, or null while its DELETE has no reply, else the reply.
-// - unsure: whether one of its requests was sent and may have been carried out although no reply came.
-// - asked: when the entry was made, in milliseconds.
-// - listed: for an entry from a list, the list's claims: charge, left, refund, cancel. The desk hasn't confirmed any of it to this browser.
-//   So such an entry is never sent automatically, and never counts as cancelled.
-// - saidCancelled: whether a list claims that this browser's own booking was cancelled.
+// - key, number, facility, day, hour: the identity of the booking at the desk.
+// - guests: the number of guests, or null if the browser knows only the booking's number and slot.
+// - book: the reply to the PUT of the booking, or null before the reply. An empty object means that somebody else has the number.
+// - cancel: the reply to the DELETE of the booking, null before the reply, or undefined without a DELETE.
+// - unsure: whether the desk may have carried out a request of this entry although no reply came.
+// - asked: the time when the entry was made, in milliseconds.
+// - listed: the claims of a list about this entry: charge, left, refund, cancel. The desk hasn't confirmed any of these claims to this browser. So
+//   the page never sends a listed entry automatically, and never counts it as cancelled.
+// - saidCancelled: whether a list claims that a booking of this browser was cancelled.
 //
-// The functions of this module return new entries and change none.
+// The functions of this module return new entries, and never change an entry.
 import { isName, NAME } from "./caveats.mjs";
 import { isDate, minutesOf, startOf } from "./dates.mjs";
 import { isOfPass, NUMBER_USED } from "./replies.mjs";
@@ -20,7 +20,7 @@ const FULL_REFUND_MINUTES = 1440;
 export const DAYS_AHEAD = 60;
 export const MOST_GUESTS = 49;
 
-// Draws a number uniformly from 1 to the largest that no entry has.
+// Draws a number that no entry has. All numbers from 1 to the largest number are equally likely.
 export function drawnNumber(used, random = (array) => crypto.getRandomValues(array)) {
   const limit = Math.floor(2 ** 32 / LARGEST_NUMBER) * LARGEST_NUMBER;
   for (;;) {
@@ -35,13 +35,14 @@ export function newBooking(key, number, slot, guests, asked) {
   return { key, number, facility, day, hour, guests, book: null, unsure: false, asked };
 }
 
-// Returns the request to send for an entry: "book", "cancel" or null. An unanswered PUT goes before the DELETE.
+// Returns the request to send for an entry: "book", "cancel" or null. The page sends a PUT without a reply before the DELETE.
 export function unfinished(entry) {
   if (entry.book === null) return "book";
   return entry.cancel === null ? "cancel" : null;
 }
 
-// Returns the entry with the reply to its request. After a refusal of the pass, a request that may have been carried out earlier stays open.
+// Returns the entry with the reply to its request. If the desk refuses the pass, the request stays open if the desk may have carried it out
+// earlier.
 export function answered(entry, action, reply) {
   if (reply.fault !== undefined && isOfPass(reply) && entry.unsure) return { ...entry, stopped: reply };
   const { stopped, saidCancelled, ...rest } = entry;
@@ -54,7 +55,7 @@ export function withCancellation(entry) {
   return { ...rest, cancel: null };
 }
 
-// "asked", "booked", "refused", "cancelling", "cancelled", or "listed" if only a list has it.
+// Returns "asked", "booked", "refused", "cancelling" or "cancelled". Returns "listed" if the entry comes only from a list.
 export function stateOf(entry) {
   if (entry.book === null) return "asked";
   if (entry.book.fault !== undefined) return "refused";
@@ -62,23 +63,23 @@ export function stateOf(entry) {
   return entry.cancel === null ? "cancelling" : "cancelled";
 }
 
-// Returns whether an entry holds places, or may hold some.
+// Returns whether an entry has places in its slot, or may have some.
 export function isLive(entry) {
   return ["asked", "booked", "cancelling"].includes(stateOf(entry)) || (stateOf(entry) === "listed" && entry.listed.refund === undefined);
 }
 
-// Returns whether a listed entry can be sent to the desk: it has guests and no reply.
+// Returns whether the page can send a listed entry to the desk. The entry must have guests and no reply.
 export function canBeAsked(entry) {
   return stateOf(entry) === "listed" && entry.guests !== null && entry.listed.charge === undefined;
 }
 
-// Turns a listed entry into this browser's own request, with the same number; `ofList` says that a list named it.
+// Turns a listed entry into a request of this browser, with the same number. `ofList` records that a list named the number.
 export function withRequest(entry) {
   const { listed, notCancelled, stopped, ...rest } = entry;
   return { ...rest, book: null, unsure: true, ofList: true };
 }
 
-// Returns whether a stored value is an entry; anything else is neither shown nor sent.
+// Returns whether a stored value is an entry. The page neither shows nor sends other values.
 export function isEntry(value) {
   if (typeof value !== "object" || value === null) return false;
   const { key, number, facility, day, hour, guests, book, cancel, listed, asked } = value;
@@ -93,15 +94,15 @@ function isWithin(value, least, most) {
   return Number.isInteger(value) && value >= least && value <= most;
 }
 
-// Returns the points that the desk charged for an entry and keeps. A charge or refund that only a list claims counts as 0.
+// Returns the points that the desk charged for an entry and didn't refund. A charge or refund counts as 0 if only a list claims it.
 export function costOf(entry) {
   return entry.saidCancelled || entry.book?.charge === undefined ? 0 : entry.book.charge - (entry.cancel?.refund ?? 0);
 }
 
-// Compares the record with the desk's count of the key's spent points. Returns "same"; "less" with the possible entries, if the desk counts
-// less, so that a booking was cancelled elsewhere; or "more" if a booking isn't listed. It also returns the difference in points. Null where it
-// can't be said. It is "claims" if the desk counts everything that it confirmed to this browser: only lists are in doubt. No refund exceeds its
-// charge.
+// Compares the record with the desk's count of the points that the key has spent. Returns "same" if they agree, and "more" if a booking isn't in
+// the record. Returns "less" with the possible entries if a booking was cancelled elsewhere. The result also has the difference in points. Returns
+// null if no comparison is possible. Returns "claims" if the desk counts everything that it confirmed to this browser. Then only the claims of
+// lists are in doubt. No refund is larger than its charge.
 export function compared(entries, spent, moment) {
   const counted = entries.filter((entry) => stateOf(entry) !== "refused");
   if (counted.some((entry) => unfinished(entry) !== null || amountsOf(entry).charge === undefined)) return null;
@@ -128,7 +129,8 @@ export function isAt(entry, slot) {
   return entry.facility === slot.facility && entry.day === slot.day && entry.hour === slot.hour;
 }
 
-// Returns whether a refused request needs another number. A listed number may belong to a booking with other guests, which isn't booked twice.
+// Returns whether a refused request needs another number. A listed number may belong to a booking with other guests. The page doesn't book such a
+// booking twice.
 export function wantsOtherNumber(entry) {
   return entry.book?.fault === NUMBER_USED && !entry.ofList;
 }
@@ -141,13 +143,13 @@ export function isTooFarAhead(slot, moment) {
   return minutesOf(startOf(slot)) > minutesOf(moment) + DAYS_AHEAD * 1440;
 }
 
-// Returns charge and places left, from the desk or otherwise from a list.
+// Returns the charge and the places left of an entry. They come from the desk, otherwise from a list.
 export function amountsOf(entry) {
   return entry.book?.charge === undefined ? entry.listed ?? {} : entry.book;
 }
 
-// Returns a cancellation's refund of a charge at a moment: all of it a day or more ahead, otherwise half, rounded down, or null if it is too
-// late.
+// Returns the refund of a charge at a moment. The refund is the whole charge a day or more ahead, otherwise half of it, rounded down. Returns null
+// if it is too late.
 export function refundAt(entry, moment) {
   const { charge } = amountsOf(entry);
   if (hasBegun(entry, moment) || charge === undefined) return null;
@@ -155,8 +157,9 @@ export function refundAt(entry, moment) {
   return isDayAhead ? charge : Math.floor(charge / 2);
 }
 
-// ---- The record as a text: `record of KEY`, and a line for each booking: number, facility, day, hour, and what is known besides, as
-// `guests 2`, `charge 600`, `left 1`, `refund 300`, or `cancel` where a cancellation has no reply yet. deploy/record prints the same.
+// ---- The record as a text. The first line is `record of KEY`, and each other line is a booking with its number, facility, day and hour. The line
+// ends with the known facts, such as `guests 2`, `charge 600`, `left 1` or `refund 300`. The word `cancel` marks a cancellation without a reply.
+// deploy/record prints the same form.
 
 const TITLE = new RegExp(`^record of (${NAME})$`);
 const LINE = new RegExp(`^([1-9][0-9]{0,8}) (${NAME}) (20[0-9]{2}-[0-9]{2}-[0-9]{2}) ([01][0-9]|2[0-3])((?: [a-z]+(?: [0-9]{1,6})?)*)$`);
@@ -177,7 +180,7 @@ function lineOf(entry) {
   return words.join(" ");
 }
 
-// Returns the key and entries of a text, or the number, from 1, of the first invalid line.
+// Returns the key and entries of a text. If a line is invalid, returns the number of the first such line, counted from 1.
 export function readRecord(text, asked) {
   const lines = text.replaceAll("\r", "").split("\n").map((line) => line.trim()).filter((line) => line !== "");
   const key = TITLE.exec(lines[0] ?? "")?.[1];
@@ -212,8 +215,8 @@ function detailsOf(text) {
   return details;
 }
 
-// Merges an entry with a listed one of the same number. The desk's replies to this browser and open requests stay, and a list's claim of a
-// cancellation is noted. Of two lists, the claims of the more complete one are kept.
+// Merges an entry with a listed entry of the same number. The desk's replies to this browser and the open requests stay. The entry notes a list's
+// claim of a cancellation. If both entries come from lists, the claims of the more complete entry stay.
 export function merged(own, other) {
   if (own === undefined) return other;
   if (!isAt(own, other)) return own;
@@ -226,12 +229,12 @@ export function merged(own, other) {
   return place >= 0 && known(other)[place] ? { ...own, guests: other.guests ?? own.guests, listed: other.listed } : own;
 }
 
-// Reads a record from the part of an address after #, with semicolons between lines, and + for a space.
+// Returns a record as the part of an address after #. There, a semicolon separates lines, and + stands for a space.
 export function fragmentOfRecord(text) {
   return `record=${text.trim().slice("record of ".length).replaceAll("\n", ";").replaceAll(" ", "+")}`;
 }
 
-// Null where the fragment is of another kind. Some messengers escape characters of an address.
+// Returns null if the part after # has another kind. Some messengers escape characters of an address.
 export function recordOfFragment(fragment) {
   const found = /^#?record=(.*)$/s.exec(fragment);
   const text = found === null ? null : found[1].replace(/%(?:3B|2B|20)/gi, (escape) => decodeURIComponent(escape));

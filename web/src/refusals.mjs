@@ -1,11 +1,11 @@
-// Explains a refusal of the desk, with advice.
+// Explains a refusal of the desk, and gives advice.
 import { sentenceOf } from "./pass_words.mjs";
 import { whyClosed } from "./club.mjs";
 import { CAVEAT_DENIES, CAVEAT_NOT_UNDERSTOOD, NUMBER_USED, SLOT_CLOSED } from "./replies.mjs";
 import { state } from "./state.mjs";
 import { say } from "./words.mjs";
 
-// The slot, if known, is the requested one.
+// `slot` is the requested slot, or null.
 export function refusalText(reply, action = "book", slot = null) {
   if (reply.fault === NUMBER_USED) return say(action === "cancel" ? "fault-13-cancel" : slot?.ofList ? "fault-13-listed" : "fault-13-book");
   if (reply.fault === CAVEAT_DENIES) return say("fault-12", { limit: limitText(reply.caveat) });
@@ -14,13 +14,13 @@ export function refusalText(reply, action = "book", slot = null) {
   return reason === "" ? say(`fault-${reply.fault}`) : say("fault-17-why", { reason });
 }
 
-// Explains a missing reply by the status that came instead: with 502 and 504 the proxy reached no desk, or a desk that took too long.
+// Explains a missing reply by the status that came instead. At 502 the proxy reached no desk, and at 504 the desk took too long.
 export function noReplyText(status, otherwise) {
   const texts = { 502: "no-reply-502", 503: "fault-22", 504: "no-reply-504" };
   return say(texts[status] ?? otherwise);
 }
 
-// Returns the sentence of a pass's limit by its number, from 1.
+// Returns the sentence for a limit of the pass. `number` is the number of the limit, counted from 1.
 export function limitText(number) {
   const caveat = state.pass?.caveats[number - 1];
   return caveat === undefined ? "" : sentenceOf(caveat) ?? say("limit-odd");

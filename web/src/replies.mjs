@@ -1,7 +1,7 @@
-// Reads replies. A reply is the desk's if its body is JSON of the expected shape, or a fault with the fault's status. Anything else isn't a
-// reply, and doesn't tell what happened to the request.
+// Reads replies. A reply comes from the desk if its body is JSON of the expected shape, or a fault whose status is the response's status. Any other
+// response isn't a reply. It doesn't show whether the desk carried out the request.
 
-// The statuses of the faults, by their numbers.
+// The status of each fault, by the fault's number.
 const STATUSES = {
   1: 400, 2: 404, 3: 405, 4: 401, 5: 400, 6: 400, 7: 400, 8: 400, 9: 401, 10: 403, 11: 403, 12: 403,
   13: 409, 14: 404, 15: 404, 16: 409, 17: 409, 18: 409, 19: 409, 20: 402, 21: 409, 22: 503,
@@ -18,8 +18,8 @@ const UNAVAILABLE = 22;
 
 const TOO_MANY_REQUESTS = 429; // the status comes from the proxy
 
-// No reply of the desk came. `wait` is the wait that the proxy asked for, in milliseconds, if any; `status` is that of the answer, or 0 without
-// one.
+// The desk sent no reply. `wait` is the wait in milliseconds that the proxy asked for, or undefined. `status` is the status of the response, or 0
+// without a response.
 export class NoReply extends Error {
   constructor(what, status = 0, wait = 0) {
     super(what);
@@ -27,7 +27,7 @@ export class NoReply extends Error {
   }
 }
 
-// Throws if the proxy says that there were too many requests.
+// Throws if the response is the proxy's message that there were too many requests.
 export function refuseTooMany(status, retryAfter) {
   if (status === TOO_MANY_REQUESTS) throw new NoReply(`status ${status}`, status, 1000 * (Number(retryAfter) || 1));
 }
@@ -36,7 +36,7 @@ function isCount(value) {
   return Number.isInteger(value) && value >= 0;
 }
 
-// For each kind of request, a test whether a body is a reply to it.
+// For each kind of request, a test of whether a body is a reply to such a request.
 const SHAPES = {
   view: (body, { facility, day, hour }) => body.facility === facility && body.day === day && body.hour === hour
     && isCount(body.price) && isCount(body.places) && isCount(body.taken) && typeof body.closed === "boolean",
@@ -45,7 +45,7 @@ const SHAPES = {
   account: (body) => typeof body.member === "string" && [body.balance, body.quota, body.open, body.spent].every(isCount),
 };
 
-// Returns the reply in a status and a body's text, or throws NoReply.
+// Returns the reply in a response with this status and text, or throws NoReply.
 export function readReply(action, asked, status, text) {
   let body;
   try {
@@ -59,8 +59,8 @@ export function readReply(action, asked, status, text) {
   return body;
 }
 
-// Returns whether a refusal concerns the request's form or its pass. Such a refusal says nothing about an earlier try of the same request, which
-// may have been served.
+// Returns whether a refusal concerns the form of the request or its pass. The desk may have served an earlier try of the same request, and such a
+// refusal doesn't show whether it did.
 export function isOfPass(reply) {
   return reply.fault <= CAVEAT_DENIES;
 }

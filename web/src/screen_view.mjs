@@ -1,5 +1,5 @@
-// The hall's screen: today and tomorrow, without buttons, refreshed each minute. A slot is requested at most once a minute, and only before it
-// begins.
+// The hall's screen shows today and tomorrow, without buttons. It refreshes each minute. The screen requests each slot at most once a minute, and
+// only before the slot begins.
 import { hoursOf, whyClosed } from "./club.mjs";
 import { showClub } from "./club_view.mjs";
 import { daysLater, hourText } from "./dates.mjs";
@@ -30,7 +30,8 @@ function slotsOn(day) {
     .filter((slot) => !hasBegun(slot, moment) && denial("view", slot) === 0);
 }
 
-// Shows the screen with the pass from a link, from this page, or from this browser's storage. A link's pass is kept only if somebody agrees.
+// Shows the screen with the pass from a link, from this page, or from this browser's storage. The browser stores the pass from a link only if
+// somebody agrees.
 export function startScreen(loadClub) {
   document.documentElement.classList.add("hall");
   for (const id of ["welcome", "views", "day", "bookings", "account"]) byName(id).hidden = true;
@@ -56,7 +57,7 @@ function askToKeep() {
     button("", say("keep-yes"), answer(true)), button("", say("keep-no"), answer(false))));
 }
 
-// `loadClub` loads the club's list, or keeps the old one.
+// `loadClub` loads the club's list. If the load fails, it keeps the old list.
 async function runScreen(loadClub) {
   for (;;) {
     await loadClub();

@@ -1,17 +1,18 @@
-// Sends the record's bookings and cancellations until the desk answers. Each request is recorded before it is sent, and each reply after it
-// came. Only one tab of a browser sends at a time, and checks the record first, so that two tabs send nothing twice.
+// Sends the bookings and cancellations in the record until the desk answers. The sender records each request before sending it, and records each
+// reply when it arrives. Only one tab of a browser sends at a time. The tab reads the record before sending, so that two tabs never send the same
+// request.
 import { pauseBefore } from "./desk.mjs";
 import {
   answered, drawnNumber, isAt, isEntry, isLive, newBooking, stateOf, unfinished, wantsOtherNumber, withCancellation, withRequest,
 } from "./record.mjs";
 import { NoReply } from "./replies.mjs";
 
-// The record couldn't be written, so nothing was sent.
+// The browser couldn't store the record, so the page sent nothing.
 export class NotStored extends Error {}
 
 export class Sender {
-  // `store` keeps the entries; `exchange(pass, action, entry)` asks the desk once; `lock(work)` does work while no other tab does;
-  // `pause(milliseconds)`; `changed()` is called after each change; `now()` in milliseconds.
+  // `store` keeps the entries, and `exchange(pass, action, entry)` sends one request to the desk. `lock(work)` runs `work` while no other tab runs
+  // it. `pause(milliseconds)` waits. The sender calls `changed()` after each change. `now()` returns the time in milliseconds.
   constructor({ store, exchange, lock, pause, changed, now = Date.now, draw = drawnNumber }) {
     Object.assign(this, { store, exchange, lock, pause, changed, now, draw });
     this.pass = null; // the text of the pass; `key` is the name of its key
@@ -33,13 +34,14 @@ export class Sender {
     return this.run();
   }
 
-  // Returns the stored entries, without values that no page wrote.
+  // Returns the stored entries. Leaves out values that aren't entries.
   async entries() {
     const stored = (await this.store.all()).filter(isEntry);
     return stored.map((entry) => this.unsaved.get(`${entry.key}/${entry.number}`) ?? entry);
   }
 
-  // Books with a new number; returns the entry, or `second` if the key has this slot already and no second booking is intended.
+  // Books with a new number and returns the entry. Returns `second` if the key already has this slot and the member doesn't intend a second
+  // booking.
   async book(slot, guests, isMeant) {
     const entry = await this.lock(async () => {
       const entries = await this.entries();
@@ -54,7 +56,7 @@ export class Sender {
     return entry;
   }
 
-  // Sends a listed booking to the desk, with its number.
+  // Sends a listed booking to the desk, with the booking's number.
   async askFor(key, number) {
     await this.lock(async () => {
       const entry = await this.store.get(key, number);
@@ -80,7 +82,7 @@ export class Sender {
     this.changed();
   }
 
-  // Follows an entry: calls back at each change with the current entry, even after a new number.
+  // Follows an entry. Calls `call` with the current entry at each change, even after the entry gets a new number.
   follow(entry, call) {
     this.followers.set(`${entry.key}/${entry.number}`, call);
   }
@@ -94,7 +96,7 @@ export class Sender {
     call(entry);
   }
 
-  // Sends all unfinished requests of the pass's key. A second call during the first does nothing.
+  // Sends all unfinished requests of the pass's key. A second call does nothing while the first call runs.
   async run() {
     if (this.running) return;
     this.running = true;
@@ -126,7 +128,7 @@ export class Sender {
     this.wait = 0;
   }
 
-  // Sends an entry's unfinished request once. Returns whether the desk replied, or there was nothing to send.
+  // Sends an entry's unfinished request once. Returns whether the desk replied or the entry had no unfinished request.
   async send(key, number) {
     const name = `${key}/${number}`;
     const entry = this.unsaved.get(name) ?? await this.store.get(key, number);
@@ -149,7 +151,7 @@ export class Sender {
     }
   }
 
-  // Records an entry's result. An entry whose number somebody else used is booked again with another number.
+  // Records an entry's result. If somebody else used the entry's number, the page books again with another number.
   async keep(entry, next) {
     const name = `${entry.key}/${entry.number}`;
     if (unfinished(next) !== null && next.stopped !== undefined) this.stopped.add(name);

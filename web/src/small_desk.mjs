@@ -1,4 +1,4 @@
-// A small desk with the rules of the real one (docs/DESK.md), for trying the page: it keeps a club in this page, and nothing about it is proved.
+// A small desk with the rules of the real desk (docs/DESK.md), for trying the page. It keeps a club in the page, and nothing about it is proved.
 import { bytesOf, characters } from "./bytes.mjs";
 import { allows, readCaveat } from "./caveats.mjs";
 import { minutesOf, startOf } from "./dates.mjs";
@@ -37,8 +37,9 @@ function served(body) {
   return { status: 200, body };
 }
 
-// Members by name: credited, quota. Facilities by name: kind, places, price, opens, shuts. Keys by name: member, root, and whether it is
-// revoked. Slots that are closed, by their names. Bookings: a list, each with its key and number.
+// Each member's name has its credited points and its quota. Each facility's name has its kind, places, price, opening hour and closing hour. Each
+// key's name has its member, its root, and whether the key is revoked. The names of the closed slots. The list of bookings, each with its key and
+// number.
 export class SmallDesk {
   constructor({ members, facilities, keys, closed = [], bookings = [] }) {
     const [memberRows, facilityRows, keyRows] = [members, facilities, keys].map((rows) => new Map(Object.entries(rows)));
@@ -73,7 +74,7 @@ export class SmallDesk {
     return this.bookings.find((each) => each.key === key && each.number === number);
   }
 
-  // Returns a reply's status and body: `asked` has an action, a slot, a number and guests; the moment is the club's.
+  // Returns the status and body of a reply. `asked` has an action, a slot, a number and guests. The moment is on the club's clock.
   async answer(text, asked, moment) {
     let pass;
     try {

@@ -1,4 +1,4 @@
-// The page's current state, and values that all views derive from it.
+// The current state of the page, and values that all views derive from it.
 import { firstDenial } from "./caveats.mjs";
 import { momentIn } from "./dates.mjs";
 import { serverTime } from "./desk.mjs";
@@ -24,7 +24,7 @@ export const state = {
 
 let shownMoment = { minute: null, zone: null, text: "" };
 
-// Returns the moment at the club, or null if its zone isn't known.
+// Returns the current moment at the club, or null if the page doesn't know the club's zone.
 export function clubMoment() {
   if (state.club === null) return null;
   const minute = Math.floor(serverTime() / 60000);
@@ -42,19 +42,20 @@ export function withKind(slot) {
   return { ...slot, kind: facilityOf(state.club, slot.facility)?.kind ?? null };
 }
 
-// Returns the number, from 1, of the caveat that denies a request, or 0, as far as the page can tell; the desk decides.
+// Returns the number of the first caveat that denies a request, counted from 1, or 0. The page may not know every denial; the desk decides.
 export function denial(action, slot, more = {}) {
   const place = slot === undefined ? undefined : withKind(slot);
   return firstDenial(state.pass, { action, moment: clubMoment() ?? "2000-01-01T00:00", slot: place, spent: spentOfKey(), ...more });
 }
 
-// Returns the key's spent points: the desk's count, otherwise those that came with the pass and those booked in this browser.
+// Returns the points that the key has spent. The desk reports them. Before its report, they are the points that came with the pass plus the points
+// of bookings in this browser.
 export function spentOfKey() {
   return state.account?.spent ?? ownEntries().reduce((sum, entry) => sum + (isLost(entry) ? 0 : costOf(entry)), state.base);
 }
 
-// Returns whether an entry's slot has too few persons, so that the booking is gone or never existed. Listed persons cast no doubt on bookings
-// that the desk confirmed.
+// Returns whether the slot of an entry has too few persons. Then the booking is gone or never existed. The persons of listed bookings cast no doubt
+// on bookings that the desk confirmed.
 export function isLost(entry) {
   const found = state.taken.get(slotName(entry));
   const isThere = (each) => isLive(each) && (stateOf(each) === "booked" || (stateOf(each) === "listed" && stateOf(entry) === "listed"));
@@ -70,13 +71,13 @@ export function liveAt(slot) {
   return ownEntries().filter((entry) => isLive(entry) && isAt(entry, slot));
 }
 
-// The same for listed entries, if the slot has fewer persons than all of them need.
+// Returns the key's live entries at a slot. Leaves out listed entries if the slot has fewer persons than all these entries need.
 export function ownAt(slot, view) {
   const live = liveAt(slot);
   return view !== null && view.taken < personsOf(live) ? live.filter((entry) => stateOf(entry) !== "listed") : live;
 }
 
-// Returns whether requests that must be recorded first can be sent.
+// Returns whether the page can send requests that it must record first.
 export function canSend() {
   return state.sender !== null && state.key !== null;
 }

@@ -1,4 +1,5 @@
-// The record's storage: IndexedDB. A promise of `put` resolves once the browser has the data on the disk.
+// The record's storage: IndexedDB. The promise of `put` resolves when the browser has written the data to
+// the disk.
 import { placeName } from "./place.mjs";
 
 const ENTRIES = "bookings";
@@ -16,7 +17,7 @@ export class Store {
     this.database = database;
   }
 
-  // Throws if the browser stores nothing.
+  // Throws if the browser can't store data.
   static async open() {
     const request = indexedDB.open(placeName("desk"), 1);
     request.addEventListener("upgradeneeded", () => request.result.createObjectStore(ENTRIES, { keyPath: ["key", "number"] }));
@@ -33,7 +34,7 @@ export class Store {
     return finished(this.database.transaction(ENTRIES).objectStore(ENTRIES).get([key, number]));
   }
 
-  // Writes all of these entries or none.
+  // Writes all of these entries, or none of them.
   put(...entries) {
     return this.change((entriesOf) => entries.forEach((entry) => entriesOf.put(entry)));
   }

@@ -1,5 +1,5 @@
-// The words of the page, in the language of whoever reads it. A table a language: keys with sentences, which hold values in braces. An
-// entry of two sentences is for one and for several: of `count`. bin/pages puts the tables into the page.
+// The texts of the page, in the reader's language. Each language has a table. The table maps keys to sentences, and a sentence may have values in
+// braces. An entry may have two sentences: one for a `count` of 1, and one for every other `count`. bin/pages puts the tables into the page.
 
 let tables = {};
 let table = {};
@@ -19,12 +19,13 @@ export function languages() {
   return Object.keys(tables);
 }
 
-// The first language that somebody reads and that there is a table of, else English.
+// Returns the first language in the list that has a table, otherwise English.
 export function languageFor(wanted) {
   return wanted.map((tag) => tag.slice(0, 2).toLowerCase()).find((tag) => tag in tables) ?? "en";
 }
 
-// The sentence of a key. A value that is a number is grouped, one with a key of its own is said, and any other is put in as it is.
+// Returns the sentence of a key. Groups the digits of a number. Replaces a value that has a key by the sentence of the key, and uses every other value
+// unchanged.
 export function say(key, values = {}) {
   const entry = table[key];
   if (entry === undefined) throw new Error(`no words for ${key}`);
@@ -41,12 +42,12 @@ export function grouped(number) {
   return String(number).replace(/\B(?=(?:[0-9]{3})+$)/g, table["group-mark"]);
 }
 
-// Words with commas between them, and `or` before the last.
+// Returns the words with commas between them, and `or` before the last word.
 export function listed(words) {
   return words.length === 1 ? words[0] : say("list-or", { others: words.slice(0, -1).join(", "), last: words.at(-1) });
 }
 
-// ---- Dates. They are the club's: no time zone comes in, UTC only counts the days.
+// ---- Dates. Formats the club's dates. No function uses a time zone, and UTC only serves to count days.
 
 function dateValues(day) {
   const date = new Date(`${day}T00:00Z`);
@@ -56,17 +57,17 @@ function dateValues(day) {
   };
 }
 
-// As "Friday 1 May 2026".
+// Formats a day as "Friday 1 May 2026".
 export function dateText(day) {
   return say("date", dateValues(day));
 }
 
-// As "Friday 1 May".
+// Formats a day as "Friday 1 May".
 export function dayText(day) {
   return say("date-of-year", dateValues(day));
 }
 
-// As "Fri 1 May".
+// Formats a day as "Fri 1 May".
 export function shortDayText(day) {
   const { weekday, month, day: number } = dateValues(day);
   return say("date-short", { weekday: weekday.slice(0, Number(table["weekday-letters"])), month: month.slice(0, 3), day: number });
