@@ -1,14 +1,15 @@
 #!/usr/bin/env python3
-"""docs/AUDIT.md, docs/COMPUTED.md and the paths of docs/TOUR.md hold, and so do the contracts that docs/PROMISES.md cites.
+"""docs/AUDIT.md, docs/COMPUTED.md, the paths of docs/TOUR.md, and the contracts that docs/PROMISES.md cites are up to date.
 
-These contracts exist, and rest on no computing definition but three. The vectors' marks hold, too.
+The test checks that the cited contracts exist, and that they depend on only three computing definitions. It also checks the marks of the vectors.
 
-AUDIT lists the definitions that a reader must trust for each promise. Each contract that PROMISES cites exists. It rests on no computing
-definition except the three that the page names; neither does a ghost's value. Each contract in COMPUTED rests on one. The vectors hold for the
-rules in Python (`tests/reference`), which marks the definitions that they show. Each step of a path in TOUR is cited by the one before it.
-Writes docs/AUDIT.md, unless it is asked to check.
+AUDIT lists the definitions that a reader must trust for each promise. The test checks that each contract that PROMISES cites exists. Such a
+contract may depend on no computing definition except the three that the page names. The value of a ghost may depend on none either. Each contract
+in COMPUTED must depend on a computing definition. The vectors must hold for the rules in Python (`tests/reference`), which mark the definitions
+that the vectors show. Each step of a path in TOUR must cite the next step. Without an option, the program writes docs/AUDIT.md.
 
-It reads the promises of docs/PROMISES.md, the clauses that carry them, and the definitions below these, by tests/lib/definitions.py.
+The program reads the promises in docs/PROMISES.md, the clauses that carry them, and the definitions that the clauses cite. tests/lib/definitions.py
+reads the definitions.
 
     tests/audit.py                  writes docs/AUDIT.md
     tests/audit.py --check          says whether it is current
@@ -40,18 +41,19 @@ from spec_files import COMPUTED, OF_SPECS, ROOT
 PAGE = ROOT / "docs" / "AUDIT.md"
 PROMISES = ROOT / "docs" / "PROMISES.md"
 TOUR = ROOT / "docs" / "TOUR.md"
-# What comments say of where definitions are from.
+# The words with which a comment names the source of a definition.
 SOURCES = (r"RFC \d+", r"FIPS [\d-]+", r"NDSS \d+", r"libmacaroons")
-# Methods that std's types have too, so that a name alone doesn't tell the type.
+# Methods that types of std also have. The name of such a method doesn't determine the type.
 OF_STD = set("len is_empty push iter next clone as_slice as_bytes as_str into_iter map unwrap unwrap_or ok_or expect write read remove".split())
 
 
 class Fault(Exception):
-    """Says why there is no page."""
+    """Explains why the page can't be made."""
 
 
 def clauses_of(book, function, labels=()):
-    """Yields (file, function, label, text, place) for each clause with one of the labels, or for all clauses of a function."""
+    """Yields (file, function, label, text, place) for each clause that has one of the labels. Without labels, yields all clauses of the
+    function."""
     *before, name = function.split("::")
     owner = next((it for it in before if it[0].isupper()), None)
     crate = before[0] if before and before[0] in book.crates else "club_gate"
@@ -70,7 +72,7 @@ def clauses_of(book, function, labels=()):
 
 
 def below_all(book, function):
-    """Returns the definitions below all clauses of a function."""
+    """Returns the definitions that all clauses of a function cite, directly or not."""
     cited = []
     for file, _, _, text, start in clauses_of(book, function):
         found, unknown = file.cited_by(start, text)
@@ -81,7 +83,7 @@ def below_all(book, function):
 
 
 class Promise:
-    """A promise of docs/PROMISES.md: its title, and the clauses that carry it, with the record fields that count."""
+    """A promise of docs/PROMISES.md, with its title and the clauses that carry it. It also has the record fields that count."""
 
     def __init__(self, book, number, line):
         self.book, self.number = book, number
@@ -106,7 +108,7 @@ class Promise:
         self.below += [it for it in heads if it not in self.below]
 
     def read(self):
-        """Returns the words that the clauses cite. For a record with named fields, returns only the words of those fields, and the record."""
+        """Returns the words that the clauses cite. For a record with named fields, returns only the record and the words of these fields."""
         cited, heads, used = [], [], set()
         for file, _, _, text, start in self.clauses:
             found, unknown = file.cited_by(start, text)
@@ -127,7 +129,7 @@ class Promise:
 
     @property
     def words(self):
-        """Formats the carriers for the page."""
+        """Formats the clauses that carry a promise for the page."""
         carriers = [f"`{function}`" + (f": `{'`, `'.join(labels)}`" if labels else "") for function, labels in self.carriers]
         return "; ".join(carriers) + (f" (`{'`, `'.join(self.fields)}`)" if self.fields else "")
 
@@ -144,13 +146,13 @@ def named_as_computing():
 
 
 def source_of(comments):
-    """Returns the sources that a file's head and the comments of its definitions cite. Definitions without one are ours."""
+    """Returns the sources that the head of a file and the comments of its definitions cite. A definition without a source is our own."""
     found = [it[0] for pattern in SOURCES for it in re.finditer(pattern, comments)]
     return ", ".join(dict.fromkeys(found))
 
 
 def in_reading_order(book, files):
-    """Orders files from the standards up: crates as in crates.txt, and the files of a crate after those that they import."""
+    """Sorts files, beginning with the standards. Crates have the order of crates.txt, and a file comes after the files that it imports."""
     done = []
 
     def visit(file):
@@ -218,11 +220,12 @@ class Audit:
         yield f"| together | | {len(plain)} | {sum(it.lines for it in plain)} | {len(specs) - len(plain)} | {len(types)} |"
 
     def functions(self):
-        """Returns the functions whose clauses carry promises."""
+        """Returns the functions that have a clause that carries a promise."""
         return list(dict.fromkeys(function for promise in self.promises for function, _ in promise.carriers))
 
     def beside(self):
-        """Returns the computing definitions below the other clauses of those functions, and below ghosts' values in any of them."""
+        """Returns the computing definitions that the other clauses of these functions cite, and those that the values of ghosts in any clause
+        cite."""
         found = {id(it): it for function in self.functions() for it in below_all(self.book, function)}
         for ghost in [it for it in found.values() if it.kind == "ghost"]:
             found.update((id(it), it) for *_, below in self.book.standing_for(ghost) for it in below)
@@ -233,7 +236,7 @@ class Audit:
         return sorted((it for it in self.every.values() if it.is_computed and it.kind in OF_SPECS), key=lambda it: (it.module, it.line))
 
     def first_computed(self):
-        """Returns the computing definitions that a clause or another definition cites, with the citing ones."""
+        """Returns the computing definitions that a clause or another definition cites, each with what cites it."""
         found = defaultdict(set)
         for it in self.every.values():
             if not it.is_computed:
@@ -254,7 +257,7 @@ class Audit:
                 yield f"- `{it.name}` in `{it.file}`, by {names}"
 
     def further_faults(self):
-        """Returns the computing definitions that only computing ones cite, by file."""
+        """Returns, by file, the computing definitions that only computing definitions cite."""
         cited, by_file = self.first_computed(), defaultdict(list)
         for it in self.computed():
             if id(it) not in cited:
@@ -262,7 +265,8 @@ class Audit:
         return "; ".join(f"{', '.join(names)} in `{file}`" for file, names in by_file.items())
 
     def definitions_of(self, crate):
-        """Returns a crate's definitions by file. Neighbours with the same promises and mark share an item; a single one follows its file."""
+        """Returns a crate's definitions by file. Neighbouring files with the same promises and mark share an item. A single definition comes after
+        its file."""
         listed = [it for it in self.every.values() if it.crate == crate and it.kind in OF_SPECS and not it.is_computed]
         for file in in_reading_order(self.book, [self.book.specs[module] for module in {it.module for it in listed}]):
             own = sorted((it for it in listed if it.module == file.module), key=lambda it: it.line)
@@ -305,12 +309,12 @@ class Audit:
     # ---- other trusted parts
 
     def libraries_below(self, promise):
-        """Returns the crates whose code a promise's functions call: their own crates, and those below."""
+        """Returns the crates whose code the functions of a promise call: the functions' own crates and the crates that these depend on."""
         own = {file.crate for file, *_ in promise.clauses}
         return own | crates_below(own)
 
     def calls(self):
-        """Returns our crates' calls of each library by name, with the promises above them."""
+        """Returns the calls of each library in our crates, by name, with the promises that depend on them."""
         page = subprocess.run(["rt", "doc"], capture_output=True, text=True, check=False).stdout if shutil.which("rt") else ""
         kit = Path(page.strip() or "/none").parent / "rattle"
         if not kit.is_dir():
@@ -339,7 +343,7 @@ class Audit:
         return found, promises
 
     def words_of(self):
-        """Returns the words of each library's specs that the definitions cite, with their promises."""
+        """Returns the words in each library's specs that the definitions cite, each with its promises."""
         found, promises = defaultdict(set), defaultdict(set)
         for promise in self.promises:
             for it in promise.of("library"):
@@ -428,13 +432,14 @@ class Audit:
     # ---- what pages cite
 
     def named(self):
-        """Returns the computing definitions that docs/PROMISES.md names, and those that only they cite."""
+        """Returns the computing definitions that docs/PROMISES.md names, and the definitions that only these cite."""
         first = named_as_computing()
         return first | {it.name for it in closure([it for it in self.computed() if it.name in first]) if it.is_computed and it.kind in OF_SPECS}
 
     def citing(self):
-        """Returns faults in the pages' tables. For docs/PROMISES.md these are unreadable citations, and contracts that reach a computing
-        definition that the page doesn't name. For docs/COMPUTED.md they are contracts that reach none."""
+        """Returns the faults in the tables of the pages. In docs/PROMISES.md, one kind of fault is a citation that can't be read. Another is a
+        contract that depends on a computing definition that the page doesn't name. In docs/COMPUTED.md, a fault is a contract that depends on no
+        computing definition."""
         contracts, named = Contracts(self.book), self.named()
         for page in (PROMISES, COMPUTED):
             for citation in citations(page.read_text(encoding="utf-8")):
@@ -451,8 +456,7 @@ class Audit:
     # ---- paths
 
     def paths(self):
-        """Returns faults in the paths of the tour's second part, where each step must be a clause or a definition that the previous step
-        cites."""
+        """Returns the faults in the paths of the tour's second part. Each step must be a clause or a definition that the previous step cites."""
         text = TOUR.read_text(encoding="utf-8").partition("\n# ")[2]
         for question in re.split(r"^## ", text, flags=re.MULTILINE)[1:]:
             title, cited = question.splitlines()[0], None

@@ -1,7 +1,7 @@
-"""Fixtures of the tests that pytest runs: the programs, clubs in files, and a separate server for each request, with its answers.
+"""Fixtures for the tests that pytest runs: the programs, clubs in files, and a separate server for each request.
 
-Files are in memory, where a sync costs nothing. With `--scripts` pytest imports no file of Python: each program of tests/ is one test, which
-tests/lib/scripts.py runs. tests/run calls it so."""
+The files are in memory, where a sync costs no time. With `--scripts`, pytest imports no Python file. Each program of tests/ is then one test, which
+tests/lib/scripts.py runs. tests/run calls pytest with this option."""
 
 import json
 import shutil
@@ -38,7 +38,7 @@ def pytest_unconfigure(config):
 
 
 class Script(pytest.Item):
-    """A run of a program in tests/, with its marks."""
+    """A run of a program in tests/, with the program's marks."""
 
     def __init__(self, *, test, **more):
         super().__init__(**more)
@@ -62,7 +62,7 @@ class Script(pytest.Item):
 
 
 class ScriptFile(pytest.File):
-    """A program in tests/ with its runs."""
+    """A program in tests/, with its runs."""
 
     def collect(self):
         asked = self.config.option.scripts.split(",")
@@ -77,7 +77,7 @@ def pytest_collect_file(file_path, parent):
 
 
 def pytest_runtest_logreport(report):
-    """This also holds if a worker ended before its test: then the report has no result."""
+    """If a worker ends before its test, the report has no result, and the test counts as failed."""
     config = report_to.get("config")
     found = dict(report.user_properties).get("found")
     if config and (found and report.when == "call" or not found and report.failed):
@@ -107,18 +107,18 @@ def pytest_sessionfinish(session):
 
 
 class Club:
-    """A club in its own file."""
+    """A club in a file of its own."""
 
     def __init__(self, program, file):
         self.program, self.file = program, file
 
     def command(self, *words):
-        """The status of a command of `clubdesk` with the club as its file, and what it prints on both outputs."""
+        """Runs a command of `clubdesk` with the club as its file. Returns the command's status, and what it prints on both outputs."""
         command, *rest = words
         return desk.command(self.program, command, self.file, *rest)
 
     def does(self, *commands):
-        """Runs commands that must succeed; returns the last one's output."""
+        """Runs commands that must succeed. Returns the output of the last command."""
         printed = ""
         for words in commands:
             status, printed, fault = self.command(*words.split())
@@ -126,7 +126,7 @@ class Club:
         return printed.rstrip("\n")
 
     def balance(self, key):
-        """Returns the points of a key's member, from a server's door or from the file."""
+        """Returns the points of the member who owns a key, from a server's door or from the file."""
         return int(dict(line.split(" ", 1) for line in self.does(f"show-account {key} --at {kinds.NOON}").splitlines())["balance"])
 
     def sql(self, statement):
@@ -134,16 +134,16 @@ class Club:
             return database.execute(statement).fetchall()
 
     def served(self, *words, count=None, at=kinds.NOON, **more):
-        """Starts a server on the club for a number of connections, or until the end of the block."""
+        """Starts a server on the club. The server ends after a number of connections, or at the end of the block."""
         return desk.Server(self.program, self.file, count, "--at", at, *words, **more)
 
     def ask(self, data, at=kinds.NOON, **more):
-        """Returns a separate server's answer to the bytes of a request."""
+        """Sends the bytes of a request to a separate server, and returns the server's answer."""
         with self.served(count=1, at=at, **more) as it:
             return Reply(it.exchange(data))
 
     def play(self, steps):
-        """Plays the steps of a scene, compares the answers, and returns the replies."""
+        """Runs the steps of a scene, compares the answers, and returns the replies."""
         replies = []
         for step in steps:
             if isinstance(step, kinds.Sql):
@@ -168,7 +168,7 @@ def clubdesk():
 
 @pytest.fixture(scope="session")
 def passtool():
-    """Runs passtool; returns its status and both outputs."""
+    """Runs passtool. Returns its status and both outputs."""
     program = desk.program("passtool")
 
     def run(*words, given=""):
@@ -198,7 +198,7 @@ def new_club(clubdesk, tmp_path_factory):
 
 @pytest.fixture(scope="session")
 def made(new_club):
-    """The club that each test gets a copy of. A test file may define another one."""
+    """Each test gets its own copy of this club. A test file may define another club."""
     club = new_club()
     club.play(kinds.COMMANDS)
     return club

@@ -1,13 +1,15 @@
 #!/usr/bin/env python3
-"""A program of before and one of now, `passtool` or `clubdesk`, answer the same arguments alike.
+"""An old and a new program, `passtool` or `clubdesk`, answer the same arguments in the same way.
 
     tests/desk/arguments_as_before.py BEFORE NOW
 
-Run this after a change to argument reading that must not change behaviour. The last part of the two paths names the program. The test plays some
-400 command lines: help, versions, each argument correct, wrong, repeated or missing, two or three faults at once, words after `--`, and bytes that
-aren't text. Each line of `clubdesk` gets its own folder. A `serve` line names a folder as its database, so that it ends. The test compares status,
-standard output and standard error byte for byte, prints each line that differs, and prints the counts last. The status is 1 if a line differs.
-`tests/run` has no program of before, so it doesn't play this test."""
+Run this test after a change to the code that reads arguments, if the change must not affect the programs'
+behaviour. The last part of both paths is the name of the program. The test runs some 400 command lines. They
+have help, versions, and arguments that are correct, wrong, repeated or missing. They also have several faults
+at once, words after `--`, and bytes that aren't text. Each command line of `clubdesk` gets a folder of its
+own. A `serve` line names a folder as its database, so that the server ends at once. The test compares status,
+standard output and standard error byte for byte. It prints each line that differs, and finally the counts.
+The status is 1 if a line differs. `tests/run` doesn't run this test, because it has no old program."""
 
 import subprocess
 import sys
@@ -21,7 +23,8 @@ FORMS = [[], ["--form", "v1"], ["--form=json"], ["--form", "v3"], ["--form="], [
 CAVEATS = [[], ["guests <= 2"], ["no caveat"], ["kind = court", "no caveat", "nor this"], ["--", "-1", "guests <= 2"]]
 COMMANDS = ["mint", "show", "narrow", "convert", "verify"]
 KEY_ROOT = "000102030405060708090a0b0c0d0e0f"
-# The arguments of each command of clubdesk: good values for each place, then bad ones. FOLDER is no database.
+# The arguments of each clubdesk command: first valid values for each argument, then invalid values. FOLDER
+# isn't a database.
 FOLDER = "."
 WORDS = {
     "add-member": ([FOLDER, "amy", "5"], ["", "Amy", "5x"]),
@@ -49,7 +52,7 @@ PATIENCES = [["--patience", "1"], ["--patience=0"], ["--patience", "3601"], ["--
 
 
 def texts(commands):
-    """Arguments that ask for a text, or that name no command."""
+    """Arguments that ask for a text, and arguments that name no command."""
     first, second = commands[:2]
     yield from ([], [""], ["--help"], ["-h"], ["--version"], ["-V"], ["-hV"], ["-Vh"], ["help"], ["help", "help"], ["help", "none"],
                 ["help", first, second], ["none"], [first.title()], [first[:3]], ["--"], ["--", second], ["-"], ["-x"], ["--root", ROOT],
@@ -89,7 +92,7 @@ def readers():
 
 
 def orders():
-    """The commands of clubdesk by their words, and those with a root by their options."""
+    """The commands of clubdesk by their words, and the commands with a root by their options."""
     for command, (good, bad) in WORDS.items():
         options = ["--port=0", "--count=1"] if command == "serve" else []
         yield from ([command, *options, *good[:n]] for n in range(len(good) + 1))
@@ -112,7 +115,7 @@ def clocks():
 
 
 def runs():
-    """Lines that use a database, which is new for each."""
+    """Command lines that use a database. Each line gets a new database."""
     for command, (good, bad) in WORDS.items():
         if command != "serve":
             yield from ([command, "club.db", *good[1:]], [command, "club.db", *bad[1:]])

@@ -1,10 +1,11 @@
 #!/usr/bin/env -S /usr/bin/python3 -B -m pytest -q -p no:cacheprovider
 """Each acknowledged booking of 200 is in the file once, although servers are killed meanwhile.
 
-The same requests then get the same replies.
+The same requests then get the same replies again.
 
-The kills come at times drawn from a fixed seed. sqlite3, the day sheets and GETs find each acknowledged booking; the booking in progress may be
-there too, complete. The totals are the sums. At the end all 200 bookings are there, once. ROUNDS=N kills N servers.
+A fixed seed determines the times of the kills. sqlite3, the day sheets and GETs find each acknowledged
+booking. The booking in progress may be in the file too, but only complete. The totals are the sums of the
+bookings. At the end the file has all 200 bookings, each once. ROUNDS=N kills N servers.
 """
 
 import os
@@ -26,13 +27,14 @@ MOMENT, MAY = caveats.moment_of(NOON), caveats.day_of("2026-05-01")
 DAYS = range(MAY, MAY + 8)
 KEYS = [text(key_pass(f"k{key}")) for key in range(1, 5)]
 SLOTS = [f"/slots/court-1/{spelled_day(MAY + slot // 14)}/{8 + slot % 14:02}" for slot in range(100)]
-# Of the two bookings in a slot, the first is for two persons and the second for one.
+# The first booking in a slot is for two persons, and the second booking is for one.
 PUTS = [Row("PUT", f"{SLOTS[it // 2]}/bookings/{it + 1}", ONE if it % 2 else TWO, KEYS[it % 4]).data for it in range(200)]
 GETS = [Row("GET", path, passed=KEYS[0]).data for path in SLOTS] + [ACCOUNT.under(it).data for it in KEYS]
 
 
 class Desk(Both):
-    """Four members, each with a key, and a court with 4 places for 7 points. 10,000 points are enough."""
+    """Four members with a key each, and a court with 4 places for 7 points. 10,000 points are enough for
+    a member."""
 
     def __init__(self, program, file):
         super().__init__(program, file)
@@ -50,7 +52,7 @@ class Desk(Both):
                 self.ask(it, data, MOMENT)
 
     def holds(self):
-        """The file has the bookings of the reference, each once, and nothing else."""
+        """The file has exactly the bookings of the reference, each once."""
         expect("unsound", desk.unsound(self.file), [])
         self.compare_rows()
         for day in DAYS:
@@ -58,7 +60,8 @@ class Desk(Both):
         self.asks(GETS)
 
     def killed_after(self, seconds):
-        """Returns the replies of a server that is killed this long after the first request began."""
+        """Returns the replies of a server. The test kills the server this long after the first request
+        began."""
         replies = []
         with self.server() as it:
             client = threading.Thread(target=lambda: replies.extend(it.exchange(data) for data in PUTS))
@@ -71,7 +74,7 @@ class Desk(Both):
 
 @pytest.fixture(scope="module")
 def seconds(clubdesk, tmp_path_factory):
-    """Returns the time that the bookings take."""
+    """Returns the time that the bookings take without a kill."""
     club = Desk(clubdesk, tmp_path_factory.mktemp("whole") / "club")
     start = time.monotonic()
     club.asks(PUTS)

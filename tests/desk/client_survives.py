@@ -1,11 +1,11 @@
 #!/usr/bin/env -S /usr/bin/python3 -B -m pytest -q -p no:cacheprovider
-"""`examples/client.py` books nothing twice and loses nothing, while its server is killed or its proxy fails.
+"""`examples/client.py` books nothing twice and loses nothing, while the test kills its server or its proxy fails.
 
-The server is killed and started again 100 times. Nothing that was acknowledged is lost.
+The test kills the server and starts it again 100 times. No acknowledged booking or cancellation is lost.
 
-Every fifth time the client is killed too. The client books slots, each requested once, and cancels most of them. At the end the file has each
-booking once: those on the client's record, with the charges, places and refunds that were acknowledged, and no others. The totals are the
-sums. Then each command of client.py is called and its output compared, and the proxy fails in several ways. KILLS=N kills
+Every fifth time, the test also kills the client. The client requests each slot once, and cancels most of its bookings. At the end the file has
+exactly the bookings on the client's record, each once. They have the charges, places and refunds that the server acknowledged. The totals are the
+sums of the bookings. Then the test runs each command of client.py and compares its output. The proxy fails in several ways meanwhile. KILLS=N kills
 N servers.
 """
 
@@ -31,7 +31,7 @@ pytestmark = [pytest.mark.programs, pytest.mark.faults, pytest.mark.needs("clubd
 
 KILLS = int(os.environ.get("KILLS", "100"))
 KEYS = range(8)
-# Facility, day, hour and guests, each slot once.
+# Facility, day, hour and guests of each booking. No slot repeats.
 SLOTS = [(f"court-{it % 10}", f"2026-05-{1 + it // 10 % 30:02}", f"{8 + it // 300 % 14:02}", it % 3) for it in range(10 * 30 * 14)]
 
 
@@ -51,7 +51,7 @@ class Counting(Client):
 
 
 def work(folder, port):
-    """Books each slot that isn't on record yet, and cancels ten of eleven, so that no member reaches the quota of 99."""
+    """Books each slot that isn't on record yet, and cancels ten of eleven bookings. So no member reaches the quota of 99."""
     with open(folder / "acknowledged", "a", encoding="utf-8") as file:
         clients = [Counting(folder, port, key, file) for key in KEYS]
         for client in clients:
@@ -71,7 +71,7 @@ def work(folder, port):
 
 
 def killed_and_killed(club, folder):
-    """Kills servers, and every fifth time the worker. All servers have the same port."""
+    """Kills servers. Every fifth time, also kills the worker. All servers listen at the same port."""
     draw, worker, port = random.Random(20260501), None, 0
     for kill in range(1, KILLS + 1):
         with club.served(port=port) as server:
@@ -89,7 +89,7 @@ def killed_and_killed(club, folder):
 
 
 def recorded(folder, port):
-    """Returns the clients' records of each booking, once nothing is unfinished."""
+    """Returns the client's record of each booking, when no request is unfinished."""
     rows = {}
     for key in KEYS:
         client = Counting(folder, port, key, sys.stderr)
@@ -127,12 +127,12 @@ def test_servers_and_clients_that_are_killed(new_club, tmp_path):
 
 @pytest.fixture
 def own(new_club, tmp_path):
-    """A club with amy, and her client."""
+    """A club with the member amy, and amy's client."""
     club = new_club("add-facility court-1 court 4 200 8 22", "add-member amy 2", "credit amy 10000")
     (tmp_path / "pass").write_text(club.does(f"add-key amy-1 amy {ROOT}"))
 
     def prints(port, words, patience=0):
-        """Returns the client's status, its output with N for a drawn number, and that number."""
+        """Returns the client's status, the number that it drew, and its output with N in place of that number."""
         ended = subprocess.run([desk.ROOT / "examples" / "client.py", *words.split()], cwd=tmp_path, check=False, stdout=subprocess.PIPE, text=True,
                                env={**os.environ, "DESK": f"http://127.0.0.1:{port}", "PATIENCE": str(patience)})
         drawn = re.search(r"amy-1/(\d+)", ended.stdout)
@@ -158,7 +158,7 @@ def test_commands(own):
             assert prints(it.port, words)[:2] == (wanted, text)
         for _ in range(2):
             prints(it.port, "account")
-    # Nobody listens: the request stays on record, and is finished once there is a server again.
+    # If no server listens, the request stays on record. The client finishes it when a server runs again.
     assert prints(it.port, "book court-1 2026-05-02 18 0")[:2] == (3, "")
     with club.served(count=1) as it:
         assert prints(it.port, "repeat")[:2] == (0, '{"booking":"amy-1/N","charge":200,"left":3}\n')
@@ -166,7 +166,7 @@ def test_commands(own):
 
 
 def test_proxy_that_fails(own):
-    """In another way at each request."""
+    """The proxy fails in another way at each request."""
     club, prints = own
     number = ""
     for method, words, reply in (("PUT", "book court-1 2026-05-03 18 0", '{"booking":"amy-1/N","charge":200,"left":3}\n'),

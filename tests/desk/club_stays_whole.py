@@ -1,13 +1,14 @@
 #!/usr/bin/env -S /usr/bin/python3 -B -m pytest -q -p no:cacheprovider
 """Under refused memory, little storage and kills, each command of `clubdesk` is done or leaves the club unchanged.
 
-Each allocation is refused in turn, also while passes are printed. After a fault nothing was written, and the club is unchanged. After a kill it
-is unchanged, or the command is done.
+The test refuses each allocation in turn, also while a command prints passes. After a fault the command has written nothing, and the club is
+unchanged. After a kill the club is unchanged or the command is done.
 
-Then sqlite3 finds the file sound, and clubdesk reads it.
-- Each allocation is refused in turn. The command ends with status 4, with status 2 if clap met the refusal, or as with ample memory.
-- The file may grow only to a number of blocks. The command ends with status 5, or as with ample storage.
-- The command is killed after a number of milliseconds.
+Then sqlite3 finds no damage in the file, and clubdesk can read it.
+- The test refuses each allocation in turn. The command ends with status 4, or with status 2 if clap met the refusal. Otherwise it ends as with
+  ample memory.
+- The test limits the size of the file to a number of blocks. The command ends with status 5, or as with ample storage.
+- The test kills the command after a number of milliseconds.
 STEP=N refuses only each Nth allocation, which is faster.
 """
 
@@ -30,7 +31,7 @@ pytestmark = [pytest.mark.faults, pytest.mark.needs("clubdesk"), pytest.mark.wan
 
 STEP = int(os.environ.get("STEP", "1"))
 ROOT, OTHER = "30313233343536373839616263646566", "ffeeddccbbaa99887766554433221100"
-# Each command, with its effect in sqlite3.
+# Each command, with its effect as sqlite3 sees it.
 COMMANDS = {
     "add-member amy 5": "INSERT INTO members VALUES ('amy', 0, 5, 0)",
     "credit amy 10000": "UPDATE members SET credited = credited + 10000",
@@ -48,13 +49,13 @@ COMMANDS = {
     "cancel-booking amy-1 7":
         "UPDATE bookings SET cancelled = 1, refund = charge; UPDATE slots SET taken = 0; UPDATE members SET used = 0",
 }
-# The request that a member makes before a command.
+# The request that a member sends before a command.
 BOOKED_BEFORE = {"cancel-booking amy-1 7": kinds.book(7, kinds.TWO, passed=kinds.text(kinds.key_pass("amy-1", OTHER)))}
 TABLES = ("desk", "members", "facilities", "keys", "old_roots", "slots", "bookings")
 
 
 def rows(club):
-    """All rows; none if the making of the tables was cut short, which clubdesk then goes on with."""
+    """Returns all rows, or none if a kill interrupted the creation of the tables. clubdesk then completes the tables later."""
     try:
         assert club.sql("PRAGMA integrity_check") == [("ok",)] and not club.sql("PRAGMA foreign_key_check")
         return [sorted(club.sql(f"SELECT * FROM {table}")) for table in TABLES]
@@ -64,7 +65,7 @@ def rows(club):
 
 
 class Command:
-    """A command that is given repeatedly, each time to a copy of a club, with the states that it leaves."""
+    """A command, with the states that it may leave. The test gives it repeatedly, each time to a copy of a club."""
 
     def __init__(self, before, words):
         self.before, self.words, self.found = before, words.split(), {}
@@ -78,13 +79,13 @@ class Command:
 
     @contextlib.contextmanager
     def copy(self):
-        """A copy of the club, and the words that give it the command."""
+        """A copy of the club, and the words that give the command to the copy."""
         with tempfile.TemporaryDirectory(dir=self.before.file.parent) as folder:
             club = self.before.copied_to(Path(folder, "club"))
             yield club, [club.program, self.words[0], club.file, *self.words[1:]]
 
     def keeps_a_club(self, club, *wanted):
-        """Checks that the file and its log hold one of these states, and that clubdesk reads it. The same bytes are checked only once."""
+        """Checks that the file and its log represent one of these states, and that clubdesk can read it. Checks the same bytes only once."""
         state = hashlib.sha256(b" log ".join(it.read_bytes() for it in (club.file, Path(f"{club.file}-wal")) if it.exists())).digest()
         if state not in self.found:
             self.found[state] = rows(club.copied_to(club.file.with_name("copied")))
@@ -94,14 +95,14 @@ class Command:
         assert found in wanted
 
     def given(self, limits=None, **variables):
-        """Returns how it ended; after a fault it must have written nothing."""
+        """Returns how the command ended. After a fault the command must have written nothing."""
         with self.copy() as (club, words):
             ended = desk.command(*words, env={**os.environ, **variables}, preexec_fn=limits, restore_signals=False)
             self.keeps_a_club(club, self.rows if ended[0] else self.after)
         return ended
 
     def fails(self, ended, fault, *statuses):
-        """Returns whether it ended with one of these statuses and no output, else as if nothing were refused."""
+        """Returns whether the command ended with one of these statuses and no output. Otherwise it must end as if no memory were refused."""
         assert ended == self.whole or ended[0] in statuses and ended[1] == "" and (ended[0] == 2 or ended[2] == fault), ended
         return ended != self.whole
 

@@ -1,10 +1,10 @@
 #!/usr/bin/env -S /usr/bin/python3 -B -m pytest -q -p no:cacheprovider
-"""The server allocates nothing between a commit and its reply.
+"""The server allocates no memory between a commit and its reply.
 
-It takes six bookings and three cancellations in a file, under passes in V1, V2 and JSON.
+The server makes six bookings and three cancellations in a file, under passes in V1, V2 and JSON.
 
-An allocation that the server could do without changes no byte, so tests of bytes can't see it. The commit is the last call that
-syncs the file before the reply is sent.
+An unnecessary allocation changes no byte of a reply, so tests that compare bytes can't notice it.
+The commit is the last call that syncs the file before the server sends the reply.
 """
 
 import pytest

@@ -1,12 +1,12 @@
 #!/usr/bin/env -S /usr/bin/python3 -B -m pytest -q -x -s -p no:cacheprovider
 """500 commands of two offices and 5,000 requests of four clients get right answers and totals.
 
-They stay right with kills, slow clients, stale doors and moved files. Prints how long commands and requests took.
+The answers and totals stay right with kills, slow clients, stale doors and moved files. The test prints how long commands and requests took.
 
-The processes are real, and sqlite3 finds the totals to be the sums once the server is stopped. Then come 20 kills of servers and of
-commands, and a client that is silent next to one that sends a byte a second. The test also tries a door that is stale or taken, a second server,
-links to the file and its folder, and a file that is moved, replaced or removed. It checks another user, the files' modes, and the lines of
-commands. Times are from one run, also with 300,000 bookings, compared with a server without commands.
+The test uses real processes. When the server has stopped, sqlite3 finds that the totals are the sums. Then the test kills servers and commands 20
+times. One client is silent while another client sends a byte a second. The test also tries a stale door, a taken door, and a second server. It
+tries links to the file and its folder, and a file that is moved, replaced or removed. The test also checks another user, the modes of the files,
+and the lines of commands. The times come from one run, also with 300,000 bookings. The test compares them with a server that gets no commands.
 """
 
 import contextlib
@@ -39,7 +39,7 @@ DRIP = lambda client: desk.drip(client, b"GET /a")
 
 @pytest.fixture(scope="module")
 def made(clubdesk):
-    """For each client a court, a member with 10,000 points and a key; for each office a room, and a key to revoke. It lies on a disk."""
+    """Each client has a court, a member with 10,000 points, and a key. Each office has a room and a key that it can revoke. The club is on a disk."""
     with tempfile.TemporaryDirectory() as folder:
         club = Club(clubdesk, Path(folder, "made"))
         for n in PASSES:
@@ -56,7 +56,7 @@ def club(made):
 
 
 class Times(list):
-    """The seconds that calls took."""
+    """The seconds that each call took."""
 
     def of(self, act, *words):
         begun = time.monotonic()
@@ -69,7 +69,8 @@ class Times(list):
 
 
 def asked_by(place):
-    """Ninety rounds: a booking, its repeat, the slot and the account; every third booking is cancelled. Then the account, 1,250 requests in all."""
+    """Runs ninety rounds. A round has a booking, its repeat, the slot and the account. Every third round also cancels its booking. The account
+    follows at the end, so that a client sends 1,250 requests in all."""
     spent = opened = 0
     for number in range(1, 91):
         day, hour, is_cancelled = f"{1 + number // 14:02}", 8 + number % 14, number % 3 == 0
@@ -88,7 +89,7 @@ def asked_by(place):
 
 
 def given_by(place):
-    """250 commands: members, credits, closed slots, revoked keys, and slots that are shown."""
+    """Gives 250 commands, about members, credits, closed slots, revoked keys and listed slots."""
     for n in range(1, 51):
         day = f"2026-{6 + n // 29:02}-{1 + n % 28:02}"
         for words in (f"add-member o{place}-{n} 5", f"credit o{place}-{n} {100 * n}", f"close-slot room-{place} {day} 10", f"revoke-key old-{place}"):
@@ -97,7 +98,7 @@ def given_by(place):
 
 
 def beside(club, server, count):
-    """Runs four clients, and two offices if there are commands, and compares each reply and answer with the expected one."""
+    """Runs four clients, and two offices if the test has commands. Compares each reply and answer with the expected one."""
     bookings, others, commands = Times(), Times(), Times()
 
     def client(place):
@@ -123,15 +124,15 @@ def beside(club, server, count):
 
 
 def test_door_has_a_mode_and_commands_have_lines(club):
-    """500 commands beside 5,000 requests. Then come three commands with a root: one is refused, and one reads the root from input. No root is in
-    the log."""
+    """500 commands beside 5,000 requests. Then gives three commands with a root. The server refuses one of the three, and one reads the root from
+    input. The log contains no root."""
     with club.served("--log") as server:
         assert stat.filemode(os.stat(f"{club.file}-office").st_mode) == "srw-------"
         beside(club, server, 500)
         assert club.command("add-key", "given", "m1", ROOT) == (0, text(key_pass("given")) + "\n", "")
         assert club.command("rotate-key", "nobody", ROOT, "2030-01-01T00:00") == (1, "", "refused: unknown\n")
         assert desk.command(club.program, "add-key", club.file, "read", "m1", "--root-stdin", text=ROOT) == (0, text(key_pass("read")) + "\n", "")
-        # Once a client is served, the previous line has been written.
+        # When a client has its reply, the server has written the previous line of the log.
         assert server.exchange(b"GET /account HTTP/1.1\r\n\r\n")
         log = server.log.read_text()
     names = ("add-member", "credit", "close-slot", "revoke-key", "show-slot")
@@ -140,15 +141,15 @@ def test_door_has_a_mode_and_commands_have_lines(club):
 
 
 def ends(wanted, most, *words):
-    """Runs a command, which must end with this status and output within some seconds."""
+    """Runs a command that must end with this status and output within some seconds."""
     begun = time.monotonic()
     assert desk.command(*words) == wanted
     assert time.monotonic() - begun < most
 
 
 def test_what_others_meet_beside_a_server(club):
-    """Tries a second server, commands through a link to the file and to its folder, commands at a moved file, and another user whom the file's
-    mode admits."""
+    """Tries a second server, and commands through a link to the file and to its folder. Tries commands at a moved file, and commands of another
+    user whom the file's mode admits."""
     folder, moved = club.file.parent, club.file.with_name("moved")
     with club.served():
         ends(FAILED, 15, club.program, "serve", club.file, "--port", "0", "--count", "1")
@@ -168,7 +169,7 @@ def test_what_others_meet_beside_a_server(club):
 
 @pytest.mark.parametrize("is_replaced", [True, False], ids=["replaced", "removed"])
 def test_file_that_is_gone(made, is_replaced):
-    """The server acknowledges nothing once its file has no name, and leaves a new file in its place unchanged."""
+    """When its file has no name any more, the server acknowledges no change. It leaves a new file of that name unchanged."""
     club = made.copied_to(made.file.with_name("gone"))
     with club.served() as server:
         assert server.exchange(ACCOUNT.under(PASSES[1]).data).startswith(b"HTTP/1.1 200 ")
@@ -183,7 +184,7 @@ def test_file_that_is_gone(made, is_replaced):
 
 
 def test_server_whose_file_was_replaced_leaves_the_door_of_the_next(made):
-    """The next server serves the file that took the name."""
+    """The next server serves the file that now has the name."""
     club = made.copied_to(made.file.with_name("twice"))
     with club.served(count=1) as first:
         made.copied_to(club.file)
@@ -194,7 +195,7 @@ def test_server_whose_file_was_replaced_leaves_the_door_of_the_next(made):
 
 
 def test_door_in_a_folder_of_a_long_name(made):
-    """The path of the door has more bytes than a socket's address may."""
+    """The path of the door is longer than the address of a socket can be."""
     folder = made.file.with_name("f" * 120)
     folder.mkdir()
     club = made.copied_to(folder / "club")
@@ -223,8 +224,8 @@ def test_something_else_than_a_door_stays(club):
 
 
 def test_commands_beside_four_clients_of_which_two_dawdle(club):
-    """One client is silent, and one sends a byte a second. Each command is carried out within a fraction of a second, and the other two clients
-    get their replies."""
+    """One client is silent, and another client sends a byte a second. The server carries out each command within a fraction of a second, and two
+    other clients get their replies."""
     commands = Times()
 
     def dawdles(server, act):
@@ -248,8 +249,8 @@ def test_commands_beside_four_clients_of_which_two_dawdle(club):
 
 @pytest.mark.parametrize("dawdle", [lambda _: None, DRIP], ids=["silent", "a byte a second"])
 def test_client_that_dawdles_keeps_no_command(club, dawdle):
-    """Each command is carried out within a fraction of a second, while the server still waits for the client. The client is cut off after the
-    server's patience of four seconds."""
+    """The server carries out each command within a fraction of a second, while it still waits for the slow client. The server cuts off the client
+    after its patience of four seconds."""
     commands = Times()
     with club.served("--patience", "4") as server, socket.create_connection(("127.0.0.1", server.port), 60) as client:
         begun, dawdling = time.monotonic(), threading.Thread(target=dawdle, args=[client])
@@ -267,7 +268,7 @@ def test_client_that_dawdles_keeps_no_command(club, dawdle):
 
 @pytest.mark.parametrize("number", range(1, 21))
 def test_killed_command_or_server(club, number):
-    """The command's status says whether it was carried out, or that this is unknown; the totals match."""
+    """The status of a command tells whether the server carried it out, or that this is unknown. The totals agree with the status."""
     with club.served() as server:
         before = club.balance("k1")
         command = subprocess.Popen([club.program, "credit", club.file, "m1", "1"], stdout=subprocess.DEVNULL, stderr=subprocess.DEVNULL)
@@ -279,7 +280,7 @@ def test_killed_command_or_server(club, number):
 
 
 def test_server_that_ends_takes_its_door_along(club):
-    """Nothing else is removed: a file next to it may be another club."""
+    """The server removes no other file next to its file, because such a file may be another club."""
     others = [Path(f"{club.file}-{ending}") for ending in ("wanted", "serving", "paused")]
     for it in others:
         it.write_text("another's\n")
@@ -291,7 +292,7 @@ def test_server_that_ends_takes_its_door_along(club):
 
 @pytest.mark.parametrize("bookings, count", [(0, 0), (300_000, 0), (300_000, 500)])
 def test_times(made, bookings, count):
-    """Measures without commands at 360 bookings, then with and without them at 300,000 more bookings of 1,000 other members."""
+    """Measures without commands at 360 bookings. Then adds 300,000 bookings of 1,000 other members, and measures with and without commands."""
     club = made.copied_to(made.file.with_name(f"at {bookings}"))
     if bookings:
         desk.add_past_bookings(club.file, bookings, ROOT)

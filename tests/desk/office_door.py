@@ -1,12 +1,14 @@
 #!/usr/bin/env -S /usr/bin/python3 -B -m pytest -q -p no:cacheprovider
 """A running desk carries out only complete commands, and each of them once, whatever else reaches its door.
 
-The test sends truncated, slow and foreign commands, with such senders and servers, and the real server keeps running. Some of it needs root.
+The test sends truncated, slow and foreign commands. It also runs senders and servers that misbehave, while the real server keeps running. Some
+parts of the test need root.
 
-Commands are cut at each byte, have 70,000 bytes, a wrong count, arguments that aren't UTF-8 or no name, or are `serve`. Senders close before the
-greeting, are silent, or read no answer. Servers don't greet or answer, are stopped for longer than a limit, or end before they greet. Then come
-50 commands at once, and root's command at another user's desk. Doors are stale and root's, a stranger's, behind a link, in a folder that a
-server can't write, or on a full disk. Tests with other users and disks need root.
+Some commands are cut off at each byte, have 70,000 bytes, or have a wrong count. Some have arguments that aren't UTF-8, name no command, or name
+`serve`. Some senders close the connection before the greeting, are silent, or never read the answer. Some servers don't greet or answer, are
+stopped for longer than a timeout, or end before they greet. Then the test gives 50 commands at once, and a command of root at another user's desk.
+Some doors are stale, belong to root or to a stranger, or are behind a link. Others are in a folder that a server can't write to, or on a full disk.
+Tests with other users and disks need root.
 """
 
 import contextlib
@@ -28,7 +30,7 @@ pytestmark = [pytest.mark.faults, pytest.mark.needs("clubdesk"), pytest.mark.wan
 
 
 def command_bytes(*words, root="", count=None):
-    """Returns a command's bytes: its number of words, its root, and the words, with a zero byte after each."""
+    """Returns the bytes of a command: its number of words, its root, and its words. A zero byte follows each of them."""
     pieces = [str(len(words) if count is None else count), root, *words]
     return b"".join(it.encode() + b"\0" for it in pieces)
 
@@ -42,7 +44,7 @@ needs_root = pytest.mark.skipif(os.geteuid() != 0, reason="wants root")
 
 @pytest.fixture
 def serving(club):
-    """A server over the club, until the end."""
+    """Yields a server over the club, which runs until the end of the test."""
     with club.served() as it:
         yield it
 
@@ -56,7 +58,7 @@ def visitor(club, is_greeted=True):
 
 
 def answer(club, data):
-    """The status and the text of the door's answer to bytes."""
+    """Returns the status and the text of the door's answer to these bytes."""
     with visitor(club) as it:
         it.sendall(data)
         it.shutdown(socket.SHUT_WR)
@@ -64,13 +66,13 @@ def answer(club, data):
 
 
 def parts(data):
-    """The status and the text of an answer, which is whole."""
+    """Returns the status and the text of a complete answer."""
     assert data.endswith(b"\0") and data.count(b"\0", 1) == 1
     return data[0], data[1:-1].decode()
 
 
 def credited(club):
-    """Returns Amy's credits since the first club, as the door shows them."""
+    """Returns the credits that Amy got since the first club, as the door shows them."""
     return club.balance("amy-1") - 10_000
 
 
@@ -123,7 +125,7 @@ def test_a_sender_that_goes(club, serving):
 
 @pytest.mark.parametrize("length", [0, len(WHOLE) // 2, len(WHOLE)])
 def test_a_silent_sender(club, serving, length):
-    """It is cut off after 200 milliseconds. Clients wait meanwhile."""
+    """The server cuts off this sender after 200 milliseconds. Other clients wait meanwhile."""
     with visitor(club) as it:
         began = time.monotonic()
         it.sendall(WHOLE[:length])
@@ -134,7 +136,8 @@ def test_a_silent_sender(club, serving, length):
 
 
 def test_a_sender_that_takes_no_answer(club):
-    """A sheet too large for any socket buffer is cut off after 200 milliseconds, whatever the patience, and has no end mark."""
+    """The server cuts off a sheet that is too large for any socket buffer after 200 milliseconds, even with a longer patience. Such a sheet has no
+    end mark."""
     club.sql("""WITH n(i) AS (SELECT 1 UNION ALL SELECT i + 1 FROM n WHERE i < 10000)
         INSERT INTO bookings SELECT 'amy-1', 1000 + i, 'court-1', 10957, 8, 0, 0, 0, 0, 0 FROM n""")
     with club.served("--patience", "10") as server, visitor(club) as it:
@@ -150,7 +153,7 @@ def test_a_sender_that_takes_no_answer(club):
 
 
 def test_a_server_that_does_not_greet(club, serving):
-    """The server is stopped for as long as a command waits, and carries nothing out when it continues."""
+    """The test stops the server until the command's timeout. When the server continues, it doesn't carry out the command."""
     os.kill(serving.process.pid, signal.SIGSTOP)
     began = time.monotonic()
     assert club.command("credit", "amy", "1") == FAILED
@@ -162,7 +165,7 @@ def test_a_server_that_does_not_greet(club, serving):
 
 @contextlib.contextmanager
 def stopped(server):
-    """Stops a server until the end of the block, as if the machine slept."""
+    """Stops a server until the end of the block, as if the machine were asleep."""
     os.kill(server.process.pid, signal.SIGSTOP)
     yield
     os.kill(server.process.pid, signal.SIGCONT)
@@ -170,7 +173,7 @@ def stopped(server):
 
 @pytest.mark.parametrize("length, wanted", [(len(WHOLE), (0, "done\n")), (len(WHOLE) - 1, (2, ""))])
 def test_a_server_that_is_stopped_while_a_command_comes(club, serving, length, wanted):
-    """The server continues after the command's time limit; a command that arrived whole meanwhile is read."""
+    """When the server continues after the command's timeout, it reads a command that arrived completely in the meantime."""
     with visitor(club) as it:
         with stopped(serving):
             it.sendall(WHOLE[:length])
@@ -181,7 +184,7 @@ def test_a_server_that_is_stopped_while_a_command_comes(club, serving, length, w
 
 
 def test_a_server_that_is_stopped_while_a_client_sends(club):
-    """A request that came whole while it was stopped is served, long after the patience, and one that didn't is cut off."""
+    """The server serves a request that arrived completely while it was stopped, even long after the patience. It cuts off an incomplete request."""
     whole = kinds.account().data
     with club.served("--patience", "1") as server:
         for data, begins in ((whole, b"HTTP/1.1 200 "), (whole[:-1], b"")):
@@ -196,7 +199,7 @@ def test_a_server_that_is_stopped_while_a_client_sends(club):
 
 @pytest.mark.parametrize("is_followed", [False, True], ids=["by nobody", "by another server"])
 def test_a_server_that_ends_before_it_greets(club, clubdesk, is_followed):
-    """The command has sent nothing, and tries again at the file or at the next server's door."""
+    """The command has sent no byte, so it tries again at the file or at the next server's door."""
     with club.served() as server:
         os.kill(server.process.pid, signal.SIGSTOP)
         with subprocess.Popen([clubdesk, "credit", club.file, "amy", "1"], stdout=subprocess.PIPE, stderr=subprocess.PIPE, text=True) as command:
@@ -232,7 +235,7 @@ def test_what_a_server_may_send(club, greeting, reply, wanted):
 
 
 def test_a_server_that_closes_after_it_greeted(club):
-    """The server read nothing or only part of the command, so it can't carry it out, and the next server does."""
+    """The server has read nothing or only a part of the command, so it can't carry it out. The next server carries out the command."""
     with socket.socket(socket.AF_UNIX) as door:
         door.bind(f"{club.file}-office")
         door.listen()
@@ -254,7 +257,8 @@ def test_a_server_that_closes_after_it_greeted(club):
 
 
 def test_fifty_at_once(club, serving, clubdesk):
-    """Each is carried out once. On a busy machine a command may get no processor during the time to send; then it tries again."""
+    """The server carries out each command once. On a busy machine, a command may get no processor time before its timeout for sending. Then the
+    command tries again."""
     commands = [subprocess.Popen([clubdesk, "credit", club.file, "amy", "1"], stdout=subprocess.PIPE, stderr=subprocess.PIPE) for _ in range(50)]
     ended = [(*it.communicate(), it.returncode) for it in commands]
     assert ended == [(b"done\n", b"", 0)] * 50
@@ -263,7 +267,7 @@ def test_fifty_at_once(club, serving, clubdesk):
 
 @pytest.fixture
 def of_another(club):
-    """The club in another user's folder."""
+    """The club in a folder that belongs to another user."""
     for parent in club.file.parents:
         if parent.stat().st_mode & 0o5 != 0o5:
             parent.chmod(0o755)
@@ -283,7 +287,7 @@ def test_a_command_of_root(of_another):
 
 @needs_root
 def test_a_stale_door_of_root(of_another, clubdesk):
-    """After root's server was killed, the club's owner can still give commands and serve."""
+    """After a kill of root's server, the club's owner can still give commands and start a server."""
     with of_another.served() as server:
         server.kill()
     door = of_another.file.with_name("club-office")
@@ -315,8 +319,8 @@ with socket.socket(socket.AF_UNIX) as door:
 
 @needs_root
 def test_a_door_of_a_stranger(club, clubdesk):
-    """In a folder that others can write to, a stranger listens at the door's name. The stranger gets no command and no root, and no server
-    replaces its socket."""
+    """In a folder that others can write to, a stranger's program listens under the door's name. The stranger's program gets no command and no root,
+    and no server replaces its socket."""
     for parent in club.file.parents:
         if parent.stat().st_mode & 0o5 != 0o5:
             parent.chmod(0o755)

@@ -1,14 +1,14 @@
 #!/usr/bin/env -S /usr/bin/python3 -B
 """Each call in the tests with a refused allocation is right, or reports out of memory without a change.
 
-The tests read and write the known passes in each form, open a store in each way, and give each command of the office. They make the known
-booking by `Desk::ask`, `Desk::run` and `answer`.
+The chosen tests read and write the known passes in each form, and open a store in each way. They also give each command of the office. The tests
+make the known booking by `Desk::ask`, `Desk::run` and `answer`.
 
-It fails if a test isn't there, fails with ample memory, or allocates nothing. Tests that are missing or older than their sources are
-proved and built first.
+The program fails if a test is missing, fails with ample memory, or makes no allocation. The program first proves and builds tests that are missing
+or older than their sources.
 
-Name only tests that return each fault, or accept out of memory next to the right answer. A test that expects another fault fails if memory is
-refused instead.
+Name only tests that return each fault, or that accept out of memory as well as the right answer. A test that expects another fault fails when
+memory is refused.
   tests/desk/refused_memory_tests.py                                              the tests of the list below
   tests/desk/refused_memory_tests.py club_gate_tests                                         those of one crate
   tests/desk/refused_memory_tests.py club_gate_tests store::shown::shows_what_a_key_sees ..  any tests of a crate
@@ -28,7 +28,7 @@ import desk
 from more_edits import crates_below
 
 OPENINGS = "store_in_memory databases_in_memory new_file files_of_each_version"
-# The tests of each crate; those without a module are in `refused_memory`.
+# The tests of each crate. Tests without a module are in `refused_memory`.
 TESTS = {
     "pass_forms_tests": "known_passes",
     "club_gate_tests": " ".join(["commands ask_in_each_form run_in_each_form",
@@ -41,7 +41,7 @@ ROOM = tempfile.TemporaryDirectory(dir=desk.IN_MEMORY)
 
 
 def built(crate):
-    """The tests of a crate, proved and built if they are missing, or older than the sources that they are built from."""
+    """Returns the tests of a crate. Proves and builds them if they are missing or older than their sources."""
     if not (desk.ROOT / "crates" / crate / "src").is_dir():
         sys.exit(f"there is no crate {crate}")
     program, begun = desk.ROOT / "crates" / crate / "out" / f"{crate}_tests", time.time()
@@ -60,8 +60,8 @@ def built(crate):
 
 
 def ends_without_memory(output):
-    """Returns whether a failed test ended with out of memory. The value that it returned or got must be that fault alone, in an `Err` or the
-    like. A test that mentions the fault elsewhere, such as in an expected value, failed for another reason."""
+    """Returns whether a failed test failed because of out of memory. The value that the test returned or got must be only this fault, in an `Err`
+    or a similar type. If the fault appears elsewhere, such as in an expected value, the test failed for another reason."""
     def has_line(head):
         return any(re.fullmatch(head + FAULT, line) for line in output.splitlines())
 
@@ -69,12 +69,12 @@ def ends_without_memory(output):
 
 
 def refuse(crate, test, program):
-    """Runs a test with ample memory, then with each allocation refused in turn; returns their number."""
+    """Runs a test with ample memory, then with each allocation refused in turn. Returns the number of allocations."""
     if f"{test}: test" not in subprocess.run([program, "--list"], capture_output=True, text=True, check=True).stdout.splitlines():
         sys.exit(f"{crate} has no test {test}")
 
     def run(**variables):
-        """Returns the status and the output of a run in its own folder."""
+        """Runs a test in a folder of its own, and returns the status and the output."""
         with tempfile.TemporaryDirectory(dir=ROOM.name) as folder:
             ran = subprocess.run([program, test], stdout=subprocess.PIPE, stderr=subprocess.STDOUT, text=True, errors="replace", timeout=60, check=False,
                                  env={**os.environ, "TMPDIR": folder, **variables})

@@ -1,11 +1,11 @@
 #!/usr/bin/env -S /usr/bin/python3 -B
 """Each line of a scenario (docs/SCENARIOS.md) gets its stated answer from the rules in Python and from `clubdesk`.
 
-The rules are those of `tests/reference`. The program runs over a file and a socket. Passes are in each of the three forms. `--self-test`
-finds eight planted faults of the rules.
+The rules in Python are those of `tests/reference`. The test runs `clubdesk` over a file and a socket. The passes have all three forms. With
+`--self-test`, the test checks that it finds eight faults planted in the rules.
 
-A line that can't be read or has no answer, a club that can't be made and a file without a line to play are faults, each with its place.
-The self-test has odd files for all of these.
+A file has a fault if a line can't be read or has no answer. It also has a fault if its club can't be made, or if it has no line to run. The test
+names the place of each fault. The self-test has faulty files of all these kinds.
 
     tests/desk/scenarios.py [--player rules|programs] [FILE ..]     plays all files, or those of these names
     tests/desk/scenarios.py --self-test                             plays odd files, and plants each fault of the rules
@@ -54,13 +54,13 @@ def counts(path, scenarios):
 
 
 def write_counts():
-    """Writes the output that the program `scenarios` must have."""
+    """Writes the output that the program `scenarios` must print."""
     told = ["odd texts: refused", *(counts(path, whole(path)) for path in lines.files() if path != lines.PAGE)]
     STDOUT.write_text("".join(f"{it}\n" for it in told), encoding="utf-8")
 
 
 def play_file(path, player, prints):
-    """Plays a file, and prints its counts."""
+    """Runs the scenarios of a file, and prints the counts."""
     scenarios = whole(path)
     for scenario in scenarios:
         for form in scenario.forms:
@@ -71,7 +71,7 @@ def play_file(path, player, prints):
 
 
 def played(paths, player, jobs, prints=True):
-    """Plays files side by side. Returns the number of lines, and the differences."""
+    """Runs the scenarios of several files at the same time. Returns the number of lines, and the differences between answers."""
     count, faults = 0, []
     with ThreadPoolExecutor(jobs) as pool:
         for it in [pool.submit(play_file, path, player, prints) for path in paths]:
@@ -87,7 +87,7 @@ def outcome_of(answer):
 
 
 def filled(path):
-    """Returns the text of a file. A line without an answer gets that of the rules."""
+    """Returns the text of a file. A line without an answer gets the answer of the rules."""
     text = path.read_text(encoding="utf-8").split("\n")
     for scenario in lines.read(path):
         player = Rules()
@@ -110,7 +110,7 @@ def padded(line, answer):
 
 
 def reply_in(data):
-    """Returns a reply as a line of a scenario spells it."""
+    """Returns a reply in the form that a line of a scenario has."""
     head, _, body = data.decode().partition("\r\n\r\n")
     methods = next((it[7:] for it in head.split("\r\n") if it.startswith("Allow: ")), None)
     reply = lines.Reply(int(head.split(" ")[1]), body.encode(), methods)
@@ -120,7 +120,8 @@ def reply_in(data):
 
 CLUB = "club  members amy 5 100; court-1 court 4 200 8-22; keys amy-1\nat  2026-04-20T12:00\n"
 ACCOUNT = 'amy-1  GET account  200 {"member":"amy","balance":100,"quota":5,"open":0,"spent":0}'
-# Odd files: the text after CLUB, the line of the fault and words of it. A file without a line of a fault is played. FAULTY_CLUBS has whole files.
+# Faulty files: the text after CLUB, the line of the fault, and words of the fault. If the line of the fault is missing, the file is valid, and the
+# test runs it. FAULTY_CLUBS has complete files instead.
 FAULTY = (
     ("", 2, "no expectation"), ("amy-1", 3, "not understood"), ("amy-1  GET", 3, "a request has"), ("offce  revoke-key amy-1  done", 3, "is unknown"),
     ("bob-1  GET account  200 {}", 3, "the key bob-1 is unknown"), ("amy-1 [unknown]  GET account  200 {}", 3, "the key amy-1 is known"),
@@ -143,7 +144,7 @@ FAULTY_CLUBS = (
 
 
 def is_refused(text, line, words):
-    """Tells whether a file is refused at this line, in these words. Without a line, tells whether it is played."""
+    """Returns whether the reader refuses a file at this line, with these words. If no line is given, returns whether the test can run the file."""
     with tempfile.TemporaryDirectory() as folder:
         path = Path(folder, "odd.txt")
         path.write_text(text, encoding="utf-8")
@@ -159,7 +160,7 @@ def is_refused(text, line, words):
 
 
 def self_test(paths):
-    """Expects that each faulty file is refused, and that each planted fault of the rules is found."""
+    """Checks that each faulty file is refused, and that each fault planted in the rules is found."""
     are_refused = [is_refused(CLUB + text, line, words) for text, line, words in FAULTY] + [is_refused(*it) for it in FAULTY_CLUBS]
     print(f"{sum(are_refused)} of {len(are_refused)} odd files are refused, or played, as they have to be")
 

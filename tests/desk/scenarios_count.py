@@ -1,9 +1,10 @@
 #!/usr/bin/env -S /usr/bin/python3 -B
-"""Compares the rows of the test crates with the scenarios, and finds facts in rows that no scenario states.
+"""Compares the rows of the test crates with the scenarios. Finds facts in rows that no scenario states.
 
-A fact is a question, the state of the club that its answer depends on, and the answer. READERS has a reader for each table whose rows scenarios
-can state. STAYS has the reasons why other rows stay in the test crates. The last line printed has the counts. The status is 1 if a row that a
-scenario can state is missing from the files.
+A fact consists of a question, the state of the club that the answer depends on, and the answer. READERS has
+a reader for each table whose rows a scenario can state. STAYS has the reasons why other rows stay in the
+test crates. The last printed line has the counts. The status is 1 if the scenarios lack a row that they
+could state.
 
     tests/desk/scenarios_count.py             prints the missing rows, and the counts
     tests/desk/scenarios_count.py --leaves    also prints each table whose rows the files state, and how many of its rows stay
@@ -26,7 +27,7 @@ from scenario_rows import Differs
 
 TESTS = ("club_core_tests", "club_gate_tests", "club_http_tests", "end_to_end_tests", "clubdesk_tests", "command_line_tests", "pass_forms_tests")
 
-# ---- the reader of each table
+# ---- the reader for each table
 
 READERS = {
     "club_gate_tests/long": {"TEXTS": lambda value: [rows.of_spaced(rows.join(it).decode()) for it in value]},
@@ -37,7 +38,8 @@ READERS = {
     "clubdesk_tests/commands": {"PASSES_OF_KEYS": rows.of_runs},
 }
 
-# Reasons why a module's rows stay where they are, also for the unread rows of a module above.
+# The reasons why the rows of a module stay where they are. A reason also covers the unread rows of a module
+# above.
 STAYS = {
     "club_core_tests/caveats/values": "readers of values: names, days, moments, numbers",
     "club_core_tests/caveats/allowed": "more points than requests can spend, and calls of their own",
@@ -72,7 +74,7 @@ def reason(module, name):
 
 
 def modules():
-    """Yields each file of the test crates, with its tables."""
+    """Yields each file of the test crates with its tables."""
     for crate in TESTS:
         top = CRATES / crate / "src"
         for path in sorted(top.rglob("*.rt")):
@@ -85,7 +87,7 @@ def read(reader, value, file):
 
 
 class Count:
-    """Counts the facts that the rows state, and those that the files state."""
+    """Counts the facts in the rows and the facts in the scenarios."""
 
     def __init__(self):
         self.said = defaultdict(list)

@@ -1,14 +1,14 @@
 #!/usr/bin/env -S /usr/bin/python3 -B -m pytest -q -p no:cacheprovider
 """The server disconnects slow clients in time, and clients that send too much lose no reply.
 
-The clients after a slow one get their replies. Other clients send far more than a request before they read.
+The clients that come after a slow client get their replies. Some clients send far more than a request before they read the reply.
 
-The server has a patience of two seconds. One client sends nothing, one begins its request, one sends a byte a second, one never reads its
-reply, and one stays after its request. Then come 1,000 requests with 1 to 100,000 bytes after them, and 1,000 heads of 100,000 bytes,
-half of them in two pieces. Then come 200 requests in three, four and six pieces each, with a length and with chunks, and 100 while the server is
-stopped and continued.
+The server has a patience of two seconds. One client sends nothing, one begins its request, and one sends a byte a second. One never reads its
+reply, and one stays connected after its request. Then come 1,000 requests, each with 1 to 100,000 more bytes after it, and 1,000 heads of 100,000
+bytes. Half of the heads come in two pieces. Then come 200 requests in three, four and six pieces, with a length and with chunks. For 100 more
+requests, the test stops and continues the server.
 
-Clients send everything before they read, as Python's do; a client whose send fails gives up.
+The clients send all bytes before they read, as Python's clients do. A client gives up when its sending fails.
 """
 
 import os
@@ -56,7 +56,7 @@ def cut(text, count):
 
 @pytest.mark.parametrize("dawdle, least, most", [
     (b"", PATIENCE - 0.2, PATIENCE + 1), (REQUEST[:40], PATIENCE - 0.2, PATIENCE + 1),
-    # One client never reads, and one stays connected after its request: the server waits a fifth of a second for more bytes.
+    # One client never reads its reply, and one client stays connected after its request. The server waits a fifth of a second for more bytes.
     (REQUEST, 0, 1), (REQUEST + b"x", 0, 1)], ids=["silent", "begins its request", "never reads", "stays"])
 def test_client_behind_one_that_dawdles(patient, dawdle, least, most):
     with patient(2) as server, connected(server) as client:
@@ -67,7 +67,7 @@ def test_client_behind_one_that_dawdles(patient, dawdle, least, most):
 
 
 def test_client_of_a_byte_a_second_is_cut_off(patient):
-    """The client is cut off once the patience is over, though it is never silent for long."""
+    """The server cuts off the client when the patience is over, although the client is never silent for long."""
     with patient(2) as server:
         with connected(server) as client:
             began = time.monotonic()
@@ -88,7 +88,7 @@ def test_all_is_sent_before_it_is_read(patient, data_of, wanted):
 
 @pytest.mark.parametrize("count", [3, 4, 6])
 def test_requests_in_pieces(patient, count):
-    """A body by its length, a body apart from its head, chunks, and a body too long."""
+    """Bodies with a length, a body that comes apart from its head, chunks, and a body that is too long."""
     row = Row("PUT", slot(facility="court-2") + "/bookings/7", '{"guests":' + " " * 240 + "0}").gets(14)
     head, body = row.data.partition(b"\r\n\r\n")[0] + b"\r\n\r\n", row.body.encode()
     without = b"\r\n".join(line for line in head.split(b"\r\n") if not line.startswith(b"Content-Length"))
@@ -104,7 +104,7 @@ def test_requests_in_pieces(patient, count):
 
 
 def test_server_that_is_stopped_and_goes_on(patient):
-    """The server is stopped while it waits for each of 100 requests."""
+    """The test stops the server while it waits for each of 100 requests."""
     with patient(100) as server:
         for _ in range(100):
             with connected(server) as client:

@@ -1,10 +1,10 @@
 #!/usr/bin/env -S /usr/bin/python3 -B -m pytest -q -p no:cacheprovider
 """The shell of SQLite reads the file of `clubdesk`, and the lists and corrections of docs/RUNNING.md work.
 
-Files without a club, and rows outside their limits, are a storage fault.
+A file without a club, or with a row outside the limits, causes a storage fault.
 
-The columns, keys, references and limits are those of docs/TABLES.md. clubdesk shows changes that sqlite3 makes within them. A file that is
-refused stays as it was, byte for byte.
+The columns, keys, references and limits are those of docs/TABLES.md. clubdesk shows the changes that sqlite3 makes within these limits. A refused
+file stays unchanged, byte for byte.
 """
 
 import re
@@ -23,7 +23,7 @@ DAY = "2026-05-01"
 RUNNING = (desk.ROOT / "docs" / "RUNNING.md").read_text(encoding="utf-8")
 SCHEMA = re.search(r"^```sql\n(.*?)^```", (desk.ROOT / "docs" / "TABLES.md").read_text(encoding="utf-8"), re.MULTILINE | re.DOTALL)[1]
 TABLES = re.findall(r"^CREATE TABLE (\w+)", SCHEMA, re.MULTILINE)
-# A column of docs/TABLES.md: its table, its name, its least and greatest value.
+# A column of docs/TABLES.md: its table, its name, and its least and greatest value.
 LIMITS = [(table, *limit) for table, columns in re.findall(r"^CREATE TABLE (\w+) \(\n(.*?)^\)", SCHEMA, re.MULTILINE | re.DOTALL)
           for limit in re.findall(r"CHECK \((\w+) BETWEEN (\d+) AND (\d+)\)", columns)]
 ROOT = "30313233343536373839616263646566"
@@ -36,7 +36,7 @@ NO_BOOKINGS = command(f"sheet {DAY}", printed=f"Day sheet {DAY}\nNo bookings.\n"
 
 
 def tells(taken, balance, opened, spent, quota=5, sheet=LINE_7 + "Total bookings 1, persons 3, charge 600\n", nine=True, room=False):
-    """Shows a club by three slots, the account, and the day sheet. `nine` and `room` say whether these slots are closed."""
+    """Shows a club by three slots, the account, and the day sheet. `nine` and `room` tell whether these slots are closed."""
     rows = [shown(0, 9, nine), shown(taken), view(ROOM).serves(facility="room-1", day=DAY, hour=18, kind="room", price=601, places=1, taken=0, closed=room),
             ACCOUNT.serves(member="amy", balance=balance, quota=quota, open=opened, spent=spent)]
     return [*(it.under(AMY) for it in rows), command(f"sheet {DAY}", printed=f"Day sheet {DAY}\n{sheet}")]
@@ -47,7 +47,7 @@ FIRST = tells(3, 9099, 1, 901)
 
 @pytest.fixture(scope="module")
 def made(new_club):
-    """A club with a booking, and one that was cancelled less than a day before its slot."""
+    """A club with a booking, and with a booking that was cancelled less than a day before its slot."""
     club = new_club("add-member amy 5", "credit amy 10000", "add-facility court-1 court 4 200 8 22", "add-facility room-1 room 1 601 8 22",
                     f"add-key amy-1 amy {ROOT}", f"close-slot court-1 {DAY} 09")
     rows = [booked(book(7, THREE), 600, 1), booked(book(8, ONE, ROOM), 601, 0), cancel(8, ROOM).at("2026-04-30T18:01").serves(booking="amy-1/8", refund=300)]
@@ -57,7 +57,7 @@ def made(new_club):
 
 @pytest.fixture
 def club(made, tmp_path):
-    """Copies the club's file without its log: the whole club is in that file."""
+    """Copies the club's file without its log. The file alone contains the whole club."""
     shutil.copy(made.file, tmp_path / "club")
     return Club(made.program, tmp_path / "club")
 
@@ -111,7 +111,7 @@ def statements(texts):
 
 
 def test_columns_keys_references_and_limits(club):
-    """Word for word those of docs/TABLES.md. No column may be null, and all tables are STRICT."""
+    """The statements have exactly the words of docs/TABLES.md. No column may be null, and all tables are STRICT."""
     found = [it for it, in club.sql("SELECT sql FROM sqlite_schema WHERE sql NOT NULL")]
     assert statements(found) == statements(it for it in SCHEMA.split(";\n") if it.startswith("CREATE "))
     assert club.sql("""SELECT count(*) FROM pragma_table_list t, pragma_table_info(t.name) c
@@ -120,7 +120,7 @@ def test_columns_keys_references_and_limits(club):
 
 
 def test_what_sqlite3_writes_is_told(club):
-    """The rows are within the limits, also next to the log that clubdesk left."""
+    """The rows are within the limits, also if clubdesk left a log next to the file."""
     club.does(f"sheet {DAY}")
     sql(club, """UPDATE members SET credited = credited + 5, quota = 99, used = used + 200; DELETE FROM slots;
         INSERT INTO slots VALUES ('room-1', 20574, 18, 1, 0), ('court-1', 20574, 9, 0, 0), ('court-1', 20574, 18, 0, 4);
@@ -135,7 +135,7 @@ def test_what_sqlite3_writes_is_told(club):
 
 
 def by_recipe(club, heading):
-    """Returns the shell's output for the block under this heading."""
+    """Returns the shell's output for the block under a heading of the page."""
     return shell(club, given=re.search(rf"^### {heading}\n[^#]*?```sql\n(.*?)^```", RUNNING, re.MULTILINE | re.DOTALL)[1])
 
 
@@ -145,7 +145,7 @@ def sound(club):
 
 
 def corrected(club, heading, again):
-    """The correction finds one row at first, and the given number when it runs again; with no row it changes nothing."""
+    """The correction changes one row at first, and the given number of rows when it runs again. If it finds no row, it changes nothing."""
     assert by_recipe(club, heading) == "1\n"
     sound(club)
     before = dump(club)
@@ -208,7 +208,7 @@ def test_file_of_before_is_migrated(club, change):
 
 
 def refused(club):
-    """A sheet, or a request if the file opens, gets a storage fault; the file and its rows stay unchanged."""
+    """A sheet causes a storage fault, and so does a request if the file opens. The file and its rows stay unchanged."""
     before = club.file.read_bytes(), dump(club)
     status, _, fault = club.command("sheet", DAY)
     if (status, fault) != (5, "storage failed\n"):
@@ -233,7 +233,8 @@ def test_command_that_is_refused_changes_nothing(club):
 
 @pytest.mark.parametrize("table, column, least, most", LIMITS, ids=map(" ".join, LIMITS))
 def test_limit(club, table, column, least, most):
-    """Both ends of a range are accepted. sqlite3 refuses the numbers beyond them, and the desk does if sqlite3 ignores checks."""
+    """The desk accepts both ends of a range. sqlite3 refuses numbers outside the range. If sqlite3 ignores the checks, the desk refuses these
+    numbers."""
     sql(club, "INSERT INTO old_roots VALUES ('amy-1', zeroblob(16), 20000000)")
     kept = club.copied_to(club.file.with_name("kept"))
     for value in (int(least) - 1, int(least), int(most), int(most) + 1):

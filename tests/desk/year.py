@@ -1,12 +1,12 @@
 #!/usr/bin/env python3
 """A club's year, with kills and both changes of summer time, gets the replies of the rules in Python.
 
-The rules are those of `tests/reference`. Each reply, command and day sheet is compared, and each month's rows and totals. `--self-test`
-finds planted faults of the rules.
+The rules are those of `tests/reference`. The test compares each reply, command and day sheet, and the rows and totals of each month. With
+`--self-test`, the test checks that it finds faults planted in the rules.
 
-The year has narrowed passes and each command of the office. The clock of each server is set by tests/lib/set_clock.c, and the server turns it
-into the club's civil time by the zone's rule; the test does so by Python's zoneinfo. After a kill the request or command is sent again. The
-reply is the reference's, whether or not the first try was done.
+The year has narrowed passes and each command of the office. tests/lib/set_clock.c sets the clock of each server. The server converts the clock to
+the club's civil time by the zone's rule, and the test does so by Python's zoneinfo. After a kill, the test sends the request or command again. The
+reply must be the reference's reply, no matter whether the first try was carried out.
 
     tests/desk/year.py [--seed N] [--days N] [--requests N] [--self-test]
 """
@@ -40,7 +40,7 @@ DAYS_OF_SUMMER_TIME = (86, 87, 88, 296, 297, 298)  # about the ends of March and
 
 
 def civil_minute(instant):
-    """The minute of the club's clock at an instant, counted as if its day had no changes."""
+    """Returns the minute of the club's clock at an instant, counted as if the day had no change of the clock."""
     shown = instant.astimezone(ZONE)
     return (shown.date() - caveats.EPOCH).days * 1440 + shown.hour * 60 + shown.minute
 
@@ -67,7 +67,7 @@ class Year(Both):
         self.hand_out(key)
 
     def hand_out(self, key):
-        """A key's full pass, and two that its holder narrowed, in any form."""
+        """A key's full pass, and two passes that its holder narrowed, in any form."""
         whole = passes.minted(self.roots[key][-1], b"key:" + key.encode())
         held = [whole, *(self.narrowed(whole) for _ in range(2))]
         self.passes.setdefault(key, []).extend(passes.text_of(it, self.draw.choice(("v1", "v2", "json"))) for it in held)
@@ -127,8 +127,8 @@ class Year(Both):
             self.give_and_kill(("add-key", f"k{self.next_key}", draw.choice(MEMBERS), draw.randbytes(16)))
 
     def give_and_kill(self, command):
-        """A command that is killed at some time. When given again it is done, or was done before; either way the club then matches the
-        reference."""
+        """Kills a command at some time. When the command is given again, it is done, or the answer is that it was done before. In both cases the
+        club then matches the reference."""
         self.next_key += 1
         process = subprocess.Popen([self.desk, *map(str, self.words_of(command))], stdout=subprocess.DEVNULL, stderr=subprocess.DEVNULL)
         time.sleep(self.draw.random() * 0.03)
@@ -165,7 +165,7 @@ class Year(Both):
     def bytes_of(self, moment, method, key, path, body=b""):
         given = self.draw.choice(self.passes[key][-6:])
         if self.draw.random() < 0.03:
-            # narrowed on the spot, to this minute or up to it
+            # narrowed for this test, to this minute or up to it
             until = f"until < {spelled_moment(moment + self.draw.choice((0, 1)))}"
             given = passes.text_of(passes.read(given).narrowed(until.encode()), "v2")
         length = b"Content-Length: %d\r\n" % len(body) if body else b""
@@ -178,7 +178,7 @@ class Year(Both):
         return programs.Server(self.desk, self.file, count, "--zone", RULE, variables=variables)
 
     def served(self, instant, count):
-        """Sends requests to a server whose clock shows this instant; every ninth server is killed during one."""
+        """Sends requests to a server whose clock shows this instant. Kills every ninth server during a request."""
         moment = civil_minute(instant)
         kill_at = self.draw.randrange(count) if self.draw.randrange(KILLS_ONE_IN) == 0 else count
         asked = [self.request(moment) for _ in range(count)]
@@ -193,7 +193,7 @@ class Year(Both):
                     self.ask(server, data, moment)
 
     def cut_off(self, server, data):
-        """Sends a request whose server is killed during it or shortly after."""
+        """Sends a request, and kills its server during the request or shortly after it."""
         with socket.create_connection(("127.0.0.1", server.port), 30) as client:
             client.sendall(data)
             time.sleep(self.draw.choice((0, 0.0001, 0.0005, 0.002)))
@@ -201,7 +201,7 @@ class Year(Both):
         self.kills += 1
 
     def pass_day(self, day, requests):
-        """Plays a day of the club: two or three servers, the office between them, and the day sheet."""
+        """Simulates a day of the club: two or three servers, commands of the office between them, and the day sheet."""
         draw = self.draw
         instants = sorted(NEW_YEAR + timedelta(days=day, minutes=draw.randrange(16 * 60)) for _ in range(draw.choice((2, 3))))
         if day in DAYS_OF_SUMMER_TIME:

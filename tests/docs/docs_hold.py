@@ -1,12 +1,12 @@
 #!/usr/bin/env -S /usr/bin/python3 -B -m pytest -q -p no:cacheprovider
-"""The commands, outputs, links and names of the pages hold.
+"""The commands, outputs, links and names on the pages are correct.
 
-Holds README.md, CONTRIBUTING.md, docs/, and the README.md of each crate against the repository.
-- Each ```console block is run: the blocks of a page one after the other, in the page's own folder. The programs and bin/ are on the path. A
-  line that begins with `$ ` is a command, and the lines after it are its standard output and error. Empty lines and spaces at the end of a
-  line don't count, and another port may replace 8080.
-- Each test below says what else it checks.
-The variables CLUBDESK and PASSTOOL name the programs. A program without a variable is proved and built first.
+Compares README.md, CONTRIBUTING.md, docs/, and the README.md of each crate with the repository.
+- The test runs each ```console block. It runs the blocks of a page one after the other, in a folder of the page's own. The PATH has the programs
+  and bin/. A line that begins with `$ ` is a command, and the lines after it are the command's standard output and error. The test ignores empty
+  lines and spaces at the end of a line. Another port may replace 8080.
+- The docstring of each test below describes the other checks.
+The variables CLUBDESK and PASSTOOL name the programs. If a program has no variable, the test proves and builds the program first.
   tests/docs/docs_hold.py                    every page
   tests/docs/docs_hold.py -k DESK            the pages whose names have this word
   tests/docs/docs_hold.py --no-commands ..   only the checks that need no program of ours
@@ -44,11 +44,11 @@ def prose(page):
 
 
 def ticked(text):
-    """Returns the texts in backticks that have no space."""
+    """Returns the texts in backticks that contain no space."""
     return sorted(set(re.findall(r"`([^` \n]+)`", text)))
 
 
-# ---- what crates/ defines, each as (file, crate, name ..)
+# ---- the definitions in crates/, each as (file, crate, name ..)
 
 
 def found(endings, pattern):
@@ -74,7 +74,7 @@ CRATES = {crate for _, crate, _ in ITEMS}
 DEFINED = {it[1:] for it in ITEMS}
 CLAUSES = {it[1:] for it in CLAUSES}
 LIBRARIES = {word for line in Path("crates.txt").read_text(encoding="utf-8").splitlines() if line[:1] not in ("", "#") for word in line.replace(":", " ").split()}
-# Names of std that a crate's page uses but its code doesn't.
+# Names of std that the page of a crate uses and the crate's code doesn't.
 OF_STD = {"test_kit": {"expect"}}
 
 
@@ -107,8 +107,8 @@ def test_links_lead_to_pages_and_headings(page):
 
 @each_page
 def test_files_and_names_are_there(page):
-    """Each file that a page names exists, and so does each folder of its own that a crate's page names. Each name `crate::..::name` or
-    `Type::name` is defined."""
+    """Each file that a page names exists. In the page of a crate, each named folder of the crate also exists. Each name `crate::..::name` or
+    `Type::name` has a definition."""
     words = ticked(prose(page))
     scripts = [it for block in blocks(page, "sh") for it in re.findall(r"^(?:bin|tests|deploy)/[a-z_./]+", block, re.MULTILINE)]
     for path in [*words, *scripts]:
@@ -126,8 +126,8 @@ def test_files_and_names_are_there(page):
 
 @pytest.mark.parametrize("page", [it for it in PAGES if it.startswith("crates/")])
 def test_bare_names_of_a_crate(page):
-    """Each name without a path that a crate's page has is a word of its code, is defined by another crate, or is a crate, a library or a file of
-    its folder."""
+    """Each name without a path in a crate's page is a word of the crate's code, or another crate defines it. It may also be a crate, a library, or
+    a file of the crate's folder."""
     folder = Path(page).parent
     crate, names = folder.name, {name for _, name in DEFINED}
     code = "\n".join(re.sub(r"//.*|^--.*", "", text, flags=re.MULTILINE) for file, text in CODE.items() if file.startswith(f"{folder}/"))
@@ -138,8 +138,8 @@ def test_bare_names_of_a_crate(page):
 
 @each_page
 def test_definitions_are_in_their_files(page):
-    """Each name of a list of definitions (`Definitions: NAME, .. in FILE; NAME, .. in FILE`) is in its file. A file without a folder is in the
-    last named folder; a folder of specs/ stands for its files."""
+    """A list of definitions has the form `Definitions: NAME, .. in FILE; NAME, .. in FILE`. Each name of such a list is in its file. A file without
+    a folder is in the last named folder. A folder of specs/ stands for all its files."""
     for line in re.findall(r"Definitions?: (`.*)", prose(page)):
         pieces, names, folder = line.split("`"), [], ""
         for before, piece in zip(pieces[::2], pieces[1::2]):
@@ -156,8 +156,8 @@ def test_definitions_are_in_their_files(page):
 
 @each_page
 def test_passes_are_written_under_temporary_names(page):
-    """A command that prints a pass writes to no file but one whose name ends in .new (`> pass.new && mv pass.new pass`): the shell empties the
-    file before the command is refused."""
+    """A command that prints a pass must write to a file whose name ends in .new (`> pass.new && mv pass.new pass`). Otherwise, the shell would
+    empty the old file before the command is refused."""
     commands = [it for block in blocks(page, "console") for it in re.findall(r"^\$ (.*)", block, re.MULTILINE)]
     for command in [*commands, *(line for block in blocks(page, "sh") for line in block.splitlines())]:
         if re.search(r"(^|[ |])(passtool|clubdesk|office [a-z]+) (mint|narrow|convert|add-key|rotate-key) ", command):
@@ -168,8 +168,9 @@ def test_passes_are_written_under_temporary_names(page):
 
 
 def test_laws():
-    """README lists the laws of docs/PROMISES.md in the same order. Each ends in a link to them, whose text is a function and one of its clauses.
-    tests/audit.py holds the functions and clauses of docs/PROMISES.md."""
+    """README lists the laws of docs/PROMISES.md in the same order. Each law ends in a link to docs/PROMISES.md. The text of the link is a function
+    and one of its clauses. tests/audit.py checks the functions and clauses of docs/PROMISES.md. tests/audit.py holds the functions and clauses of
+    docs/PROMISES.md."""
     title = r"^\d+\. \*\*(.*?)\.\*\*"
     laws = re.findall(title, TEXTS["docs/PROMISES.md"], re.MULTILINE)
     rows = re.findall(title + r" .*\(\[`([^`]*)`: `([^`]*)`.*\]\(docs/PROMISES\.md#the-law-of-the-desk\)\)$", TEXTS["README.md"], re.MULTILINE)
@@ -183,14 +184,14 @@ def test_first_page_is_short():
 
 
 def test_layers():
-    """The table of docs/LAYERS.md is crates.txt: its layers (`# NAME: WHAT`) and its crates, in that order."""
+    """The table of docs/LAYERS.md has the layers (`# NAME: WHAT`) and the crates of crates.txt, in the same order."""
     crates, page = Path("crates.txt").read_text(encoding="utf-8"), TEXTS["docs/LAYERS.md"]
     order = re.findall(r"^# ([^:\n]*):|^([a-z][a-z_0-9]*)[ :]", crates, re.MULTILINE)
     assert re.findall(r"^\| \*\*([^*]*)\*\* \||^\| `([a-z_0-9]+)` \|", page, re.MULTILINE) == order
 
 
 def test_tour():
-    """Each question has three to six steps of the form `PATH`: `NAME`, .. The file defines NAME; a file that isn't code contains it as a
+    """Each question has three to six steps of the form `PATH`: `NAME`, .. The file PATH defines NAME. A file that isn't code contains NAME as a
     word."""
     questions = re.split(r"^## ", TEXTS["docs/TOUR.md"], flags=re.MULTILINE)[1:]
     assert len(questions) == 24
@@ -203,8 +204,8 @@ def test_tour():
 
 
 def test_audit_is_made_of_the_sources():
-    """docs/AUDIT.md is what tests/audit.py makes. No clause of a promise's function reaches a definition of specs/computed/. In the tour's
-    paths through definitions, each step cites the next."""
+    """docs/AUDIT.md is exactly the output of tests/audit.py. No clause of a function that carries a promise depends on a definition of
+    specs/computed/. In the tour's paths through definitions, each step cites the next step."""
     subprocess.run(["tests/audit.py", "--strict"], check=True, stdout=subprocess.DEVNULL)
 
 
@@ -230,8 +231,8 @@ def test_glossary_gives_words_of_code():
 
 
 def test_each_decision_has_its_day_and_status():
-    """Each paragraph of docs/DECISIONS.md below a heading begins with the decision, and ends with the day on which it was written down and a
-    status."""
+    """Each paragraph below a heading of docs/DECISIONS.md begins with the decision. It ends with a status and the day on which the decision was
+    written down."""
     sections = re.split(r"^## .*\n", TEXTS["docs/DECISIONS.md"], flags=re.MULTILINE)[1:]
     for paragraph in (it for section in sections for it in re.split(r"\n\n+", section.strip())):
         assert re.fullmatch(r"\*\*.* \*20\d\d-\d\d-\d\d, (accepted|measured|stand-in)(, changed 20\d\d-\d\d-\d\d)?\*", paragraph), paragraph
@@ -257,8 +258,8 @@ def squeezed(text):
 
 
 def script_of(text):
-    """Turns a page's commands into a script that prints each before it runs it. `$?` is that of the command before. After a command that ends in
-    `&` the script waits until something more was printed."""
+    """Turns a page's commands into a script that prints each command before it runs the command. `$?` is the status of the previous command. After
+    a command that ends in `&`, the script waits until the command prints something."""
     lines = ["trap 'kill $(jobs -p) 2>/dev/null' EXIT", 'again() { return "$1"; }']
     for command in re.findall(r"^\$ (.*)", text, re.MULTILINE):
         is_behind = command.endswith(" &")
@@ -269,7 +270,7 @@ def script_of(text):
 
 
 def free_port(number):
-    """Returns a port that nothing uses or has just used."""
+    """Returns a port that no program uses or has just used."""
     is_used = any(f":{number:04X} " in it.read_text() for it in (Path("/proc/net/tcp"), Path("/proc/net/tcp6")) if it.exists())
     return free_port(number + 1) if is_used else number
 
@@ -281,12 +282,13 @@ def test_commands(page, tmp_path):
     text = re.sub(r"(:|--port )8080", rf"\g<1>{port}", "\n".join(blocks(page, "console")))
     room, out = tmp_path / "room", tmp_path / "out"
     room.mkdir()
-    # A page's commands may run at the top of the repository.
+    # The commands of a page may run in the repository's top folder.
     for folder in ("bin", "deploy", "bindings"):
         (room / folder).symlink_to(desk.ROOT / folder)
-    # Bodies of replies end without a line feed, which a terminal shows as a prompt after them.
+    # The body of a reply ends without a line feed. So a terminal shows the next prompt directly after the body.
     (tmp_path / ".curlrc").write_text('silent\nshow-error\nnoproxy = "*"\nwrite-out = "\\n"\n')
-    # All is built first, so that a build's output isn't taken for a program's, and no proof uses up the page's time.
+    # The fixture first builds all programs. Otherwise, the output of a build would count as a program's output, and a proof would use up the page's
+    # time.
     given = tmp_path / "given"
     given.mkdir()
     for name in ("passtool", "clubdesk"):

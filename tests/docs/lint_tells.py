@@ -1,9 +1,10 @@
 #!/usr/bin/env -S /usr/bin/python3 -B -m pytest -q -p no:cacheprovider
 """`tests/lint.py` finds foreign English, faulty subjects of commits and misspelt words, and passes plain text.
 
-It looks at added lines alone, and passes code. `tests/docs/sentences.py` draws the same sentences for the same seed.
+tests/lint.py checks only added lines, and ignores code. For the same seed, `tests/docs/sentences.py` draws the
+same sentences.
 
-Works on small repositories of its own.
+The test uses small repositories of its own.
 """
 
 import subprocess
@@ -105,7 +106,7 @@ def test_numbers_of_lines_within_a_paragraph():
 
 @pytest.fixture
 def clone(tmp_path):
-    """A repository with a page, a crate and one commit, and a clone of it."""
+    """A repository with a page, a crate and one commit, and a clone of this repository."""
     def git(*words, at):
         subprocess.run(["git", "-c", "user.name=a", "-c", "user.email=a@example", *words], cwd=at, check=True, capture_output=True)
 

@@ -1,8 +1,8 @@
 #!/bin/sh
 # pyflakes, shellcheck, gofmt and go vet complain only where the code states a reason.
 #
-# The shell scripts and bats files of tests/, bin/ and deploy/ are read by shellcheck, the Python there, in examples/ and in bindings/ by pyflakes.
-# The Go of tests/, examples/ and bindings/ is read if Debian's Go is there.
+# shellcheck reads the shell scripts and bats files of tests/, bin/ and deploy/. The program pyflakes reads the Python files of these folders, of
+# examples/ and of bindings/. The Go of tests/, examples/ and bindings/ is read if Debian's Go is there.
 # pytestmark = [mark.quick, mark.wants("shellcheck pyflakes3")]
 set -eu
 cd "$(dirname -- "$0")/../.."
@@ -15,7 +15,7 @@ by_first_line() {
 status=0
 # shellcheck disable=SC2046  # no name has a space
 shellcheck -x -P tests/lib $(by_first_line '^#!/bin/(ba)?sh') || status=1
-# A bats file reads variables that bats sets, and a test ends at its first failing command.
+# A bats file reads variables that bats sets. A test in it ends at the first command that fails.
 shellcheck -x -P tests/lib -e SC2154,SC2164 tests/*/*.bats || status=1
 # shellcheck disable=SC2046
 pyflakes3 $(by_first_line 'python3') $(find tests examples deploy bindings -name '*.py') || status=1

@@ -1,8 +1,10 @@
 #!/usr/bin/env -S /usr/bin/python3 -B -m pytest -q -p no:cacheprovider
-"""The server answers each request in the tables of docs/HANDING_ON.md and docs/CLIENT.md as the page says.
+"""The server answers each request in the tables of docs/HANDING_ON.md and docs/CLIENT.md as the page
+states.
 
-Runs the commands of a page's console blocks, and sends each request of its tables under the pass and at the moment in the table's head. The
-commands before a section's first table make the club, without bookings; the section's requests and later commands use a copy.
+Runs the commands of a page's console blocks, and sends each request of its tables. The head of a
+table has the pass and the moment of its requests. The commands before the first table of a section
+make the club, without bookings. The section's requests and later commands use a copy of this club.
 tests/docs/docs_hold.py runs the blocks with their own server.
 """
 

@@ -1,8 +1,10 @@
 #!/usr/bin/env -S /usr/bin/python3 -B
-"""Draws sentences at random, for a reader who didn't write them and marks those that need a second reading.
+"""Draws sentences at random, for a reader who didn't write them. The reader marks each sentence that needs a
+second reading.
 
-A third is drawn from the docstrings and comments of the code, a third from the pages, and a third from the help. The help is the tables of
-commands, the manual pages, and the texts of the office and of web/. The same seed draws the same sentences of the same tree.
+The code (its docstrings and comments), the pages, and the help each give a third of the sentences. The help
+consists of the tables of commands, the manual pages, and the texts of the office and of web/. For the same
+tree, the same seed draws the same sentences.
 
     tests/docs/sentences.py                         forty sentences, seed 1
     tests/docs/sentences.py --seed 7 --count 12     twelve with another seed
@@ -52,7 +54,8 @@ def all_sentences(below):
 
 
 def drawn(found, seed, count):
-    """Yields an equal share of each kind. If the count doesn't divide evenly, the first kinds get one more."""
+    """Yields an equal number of sentences of each kind. If the count doesn't divide evenly, the first kinds
+    get one sentence more."""
     dice, kinds = random.Random(seed), [it for it in found if found[it]]
     for place, kind in enumerate(kinds):
         share = count // len(kinds) + (place < count % len(kinds))

@@ -1,4 +1,4 @@
-"""A proxy between a client and the desk that lets some requests fail. Used by client_survives.py and page_books.py."""
+"""A proxy between a client and the desk. It lets some requests fail. client_survives.py and page_books.py use this proxy."""
 
 import contextlib
 import re
@@ -8,14 +8,14 @@ import time
 
 import desk
 
-# Whether or not the desk carried out the request, the client gets no complete reply from it.
+# For a failing request, the client gets no complete reply, no matter whether the desk carried out the request.
 FAILURES = ["silent", "answer 502 <html>bad gateway</html>", "answer 504 <html>gateway timeout</html>", "answer 200 <html>a page</html>",
             'answer 500 {"error":"proxy"}', 'answer 503 {"fault":22,"text":"unavailable"}', "swallowed", "head-cut", "body-cut"]
 CUT_AT = {"swallowed": 0, "head-cut": 40, "body-cut": -5}  # of the desk's reply
 
 
 def request_from(client):
-    """Reads a head and its body, by the length in the head."""
+    """Reads a head, and a body of the length that the head gives."""
     with client.makefile("rb") as come:
         head = b"".join(iter(come.readline, b"\r\n")) + b"\r\n"
         length = re.search(rb"(?i)content-length: (\d+)", head)
@@ -23,8 +23,8 @@ def request_from(client):
 
 
 class Between:
-    """Passes connections on to the desk. `fates` says what happens to the next requests with a method, in order; `most` is the most connections
-    at once."""
+    """Passes connections on to the desk. `fates` has the fates of the next requests with a method, in order. `most` is the greatest number of
+    connections at the same time."""
 
     def __init__(self, desk_port):
         self.desk_port, self.fates = desk_port, {}

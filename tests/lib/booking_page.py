@@ -1,4 +1,4 @@
-"""Shared by the parts of page_books.py: the club, its desk behind nginx, and the page that books in a browser."""
+"""The parts of page_books.py share this module. It has the club, its desk behind nginx, and the page that books in a browser."""
 
 import atexit
 import base64
@@ -27,8 +27,8 @@ os.environ["PATH"] = f"/usr/sbin:/sbin:{os.environ['PATH']}"
 os.chdir(ROOM.name)
 ROOT = "00112233445566778899aabbccddeeff"
 draw = random.Random(20260501)
-# The club's zone has a whole-hour offset that makes it about noon now, so that today has both past and future hours. The names in Etc have the
-# opposite sign, like POSIX rules.
+# The club's zone has an offset in whole hours that makes it about noon at the club now. So today has both past and future hours. The names in Etc
+# have the opposite sign, as in POSIX rules.
 AHEAD = 12 - datetime.now(timezone.utc).hour
 ZONE = f"Etc/GMT{-AHEAD:+d}" if AHEAD else "Etc/GMT"
 RULE = f"<{AHEAD:+03d}>{-AHEAD}" if AHEAD else "GMT0"
@@ -47,22 +47,22 @@ def day(count=0):
     return f"{(now() + timedelta(days=count)).date()}"
 
 
-# ---- The desk, the proxy, and the failing proxy between them
+# ---- The desk, the proxy, and the proxy between them that fails
 
 
 class Server(desk.Server):
-    """clubdesk's server on the file `club`, which can be killed and started again at the same port."""
+    """The server of clubdesk on the file `club`. A test can kill it and start it again at the same port."""
 
     start = desk.Server.__enter__
 
     def asked(self):
-        """Returns how often each method and path was requested, from the server's log."""
+        """Returns the number of requests with each method and path, from the server's log."""
         return Counter(tuple(line.split()[1:3]) for line in self.log.read_text(encoding="utf-8").splitlines())
 
 
 def start_proxy(upstream, rate=5000, burst=5000):
-    """Runs nginx with the stored configuration, at another port, in front of another desk, with the pages of the folder `www`. It has other
-    request limits, unless there is no `rate`: this script sends in a minute what a club sends in an hour."""
+    """Runs nginx with the repository's configuration, at another port, in front of another desk. nginx serves the pages from the folder `www`. With
+    a `rate`, nginx has other request limits, because this script sends in a minute as many requests as a club in an hour."""
     front = desk.free_port()
     site = pathlib.Path(TOP, "deploy/nginx.conf").read_text()
     here = os.getcwd()
@@ -99,14 +99,14 @@ def stop_proxy(front):
 
 
 def printed(*words, given=None):
-    """Returns the output of a command, which must succeed."""
+    """Returns the output of a command that must succeed."""
     status, text, fault = desk.command(*words, text=given)
     check(status == 0, words, fault)
     return text
 
 
 def refused(fault, *words, given=None, **variables):
-    """Checks that a command of the office is refused with a line, and prints nothing."""
+    """Checks that the office refuses a command with a line on standard error, and prints no output."""
     found = desk.command(*words, text=given, env={**os.environ, **variables})
     check(found[:2] == (1, "") and re.search(fault, found[2]), "what is refused", words, given, variables, found)
 
@@ -126,7 +126,7 @@ def fetched(front, path, *words):
 
 
 def rows(question, *values):
-    """Returns rows of the club from a copy made by deploy/back_up."""
+    """Returns rows of the club from a copy that deploy/back_up makes."""
     pathlib.Path("copy").unlink(missing_ok=True)
     printed(f"{TOP}/deploy/back_up", "club", "copy")
     with desk.opened("copy") as club:
@@ -134,7 +134,7 @@ def rows(question, *values):
 
 
 def make_club():
-    """Makes the club of all tests, and the passes of its keys."""
+    """Makes the club for all tests, and the passes of its keys."""
     passes = {}
     for name, quota in [("amy", 99), ("bob", 2), ("carol", 5), ("hall", 0)]:
         office("add-member", name, quota)
@@ -201,12 +201,12 @@ class BookingPage(Browser):
         check(found, *what, condition, self.run("return document.body.innerText"), self.driver.get_log("browser"))
 
     def visit(self, end, condition, *what):
-        """Opens the page with a suffix to its address, and waits for a condition."""
+        """Opens the page with a suffix to its address, and waits until a condition holds."""
         self.open(self.address + end)
         self.when(condition, *what)
 
     def enter(self, text, ahead=None, keeps=None):
-        """Enters a pass, keeps it or not by a button's text, and opens a day."""
+        """Enters a pass, keeps it or not by pressing the button with a text, and opens a day."""
         self.visit(f"#{text}", "isShown('day') && dayIsThere()", "the day of a pass")
         if keeps:
             self.press(keeps, "notices")
@@ -218,7 +218,7 @@ class BookingPage(Browser):
         self.when(f"shownDay() === '{wanted}' && dayIsThere()", "a day")
 
     def offer(self, facility, hour):
-        """Presses a slot once the page is ready for it, with the desk's answer and the record."""
+        """Presses a slot when the page is ready for the press. The page is ready when it has the desk's answer and the record."""
         self.when(f"!cellAt('{facility}', {hour}).button.disabled", "a slot that can be pressed", facility, hour)
         self.run("cellAt(...arguments).button.click()", facility, hour)
 
@@ -236,7 +236,7 @@ class BookingPage(Browser):
         self.run("byName('dialog').querySelector('.main').click()")
 
     def comes(self, words, *what):
-        """Closes the dialog once it shows these words."""
+        """Closes the dialog when it shows these words."""
         self.when(f"dialogText().includes({json.dumps(words)})", *what)
         self.press("Close")
 
@@ -251,18 +251,18 @@ class BookingPage(Browser):
         self.comes("came back", "a cancellation", *what)
 
     def booked_at(self, ahead, *what):
-        """Books on another day, from any view."""
+        """Books on another day, from any view of the page."""
         self.view("day")
         self.go(day(ahead))
         return self.booked(*what)
 
     def cancelled_at(self, entry, facility):
-        """Cancels another browser's booking directly at the desk."""
+        """Cancels a booking of another browser directly at the desk."""
         text = self.run("return state.text")
         fetched(self.front, f"/slots/{facility}/{entry['day']}/{entry['hour']:02}/bookings/{entry['number']}", "-X", "DELETE", "-H", f"Authorization: Bearer {text}")
 
     def cancelled_in_the_list(self, *what, asked="", words="came back"):
-        """Cancels the first future booking; the dialog asks and answers in these words."""
+        """Cancels the first future booking. The dialog must ask and answer with these words."""
         self.view("bookings")
         self.run("[...byName('to-come').querySelectorAll('.booked button, .listed button')].find((each) => each.textContent === 'Cancel').click()")
         check(asked in self.run("return dialogText()"), *what, self.run("return dialogText()"))
@@ -278,26 +278,27 @@ class BookingPage(Browser):
         self.run("byName(`to-${arguments[0]}`).click()", name)
 
     def requests(self):
-        """Returns the methods and addresses of network requests since the last call."""
+        """Returns the methods and addresses of the network requests since the last call."""
         messages = [json.loads(entry["message"])["message"] for entry in self.driver.get_log("performance")]
         sent = [each["params"]["request"] for each in messages if each["method"] == "Network.requestWillBeSent"]
         return [(each["method"], each["url"]) for each in sent]
 
     def complaints(self):
-        """Returns the console's lines without those about refusals."""
+        """Returns the lines of the console. Leaves out lines about refusals."""
         return [each["message"] for each in self.driver.get_log("browser") if "the server responded with a status" not in each["message"]
                 and "net::ERR_" not in each["message"]]
 
 
 def amounts(key):
-    """Returns a key's bookings in the file by number, each with facility, day, hour, guests, charge, left, cancelled and refund."""
+    """Returns the bookings of a key in the file, by number. Each has its facility, day, hour, guests, charge, places left, cancellation and
+    refund."""
     found = rows("SELECT number, facility, date(day * 86400, 'unixepoch'), hour, guests, charge, remains, cancelled, refund FROM bookings "
                  "WHERE pass_key = ?", key)
     return {number: tuple(rest) for number, *rest in found}
 
 
 def recorded(entries, key):
-    """Returns the same from the page's record, from the desk or from a list."""
+    """Returns the bookings of a key in the page's record, in the same form. They come from the desk or from a list."""
     found = {}
     for each in entries:
         if each["key"] != key or "fault" in (each["book"] or {}):
@@ -329,12 +330,12 @@ def curl(page, method, path, text, body=None):
 
 
 def unasked(server, before):
-    """Returns the requests at the desk since then, without GETs."""
+    """Returns the requests that the desk got since a moment, without GETs."""
     return {each: count for each, count in (server.asked() - before).items() if each[0] != "GET"}
 
 
 def cancel_by_office(server, entry, key, member):
-    """Changes the file in the way that deploy/office cancels a booking with its whole refund."""
+    """Changes the file in the same way as deploy/office when it cancels a booking with the whole refund."""
     server.kill()
     with contextlib.closing(sqlite3.connect("club")) as club:
         club.executescript(f"""
@@ -352,7 +353,7 @@ def keep(name, picture):
 
 
 def page_date(text, year=False):
-    """Formats a day as the page does in English."""
+    """Formats a day in English as the page does."""
     its_day = datetime.strptime(text, "%Y-%m-%d")
     return f"{its_day:%A} {its_day.day} {its_day:%B}" + (f" {its_day.year}" if year else "")
 
@@ -369,7 +370,7 @@ def goes_to(engine, wanted):
 
 
 def engines():
-    """Yields Firefox and WebKitGTK, with the functions that the steps below call in the page."""
+    """Yields Firefox and WebKitGTK. The page in them has the functions that the steps below call."""
     import page_engines
     for place, engine_of in enumerate((page_engines.Firefox, page_engines.WebKit)):
         with engine_of() as engine:

@@ -3,7 +3,7 @@
 import desk as programs
 from reference import caveats, club as rules, passes, wire
 
-# The kinds of command values that aren't plain words or numbers.
+# The kinds of those command values that aren't plain words or numbers.
 KINDS_OF_VALUES = {"add-key": ("word", "word", "root"), "rotate-key": ("word", "root", "moment"), "close-slot": ("word", "day", "hour"),
                    "open-slot": ("word", "day", "hour")}
 
@@ -38,7 +38,7 @@ def finds_each_plant(run):
 
 
 class Both:
-    """A club in a file, kept by the programs, and the same club in the reference. A difference raises AssertionError."""
+    """A club in a file, which the programs change, and the same club in the reference. A difference raises AssertionError."""
 
     def __init__(self, desk, file, plant=None):
         self.desk, self.file = desk, file
@@ -52,7 +52,7 @@ class Both:
         return [name, self.file, *(SPELLINGS[kind](value) for kind, value in zip(kinds, values))]
 
     def answer_of(self, command):
-        """Carries out a command in the reference; returns status, output and fault."""
+        """Carries out a command in the reference. Returns the status, the output and the fault."""
         name, *values = command
         try:
             self.club.command(command)
@@ -65,18 +65,18 @@ class Both:
         return 0, passes.text_of(passes.minted(root, b"key:" + key.encode()), "v2").decode() + "\n", ""
 
     def give(self, command):
-        """Gives a command to both, and compares the answers."""
+        """Gives a command to the program and to the reference, and compares the answers."""
         found = programs.command(self.desk, *self.words_of(command))
         expect(f"order {command}", found, self.answer_of(command))
 
     def ask(self, server, data, moment):
-        """Sends a request's bytes to both, compares the replies, and returns the reply."""
+        """Sends a request's bytes to the program and to the reference. Compares the replies, and returns the reply."""
         found = programs.exchange(server.port, data)
         expect(data, found, wire.exchange(self.club, data, moment))
         return found
 
     def compare_rows(self):
-        """Compares the file's rows and totals with the reference."""
+        """Compares the rows and totals of the file with the reference."""
         club = self.club
         of_file = lambda names, table: {row[0]: row[1:] for row in programs.rows(self.file, f"SELECT {names} FROM {table}")}
         expect("members", of_file("name, credited, quota, used", "members"),

@@ -1,5 +1,5 @@
-# Checks for the scripts in the neighbouring folders, which compare a machine's behaviour with the expected one. Read it after serving.sh.
-# `checks` counts.
+# Checks for the scripts in the neighbouring folders. The scripts compare the behaviour of a machine with the expected behaviour. Source this file
+# after serving.sh. `checks` counts.
 checks=0
 trap 'exit 1' INT TERM HUP
 
@@ -16,7 +16,7 @@ $2
 $3"
 }
 
-# holds WHAT COMMAND..: the command must end with status 0; its output is in `told`.
+# holds WHAT COMMAND..: checks that the command ends with status 0. The file `told` has the command's output.
 holds() {
     what=$1
     shift
@@ -24,7 +24,7 @@ holds() {
     "$@" >told 2>&1 || fail "$what: $(tail -n 30 told)"
 }
 
-# soon SECONDS WHAT COMMAND..: the command must end with status 0 within these seconds; its last output is in `told`.
+# soon SECONDS WHAT COMMAND..: checks that the command ends with status 0 within these seconds. The file `told` has the last output.
 soon() {
     tries=$(($1 * 10))
     what=$2
@@ -36,5 +36,5 @@ soon() {
     done
 }
 
-# unsound FILE: prints the faulty totals of a club.
+# unsound FILE: prints the wrong totals of a club.
 unsound() { sqlite3 "$1" "$(PYTHONPATH=$here/../lib /usr/bin/python3 -B -c 'import desk; print(desk.SUMS)')"; }

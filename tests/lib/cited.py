@@ -1,8 +1,9 @@
-"""Reads the contracts that a page cites in its tables, such as docs/PROMISES.md, and the computing definitions below them.
+"""Reads the contracts that the tables of a page, such as docs/PROMISES.md, cite. Finds the computing definitions on which these contracts depend.
 
-The second cell of a row has groups that end at `;`. Each has the form `NAME, .. : CLAUSE, .. by DEFINITION, ..`. A NAME is a function of
-the section's crate, an implementation of a trait (`Log for LogLines`), or a type or trait. Without a CLAUSE all of its clauses count. The
-DEFINITIONs that these cite are in the crate, or in the one before `::`. The first name's module or type also applies to the later names that have none."""
+The second cell of a row has groups. Each group ends at `;`. Each has the form `NAME, .. : CLAUSE, .. by DEFINITION, ..`. A NAME is a function of
+the section's crate, an implementation of a trait (`Log for LogLines`), a type or a trait. If a group has no CLAUSE, all clauses of its NAME count.
+The clauses cite the DEFINITIONs. A DEFINITION is in the section's crate, or in the crate before its `::`. The module or type of the first NAME also
+applies to later NAMEs that have no module or type."""
 
 import re
 from dataclasses import dataclass
@@ -24,7 +25,7 @@ class Citation:
 
 
 def citations(text):
-    """Yields the groups of a page's tables, where each section is about a crate."""
+    """Yields the groups in a page's tables. Each section of the page is about a crate."""
     crate = ""
     for number, line in enumerate(text.splitlines(), 1):
         if line.startswith("## "):
@@ -45,14 +46,15 @@ def citations(text):
 
 
 class Contracts:
-    """The definitions below the citations of a page."""
+    """The definitions on which the citations of a page depend."""
 
     def __init__(self, book):
         self.book = book
         self.unknown = []  # what a clause has that wasn't understood
 
     def below(self, citation):
-        """Yields each cited clause and definition with the definitions below it, and with those below the ghosts' values in it."""
+        """Yields each cited clause and definition, with the definitions on which it depends. These include the definitions that the values of its
+        ghosts cite."""
         above = None
         if citation.labels and not citation.names:
             self.unknown.append(f"no function of {' '.join(citation.labels)}")
@@ -94,8 +96,8 @@ class Contracts:
         return specs or [file.types[name] for file in self.files(crate) if name in file.types]
 
     def texts(self, crate, name, above, labels):
-        """Returns (file, place, label, text) for each clause, and for an implementation also its values of the trait's ghosts, or None without
-        such a contract."""
+        """Returns (file, place, label, text) for each clause. For an implementation, also returns its values of the trait's ghosts. Returns None if
+        there is no such contract."""
         if " for " in name:
             return self.texts_of_implementation(crate, name)
         last = name.split("::")[-1]
@@ -109,7 +111,7 @@ class Contracts:
         return self.texts_of_ghosts(crate, last)
 
     def places(self, crate, function, above):
-        """Returns where a function of this name begins, in the module or the type `above` if there is one."""
+        """Returns the place where a function of this name begins. If `above` is given, the function is in that module or type."""
         found, owner = [], self.behind_alias(crate, above)
         for file in self.files(crate):
             for it in re.finditer(rf"{FUNCTION}{function}\b", file.text, re.MULTILINE):
@@ -119,13 +121,13 @@ class Contracts:
         return found
 
     def behind_alias(self, crate, name):
-        """The type that a `type` of this name stands for, or the name itself."""
+        """Returns the type that a `type` of this name stands for, or the name itself."""
         found = [it[1] for file in self.files(crate) for it in re.finditer(rf"^pub type {name}\b[^=]*= (\w+)", file.text, re.MULTILINE)]
         return found[0] if found else name
 
     @staticmethod
     def clauses(file, start):
-        """Returns (label, text) of the clauses after a function's head."""
+        """Returns (label, text) of the clauses that follow a function's head."""
         inner = file.block_around(start)[0]
         body = file.text.find("\n    {\n" if inner else "\n{\n", start)
         following = re.compile(f"{FUNCTION}\\w", re.MULTILINE).search(file.text, file.text.find("(", start))
@@ -149,7 +151,7 @@ class Contracts:
         return found
 
     def texts_of_ghosts(self, crate, name):
-        """Returns the type of a trait's ghost of this name, or the types' values for it."""
+        """Returns the type of a trait's ghost of this name, or the values that types give it."""
         found = [(file, it.start(), name, it[1]) for file in self.files(crate)
                  for it in re.finditer(rf"\bghost {name}(?: =|:) \{{\s*(.*?)\s*\}}[;,]", file.text, re.DOTALL)]
         return found or None

@@ -1,7 +1,7 @@
 """Reads specs/*.antt and the clauses in src/*.rt, and finds which definition cites which.
 
-The reader knows declarations, imports and binders, and proves nothing. It keeps a word that is neither bound nor imported nor built in
-in `Definition.unknown`, so that callers see which words it didn't understand."""
+The reader knows declarations, imports and binders, and proves nothing. A word may be neither bound nor imported nor built in. `Definition.unknown`
+has such words, so that callers see which words the reader didn't understand."""
 
 import re
 from functools import cached_property
@@ -10,7 +10,7 @@ from spec_files import CRATES, Definition, ROOT, Scope, SpecsFile, Walk, imports
 
 
 class CodeFile:
-    """A file in src/: its types, traits, and the clauses of its functions."""
+    """A file of a src/ folder, with its types, its traits, and the clauses of its functions."""
 
     def __init__(self, book, path):
         self.book, self.path = book, path
@@ -30,7 +30,7 @@ class CodeFile:
         it = Definition(f"{self.crate}.specs.declared.{self.place}.{name}", name, "type", self.path, self.line_of(found.start()), text)
         it.rust_kind = kind
         if kind == "trait":
-            # A trait is read ghost by ghost.
+            # The reader treats each ghost of a trait separately.
             it.text = text.splitlines()[0]
         return it
 
@@ -38,7 +38,7 @@ class CodeFile:
         return self.text.count("\n", 0, at) + 1
 
     def block_end(self, start):
-        """Returns the place after the block or semicolon that begins there."""
+        """Returns the place after the block or semicolon that begins at a place."""
         depth = 0
         for at in range(start, len(self.text)):
             sign = self.text[at]
@@ -53,7 +53,7 @@ class CodeFile:
         return len(self.text)
 
     def block_around(self, at):
-        """Returns the `impl` or `trait` around a place, as (head, text); both are empty at the top of the file."""
+        """Returns the `impl` or `trait` around a place, as (head, text). Both are empty at the top level of the file."""
         best = ("", "")
         for found in re.finditer(r"^(?:pub(?:\([a-z]+\))? )?(?:impl|trait)\b[^{]*\{", self.text, re.MULTILINE):
             end = self.block_end(found.start())
@@ -62,10 +62,10 @@ class CodeFile:
         return best
 
     def scope_at(self, at):
-        """Returns the imports of the file and of the block, types by their Rust names, and ghosts of the traits that bound parameters."""
+        """Returns the imports of the file and of the block, the types by their Rust names, and the ghosts of the traits that bound parameters."""
         head, block = self.block_around(at)
         scope = Scope(self.book, imports_in(self.text, "ghost use"))
-        # The block's own imports come last, so they take precedence.
+        # The imports of the block itself come last, so they replace earlier imports of the same name.
         inner = Scope(self.book, imports_in(block, "ghost use"))
         scope.names.update(inner.names)
         scope.aliases.update(inner.aliases)
@@ -80,7 +80,7 @@ class CodeFile:
 
     @cached_property
     def uses(self):
-        """Returns the names that `use` imports: the name here, the crate, and the name there."""
+        """Returns the names that `use` imports, each as the name in this file, the crate, and the name in the crate."""
         found = {}
         for line in re.finditer(r"^(?:pub(?:\([a-z]+\))? )?use ((?:[^;])*);", self.text, re.MULTILINE):
             for crate, name, here in flat(line[1]):
@@ -123,7 +123,7 @@ class CodeFile:
         raise KeyError(f"{self.path}: no function {name}")
 
     def generics_at(self, at):
-        """Returns the traits that bound the parameters of the function at a place, and those of its `impl`."""
+        """Returns the traits that bound the parameters of the function at a place, and the traits that bound those of its `impl`."""
         head = self.block_around(at)[0]
         paren = self.text.find("(", at)
         bounds = {}
@@ -135,7 +135,7 @@ class CodeFile:
         return bounds
 
     def cited_by(self, at, text):
-        """Returns the names that a clause cites, and unknown names."""
+        """Returns the names that a clause cites, and the names that the reader doesn't know."""
         scope = self.scope_at(at)
         bounds = self.generics_at(at)
         walk = Walk(scope)
@@ -158,7 +158,7 @@ class CodeFile:
 
 
 def flat(text, before=()):
-    """Returns the names that a `use` imports, as (crate, name, name here)."""
+    """Returns the names that a `use` imports, as (crate, name, name in this file)."""
     text = text.strip()
     brace = text.find("{")
     if brace < 0:
@@ -199,7 +199,7 @@ class Book:
                 self.resolve_type(file, it)
 
     def look(self, module, name):
-        """Returns a module's definition of a name."""
+        """Returns the definition of a name in a module."""
         if module == "rust":
             crate, place, here = name.split("/")
             return self.code[f"{crate}/{place}"].rust_type(here)
@@ -222,7 +222,7 @@ class Book:
         return None
 
     def declared(self, module, name):
-        """Returns a type of the code, one of its variants, or a declaration about it."""
+        """Returns a type of the code, a variant of it, or a declaration about it."""
         crate, _, place = module.partition(".specs.declared.")
         parts = place.split(".")
         start = next((at for at, part in enumerate(parts) if part[0].isupper()), len(parts))
@@ -271,7 +271,7 @@ class Book:
         return it
 
     def standing_for(self, ghost):
-        """Yields the ghosts of our own types: the type, its file, the value, and the definitions below the value."""
+        """Yields the ghosts of our own types, each with its type, its file, its value, and the definitions that the value cites."""
         trait, name = ghost.name.split(".")
         for key, file in self.code.items():
             if key.split("/")[0].endswith("_tests") or key.split("/")[0] in ("test_kit", "club_bench"):
@@ -283,7 +283,7 @@ class Book:
                     yield found[1], file, value[1], closure(file.cited_by(found.start() + value.start(), value[1])[0])
 
     def resolve_type(self, file, it):
-        """Returns the types of a type's fields, or its value in contracts."""
+        """Returns the types of a type's fields, or the type's value in contracts."""
         if it.rust_kind == "trait":
             return
         model = re.search(rf"^impl(?:<[^>]*>)? Model for {it.name}\b[^{{]*\{{", file.text, re.MULTILINE)
@@ -312,7 +312,7 @@ def owner_of(it):
 
 
 def closure(cited):
-    """Returns all definitions below these, without duplicates."""
+    """Returns all definitions on which these definitions depend, without duplicates."""
     found, open_ = {}, list(cited)
     while open_:
         it = owner_of(open_.pop())

@@ -1,6 +1,8 @@
-"""The built programs, for tests that talk to a server: their paths, a server that ends with its block, an exchange, a command.
+"""The built programs, for tests that talk to a server. The module has their paths, a server that ends with its block, and functions for an exchange
+and a command.
 
-The programs are those of the variables CLUBDESK and PASSTOOL. Without a variable, a missing or stale program is proved and built first."""
+The variables CLUBDESK and PASSTOOL name the programs. If a variable is missing, and the program is missing or out of date, bin/ proves and builds
+the program first."""
 
 import contextlib
 import errno
@@ -19,14 +21,14 @@ from pathlib import Path
 
 TESTS = Path(__file__).resolve().parents[1]
 ROOT = TESTS.parent
-# A folder in memory, where a sync costs nothing, or None.
+# A folder in memory, where a sync costs no time, or None.
 IN_MEMORY = "/dev/shm" if os.access("/dev/shm", os.W_OK) else None
 ANOTHER = 65_534  # the user `nobody`
 AS_ANOTHER = ("setpriv", f"--reuid={ANOTHER}", f"--regid={ANOTHER}", "--clear-groups")
 
 
 def program(name):
-    """Returns the path of the program itself, so that a signal reaches it and not a shell."""
+    """Returns the path of the program itself, so that a signal reaches the program and not a shell."""
     given = os.environ.get(name.upper())
     if given:
         return given
@@ -35,7 +37,7 @@ def program(name):
 
 
 def library(name, folder):
-    """Builds a library of tests/lib that is loaded before the C library; returns its path."""
+    """Builds a library of tests/lib, and returns its path. A program loads the library before the C library."""
     path = Path(folder, name)
     if not path.exists():
         subprocess.run(["cc", "-shared", "-fPIC", "-O1", "-o", path, TESTS / "lib" / f"{name}.c", "-ldl"], check=True)
@@ -43,8 +45,8 @@ def library(name, folder):
 
 
 def refused_in_turn(run, folder, step=1):
-    """Yields the results of `run` with one allocation of its program refused: each in turn, or every Nth one. It first runs the program to count the
-    allocations, with variables."""
+    """Yields the results of `run` with one allocation of its program refused. It refuses each allocation in turn, or every Nth allocation. First
+    runs the program to count its allocations. Variables of the environment control the counting."""
     counted, preload = Path(folder, "counted"), {"LD_PRELOAD": library("refused_memory", folder)}
     run(ALLOCATIONS_COUNTED=str(counted), **preload)
     with ThreadPoolExecutor(len(os.sched_getaffinity(0))) as pool:
@@ -52,18 +54,18 @@ def refused_in_turn(run, folder, step=1):
 
 
 def limit_files(size):
-    """Limits the size in bytes of each file of this process. A write beyond the limit fails, and sends no signal."""
+    """Limits the size in bytes of each file of this process. A write beyond the limit fails, and causes no signal."""
     signal.signal(signal.SIGXFSZ, signal.SIG_IGN)
     resource.setrlimit(resource.RLIMIT_FSIZE, (size, size))
 
 
 class Server:
-    """A server of `clubdesk` over a file, as a context manager. It listens at `port` when the block begins, and has ended after the block.
+    """A server of `clubdesk` over a file, as a context manager. The server listens at `port` when the block begins, and has ended after the block.
 
-    `words` are further options, and `by` is a command that runs the server. `variables` are further variables of its environment, `given` is
-    its standard input, and `file_limit` the size in bytes that its files may have. At the end of a block without an exception, the server's
-    status must be `status`, unless it was killed. A server without a `count` is killed there. `log` has the server's standard error, which
-    is printed if the block ends with an exception."""
+    `words` are further options, and `by` is a command that runs the server. `variables` are further environment variables, and `given` is the
+    standard input. `file_limit` is the greatest size of the server's files, in bytes. At the end of a block without an exception, the server's
+    status must be `status`, unless a test killed the server. If the server has no `count`, the end of the block kills it. `log` has the server's
+    standard error. If the block ends with an exception, the test prints the log."""
 
     killed_by = signal.SIGKILL
 
@@ -103,13 +105,13 @@ class Server:
         return exchange(self.port, data)
 
     def serves(self, *rows):
-        """Compares the reply to each row of tests/lib/kinds.py with the expected one."""
+        """Compares the reply to each row of tests/lib/kinds.py with the expected reply."""
         for row in rows:
             assert self.exchange(row.data) == row.wanted, row
 
 
 class Reply:
-    """The bytes of a reply, and its parts."""
+    """The bytes of a reply, and the reply's parts."""
 
     def __init__(self, whole):
         head, _, self.body = whole.decode().partition("\r\n\r\n")
@@ -123,13 +125,13 @@ class Reply:
 
 
 def free_port():
-    """Returns a port where nobody listens."""
+    """Returns a port at which no program listens."""
     with socket.create_server(("127.0.0.1", 0)) as probe:
         return probe.getsockname()[1]
 
 
 def drip(client, data):
-    """Sends a byte a second, until the other end is gone."""
+    """Sends a byte a second, until the other end closes the connection."""
     with contextlib.suppress(OSError):
         for byte in data:
             client.sendall(bytes([byte]))
@@ -137,13 +139,13 @@ def drip(client, data):
 
 
 def read(client):
-    """Reads everything until the end."""
+    """Reads all bytes until the end."""
     with client.makefile("rb") as come:
         return come.read()
 
 
 def exchange(port, data, seconds=30):
-    """Sends bytes, ends the input, and returns the reply's bytes, or None if the connection was lost."""
+    """Sends bytes and ends the input. Returns the bytes of the reply, or None if the connection was lost."""
     try:
         with socket.create_connection(("127.0.0.1", port), seconds) as client:
             client.sendall(data)
@@ -156,13 +158,13 @@ def exchange(port, data, seconds=30):
 
 
 def command(desk, *words, text=None, **more):
-    """Returns the status and the output of a command of `clubdesk`, and its line on standard error; `text` is its input."""
+    """Runs a command of `clubdesk` with `text` as its input. Returns the status, the output, and the line on standard error."""
     done = subprocess.run([desk, *map(str, words)], capture_output=True, input=text, text=True, check=False, **more)
     return done.returncode, done.stdout, done.stderr
 
 
 def copy(file, to):
-    """Copies a database with the log that belongs to it."""
+    """Copies a database together with its log."""
     for ending in ("", "-wal"):
         Path(f"{to}{ending}").unlink(missing_ok=True)
         if Path(f"{file}{ending}").exists():
@@ -171,19 +173,19 @@ def copy(file, to):
 
 @contextlib.contextmanager
 def opened(file, **how):
-    """Opens a database; commits its changes and closes it at the end of the block."""
+    """Opens a database. At the end of the block, commits its changes and closes it."""
     with contextlib.closing(sqlite3.connect(file, **how)) as database, database:
         yield database
 
 
 def rows(file, statement):
-    """Returns a statement's rows from a copy of the file."""
+    """Returns the rows of a statement from a copy of the file."""
     copy(file, f"{file}.copy")
     with opened(f"{file}.copy") as database:
         return database.execute(statement).fetchall()
 
 
-# An auditor's sums from docs/TABLES.md: returns each faulty row of a file.
+# Returns each wrong row of a file, by an auditor's sums from docs/TABLES.md.
 SUMS = """
 SELECT 'used', name FROM members WHERE used <> (SELECT total(charge - refund) FROM bookings JOIN keys ON keys.name = pass_key WHERE member = members.name)
 UNION ALL SELECT 'taken', facility || day || ' ' || hour FROM slots s WHERE taken <> (SELECT total(guests + 1) FROM bookings b WHERE cancelled = 0
@@ -195,13 +197,13 @@ UNION ALL SELECT 'integrity', integrity_check FROM pragma_integrity_check WHERE 
 
 
 def unsound(file):
-    """Returns the faulty totals of a file."""
+    """Returns the wrong totals of a file."""
     return rows(file, SUMS)
 
 
 def add_past_bookings(file, count, root):
-    """Adds members x000 to x999, each with a key of its name. Adds a number of bookings by them in `old-court`, two by two in a slot; the totals
-    are the sums."""
+    """Adds the members x000 to x999. Each has a key that is named after the member. Adds a number of bookings by these members in `old-court`, two
+    in each slot. The totals stay the sums."""
     thousand = "WITH n(i) AS (SELECT 0 UNION ALL SELECT i + 1 FROM n WHERE i < 999)"
     with opened(file) as database:
         database.executescript(f"""BEGIN;
@@ -216,7 +218,7 @@ def add_past_bookings(file, count, root):
 
 
 def paced(whole, step, what):
-    """Counts steps, and prints every tenth."""
+    """Counts steps, and prints every tenth step."""
     for done in range(0, whole, step):
         yield done
         if (done + step) * 10 // whole > done * 10 // whole:
@@ -224,7 +226,7 @@ def paced(whole, step, what):
 
 
 def serve(program, file, count, moment, *words):
-    """Serves for a shell script, which reads the port, until `count` connections have come or a signal ends this."""
+    """Runs a server for a shell script. Prints the port, and ends after `count` connections or at a signal."""
     with Server(program, file, int(count), "--at", moment, *words) as it:
 
         def end(*_):

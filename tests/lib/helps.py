@@ -1,4 +1,5 @@
-"""What `--help` of a program shows, of ours and of deploy/office: its commands, their options and words."""
+"""Reads the output of `--help` of a program, either ours or deploy/office: its commands, with their options
+and words."""
 
 import os
 import re
@@ -10,7 +11,7 @@ def printed(*words):
 
 
 def between(text, first):
-    """The lines after a line `first:` that begin with a space, or are empty."""
+    """Returns the lines after a line `first:` that begin with a space or are empty."""
     lines = text.splitlines()
     if f"{first}:" not in lines:
         return []
@@ -23,7 +24,7 @@ def names_of(text):
 
 
 def options_of(text):
-    """Returns each long option, and the name of its value, if it takes one."""
+    """Returns each long option, and the name of the option's value if it has a value."""
     lines = between(text, "Options") + between(text, "options")
     return {found[1]: found[2] for line in lines if (found := re.match(r" .*?--([a-z-]+)(?: <?([A-Z-]+))?", line))}
 

@@ -1,5 +1,5 @@
-# Read by the tests that boot a fresh Debian with systemd-nspawn. It has the Debian, commands inside it, and the lines for root of
-# docs/RUNNING.md, and reads serving.sh and checks.sh. Needs root.
+# Tests that boot a fresh Debian with systemd-nspawn source this file. It makes the Debian, runs commands in it, and reads docs/RUNNING.md's lines
+# for root. It sources serving.sh and checks.sh. Needs root.
 . "$(dirname -- "$0")/../lib/serving.sh"
 [ "$(id -u)" = 0 ] || { echo "$0 wants root, for a fresh Debian" >&2; exit 2; }
 top=$(CDPATH='' cd -P -- "$here/../.." && pwd)
@@ -8,7 +8,7 @@ export CLUBDESK="$desk" PASSTOOL="$tool"
 . "$here/../lib/checks.sh"
 machine=
 
-# debian FOLDER: makes a fresh Debian, or copies the folder that the variable DEBIAN names. Its apt-get asks no questions.
+# debian FOLDER: makes a fresh Debian, or copies the folder in the variable DEBIAN. The Debian's apt-get asks no questions.
 debian() {
     if [ -n "${DEBIAN-}" ]; then cp -a "$DEBIAN" "$1"; else
         debootstrap --variant=minbase --include=systemd,systemd-sysv bookworm "$1" >debootstrap.log 2>&1 || fail "debootstrap: $(tail debootstrap.log)"
@@ -16,7 +16,8 @@ debian() {
     echo 'APT::Get::Assume-Yes "true";' >"$1/etc/apt/apt.conf.d/99yes"
 }
 
-# start FOLDER WORD..: boots the Debian in a folder, with further options of systemd-nspawn. `root` is its path, `machine` its process.
+# start FOLDER WORD..: boots the Debian in a folder, with further options of systemd-nspawn. `root` is the path of the machine, and `machine` is its
+# process.
 start() {
     root=$work/$1
     shift
@@ -31,8 +32,8 @@ is_up() {
     inside systemctl is-system-running >state 2>&1 || grep -q degraded state || { cat state; tail console; return 1; }
 }
 
-# inside COMMAND..: runs a command in the machine that is up. offline FOLDER COMMAND..: runs one in a folder that isn't booted, with this
-# machine's network.
+# inside COMMAND..: runs a command in the running machine. For offline FOLDER COMMAND.., runs a command in a folder that isn't booted, with the
+# network of this machine.
 inside() { nsenter -t "$leader" -a -- env -i PATH=/usr/sbin:/usr/bin:/sbin:/bin HOME=/root LC_ALL=C.UTF-8 DEBIAN_FRONTEND=noninteractive "$@"; }
 offline() {
     folder=$1
@@ -40,7 +41,7 @@ offline() {
     systemd-nspawn -q -D "$folder" --register=no --keep-unit --pipe -E DEBIAN_FRONTEND=noninteractive "$@"
 }
 
-# lines_for_root PAGE: writes a page's lines for root into `running`, each after the heading of its section and a tab.
+# lines_for_root PAGE: writes the page's lines for root into `running`. The heading of the section and a tab precede each line.
 lines_for_root() {
     awk '
         /^```/ { if (inside) inside = 0; else if ($0 == "```sh" && !other) inside = 1; else other = !other; next }
@@ -53,7 +54,7 @@ blocks() {
     awk -F '\t' -v heading="$1" '$1 == heading { print substr($0, length($1) + 2); found = 1 } END { exit !found }' running ||
         fail "RUNNING has no lines for root in '$1'"
 }
-# gives WHAT: root gives the lines on standard input in the machine, and each must succeed.
+# gives WHAT: runs the lines on standard input as root in the machine. Each line must succeed.
 gives() {
     checks=$((checks + 1))
     { echo 'set -e; cd /root'; cat; } >"$root/root/lines"

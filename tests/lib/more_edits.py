@@ -1,8 +1,9 @@
 #!/usr/bin/env python3
-"""Tries the edits of crates/NAME/must-fail/ and crates/NAME/more-edits.txt, and says how each is refused: see more_edits.sh.
+"""Tries the mutants of crates/NAME/must-fail/ and crates/NAME/more-edits.txt, and prints how each is refused (see more_edits.sh).
 
-Most edits change the body of one function. A function's proof depends on its own body and the contracts of the functions that it calls, so one
-check can try edits of several functions. If a function then has no verdict of its own, its edit is tried alone."""
+Most edits change the body of a single function. The proof of a function depends only on its own body and on the contracts of the functions that it
+calls. So one check can try edits of several functions. If such a check gives a function no verdict of its own, the program tries the function's
+edit alone."""
 import os
 import re
 import shutil
@@ -19,27 +20,27 @@ FOLDER, FILE = "must-fail", "more-edits.txt"
 WORDS = ("false", "goal", "names", "test", "proved", "limit", "bad")
 # The program whose tests are the files of its data folder.
 SCENARIOS = "scenarios"
-# The crate and the name of the test that an edit fails, if no contract refuses it.
+# The crate and name of the test that must fail on an edit that no contract refuses.
 TEST = re.compile(r"^test: (\w+) ([\w:]+)$", re.MULTILINE)
-# rattle's message about a goal with a counterexample, in the goal's line or in that of the missing answer.
+# The message of rattle about a goal with a counterexample. It is in the line of the goal or of the missing answer.
 FALSE = re.compile(r"the facts known there allow values at which this goal is false|may be false: the known facts allow")
-# Its messages about a proof file with an unknown name, and about proofs that depend on it.
+# The messages of rattle about a proof file with an unknown name, and about proofs that depend on this file.
 NAMES = re.compile(r"has no field|is not in scope|has no `|was not admitted|no item `")
-# Messages that continue in the next line, since a record's names are long.
+# Messages that continue in the next line because the names of a record are long.
 WRAPPED = re.compile(r"\n +(has no |is not in scope|was not admitted)")
 FAULT = re.compile(r"(?:note: )?(?:\./)?((?:src|specs|proofs)/\S+?):(\d+):\d+: (error: .*|it is not proved .*)")
 WANTED = re.compile(r"no proof: expected answers in (?:\./)?(\S+);")
 HEAD = re.compile(r"(?:pub )?([^\s:]+) : ")
-# The heads of a function and of a block that owns functions, as `rt fmt` leaves them.
+# The heads of a function and of a block that contains functions, as `rt fmt` formats them.
 FUNCTION = re.compile(r"(?P<indent> {4})?(?:pub(?:\([^)]*\))? )?(?:const )?(?:extern \"C\" )?fn (?P<name>\w+)")
 BLOCK = re.compile(r"(?:impl(?:<.*?>)? |(?:pub(?:\([^)]*\))? )?trait )(?:(?:\w+::)*(?P<trait>\w+)(?:<.*?>)? for )?(?:\w+::)*(?P<type>\w+)")
 AT_ONCE = 10  # edits that one check tries at most
-# Its message when it meets its own limit, and gives no verdict.
+# The message of rattle when it reaches its own limit and gives no verdict.
 LIMIT = re.compile(r"antt ran out of (stack|the (steps|memory) that the check of one declaration may)|outgrew the memory limit|stopped at the step limit")
 
 
 class NoVerdict(Exception):
-    """The word for a reason why nothing was tried, and its line."""
+    """The word and the line for an edit that wasn't tried, with the reason."""
 
 
 class Edit(NamedTuple):
@@ -50,7 +51,7 @@ class Edit(NamedTuple):
 
 
 def edits_of(crate):
-    """Reads the edits of a crate: each file of its folder, and each part of its file that begins with `edit: NAME`."""
+    """Reads the edits of a crate. An edit is a file of the crate's folder, or a part of its file that begins with `edit: NAME`."""
     for path in sorted((crate / FOLDER).glob("*.edit")):
         yield Edit(path.stem, FOLDER, path.read_text(encoding="utf-8"))
     if (crate / FILE).exists():
@@ -71,7 +72,7 @@ def changes_of(edit):
 
 
 def edited_texts(crate, edit):
-    """Returns the texts of the files that an edit changes, by their path in the crate, as `rt ci` applies it."""
+    """Returns the texts of the files that an edit changes, by their path in the crate. Applies the edit in the same way as `rt ci`."""
     texts = {}
     for path, old, new in changes_of(edit):
         text = texts[path] if path in texts else (crate / path).read_text(encoding="utf-8")
@@ -82,7 +83,7 @@ def edited_texts(crate, edit):
 
 
 def function_at(path, text, offset):
-    """Returns the function whose body contains a place in a file: its words in a path, and its first and last line. None outside of bodies."""
+    """Returns the function whose body contains a place in a file: the words of its path, and its first and last line. None outside of bodies."""
     lines = text.split("\n")
     place = text.count("\n", 0, offset)
     first = next((it for it in range(place, -1, -1) if FUNCTION.match(lines[it])), None)
@@ -115,7 +116,7 @@ def edited_function(crate, edit):
 
 
 def groups_of(crate, edits):
-    """Groups the edits: no two edits of a group are of the same function, and some are alone."""
+    """Groups the edits. No two edits of a group change the same function, and some edits are alone in their group."""
     groups = []
     for edit in edits:
         place = edited_function(crate, edit)
@@ -127,7 +128,7 @@ def groups_of(crate, edits):
 
 
 def check(crate):
-    """Returns the lines of a check of the crate, and whether it is proved."""
+    """Checks the crate. Returns the lines of the check, and whether the crate is proved."""
     ran = subprocess.run(["rt", "check", "--jobs", "1"], cwd=crate, stdin=subprocess.DEVNULL, stdout=subprocess.PIPE,
                          stderr=subprocess.STDOUT, text=True, errors="replace", check=False)
     lines = WRAPPED.sub(r" \1", ran.stdout).split("\n")
@@ -140,21 +141,21 @@ def check(crate):
 
 
 def faults_in(lines):
-    """Yields the faults of a check: file, line, whether it is an error, and whether a name is missing."""
+    """Yields the faults of a check. Each has the file, the line, whether it is an error, and whether a name is missing."""
     for line in lines:
         if found := FAULT.match(line):
             yield line, found[1], int(found[2]), found[3].startswith("error"), bool(NAMES.search(found[3]))
 
 
 def without_answers(crate, lines):
-    """Returns the texts of proof files, by path, without the declarations where these lines report unknown names."""
+    """Returns the texts of proof files, by path. Leaves out the declarations in which these lines report unknown names."""
     places = defaultdict(set)
     for _, path, number, _, is_name in faults_in(lines):
         if path.startswith("proofs/") and is_name:
             places[path].add(number)
     texts = {}
     for path, numbers in places.items():
-        # A declaration begins with its signature, and goes on to the next one's.
+        # A declaration begins with its signature, and ends before the next signature.
         kept, name, declarations = [], None, []
         for number, line in enumerate((crate / path).read_text(encoding="utf-8").split("\n"), 1):
             head = HEAD.match(line)
@@ -166,20 +167,21 @@ def without_answers(crate, lines):
             (declarations[-1][1] if name else kept).append((number, line))
         lost = [one for one in declarations if numbers & {number for number, _ in one[1]}]
         left = [line for one in declarations if one not in lost for line in [*(text for _, text in one[1]), ""]]
-        # A `use` line that finds nothing takes the whole file with it.
+        # If a `use` line finds no module, the whole proof file is left out.
         texts[path] = "\n".join([text for _, text in kept] + left) if lost else ""
     return texts
 
 
 def open_goal(lines, gone):
-    """Returns the line of a goal that is open for a reason other than a lost name. Its answer fails, or the proof file that lost answers has
-    none for it."""
+    """Returns the line of a goal that is open for another reason than a missing name. The answer for the goal fails, or the goal has no answer in
+    the proof file that lost answers."""
     failing = {line for line, path, _, is_error, is_name in faults_in(lines) if path.startswith("proofs/") and is_error and not is_name}
     return next((line for line in lines if line in failing or (wanted := WANTED.search(line)) and wanted[1] not in gone), None)
 
 
 def lines_of(crate, path, function, lines):
-    """Returns a check's lines about this function. A method may be in another file than its type, and rt names it by the type's module."""
+    """Returns the lines of a check that are about this function. A method may be in another file than its type. rt names the method by the module
+    of the type."""
     words, first, last = function
     before, own = (r"(\w+/)*", words[-2:]) if words[-2:][0][0].isupper() else ("", words)
     proofs, head = re.compile(f"proofs/{before}{'/'.join(own)}/"), re.compile(f"fn {crate.name}::{before.replace('/', '::')}{'::'.join(own)}:")
@@ -188,7 +190,7 @@ def lines_of(crate, path, function, lines):
 
 
 class Trial:
-    """A crate in the copy, restored between two tries."""
+    """A crate in the copy. The program restores it between two tries."""
 
     def __init__(self, crate):
         self.crate = crate
@@ -205,7 +207,7 @@ class Trial:
         self.was = {}
 
     def verdicts(self, group):
-        """Yields (edit, how it is refused, a line that says why) for each edit of a group."""
+        """Yields (edit, how it is refused, a line with the reason) for each edit of a group."""
         told = self.told_together(group) if len(group) > 1 else {}
         for edit in group.values():
             try:
@@ -218,7 +220,7 @@ class Trial:
             yield edit, word, line
 
     def tested(self, edit, crate, test):
-        """Returns whether a test fails on an edit that no contract refuses, and its line. The tests run before they are proved."""
+        """Returns whether a test fails on an edit that no contract refuses, and the line for the edit. The tests run before they are proved."""
         self.restore()
         self.put(edited_texts(self.crate, edit))
         front, words = f"test {test} ...", ["--test", "--", test]
@@ -232,7 +234,7 @@ class Trial:
         return ("proved" if line.endswith((" ok", " lines")) else "test"), line
 
     def told_together(self, group):
-        """Returns the verdicts of one check with all edits of a group: for each function, a false or open goal without a missing name."""
+        """Returns the verdicts of one check with all edits of a group. The verdict on a function is a false or open goal without a missing name."""
         for edit in group.values():
             with suppress(NoVerdict):
                 self.put(edited_texts(self.crate, edit))
@@ -250,14 +252,14 @@ class Trial:
             elif left := open_goal(own, set()):
                 told[edit] = "goal", left
         if not told and len(group) > 3:
-            # One of them stops the check.
+            # One of these edits may stop the check.
             items = list(group.items())
             middle = len(items) // 2
             told = self.told_together(dict(items[:middle])) | self.told_together(dict(items[middle:]))
         return told
 
     def verdict(self, edit):
-        """Returns how an edit is refused when tried alone, and a line that says why."""
+        """Returns how an edit is refused when it is tried alone, and a line with the reason."""
         texts = edited_texts(self.crate, edit)
         if not texts:
             raise NoVerdict("bad", "it changes nothing")
@@ -265,12 +267,12 @@ class Trial:
         lines, proved = check(self.crate)
         if proved:
             return "proved", "the crate is proved with this edit"
-        # a fault of the code or of the edited text itself: nothing was tried
+        # a fault of the code or of the edit's text itself, so the edit wasn't tried
         for line, path, _, is_error, is_name in faults_in(lines):
             if (path in texts or path.startswith("src/")) and is_error and is_name:
                 raise NoVerdict("bad", line)
         gone = set()
-        # Answers that depend on a removed one may lose their names next.
+        # In the next round, answers that depend on a removed answer may lose their names.
         for _ in range(4):
             if false := next(filter(FALSE.search, lines), None):
                 return "false", false
@@ -295,7 +297,7 @@ def link_or_copy(source, target):
 
 
 def crates_below(names):
-    """Returns the crates that these depend on, directly or not, from crates.txt."""
+    """Returns the crates that these crates depend on, directly or not, according to crates.txt."""
     uses = {name: used.split() for name, used in re.findall(r"^(\w+)[^:#\n]*:([^#\n]*)", (ROOT / "crates.txt").read_text(encoding="utf-8"), re.MULTILINE)}
     below, left = set(), list(names)
     while left:
@@ -307,8 +309,8 @@ def crates_below(names):
 
 
 def take_libraries(copy, names):
-    """The libraries that are built here serve in the copy: rt takes one for built while its sources are the same. No check writes to the crates
-    below the tried ones, so they are linked."""
+    """The copy uses the libraries that are built in this tree. rt takes a library for built while its sources are the same. No check writes to the
+    crates that the tried crates depend on. So the copy has links to these crates."""
     below = crates_below(names) - set(names)
     for crates, parts, copies in ((below, ("rlib",), link_or_copy), (names, ("rlib", "incremental"), shutil.copy2)):
         for crate in crates:
@@ -318,7 +320,7 @@ def take_libraries(copy, names):
 
 
 def try_crate(crate, wanted, counts):
-    """Tries the edits of a crate in the copy, or only the requested ones."""
+    """Tries the edits of a crate in the copy, or only the requested edits."""
     if not check(crate)[1]:
         sys.exit(f"{crate.name}: not proved as it is")
     trial = Trial(crate)

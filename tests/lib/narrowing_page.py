@@ -1,4 +1,4 @@
-"""Shared by the parts of page_narrows.py: the page that narrows in a browser, what passtool answers, and drawn passes and caveats."""
+"""The parts of page_narrows.py share this module. It has the page that narrows in a browser, passtool's answers, and random passes and caveats."""
 
 import base64
 import json
@@ -24,7 +24,7 @@ PASSES, SPOILED, CAVEATS = 1000, 2000, 2000
 FORMS = list(passes.FORMS)
 FAULTS = {"This text is too long for a pass.": 1, "This text isn't a whole pass.": 2, "This pass has a third-party caveat.": 3,
           "This pass has too many limits.": 4}
-# The page's choices, in the order in which it adds them.
+# The page's choices, in the order in which the page adds their lines.
 CHOICES = ["kind", "facility", "actions", "days", "weekday", "hours", "until", "guests", "spend"]
 AMY = "AgEJY2x1Yi1kZXNrAglrZXk6YW15LTEAAAYgDsU-vMVpq3Ex5_BQk6D5VX6TimC0IfCk7Dn6nv7TIJk"
 draw = random.Random(20260501)
@@ -50,20 +50,20 @@ def amys(form, *caveats):
 
 
 def tool(*words, given):
-    """Returns the status, and the output or the fault's line."""
+    """Runs passtool. Returns the status, and the output or the fault's line."""
     status, printed, fault = desk.command(TOOL, *words, text=given)
     return status, fault if status else printed
 
 
 def narrowed_by_tool(text, lines):
-    """Returns the narrowed pass, or the line of its fault."""
+    """Returns the narrowed pass, or the line of the fault."""
     status, output = tool("narrow", *lines, given=text)
     check(status in (0, 3), "passtool narrow", text, lines, output)
     return output.removesuffix("\n")
 
 
 def reading_by_tool(text):
-    """Returns the fault's number, or the facts and caveats that the page should show."""
+    """Returns the number of the fault, or the facts and caveats that the page must show."""
     status, output = tool("show", given=text.strip(" \t\r\n"))
     if status == 3:
         return int(output[len("fault ")])
@@ -83,7 +83,7 @@ def is_understood_by_tool(caveat):
 
 # ---- The browser
 
-# Functions for the calls below. They use the page's own fields and read its elements, like a person.
+# Functions for the calls below. The functions use the page's fields and read its elements, as a person does.
 HELPERS = """
 const byId = (id) => document.getElementById(id);
 const changed = (field) => field.dispatchEvent(new Event("input", { bubbles: true }));
@@ -128,7 +128,7 @@ class NarrowingPage(Browser):
     helpers = HELPERS
 
     def narrow(self, text, *fields):
-        """Returns the page's answer to a text and to choices by names with values."""
+        """Enters a text and choices, given by names with values. Returns the page's answer."""
         return self.each("narrow", [(text, fields)])[0]
 
     def visit(self, text=""):
@@ -179,7 +179,7 @@ def drawn_line(choice):
 
 
 def fields_of(*lines):
-    """Returns the page's fields that make these lines, as names with values."""
+    """Returns the fields of the page that make these lines, as names with values."""
     found = []
     for line in lines:
         name, _, value = re.split(" (=|<=|<) ", line)
@@ -204,7 +204,7 @@ def drawn_pass():
 
 
 def drawn_spelling(form, drawn):
-    """Draws a text of the pass that a reader accepts, mostly not the writer's."""
+    """Draws a text of the pass that a reader accepts. Most drawn texts differ from the text that a program writes."""
     text = written(form, drawn)
     if form == "json":
         names = json.loads(text)

@@ -1,4 +1,4 @@
-"""Refusals, requests at the desk, and the lines of the book, for the parts of office_holds.py."""
+"""Refusals, requests at the desk, and the lines of the book. The parts of office_holds.py use them."""
 
 import json
 
@@ -13,7 +13,7 @@ COPIES, BOOK, TURN = HOME / "back-ups", HOME / "club-book", HOME / "club-orders"
 
 
 def refused(words, status, line, by="anna", given="", keeps=True):
-    """Checks that the office refuses these words with a line on standard error and that the club keeps its rows; returns the output."""
+    """Checks that the office refuses these words with a line on standard error, and that the rows of the club don't change. Returns the output."""
     before = everything() if keeps else None
     found, out, errors = office(*words, by=by, given=given)
     same(f"office {' '.join(words)}: refused", (found, line in errors), (status, True))
@@ -50,7 +50,7 @@ def book_lines(*words):
 
 
 def changed_meanwhile(words, shown, change):
-    """Checks that nothing is done if the club changed between the question and the answer."""
+    """Checks that a command changes nothing if the club changed between the question and the answer."""
     with begun(*words, *AT) as command:
         same("what is shown", command.stdout.readline(), f"{shown}\n")
         change()

@@ -1,8 +1,8 @@
-"""Fixtures of the office's tests: a separate machine, a manager of services, clerks, requests, and checks of a club's file.
+"""Fixtures for the tests of the office: a separate machine, a manager of services, clerks, requests, and checks of a club's file.
 
-A script that imports it is run again in that machine (tests/lib/office_room.sh). A service is a server that is restarted a second after each
-end, as deploy/clubdesk@.service says (Restart=always, RestartSec=1). Its process is named in the room's folder `services`, which the room's
-systemctl uses to end it.
+tests/lib/office_room.sh runs a script that imports this module again in that machine. A service is a server. The manager restarts it a second after
+each end, as deploy/clubdesk@.service does (Restart=always, RestartSec=1). The folder `services` of the room names the process of the service. The
+room's systemctl uses this name to end the service.
 """
 
 import contextlib
@@ -31,7 +31,7 @@ checks = 0
 
 
 def same(what, found, wanted):
-    """Records a check; the found value must be the wanted one."""
+    """Records a check. The found value must equal the wanted value."""
     global checks
     checks += 1
     if found != wanted:
@@ -45,7 +45,7 @@ def leave():
 
 
 def run_as(user, *line, given=None, folder=None):
-    """Runs a command as a user, in its home; returns status, output and errors."""
+    """Runs a command as a user, in the user's home folder. Returns the status, the output and the errors."""
     return command("runuser", "-u", user, "--", *line, text=given, cwd=folder or f"/home/{user}")
 
 
@@ -54,19 +54,19 @@ def office(*words, by="anna", given="", club="club"):
 
 
 def done(*words, by="anna", given=""):
-    """Runs a command of the office that must end with status 0; returns its output."""
+    """Runs a command of the office that must end with status 0. Returns its output."""
     status, out, errors = office(*words, by=by, given=given)
     same(f"office {' '.join(words)}: status", (status, errors if status else ""), (0, ""))
     return out
 
 
 def desk(command, *words):
-    """Runs clubdesk itself on the club as the desk's user; returns its status and output."""
+    """Runs clubdesk itself on the club as the desk's user. Returns its status and output."""
     return run_as("clubdesk", "clubdesk", command, CLUB, *words, folder="/")[:2]
 
 
 class Service:
-    """A server that a manager restarts a second after each end."""
+    """A server that the manager restarts a second after each end."""
 
     def __init__(self, port=0, at=NOON, club="club"):
         self.port, self.is_wanted, self.starts = port or free_port(), True, 0
@@ -86,7 +86,7 @@ class Service:
             time.sleep(1 if self.is_wanted else 0)
 
     def is_heard(self):
-        """Returns whether somebody listens, within half a minute."""
+        """Returns whether the server listens within half a minute."""
         for _ in range(1500):
             with contextlib.suppress(OSError), socket.create_connection(("127.0.0.1", self.port), 5):
                 return True
@@ -100,7 +100,7 @@ class Service:
         self.named.unlink()
 
     def answer(self, text, method, path, body=None):
-        """Repeats a request under a pass until a complete reply comes; returns its status and body."""
+        """Repeats a request under a pass until a complete reply comes. Returns the reply's status and body."""
         for _ in range(200):
             with contextlib.closing(http.client.HTTPConnection("127.0.0.1", self.port, timeout=30)) as client:
                 with contextlib.suppress(OSError, http.client.HTTPException):
@@ -114,13 +114,14 @@ class Service:
 
 
 def begun(*words):
-    """Starts a command of the office in its own session."""
+    """Starts a command of the office in a session of its own."""
     return subprocess.Popen(["runuser", "-u", "anna", "--", "office", "club", *words], stdin=subprocess.PIPE, stdout=subprocess.PIPE, stderr=subprocess.PIPE,
                             text=True, cwd="/home/anna", start_new_session=True)
 
 
 def kill(command, chance=None):
-    """Kills a process and all its children, even those in sudo's own sessions, or only a random one of them; waits for its end."""
+    """Kills a process and all its children, even in sessions that sudo began, or only a random one of these processes. Waits until they have
+    ended."""
     with contextlib.suppress(psutil.NoSuchProcess):
         first = psutil.Process(command.pid)
         found = [first, *first.children(recursive=True)]
@@ -169,5 +170,5 @@ def configure(**more):
 
 
 def mode(file):
-    """Returns a file's owner and mode."""
+    """Returns the owner and the mode of a file."""
     return f"{file.owner()} {file.stat().st_mode:o}"

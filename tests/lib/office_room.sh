@@ -1,9 +1,8 @@
-# Makes a temporary machine, the room, for the tests of the office. In a mount namespace, overlays cover the machine's folders. The files of
-# deploy/ and web/ and the programs are where bin/package puts them. The lines of docs/RUNNING.md under "The clerks" make the clerk anna.
-# ben is a clerk too, and carl isn't. `systemctl` knows only the word `kill`, and signals a server of the small service manager in
-# tests/lib/office_room.py. Needs root.
-# If the caller sets `room_net` to a text that isn't empty, the room has a network of its own. If this script is run itself, it runs the
-# command in its arguments, with the room's folder in ROOM.
+# Makes the room: a temporary machine for the tests of the office. In a mount namespace, overlays cover the folders of the machine. The programs and
+# the files of deploy/ and web/ are where bin/package puts them. The lines of docs/RUNNING.md under "The clerks" make the clerk anna. ben is also a
+# clerk, and carl isn't. `systemctl` accepts only the word `kill`. It then sends a signal to a server of the small service manager in
+# tests/lib/office_room.py. Needs root. If the caller sets `room_net` to a nonempty text, the room has a network of its own. If a program runs this
+# script directly, the script runs the command in its arguments, with the room's folder in ROOM.
 set -eu
 PATH=/usr/sbin:/sbin:$PATH
 [ "$(id -u)" = 0 ] || { echo "$0 wants root, for other users and folders of its own" >&2; exit 2; }
@@ -15,11 +14,11 @@ fi
 top=$(CDPATH='' cd -P -- "$here/../.." && pwd)
 
 chmod 755 "$work"
-# Its mounts end with its last process.
+# The room's mounts end with its last process.
 room=/mnt
 mount -t tmpfs tmpfs "$room"
 
-# over FOLDER: from now on, the room keeps everything that is written to the folder.
+# over FOLDER: from now on, the room keeps everything that a program writes to the folder.
 over() {
     called=$(echo "$1" | tr / _)
     mkdir "$room/$called" "$room/$called.work"
@@ -48,7 +47,7 @@ find "$top/deploy" -maxdepth 1 -type f -perm -100 ! -name office ! -name clubdes
 install -m 644 -t /usr/share/doc/clubdesk/examples "$top"/deploy/*.conf "$top/deploy/Caddyfile"
 find "$top/web" -maxdepth 1 -type f -exec install -m 644 -t /usr/share/clubdesk/web {} +
 
-# page_block HEADING: prints docs/RUNNING.md's lines for root under this heading, without those that install Debian's packages.
+# page_block HEADING: prints docs/RUNNING.md's lines for root under this heading. Leaves out the lines that install Debian packages.
 page_block() {
     awk -v heading="## $1" '
         /^## / { here = $0 == heading; next }

@@ -1,6 +1,7 @@
-"""A browser for the scripts that drive the pages, with checks for both pages: contrasts, targets, names for screen readers.
+"""A browser for the scripts that drive the pages, with checks for both pages. The checks are about contrasts, targets, and names for screen
+readers.
 
-Read by page_narrows.py and page_books.py. Wants Debian's chromium, chromium-driver and python3-selenium."""
+page_narrows.py and page_books.py use this module. Wants Debian's chromium, chromium-driver and python3-selenium."""
 import base64
 import hashlib
 import json
@@ -18,7 +19,7 @@ def check(holds, *what):
 
 
 class Browser:
-    """A chromium that resolves names only by the rules; a script may run before the page's own."""
+    """A chromium that resolves names only by the rules. A script may run before the page's own script."""
 
     helpers = ""  # functions for the scripts that `run` and `each` run
     batch = 25  # how many items go to the page in one call
@@ -45,7 +46,7 @@ class Browser:
         return self.driver.execute_cdp_cmd(name, words)
 
     def open(self, address):
-        # Opens another page first, so that an address that differs only after # is loaded again.
+        # Opens another page first, so that the browser loads an address again that differs only after #.
         self.driver.get("about:blank")
         self.driver.get(address)
 
@@ -53,7 +54,7 @@ class Browser:
         return self.driver.execute_script(self.helpers + script, *words)
 
     def each(self, function, items):
-        """Returns the helper's results for each item."""
+        """Returns the results of the helper for each item."""
         script = self.helpers + f"""
             const [items, done] = arguments;
             (async () => {{
@@ -86,7 +87,7 @@ class Browser:
         check(across <= width, "sideways scrolling", width, across, *what)
 
     def is_legible(self, *what):
-        """Returns the number of visible texts, each with a contrast of at least 4.5; targets must be large."""
+        """Returns the number of visible texts. Each text must have a contrast of at least 4.5, and targets must be large."""
         count, faint = self.run(CONTRASTS)
         check(not faint, "faint texts", *what, *faint)
         small = self.run(SMALL_TARGETS)
@@ -94,8 +95,8 @@ class Browser:
         return count
 
     def is_named(self, roles, live, *what):
-        """Checks that focusable elements, and those with these roles, have names for screen readers, and that some elements announce changes.
-        Returns the page's nodes."""
+        """Checks that screen readers find a name for each focusable element and for each element with these roles. Some elements must also announce
+        changes. Returns the page's nodes."""
         tree = [node for node in self.command("Accessibility.getFullAXTree")["nodes"] if not node["ignored"]]
         for node in tree:
             properties = {each["name"]: each["value"].get("value") for each in node.get("properties", [])}
@@ -106,7 +107,7 @@ class Browser:
         return tree
 
     def is_audited(self, *what):
-        """Checks axe-core's rules for a page's elements, other than names, contrasts and targets."""
+        """Checks the elements of a page by axe-core's rules, except the rules about names, contrasts and targets."""
         found = self.run(AUDIT)
         check(not found, "what an audit finds", *what, *found)
 
@@ -118,12 +119,12 @@ class Browser:
         check(not cut, "words that are cut off", *what, *cut)
 
     def breaks_no_word(self, *what):
-        """Checks that no word is broken across lines because its place is too narrow. Words of ten letters and more may be."""
+        """Checks that no word is broken across lines because its place is too narrow. A word of ten letters or more may be broken."""
         broken = self.run(BROKEN_WORDS)
         check(not broken, "words that are broken", *what, *broken)
 
     def focus_is_seen(self, *what):
-        """Except for the focus in a date, where the browser marks a part."""
+        """The focus in a date is an exception, because the browser marks a part of the date."""
         outline = self.run("""const style = getComputedStyle(document.activeElement);
             return document.activeElement.type === "date" || [style.outlineStyle, style.outlineWidth];""")
         check(outline in (True, ["solid", "3px"]), "a focus that can't be seen", *what, self.focused(), outline)
@@ -139,13 +140,13 @@ class Browser:
         return self.command("Page.captureScreenshot")["data"]
 
     def picture(self, top=0, height=None):
-        """Returns a PNG in base64 of the whole page, or of a stripe of it."""
+        """Returns a PNG in base64 of the whole page or of a stripe of it."""
         width, whole = self.run("const { offsetWidth, offsetHeight } = document.documentElement; return [offsetWidth, offsetHeight];")
         clip = {"x": 0, "y": top, "width": width, "height": height or whole, "scale": 1}
         return self.command("Page.captureScreenshot", captureBeyondViewport=True, clip=clip)["data"]
 
     def sent_nothing(self, page):
-        """Checks that only the page was loaded, and that the console has no errors."""
+        """Checks that the browser loaded only the page, and that the console has no errors."""
         check(self.run("return performance.getEntriesByType('resource').length") == 0, "the page loads something")
         messages = [json.loads(entry["message"])["message"] for entry in self.driver.get_log("performance")]
         asked = [each["params"]["request"]["url"] for each in messages if each["method"] == "Network.requestWillBeSent"]
@@ -156,8 +157,8 @@ class Browser:
 
 
 def policy_holds(page, more, calls, *links):
-    """Checks that only the page's one script and style run, by their hashes, that nothing else can be loaded, and that the script avoids some
-    calls."""
+    """Checks by their hashes that only the page's own script and style run, and that the page can't load anything else. The script must not use
+    some calls."""
     text = page.read_text(encoding="utf-8")
     policy = re.search('http-equiv="Content-Security-Policy" content="([^"]*)"', text)[1]
     rules = dict(rule.strip().split(" ", 1) for rule in policy.split(";"))

@@ -1,7 +1,7 @@
-"""Drives three browsers in the same way: chromium, Debian's firefox-esr through Marionette, and WebKitGTK's MiniBrowser through its driver,
-which needs a display.
+"""Drives three browsers in the same way: chromium, Debian's firefox-esr through Marionette, and WebKitGTK's MiniBrowser through its driver.
+MiniBrowser needs a display.
 
-Read by page_narrows.py and page_books.py. Wants Debian's chromium-driver, firefox-esr, webkit2gtk-driver, xvfb and python3-selenium."""
+page_narrows.py and page_books.py use this module. Wants Debian's chromium-driver, firefox-esr, webkit2gtk-driver, xvfb and python3-selenium."""
 import base64
 import json
 import os
@@ -28,7 +28,7 @@ WIDTH, HEIGHT = 400, 820
 
 
 class Engine:
-    """The common interface of the browsers: open an address, run a script in the page, press a button."""
+    """The common interface of the browsers: it opens an address, runs a script in the page, and presses a button."""
 
     helpers = ""  # functions for the scripts
     name = host = ""
@@ -50,7 +50,7 @@ class Engine:
             time.sleep(0.1)
 
     def code(self, place):
-        """Reads the QR code in an element off the screen."""
+        """Reads the QR code in an element from the screen."""
         self.run("document.getElementById(arguments[0]).scrollIntoView({ block: 'center' })", place)
         with tempfile.NamedTemporaryFile(suffix=".png") as file:
             for _ in range(20):
@@ -66,12 +66,12 @@ class Engine:
         self.tap(f"//*[@id='{root}']//button[normalize-space()=\"{words}\" or @aria-label=\"{words}\"]")
 
     def press_in_card(self, words):
-        """Presses the button with these words of the first booking to come."""
+        """Presses the button with these words of the first future booking."""
         self.tap(f"(//*[@id='to-come']/li)[1]//button[normalize-space()=\"{words}\"]")
 
 
 class Chromium(Engine):
-    """Chromium as page_browser.py starts it, as wide as a telephone."""
+    """Chromium as page_browser.py starts it, with the width of a telephone."""
 
     name, host = "chromium", "desk.example.org"
 
@@ -100,7 +100,7 @@ class Chromium(Engine):
 
 
 class Firefox(Engine):
-    """Firefox without a window. The page's own names resolve to this machine."""
+    """Firefox without a window. The names of the page resolve to this machine."""
 
     name, host = "Firefox", "desk.example.org"
 
@@ -126,7 +126,7 @@ class Firefox(Engine):
         self.command("WebDriver:SetWindowRect", width=WIDTH, height=HEIGHT)
 
     def received(self):
-        """A message: its length in digits, a colon, and JSON."""
+        """A message has its length in digits, a colon, and JSON."""
         while b":" not in self.rest:
             self.rest += self.come()
         length, _, self.rest = self.rest.partition(b":")
@@ -155,7 +155,7 @@ class Firefox(Engine):
         self.command("WebDriver:Navigate", url=address)
 
     def run(self, script, *words):
-        """A script in the page, which sees the page's functions but not its constants."""
+        """Runs a script in the page. The script can use the page's functions, but not its constants."""
         return self.command("WebDriver:ExecuteScript", script=script, args=list(words), sandbox=None)["value"]
 
     def found(self, path):
@@ -177,7 +177,7 @@ class Firefox(Engine):
 
 
 class WebKit(Engine):
-    """WebKitGTK's small browser on a display of its own. It resolves only this machine's names."""
+    """WebKitGTK's small browser, on a display of its own. The browser resolves only the names of this machine."""
 
     name, host = "WebKit", "localhost"
 

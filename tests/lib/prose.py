@@ -1,11 +1,12 @@
-"""Finds the sentences of the repository, and patterns in them that make an English reader stop. Read by
-tests/lint.py and tests/docs/sentences.py.
+"""Finds the sentences of the repository. Finds patterns in them at which an English reader stops. tests/lint.py and
+tests/docs/sentences.py use this module.
 
-A paragraph is a list of (line, text). It is a paragraph, an item or a cell of a page, a part of a docstring or of a comment, a help text,
-or a text of web/src/words. Links and tags are taken out of it, and CODE stands for inline code.
+A paragraph is a list of (line, text). A paragraph is a paragraph, an item or a cell of a page, or a part of a
+docstring or comment. It may also be a help text, or a text of web/src/words. A paragraph contains no links and
+tags, and CODE stands for inline code.
 
-CONTRIBUTING has the rules of wording. PATTERNS and FIRST have those that a pattern can find, each with its remedy. EXCEPTIONS has texts that
-stay as they are, each with its reason."""
+CONTRIBUTING has the rules of wording. PATTERNS and FIRST have the rules that a pattern can check, each with its
+remedy. EXCEPTIONS has the texts that may break a rule, each with its reason."""
 
 import ast
 import re
@@ -15,7 +16,7 @@ import subprocess
 CODE = "§"
 MOST_WORDS = 30
 MOST_LETTERS = 60
-# (pattern, remedy). FIRST is matched at the beginning of a sentence.
+# (pattern, remedy). FIRST matches only at the beginning of a sentence.
 PATTERNS = [(re.compile(pattern, re.IGNORECASE), remedy) for pattern, remedy in (
     (r"\bexactly if\b", "write 'if and only if', or 'exactly when'"),
     (r"\bso (many|often)\b(?! (\w+ )?(that|as)\b)", "name the number: 'n times'"),
@@ -31,7 +32,7 @@ FIRST = [(re.compile(pattern), remedy) for pattern, remedy in (
     (r"(What|Whatever|Whoever|Whichever|Who|How) (?!.*\?$)", "begin with a noun, not a clause"),
     (r"That (an?|the|its?|they|each|every|no|nobody|all|there|this|what|some|those|" + CODE + r")\b", "begin with a noun, not a clause"),
 )]
-# (file, words of the sentence): why the sentence stays.
+# (file, words of the sentence): the reason why the sentence stays.
 EXCEPTIONS = {
     ("CONTRIBUTING.md", "exactly if"): "names the wording to avoid",
     ("CONTRIBUTING.md", "so many"): "names the wording to avoid",
@@ -42,14 +43,14 @@ EXCEPTIONS = {
 }
 # Generated pages, data, and texts that tests compare byte for byte.
 LEFT_OUT = re.compile(r"docs/(AUDIT|RUNS)\.md|.*/more-edits\.txt|.*\.(told|png|svg|lock|toml|edit)|.*/stdout|tests/lib/words\.txt|docs/vectors\.json|web/[a-z]+\.(html|js|webmanifest)")
-# Areas of a commit's subject other than crates.
+# The areas of a commit's subject, apart from the crates.
 AREAS = {"docs", "tests", "web", "deploy", "bin", "ci", "man", "examples"}
 IMPERATIVE = re.compile(r"[a-z]\S*(?<![^su]s)(?<!ed)(?<!ing)\b|(pass|process|discuss|compress|express|need|feed|bring|embed|seed|speed)\b")
 PAGES = ["README.md", "CONTRIBUTING.md", "CHANGELOG.md", "SECURITY.md"]
 
 
 class Missing(Exception):
-    """Reports a program that a check needs and the machine lacks."""
+    """Reports a program that a check needs but the machine doesn't have."""
 
 
 # ---- paragraphs
@@ -91,7 +92,7 @@ def of_markdown(lines):
 
 
 def runs(lines, pattern):
-    """Returns the runs of neighbouring comment lines, without their signs."""
+    """Returns the runs of neighbouring comment lines, without the comment signs."""
     found, last = [], None
     for number, line in lines:
         if comment := re.match(pattern, line):
@@ -120,7 +121,7 @@ def of_python(text, lines):
 
 
 def of_help(lines):
-    """Returns the help texts of a table of commands: its literals of several words, without examples."""
+    """Returns the help texts of a table of commands: its literals of several words. Leaves out examples."""
     text = "\n".join(line for _, line in lines)
     found = []
     for literal in re.finditer(r'"((?:[^"\\]|\\.)*)"', re.sub(r"//.*", lambda it: re.sub(r"\S", " ", it[0]), text)):
@@ -131,13 +132,13 @@ def of_help(lines):
 
 
 def of_texts(text):
-    """Returns the English texts of the office: the first of each pair in its table."""
+    """Returns the English texts of the office. In the table of texts, the first text of each pair is English."""
     pairs = [it.value for it in ast.parse(text).body if isinstance(it, ast.Assign) and getattr(it.targets[0], "id", "") == "TEXTS"]
     return [[(it.elts[0].lineno, it.elts[0].value)] for pair in pairs for it in pair.values if isinstance(it, ast.Tuple) and isinstance(it.elts[0], ast.Constant)]
 
 
 def paragraphs(path, text):
-    """Returns the paragraphs of a file, or none if it has no prose."""
+    """Returns the paragraphs of a file, or none if it contains no prose."""
     name = str(path)
     lines = list(enumerate(text.splitlines(), 1))
     first = text.partition("\n")[0]
@@ -168,7 +169,8 @@ def paragraphs(path, text):
 
 
 def sentences(paragraph):
-    """Yields the sentences of a paragraph, each with its line numbers. Skips headings; two dots end no sentence."""
+    """Yields the sentences of a paragraph, each with its line numbers. Skips headings. Two dots don't end a
+    sentence."""
     joined, starts = "", []
     for number, text in paragraph:
         starts.append((len(joined), number))
@@ -205,7 +207,8 @@ def is_excepted(file, sentence):
 
 
 def foreign(file, text, added=None):
-    """Yields a line for each slip in a file's sentences; with `added`, only in those that touch these lines."""
+    """Yields a line for each slip in the sentences of a file. With `added`, checks only the sentences that touch
+    these lines."""
     for paragraph in paragraphs(file, text):
         for numbers, sentence in sentences(paragraph):
             if (added is None or numbers & added) and not is_excepted(str(file), sentence):
@@ -239,14 +242,15 @@ def git(root, *words):
 
 
 def base_of(root):
-    """Returns the commit at which this branch left its upstream, or HEAD if it has none; None outside a clone."""
+    """Returns the commit at which this branch left its upstream. Returns HEAD without an upstream, and None outside
+    a clone."""
     if git(root, "rev-parse", "--show-toplevel") is None or not (root / ".git").exists():
         return None
     return (git(root, "merge-base", "HEAD", "@{upstream}") or git(root, "rev-parse", "HEAD") or "").strip() or None
 
 
 def added_lines(root, base):
-    """Returns for each file the numbers of the lines added since the base, or None for a new file."""
+    """Returns, for each file, the numbers of the lines added since the base. Returns None for a new file."""
     found, file = {}, None
     for line in git(root, "diff", "--unified=0", "--no-color", "--no-ext-diff", "-M", base, "--").splitlines():
         if line.startswith("+++ "):
@@ -260,7 +264,7 @@ def added_lines(root, base):
 
 
 def of_change(root, base, below=""):
-    """Yields a line for each slip in the lines and subjects of commits that were added since a base."""
+    """Yields a line for each slip in the lines and in the subjects of commits that were added since a base."""
     for file, added in added_lines(root, base).items():
         path = root / file
         if path.is_file() and file.startswith(below):
@@ -278,7 +282,7 @@ def of_change(root, base, below=""):
 
 
 def spelled(root):
-    """Yields the files that aspell reads, each with its language: the pages, and the texts of web/."""
+    """Yields the files that aspell checks, each with its language: the pages, and the texts of web/."""
     pages = [*map(root.joinpath, PAGES), *sorted((root / "docs").glob("*.md")), *sorted(root.glob("crates/*/README.md"))]
     yield from ((it, "en") for it in pages if it.name not in ("AUDIT.md", "RUNS.md"))
     yield root / "web/src/words/en.json", "en"
@@ -307,7 +311,7 @@ def misspelt(text, language):
 
 
 def misspellings(root):
-    """Yields a line for each word that neither aspell nor tests/lib/words.txt knows. Skips names of files."""
+    """Yields a line for each word that neither aspell nor tests/lib/words.txt has. Skips names of files."""
     known, texts = known_words(root), {}
     for path, language in spelled(root):
         file = str(path.relative_to(root))

@@ -1,6 +1,7 @@
-// Refuses the allocation whose number is in the variable REFUSED_ALLOCATION, counted from 1. A program that ends by itself writes its number of
-// allocations to the file named by the variable ALLOCATIONS_COUNTED, if set. If the variable CALLS_TOLD names a file, it gets a line
-// for each call that ends a commit or sends a reply. The line has `sync` or `send`, and the number of allocations before it. Loaded before the C library.
+// Refuses the allocation whose number is in the variable REFUSED_ALLOCATION. The first allocation has number 1. If the variable ALLOCATIONS_COUNTED
+// names a file, a program that ends by itself writes its number of allocations to this file. If the variable CALLS_TOLD names a file, each call
+// that ends a commit or sends a reply adds a line to this file. The line has `sync` or `send`, and the number of allocations before the call.
+// Loaded before the C library.
 #define _GNU_SOURCE
 #include <dlfcn.h>
 #include <errno.h>
@@ -10,7 +11,7 @@
 #include <sys/socket.h>
 #include <unistd.h>
 
-// The function of this name in the C library, as `next`.
+// Finds the function of this name in the C library, as `next`.
 #define NEXT(name) \
     static __typeof__(name) *next; \
     if (!next) next = dlsym(RTLD_NEXT, #name)
@@ -39,7 +40,7 @@ void *realloc(void *old, size_t size) {
     return refuses() ? NULL : next(old, size);
 }
 
-// Writes a word and the number of allocations to the file that a variable names, without an allocation.
+// Writes a word and the number of allocations to the file that a variable names. Makes no allocation.
 static void tell(const char *variable, int how, const char *word) {
     const char *path = getenv(variable);
     if (!path) return;

@@ -1,5 +1,5 @@
-"""Reads the constants and tables of Rust source as values: the rows of a test's `static` has in its rows. It reads literals, tuples, arrays,
-structs, calls of variants, references and sums, and the names that a file has or brings in by `use`."""
+"""Reads the constants and tables of Rust source as values, for example the rows in the `static` of a test. The reader knows literals, tuples,
+arrays, structs, calls of variants, references and sums. It also knows the names that a file defines or imports by `use`."""
 
 import re
 from dataclasses import dataclass
@@ -19,7 +19,7 @@ class NotRead(Exception):
 
 @dataclass(frozen=True)
 class Node:
-    """A variant or a struct: the last one or two names of its path, its values, and a struct's fields."""
+    """A variant or a struct: the last one or two names of its path, its values, and the fields of a struct."""
 
     name: str
     values: tuple = ()
@@ -35,7 +35,7 @@ class Node:
 
 
 def unescaped(text):
-    """Returns a string's value: a backslash at a line's end removes the spaces after it."""
+    """Returns the value of a string. A backslash at the end of a line removes the spaces after it."""
     text = re.sub(r"\\\n\s*", "", text)
     simple = {"n": "\n", "r": "\r", "t": "\t", "0": "\0", '"': '"', "'": "'", "\\": "\\"}
     return re.sub(r"\\(?:x([0-9a-f]{2})|u\{([0-9a-f]+)\}|(.))", lambda it: chr(int(it[1] or it[2], 16)) if it[1] or it[2] else simple[it[3]], text)
@@ -77,7 +77,7 @@ class Expression:
         return value
 
     def called(self):
-        """Reads a value, or a call of one of its methods."""
+        """Reads a value, or a call of a method of the value."""
         value = self.one()
         while self.peek() == ".":
             self.take()
@@ -180,7 +180,7 @@ class File:
         self.kept = {}
 
     def expression(self, name):
-        """The tokens after the `=` of an item, up to its end."""
+        """The tokens of an item after its `=`, up to the end of the item."""
         rest = self.text[self.items[name]:]
         end, depth, is_begun = 0, 0, False
         tokens = []
@@ -204,7 +204,7 @@ class File:
         raise NotRead(name)
 
     def value(self, name):
-        """Returns the value of a name: that of an item of this file, or of an imported one, or else a variant."""
+        """Returns the value of a name. The name is an item of this file, an imported item, or otherwise a variant."""
         if name in self.kept:
             return self.kept[name]
         if name in self.items:
@@ -229,7 +229,7 @@ class File:
 
 
 def leaves(tree, before=()):
-    """Each name that a `use` brings in, with its path."""
+    """Returns each name that a `use` imports, with the name's path."""
     tree = tree.strip()
     if "{" in tree:
         front, _, inside = tree.partition("{")
@@ -261,7 +261,7 @@ def beside(file, module):
 
 
 def home_of(file, path):
-    """Returns the file of a module's path as a crate's file cites it, or None for another crate's."""
+    """Returns the file of a module path as a file of a crate cites it. Returns None for a module of another crate."""
     first, *rest = path or [""]
     if first == "crate":
         top = CRATES / file.crate / "src"

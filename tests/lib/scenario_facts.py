@@ -1,7 +1,8 @@
-"""The facts that a scenario, or a row of a test, states. A fact has a kind, a question with the state that its answer depends on, and the answer.
+"""The facts that a scenario or a row of a test states. A fact has a kind, a question with the state that its answer depends on, and the answer.
 
-The decision about a booking depends on the facility's numbers, the places taken in the slot, the member's account and the time to the start.
-Names, days and numbers are only in the reply, whose bytes are a fact of their own. So the same row with other names states the same fact."""
+The decision about a booking depends on the facility's numbers, the places taken in the slot, the member's account, and the time until the slot
+begins. Names, days and numbers are only in the reply. The bytes of the reply are a fact of their own. So the same row with other names states the
+same fact."""
 
 import re
 from typing import NamedTuple
@@ -58,7 +59,7 @@ def understood(text):
 
 
 def holder(club, given, moment):
-    """Returns the key of a pass, if the club has it, and which of the key's roots signed the pass."""
+    """Returns the key of a pass, if the club has the key. Also returns which root of the key signed the pass."""
     name = re.fullmatch(rb"key:(%b)" % caveats.NAME.encode(), given.identifier)
     key = club.keys.get(name[1].decode()) if name else None
     if key is None:
@@ -71,7 +72,7 @@ def holder(club, given, moment):
 
 
 def text_fact(club, text, moment):
-    """Returns the fact of a text: which root signed its pass, or why it is no pass."""
+    """Returns the fact of a text: which root signed its pass, or why the text is not a pass."""
     try:
         found = holder(club, passes.read(text), moment)[1]
     except passes.NoPass as fault:
@@ -111,7 +112,7 @@ def recorded(request, booking, minutes):
 
 
 def asked_facts(club, text, request, moment, reply):
-    """Returns the facts of a request under a pass and of its reply. The club is as it was before the request."""
+    """Returns the facts of a request under a pass, and of its reply. The club must be in the state before the request."""
     try:
         given = passes.read(text)
     except passes.NoPass as fault:
@@ -139,7 +140,7 @@ def signed_facts(club, name, texts, request, moment, reply):
 
 
 def plain_bytes(data):
-    """Drops from a request's bytes what changes no answer: the text of its pass, if that is one word, and the host."""
+    """Drops the parts of a request's bytes that don't affect the answer: the host, and the text of the pass if it is one word."""
     return PLAIN_PASS.sub(lambda it: (it[1] or it[2]) + b"P", NO_FIELD.sub(b"", data))
 
 
@@ -161,7 +162,7 @@ def reply_fact(data):
 
 
 def exchange_facts(club, data, moment):
-    """Returns all facts of an exchange, and changes the club by it."""
+    """Returns all facts of an exchange, and applies the exchange to the club."""
     facts = [bytes_fact(data, decoded(data))]
     try:
         text, request = wire.decoded(data)
@@ -174,7 +175,7 @@ def exchange_facts(club, data, moment):
 
 
 class Before:
-    """The facts of a request, taken before it changes the club; `facts` adds the reply."""
+    """The facts of a request, taken before the request changes the club. `facts` adds the reply."""
 
     def __init__(self, club, text, request, moment):
         self.made = asked_facts(club, text, request, moment, rules.Refused(0))
@@ -226,7 +227,7 @@ def slot_state(facility, hour, is_closed, taken):
 
 
 def command_facts(club, words, form="v2"):
-    """Returns the facts of a command, and changes the club by it."""
+    """Returns the facts of a command, and applies the command to the club."""
     asked = (words[0], *command_state(club, words))
     try:
         club.command(words)
@@ -243,7 +244,7 @@ def command_facts(club, words, form="v2"):
 
 
 def event_facts(player, event):
-    """Returns the facts of an event. A crash has those of the event that it stops, and one of its own."""
+    """Returns the facts of an event. The facts of a crash are those of the event that it stops, and one more fact."""
     club = player.club
     if isinstance(event, Crash):
         what = event.event

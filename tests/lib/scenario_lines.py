@@ -1,4 +1,5 @@
-"""Reads the text of scenarios (docs/SCENARIOS.md) into clubs and their events. Text that can't be read raises a Fault with file and line."""
+"""Reads the text of scenarios (docs/SCENARIOS.md). Turns the text into clubs and their events. If the text can't be read, it raises a Fault with
+file and line."""
 
 import json
 import re
@@ -16,7 +17,8 @@ MOST_CREDIT = 1_000_000  # points of one command
 ESCAPES = {"r": b"\r", "n": b"\n", "t": b"\t", "\\": b"\\"}
 AGAIN = "anywhere in the next line; then the same line again"
 REFUSALS = ("exists", "unknown", "out of range", "slot in use")
-# The kinds of each command's values. OF_KEYS has the commands that print a key's pass, with the place of the root among the values.
+# The kinds of each command's values. OF_KEYS has the commands that print a key's pass. For each command it has the position of the root among the
+# values.
 COMMANDS = {
     "add-member": ("name", "number"), "credit": ("name", "number"), "debit": ("name", "number"), "set-quota": ("name", "number"),
     "add-facility": ("name", "kind", "number", "number", "number", "number"),
@@ -29,7 +31,7 @@ OF_KEYS = {"add-key": 2, "rotate-key": 1}
 
 
 class Fault(Exception):
-    """Why a file of scenarios can't be played, with its place."""
+    """The reason why a file of scenarios can't be run, with the place."""
 
 
 @dataclass(frozen=True)
@@ -67,7 +69,7 @@ class Pass:
 
 @dataclass(frozen=True)
 class Text:
-    """A text in the place of a pass, sent as it is."""
+    """A text that is sent unchanged in place of a pass."""
 
     data: bytes
     form: str = "none"
@@ -78,7 +80,7 @@ class Text:
 
 @dataclass(frozen=True)
 class Reply:
-    """The reply that is expected: status, body, and with 405 the methods of the path."""
+    """The expected reply: its status, its body, and with status 405 the methods of the path."""
 
     status: int
     body: bytes
@@ -94,7 +96,7 @@ class Reply:
 
 @dataclass(frozen=True)
 class Event:
-    """An event at a club: its place in the file, and its moment."""
+    """An event at a club, with its place in the file and its moment."""
 
     place: Place
     moment: int | None
@@ -102,7 +104,7 @@ class Event:
 
 @dataclass(frozen=True)
 class Request(Event):
-    """Bytes for the desk: pieces of bytes and of passes, one after the other."""
+    """Bytes for the desk, as a list of pieces. A piece consists of bytes or of a pass."""
 
     pieces: tuple
     reply: Reply | None
@@ -117,21 +119,22 @@ class Request(Event):
 
 @dataclass(frozen=True)
 class Office(Event):
-    """A command of the office: its words, and its outcome. After a crash a second outcome may apply: that of a command already carried out."""
+    """A command of the office, with its words and its outcome. After a crash, a second outcome is possible: the outcome of a command that was
+    already carried out."""
 
     words: tuple
     outcomes: tuple
 
     @property
     def command(self):
-        """The command as the rules in Python take it."""
+        """The command in the form that the rules in Python take."""
         name, *values = self.words
         return (name, *(READERS[kind](value) for kind, value in zip(COMMANDS[name], values)))
 
 
 @dataclass(frozen=True)
 class Listing(Event):
-    """A listing for the office: the words of its command, and the lines that this prints, or its refusal."""
+    """A listing for the office: the words of its command, and the lines that it prints or its refusal."""
 
     words: tuple
     lines: tuple | None
@@ -139,21 +142,22 @@ class Listing(Event):
 
 @dataclass(frozen=True)
 class Reopen(Event):
-    """The tables are closed and opened again. `version` is the older version that they get in between, if any."""
+    """The desk closes the tables and opens them again. If `version` is given, the tables get this older version before the desk opens them
+    again."""
 
     version: int | None
 
 
 @dataclass(frozen=True)
 class Crash(Event):
-    """The event, stopped anywhere, and then once more."""
+    """The event, stopped at any point and then repeated."""
 
     event: Event
 
 
 @dataclass
 class Scenario:
-    """A club, and what happens at it, in order."""
+    """A club, and the events at it in their order."""
 
     place: Place
     commands: list
@@ -165,7 +169,7 @@ class Scenario:
 
     @property
     def forms(self):
-        """Returns the forms in which the scenario is played: V2 alone if each line names its own form."""
+        """Returns the forms in which the test runs the scenario. This is only V2 if each line names its own form."""
         return tuple(passes.FORMS) if any(it.is_in_any_form for it in self.requests) else ("v2",)
 
 
@@ -224,7 +228,7 @@ class Reader:
         return self.scenarios
 
     def below(self):
-        """Returns the lines that belong to the one above: those that begin with spaces."""
+        """Returns the lines below a line that belong to it. They begin with spaces."""
         found = []
         for line in self.lines[self.at:]:
             if not line.startswith(" "):
@@ -305,14 +309,14 @@ class Reader:
         self.roots[name] = self.root(root)
 
     def read_text(self, columns, below):
-        """Defines a text that takes the place of a pass, or reads a request that sends one."""
+        """Defines a text that replaces a pass, or reads a request that sends such a text."""
         if len(columns) > 2:
             return self.read_request([f"text {columns[1]}", *columns[2:]], below)
         name, = self.matched(" ".join(columns[1:]), rf"({NAME})", "a text has a name")
         self.texts[name] = b"".join(self.repeated(it) for it in below)
 
     def repeated(self, text):
-        """Returns the bytes of a piece, repeated if it says how many times."""
+        """Returns the bytes of a piece. Repeats them if the piece has a number of repetitions."""
         count, _, what = text.partition(" times ")
         return unescaped(what) * int(count) if what and count.isdecimal() else unescaped(text)
 
@@ -376,7 +380,7 @@ class Reader:
         return found
 
     def with_part(self, given, part):
-        """Returns a pass changed by one part of its bracket."""
+        """Returns a pass after the change that one part of its bracket describes."""
         word, _, rest = part.partition(" ")
         if part == "unknown":
             return given
@@ -393,7 +397,7 @@ class Reader:
         return replace(given, caveats=given.caveats + (unescaped(unquoted(many[0])),) * many[1])
 
     def reply(self, columns):
-        """Returns the reply of a line, or None if its answer isn't filled in yet."""
+        """Returns the reply of a line, or None if the line has no answer yet."""
         if not columns:
             return None
         status, body = self.matched(columns[0], r"(\d{3}) (\S.*)", "a reply has a status and a body")
@@ -472,7 +476,7 @@ class Reader:
 
 
 def example(lines):
-    """Returns the lines of a page's example, with empty ones around it, so that their numbers stay."""
+    """Returns the lines of a page's example, with empty lines around them. So the lines keep their numbers."""
     begin = lines.index("```scenario") + 1
     end = lines.index("```", begin)
     return [""] * begin + lines[begin:end] + [""] * (len(lines) - end)
@@ -483,7 +487,7 @@ def unquoted(text):
 
 
 def made(scenario, plant=None):
-    """Returns the club of a scenario, made by the rules in Python."""
+    """Returns the club of a scenario, which the rules in Python make."""
     club = rules.Club(plant)
     for command in scenario.commands:
         try:
@@ -494,7 +498,7 @@ def made(scenario, plant=None):
 
 
 def files(names=()):
-    """Returns the files of these names, or all."""
+    """Returns the files of these names, or all files."""
     found = [*sorted(FOLDER.glob("*.txt")), PAGE]
     unknown = set(names) - {it.stem for it in found}
     if unknown:

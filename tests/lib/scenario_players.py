@@ -18,12 +18,12 @@ from reference import caveats, club as rules, passes, wire
 from scenario_lines import Crash, Fault, Listing, Office, Reopen, Request
 
 KILLS = 4  # of the line after `crash`, each at another moment
-# Makes the tables those of an older program: without older roots, and with the first index alone.
+# Gives the tables the form of an older program: without older roots, and with only the first index.
 AS_VERSION_1 = "DROP TABLE old_roots; DROP INDEX IF EXISTS bookings_by_key; UPDATE desk SET version = 1"
 
 
 class Difference(AssertionError):
-    """A line of a scenario whose answer differs from the stated one."""
+    """A line of a scenario whose answer differs from the expected answer."""
 
     def __init__(self, place, wanted, found):
         super().__init__(f"{place}: wanted {wanted}\n{' ' * len(str(place))}  found  {found}")
@@ -39,7 +39,7 @@ def shown(value):
 
 
 def printed(event):
-    """Returns the output of a command that is carried out: `done`, or the pass of a key in the form asked for, else in V2."""
+    """Returns the output of a successful command. The output is `done`, or the pass of a key in the requested form, by default V2."""
     name, *values = event.words
     if name not in lines.OF_KEYS:
         return "done"
@@ -48,7 +48,7 @@ def printed(event):
 
 
 def wanted_of(event, number=0):
-    """Returns the first outcome of a command. With `number` 1, returns that of a command already carried out."""
+    """Returns the first outcome of a command. If `number` is 1, returns the outcome of a command that was already carried out."""
     outcome = event.outcomes[min(number, len(event.outcomes) - 1)]
     return printed(event) if outcome == "done" else outcome.removeprefix("prints ")
 
@@ -90,7 +90,7 @@ class Rules:
         return listing(self.club, event)
 
     def crashes(self, event):
-        """Plays the event as kept and as lost; in both cases it comes once more, and leaves the same club."""
+        """Plays the event both as kept and as lost. In both cases the event is then repeated, and the resulting club must be the same."""
         before = copy.deepcopy(self.club)
         compare(event, self.wanted(event), self.found(event))
         compare(event, self.wanted(event, 1), self.found(event))
@@ -145,11 +145,11 @@ class Programs:
             compare(scenario, [], programs.unsound(self.file))
 
     def played(self, scenario):
-        """Returns the events that this player plays."""
+        """Returns the events that this player can play."""
         return scenario.events
 
     def made(self, scenario):
-        """Returns a file with the club. Each club is made once."""
+        """Returns a file with the club. Makes each club only once."""
         whole = Path(self.folder, f"club-{abs(hash(tuple(scenario.commands)))}")
         if not whole.exists():
             begun = Path(tempfile.mkdtemp(dir=self.folder))
@@ -159,7 +159,7 @@ class Programs:
         return whole / "club"
 
     def make(self, scenario, file):
-        """Makes the club by commands. SQL adds points that one command can't give."""
+        """Makes the club by commands. SQL adds the points that one command can't give."""
         points = Counter()
         self.carry_out(scenario, file, ("sheet", "2000-01-01"))
         for command in scenario.commands:
@@ -180,7 +180,7 @@ class Programs:
             raise Fault(f"{scenario.place}: no such club: {' '.join(words)}: {fault}")
 
     def serve(self, requests):
-        """Plays requests of one moment at one server."""
+        """Plays several requests of one moment at one server."""
         with self.server(requests[0], len(requests)) as server:
             for it in requests:
                 compare(it, it.reply.data, server.exchange(it.data(self.form)))
@@ -201,12 +201,12 @@ class Programs:
                 database.executescript(AS_VERSION_1)
 
     def command(self, words):
-        """Runs a command. Returns its output, or the line of its fault."""
+        """Runs a command. Returns the output of the command, or the line of its fault."""
         status, output, fault = programs.command(self.desk, words[0], self.file, *words[1:])
         return output.removesuffix("\n") if status == 0 else fault.removesuffix("\n")
 
     def crashes(self, event):
-        """Kills the line at several moments, each time in a copy of the file, then plays it again."""
+        """Kills the line at several moments, each time in a copy of the file. Then plays the line again."""
         before = Path(f"{self.file}.before")
         programs.copy(self.file, before)
         for _ in range(KILLS):
@@ -235,7 +235,7 @@ class Programs:
 
 
 def runs(events):
-    """Groups neighbouring requests of one moment; every other event is alone."""
+    """Groups neighbouring requests of the same moment. Every other event is alone in its group."""
     found = []
     for event in events:
         if found and isinstance(event, Request) and isinstance(found[-1][0], Request) and found[-1][0].moment == event.moment:
@@ -246,7 +246,7 @@ def runs(events):
 
 
 def status_of(faults):
-    """Prints the faults that players found, one a line. Returns the exit status of their test."""
+    """Prints the faults that players found, one per line. Returns the exit status of the players' test."""
     print(*faults, sep="\n", end="\n" if faults else "")
     return 1 if faults else 0
 

@@ -1,5 +1,5 @@
-"""Turns rows of the test crates into facts (tests/lib/scenario_facts.py). Each reader takes a table, as tests/lib/rust_tables.py reads it, and returns
-the facts of each row. For a row that no scenario can state it returns the reason. The rules in Python must agree with each row."""
+"""Turns rows of the test crates into facts (tests/lib/scenario_facts.py). Each reader takes a table in the form of tests/lib/rust_tables.py, and
+returns the facts of each row. For a row that no scenario can state, the reader returns the reason. The rules in Python must agree with each row."""
 
 import rust_tables
 import scenario_facts as facts
@@ -41,7 +41,7 @@ def view(slot, kind, price, places, taken, closed):
 
 
 def command_of(it):
-    """Returns the words of a command as the rules take them."""
+    """Returns the words of a command in the form that the rules take."""
     name, values = last(it.name), it.values
     return {"AddMember": lambda: ("add-member", *values), "Credit": lambda: ("credit", *values),
             "Debit": lambda: ("debit", *values), "SetQuota": lambda: ("set-quota", *values),
@@ -52,7 +52,7 @@ def command_of(it):
             "CloseSlot": lambda: ("close-slot", *slot_of(values[0])), "OpenSlot": lambda: ("open-slot", *slot_of(values[0]))}[name]()
 
 
-# ---- the club that most tests begin with
+# ---- the club with which most tests begin
 
 
 def fixture():
@@ -64,7 +64,7 @@ def fixture():
 
 
 class Differs(Exception):
-    """A row whose answer differs from the rules' answer."""
+    """A row whose answer differs from the answer of the rules."""
 
 
 DECISIONS = ("no pass", "holder", "caveats", "decision")
@@ -91,7 +91,7 @@ def club_of_runs():
 
 
 def of_runs(value):
-    """Reads rows of a key command's words and the pass that it prints, each on that club."""
+    """Reads rows that have the words of a key command and the pass that the command prints. Each command runs on the club of the runs."""
     return [run_facts(club_of_runs(), it) for it in value]
 
 

@@ -1,8 +1,8 @@
-"""The tests in tests/ as programs, for tests/run and tests/conftest.py: their marks, the packages that they need, and their runs.
+"""The tests in tests/ as programs, for tests/run and tests/conftest.py. The module has their marks, their packages, and their runs.
 
-A test is a program with a list `pytestmark`. In a script that pytest doesn't read the list is a comment. tests/pytest.ini has the marks. A
-group's mark with words is a separate run with these words, and may name other needs and packages. The first run has the program's name. One of
-`quick` is NAME-quick, another run is named after its first word, such as hostile-self-test."""
+A test is a program with a list `pytestmark`. In a script that pytest doesn't read, the list is a comment. tests/pytest.ini describes the marks. A
+group's mark with words is a separate run with these words. It may name other needs and packages. The first run has the name of the program. A
+separate run of `quick` is named NAME-quick. Any other run is named after its first word, such as hostile-self-test."""
 
 import ast
 import configparser
@@ -23,14 +23,14 @@ import planted
 
 ROOT = Path(__file__).resolve().parents[2]
 OUT = ROOT / "out" / "tests"
-# Debian's Python, whose packages tests want.
+# Debian's Python, which has the packages that tests need.
 PYTHON = "/usr/bin/python3" if Path("/usr/bin/python3").exists() else "python3"
 SKIPPED, TOOK_TOO_LONG = 77, 124
 SECONDS = 3600  # that a run may take, where its marks say nothing else
 SECONDS_OF_QUICK = 600
 SECONDS_TO_CLEAR_UP = 30
 SECONDS_TO_INSTALL = 360  # to download what is missing
-# The path of a program once it is built. `rt ci` leaves those of the first two.
+# The path of each program after its build. `rt ci` builds the first two programs.
 BUILT = {
     "clubdesk": ["crates/clubdesk/out/clubdesk"],
     "passtool": ["crates/passtool/out/passtool"],
@@ -39,7 +39,7 @@ BUILT = {
 
 
 class Fault(Exception):
-    """Reports why nothing can be run."""
+    """Reports why no test can run."""
 
 
 def groups():
@@ -55,7 +55,7 @@ GROUPS = groups()
 
 @dataclass
 class Test:
-    """A program with its words, as run by some groups."""
+    """A program with its words, and the groups that run it."""
 
     name: str
     path: Path
@@ -75,7 +75,7 @@ class Test:
 
 @functools.cache
 def head_of(path):
-    """Returns the comment or docstring at a program's head, and its marks, each a name with arguments."""
+    """Returns the comment or docstring at the head of a program, and the program's marks. Each mark has a name and arguments."""
     text = path.read_text(encoding="utf-8")
     listed = re.search(r"^(?:# )?(pytestmark = \[(?:[^\]]*\n)*?.*\])$", text, re.MULTILINE)
     marks = []
@@ -91,7 +91,8 @@ def head_of(path):
 
 
 def shown_by(head):
-    """Returns a head's first paragraph, which says what the test shows, with the items of a list if it ends in a colon."""
+    """Returns the first paragraph of a head, which describes what the test shows. If the paragraph ends in a colon, adds the items of the list
+    after it."""
     paragraph = re.match(r"(?:(?!- |  ).+\n?)+", head)[0]
     if paragraph.rstrip().endswith(":"):
         items = re.match(r"(?:(?:- |  ).*\n?)*", head[len(paragraph):])[0]
@@ -143,7 +144,7 @@ def planted_tests():
 
 
 def missing(packages):
-    """Returns the Debian packages that aren't installed, or all of them if nothing can tell."""
+    """Returns the Debian packages that aren't installed. Returns all packages if no program can tell which are installed."""
     if not packages or not shutil.which("dpkg-query"):
         return list(packages)
     found = subprocess.run(["dpkg-query", "-Wf", "${Package} ${db:Status-Status}\n", *packages], capture_output=True, text=True, check=False).stdout
@@ -151,8 +152,7 @@ def missing(packages):
 
 
 def prepare(packages):
-    """Installs the missing packages within some minutes, if root runs this and there are apt-get and a network. Tests that install packages wait
-    for one another."""
+    """Installs the missing packages within some minutes. This needs root, apt-get and a network. Only one test installs packages at a time."""
     OUT.mkdir(parents=True, exist_ok=True)
     (OUT / "apt.conf").write_text('DPkg::Lock::Timeout "600";\nAcquire::Retries "1";\nAcquire::http::Timeout "20";\n', encoding="utf-8")
     if os.geteuid() != 0 or not shutil.which("apt-get"):
@@ -161,7 +161,7 @@ def prepare(packages):
     with open(OUT / "apt.log", "wb") as log:
 
         def apt(*words, limit=None):
-            """Returns whether apt-get succeeds, in time if there is a limit: it is ended only while it downloads."""
+            """Runs apt-get, and returns whether it succeeds. If there is a timeout, it ends apt-get only during the download."""
             with suppress(subprocess.TimeoutExpired):
                 seconds = limit and max(1, min(limit, ends - time.monotonic()))
                 return subprocess.run(["apt-get", "-o", "DPkg::Lock::Timeout=120", *words], stdin=subprocess.DEVNULL, stdout=log, stderr=log, check=False,
@@ -171,7 +171,7 @@ def prepare(packages):
         lacking = missing(packages)
         if not lacking or not apt("update", limit=120):
             return
-        # An unavailable package doesn't stop the others.
+        # An unavailable package doesn't stop the installation of the others.
         for some in (lacking, *([it] for it in lacking)):
             install = ["install", "-y", "--no-install-recommends", *some]
             if missing(some) and time.monotonic() < ends and apt(*install, "--download-only", limit=SECONDS_TO_INSTALL):
@@ -192,7 +192,7 @@ def processes():
 
 
 def begun_by(leader):
-    """Returns the processes of a leader's session, and their children in other sessions, each with its start."""
+    """Returns the processes of a leader's session, and their children in other sessions. Each has its start."""
     every = processes()
     found = {it for it, (_, session, _) in every.items() if session == leader}
     while more := {it for it, (parent, _, _) in every.items() if parent in found} - found:
@@ -201,7 +201,7 @@ def begun_by(leader):
 
 
 def end(process):
-    """Ends a process and its children, after giving it time to clean up."""
+    """Ends a process and its children, after giving them time to clean up."""
     begun = begun_by(process.pid)
     with suppress(ProcessLookupError):
         os.killpg(process.pid, signal.SIGTERM)
@@ -213,7 +213,7 @@ def end(process):
 
 
 def lacks(test, is_built):
-    """Returns why a test can't be run here, or nothing. With `is_built` no program is built for it."""
+    """Returns the reason why a test can't run here, or an empty text. If `is_built` is true, no build starts for the test."""
     if "root" in test.marks and os.geteuid() != 0:
         return "needs root"
     packages = missing(test.packages)
@@ -224,7 +224,7 @@ def lacks(test, is_built):
 
 
 def status_of(test, output, root, variables, seconds):
-    """Runs a test in its own session, which ends with it."""
+    """Runs a test in a session of its own, and ends the session after the test."""
     environment = {**os.environ, "APT_CONFIG": str(OUT / "apt.conf"), "DEBIAN_FRONTEND": "noninteractive", "PYTHONDONTWRITEBYTECODE": "1", **variables}
     with subprocess.Popen([root / test.path.relative_to(ROOT), *test.words], cwd=root, stdin=subprocess.DEVNULL, stdout=output, stderr=output,
                           env=environment, start_new_session=True) as process:
@@ -239,7 +239,7 @@ def status_of(test, output, root, variables, seconds):
 
 
 def status_with_fault(test, output, seconds):
-    """Runs a test with its fault in a copy of the tree; returns 0 if the test fails because of it."""
+    """Runs a test with its planted fault in a copy of the tree. Returns 0 if the test fails because of the fault."""
     with tempfile.TemporaryDirectory() as folder:
         variables = planted.plant(test.plant, Path(folder))
         shorter = replace(test, words=list(planted.PLANTS[test.plant][4:]) or test.words)
@@ -249,7 +249,8 @@ def status_with_fault(test, output, seconds):
 
 
 def run(test, is_built=False, has_timer=False):
-    """Runs a test, with its output in out/tests/NAME.log, and returns its result. If another timer ends the test, it has no limit here."""
+    """Runs a test and returns its result. The output of the test is in out/tests/NAME.log. If another timer ends the test, this function sets no
+    timeout."""
     OUT.mkdir(parents=True, exist_ok=True)
     begun, log = time.monotonic(), OUT / f"{test.name}.log"
     seconds = None if has_timer else test.seconds
@@ -267,7 +268,7 @@ def run(test, is_built=False, has_timer=False):
 
 
 class Results:
-    """The results of tests: a line for each as it ends, and all in out/tests/results.json."""
+    """The results of tests. Prints a line for each test when it ends, and writes all results to out/tests/results.json."""
 
     def __init__(self):
         self.all = {}

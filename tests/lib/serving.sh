@@ -1,8 +1,9 @@
-# Read by the scripts in the folders next to its own that run the desk's server: its programs, a folder to work in, and a server at a fixed moment.
+# The scripts in the neighbouring folders that run the desk's server source this file. It has the server's programs, a folder for the test, and a
+# server at a fixed moment.
 here=${BATS_TEST_DIRNAME:-$(CDPATH='' cd -P -- "$(dirname -- "$0")" && pwd)}
 
-# The programs are those of the variables CLUBDESK and PASSTOOL. One without a variable is proved and built first, if that isn't
-# done. The program itself is run, so that a signal reaches the server.
+# The variables CLUBDESK and PASSTOOL name the programs. If a variable is missing, the script proves and builds its program first, if necessary. The
+# script runs the program itself and not its wrapper, so that a signal reaches the server.
 desk=${CLUBDESK-}
 tool=${PASSTOOL-}
 [ -n "$desk" ] || { "$here/../../bin/clubdesk" --help >/dev/null && desk=$here/../../crates/clubdesk/out/clubdesk; } || exit 2
@@ -21,8 +22,8 @@ trap leave EXIT
 cd "$work" || exit 2
 mkfifo listening
 
-# serve FILE COUNT MOMENT [WORD..]: starts a server, with further options, which listens at $port when this returns (tests/lib/desk.py).
-# `fault` has the reason if it fails, and FILE.log its standard error. `finish` waits for its end.
+# serve FILE COUNT MOMENT [WORD..]: starts a server with further options (tests/lib/desk.py). When the function returns, the server listens at
+# $port. If the server fails, `fault` has the reason. FILE.log has the server's standard error. `finish` waits for its end.
 serve() {
     /usr/bin/python3 -B "$here/../lib/desk.py" "$desk" "$@" >listening 2>fault &
     server=$!
@@ -34,7 +35,7 @@ finish() {
     server=
 }
 
-# copy FILE TO: copies a database with its log.
+# copy FILE TO: copies a database together with its log.
 copy() {
     rm -f "$2" "$2-wal"
     cp "$1" "$2"

@@ -1,7 +1,8 @@
 """Finds the definitions that the vectors show, by running the reference in Python (tests/reference) on docs/vectors.json.
 
-`WRITTEN` names, for each function of the reference, the definitions that it is a second writing of. A definition is shown `all` if the
-vectors run each line of those functions, `part` if some, `none` if no line; lines of planted faults don't count."""
+A function of the reference is a second writing of some definitions. `WRITTEN` names these definitions for each function. The vectors show a
+definition completely (`all`) if they run each line of its functions. They show it in `part` if they run some lines, and `none` of it if they run no
+line. Lines of planted faults don't count."""
 
 import ast
 import copy
@@ -144,7 +145,7 @@ def check_passes(vectors):
         expect(vector["what"], passes.read(vector["text"].encode()), pass_of(vectors["passes"][2]))
 
 
-# passtool numbers its faults differently: the words after the number tell which of the desk's faults it is.
+# passtool numbers its faults differently from the desk. The words after the number determine the desk's fault.
 FAULTS = {"too long": passes.TOO_LONG, "malformed": passes.MALFORMED, "third-party caveat": passes.THIRD_PARTY, "too many caveats": passes.TOO_MANY}
 
 
@@ -168,7 +169,7 @@ def command_of(line):
 
 
 def made_club(commands):
-    """The club of the vectors, and the pass of its first key."""
+    """The club of the vectors, and the pass of the club's first key."""
     made, first = rules.Club(), None
     for command in map(command_of, commands):
         made.command(command)
@@ -258,7 +259,7 @@ def codes_in(code):
 
 
 def lines_of_functions():
-    """Of each function of the reference its lines, as `lines_run` has them, without those of planted faults."""
+    """Returns the lines of each function of the reference, in the form of `lines_run`. Leaves out the lines of planted faults."""
     found = {}
     for path in sorted(REFERENCE.glob("*.py")):
         text = path.read_text(encoding="utf-8")
@@ -281,7 +282,7 @@ def lines_of_functions():
 
 
 def marks():
-    """Returns how far the vectors show each definition (crate, file, name): all, part or none."""
+    """Returns how much of each definition (crate, file, name) the vectors show: all, part or none."""
     run, functions = lines_run(), lines_of_functions()
     found = {}
     for names, listed in WRITTEN.items():

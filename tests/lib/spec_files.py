@@ -10,7 +10,7 @@ CRATES = ROOT / "crates"
 
 WORD = r"""[^\s(){};,."λ]+(?:\.[^\s(){};,."λ]+)*"""
 TOKEN = re.compile(rf'"(?:\\.|[^"\\])*"|(?<=[)}}])\.{WORD}|λ|{WORD}|[(){{}};,.]')
-# Words that both languages build in, and the signs of types.
+# Words that both languages have built in, and the signs of types.
 BUILT_IN = set("""
     : = | → ← × Type Unit Bool tt refl record data if then else let in do where of by pub abbrev unfoldable opaque module ⊥ ⊤ ¬ ∥ ∥₁ _ λ ↔ ≡
     now old new entry result self Self true false fields
@@ -19,7 +19,7 @@ BUILT_IN = set("""
 COMPUTED = ROOT / "docs" / "COMPUTED.md"
 # The kinds of definitions in specs/.
 OF_SPECS = ("definition", "record", "data")
-# Constructors of std that a pattern may have.
+# Constructors of std that may appear in a pattern.
 PATTERNS = {"[]", "∷", "Some", "None", "Ok", "Err", "true", "false", "zero", "suc", "tt", "now", "ready", "inl", "inr"}
 
 
@@ -37,7 +37,8 @@ def computing():
 
 @dataclass(eq=False)
 class Definition:
-    """A declaration of ours: of specs/, a type of the code or a ghost of a trait; or a word of a library, which has no file."""
+    """A declaration of ours or a word of a library. Our declarations are those of specs/, types of the code, and ghosts of traits. A word of a
+    library has no file."""
 
     module: str
     name: str
@@ -72,7 +73,7 @@ class Definition:
 
 
 def without_comments(text, sign):
-    """Replaces comments with spaces, so that lines and columns stay."""
+    """Replaces comments with spaces, so that lines and columns stay the same."""
     return re.sub(rf'("(?:\\.|[^"\\\n])*")|{sign}[^\n]*', lambda m: m[1] or " " * len(m[0]), text)
 
 
@@ -81,7 +82,7 @@ def indent_of(line):
 
 
 def names_of(path, lead=""):
-    """Returns the names of an import's path, as (module, name). A list in it has names, paths and further lists."""
+    """Returns the names of an import's path, as (module, name). A list in the path has names, paths and further lists."""
     head, brace, inner = path.partition("{")
     if not brace:
         module, _, name = (lead + path).rpartition(".")
@@ -95,7 +96,7 @@ def names_of(path, lead=""):
 
 @cache
 def spelled_out(text):
-    """The text with one import for each module in place of one that has paths in its list, on the same line."""
+    """Returns the text with separate imports. If an import has paths in its list, one import for each module replaces it on the same line."""
 
     def flat(line):
         modules = {}
@@ -107,7 +108,7 @@ def spelled_out(text):
 
 
 def imports_in(text, word):
-    """The imports of a text, as (module, name in it or None, name here or alias)."""
+    """Returns the imports of a text, as (module, name in the module or None, name in the text or alias)."""
     found = []
     for line in re.finditer(rf"^ *(pub )?{word} Rattle\.([\w.-]+?)(?:\.\{{([^}}]*)\}}|;|$| as ([\w◌]+))", spelled_out(text), re.MULTILINE):
         module, names, alias = line[2], line[3], line[4]
@@ -121,7 +122,7 @@ def imports_in(text, word):
 
 
 class Scope:
-    """Returns the names in a text: imported ones, and the module's own."""
+    """Returns the names in a text: the imported names, and the names that the module defines."""
 
     def __init__(self, book, imports):
         self.book = book
@@ -135,7 +136,7 @@ class Scope:
                 self.names.setdefault(sign, (module, name))
 
     def find(self, word):
-        """Returns the definition of a word, which may have an alias before it or fields after it."""
+        """Returns the definition of a word. An alias may come before the word, and fields after it."""
         head, _, rest = word.partition(".")
         if word in self.names:
             return self.book.look(*self.names[word])
@@ -171,8 +172,8 @@ class Walk:
             self.unknown.append(word)
 
     def pattern(self, tokens):
-        """On the left side of an equation, a word that isn't a constructor is a variable. The first word in brackets is applied, so it isn't a
-        variable."""
+        """On the left side of an equation, each word that isn't a constructor is a variable. The first word in brackets is a function that is
+        applied, so it isn't a variable."""
         for at, token in enumerate(tokens):
             if token in "(){},;_":
                 continue
@@ -225,11 +226,11 @@ class Walk:
         if at + 1 < len(tokens) and tokens[at + 1] == "←":
             self.scopes[-1].add(token)
             return at + 2
-        # A field of a record's type, which those after it may name.
+        # Adds a field of a record's type. The fields after it may use its name.
         if at + 1 < len(tokens) and tokens[at + 1] == ":" and len(self.scopes) > 1:
             self.scopes[-1].add(token)
             return at + 2
-        # A label in a record, unless it is the equation's own sign.
+        # The sign `=` after a label in a record, unless it is the sign of the equation itself.
         if at + 1 < len(tokens) and tokens[at + 1] == "=" and len(self.scopes) > 1:
             return at + 2
         if token not in ",;.=":
@@ -279,7 +280,7 @@ class SpecsFile:
 
     @cached_property
     def head(self):
-        """Returns the comment at the file's head as one line."""
+        """Returns the comment at the head of the file as one line."""
         lines = []
         for line in self.raw.splitlines():
             if not line.startswith("-- "):
@@ -288,7 +289,7 @@ class SpecsFile:
         return " ".join(lines)
 
     def read(self):
-        """Splits the text into declarations; those within `module _ (..) where` are indented, and share its parameters."""
+        """Splits the text into declarations. The declarations within `module _ (..) where` are indented, and share the module's parameters."""
         lines = self.text.splitlines()
         raw = self.raw.splitlines()
         outer = []  # (indent, telescope, indent of what is within)
@@ -350,7 +351,7 @@ class SpecsFile:
         if it.kind in ("record", "data"):
             self.resolve_record(it)
             return
-        # Several equations each begin in the first column of the block.
+        # If the block has several equations, each begins in the first column of the block.
         pieces, piece = [], []
         for line in it.text.splitlines():
             if piece and line.strip() and indent_of(line) == it.indent and not line.lstrip().startswith("}"):
