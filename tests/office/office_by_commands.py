@@ -1,9 +1,10 @@
 #!/usr/bin/env -S /usr/bin/python3 -B
 """Corrections by commands keep the server running, and are done once even if they are killed and repeated.
 
-Each is killed before and after each program that it runs, and while its output isn't taken. Then the same command is given again: the club is as
-after one command, and the book has both. A clubdesk command that outlives its correction holds up the next one. The rows of the copy before each
-correction, and those that `undo` puts back, are compared. Wants root, for a machine of its own (tests/lib/office_room.sh).
+The test kills each correction before and after each program that it runs, and while no reader takes its output. Then the test gives the same
+command again. The club must be as after a single command, and the book must have both commands. A clubdesk command that outlives its correction
+delays the next correction. The test compares the rows of the copy before each correction, and the rows that `undo` restores. Needs root, for a
+machine of its own (tests/lib/office_room.sh).
 
   tests/office/office_by_commands.py [debit|times]    debit: debits alone; times: how long a tournament takes, and a client beside it waits
 """
@@ -28,12 +29,12 @@ sys.path[:0] = [str(Path(__file__).resolve().parents[1] / it) for it in ("lib", 
 from office_checks import book_lines, lines, refused
 from office_room import HOME, ROOM, Service, begun, configure, done, kill, leave, office, rows, same, whole
 
-# The server's clock and the office's show the same time.
+# The server's clock and the office's clock show the same time.
 TODAY = datetime.date.today()
 PASSES = {}
 PROGRAMS = {"clubdesk": Path("/usr/bin/clubdesk"), "back_up": Path("/usr/lib/clubdesk/back_up"), "systemctl": Path("/usr/bin/systemctl")}
 STOPPER = f"""#!/bin/sh
-# A program, before or after whose call of this number the order that runs it is killed, or which starts late.
+# A program with a planned kill or delay. The test kills the order before or after its Nth call of the program, or starts the program late.
 number=$(($(cat {ROOM}/calls) + 1))
 [ "$1" != serve ] || exec {ROOM}/NAME "$@"
 echo $number >{ROOM}/calls
@@ -64,7 +65,7 @@ def stop_at(point):
 
 
 def calls():
-    """Counts the programs that were called since the last stop was set."""
+    """Counts the programs that the command has called since the test last set a stop."""
     return int((ROOM / "calls").read_text(encoding="ascii"))
 
 
@@ -84,7 +85,7 @@ def killed(point, words):
 
 
 def killed_at_its_output(words):
-    """Kills a command whose output nobody reads, so that nobody sees its end."""
+    """Kills a command whose output no program reads, so that no clerk sees its end."""
     stop_at("0 never")
     reader, writer = os.pipe()
     os.set_blocking(writer, False)
@@ -105,7 +106,7 @@ def killed_at_its_output(words):
 
 
 class Correction:
-    """A correction at a new place each time: its preparation, its words, and the rows that a statement finds once it is done."""
+    """A correction at a new place each time. It has its preparation, its words, and the rows that an SQL statement finds after it."""
 
     def __init__(self):
         self.number = 0
@@ -145,7 +146,7 @@ class Reopening(Correction):
 
 
 class Prices(Correction):
-    """A price, with the facility's existing places and hours."""
+    """A new price, with the facility's present places and hours."""
 
     sql = "SELECT * FROM facilities WHERE name = 'court-1'"
 
@@ -154,7 +155,7 @@ class Prices(Correction):
 
 
 class Debit(Correction):
-    """Points that take two commands to take back."""
+    """An amount of points that two commands must take back."""
 
     sql = "SELECT credited FROM members WHERE name = 'zoe'"
 
@@ -164,7 +165,7 @@ class Debit(Correction):
 
 
 class OfBookings(Correction):
-    """A correction on its own day, with zoe's bookings at ten and at eleven, one of them with a guest."""
+    """A correction on a day of its own. zoe has bookings at ten and at eleven, one of them with a guest."""
 
     bookings = 2
 
@@ -197,7 +198,7 @@ class Raining(OfBookings):
 
 
 class Closing(OfBookings):
-    """A third hour is free. The reason is written once."""
+    """A third hour is free. The office writes the reason only once."""
 
     court, booked = "court-4", 3000
 
@@ -211,7 +212,7 @@ class Closing(OfBookings):
 
 
 class Leaving(Correction):
-    """A member with two keys. One key is revoked, and each has a future booking."""
+    """A member with two keys. One key is revoked, and each key has a future booking."""
 
     def made(self):
         member = f"m{self.number}"
@@ -232,7 +233,7 @@ class Leaving(Correction):
 
 
 def killed_and_given_again(correction, programs):
-    """Does a correction, then kills it at each point and gives it again."""
+    """Makes a correction. Then kills the correction at each point and gives it again."""
     words, wanted = correction.next()
     command, before = words[0], rows(correction.sql)
     stop_at("0 never")
@@ -261,7 +262,8 @@ def rows_of_copy(command, sql):
 
 
 def outlives_its_order(correction, programs):
-    """If only the correction is killed, its clubdesk command continues. The next correction waits for its end, and finds its result."""
+    """If the test kills only the correction, its clubdesk command continues. The next correction waits until this command ends, and finds its
+    result."""
     words, wanted = correction.next()
     order = stopped(f"{programs} late", [*words, "--yes"])
     for it in psutil.Process(order.pid).children(recursive=True):
@@ -277,7 +279,7 @@ def outlives_its_order(correction, programs):
 
 
 def credited_meanwhile(correction):
-    """An interrupted debit isn't continued after the member's credit has changed; given again, it starts from the beginning."""
+    """An interrupted debit doesn't continue if the member's credit has changed. When the clerk gives it again, it starts from the beginning."""
     words, _ = correction.next()
     killed("3 before", [*words, "--yes"])
     done("credit", "zoe", "7")
@@ -288,7 +290,7 @@ def credited_meanwhile(correction):
 
 
 def late(point, words, path):
-    """Gives a command that stops at a point until amy has booked; returns its status and output."""
+    """Gives a command that stops at a point until amy has booked. Returns the command's status and output."""
     order = stopped(f"{point} late", words)
     same(path, server.answer(PASSES["amy"], "PUT", path, '{"guests":0}')[0], 200)
     out, errors = order.communicate()
@@ -296,7 +298,8 @@ def late(point, words, path):
 
 
 def booked_meanwhile(closing):
-    """A slot that is booked just before it is closed is named. With --yes that booking is cancelled too, and one undo reverts everything."""
+    """The office names a slot that a member books just before the office closes it. With --yes the office also cancels that booking, and one undo
+    reverts all changes."""
     words, wanted = closing.next()
     before = rows(closing.sql)
     path = f"/slots/court-4/{closing.day}/10/bookings/1"
@@ -314,7 +317,7 @@ def booked_meanwhile(closing):
 
 
 def booked_out_of_hours(prices):
-    """A booking made just before its hour is removed from the opening hours stays, and is named."""
+    """A member books an hour just before the office removes the hour from the opening hours. The booking stays, and the office names it."""
     words, wanted = prices.next()
     words[-1] = "--hours=10-20"
     day = str(TODAY + datetime.timedelta(50))
@@ -344,7 +347,7 @@ def make_club():
 
 
 def tournament():
-    """Closes four courts for a day with 60 bookings, next to a client. Prints the total time, and the longest wait for a reply."""
+    """Closes four courts for a day with 60 bookings, while a client uses the desk. Prints the total time, and the longest wait for a reply."""
     day, taken = str(TODAY + datetime.timedelta(30)), 0
     for court in range(1, 5):
         for hour in range(8, 22):

@@ -20,7 +20,7 @@ from office_room import CLUB, HOME, NOON, ROOM, begun, done, kill, office, rows,
 
 
 def journal_that_is_silent():
-    """If a program holds the journal's socket and reads nothing, no command waits: its line goes into the file."""
+    """A program may have the journal's socket and read nothing. Then no command waits, and its line goes into the file."""
     entry = Path("/run/systemd/journal/socket")
     entry.parent.mkdir(parents=True, exist_ok=True)
     with socket.socket(socket.AF_UNIX, socket.SOCK_DGRAM) as silent, socket.socket(socket.AF_UNIX, socket.SOCK_DGRAM) as sender:
@@ -41,7 +41,7 @@ def journal_that_is_silent():
 
 
 def copies_of_one_second():
-    """Corrections within one second keep a copy each."""
+    """Several corrections within one second keep a copy each."""
     before = len(list((HOME / "club-before").glob("*-debit*")))
     with ThreadPoolExecutor(6) as pool:
         for _ in range(6):
@@ -60,7 +60,7 @@ def moments_to_come():
 
 
 def lines_that_are_forged():
-    """Characters that end a line for a terminal or a line reader are escaped, as are bytes that aren't UTF-8. Unconfirmed commands have a
+    """The book escapes characters that end a line for a terminal or a line reader, and bytes that aren't UTF-8. Unconfirmed commands have a
     line."""
     before = len(book_lines())
     forged = f"{NOON}:00 ben 0 credit amy 13"
@@ -84,7 +84,7 @@ def lines_that_are_forged():
 
 
 def orders_that_cannot_be_read():
-    """Half a line that a power cut left isn't erased: it gets a line with a question mark."""
+    """A power cut may leave half a line in the book. The office keeps this half, as a line with a question mark."""
     for left in (b"\0" * 40, b"2026-04-20T12:00:00 b", b'{"moment"', b"2026-04-20T12:00:00 ben 0 credit amy 9\n2026"):
         TURN.write_bytes(left)
         done("credit", "amy", "1")
@@ -98,7 +98,7 @@ def orders_that_cannot_be_read():
 
 
 def programs_of_a_clerk():
-    """The desk's side takes no program or folder from a clerk, even if sudo passes on the clerk's environment."""
+    """A clerk can't choose a program or a folder for the desk's side, even if sudo passes on the clerk's environment."""
     home, lax = Path("/home/anna"), Path("/etc/sudoers.d/zz-lax")
     (home / "bin").mkdir()
     (home / "conf").mkdir()
@@ -129,7 +129,7 @@ def programs_of_a_clerk():
 
 
 def inner_words():
-    """Words that only the clerk's side sends are also checked by the desk's side before anything is done."""
+    """The desk's side checks the words that only the clerk's side sends, before it does anything."""
     line = "sudo -n -u clubdesk /usr/bin/office --desk club import-row zed 1 5 zed-1".split()
     for given in ("", "00", "g" * 64, f"{'0' * 64} x", "0" * 63):
         same(f"the roots {given}", run_as("anna", *line, given=given)[0], 3)
@@ -137,7 +137,7 @@ def inner_words():
 
 
 def desk_side(command):
-    """Returns the desk user's processes of a command, once one of them has its turn and calls clubdesk."""
+    """Waits until one of the desk user's processes has its turn and calls clubdesk. Returns the desk user's processes of the command."""
     user = pwd.getpwnam("clubdesk").pw_uid
     for _ in range(400):
         with contextlib.suppress(psutil.NoSuchProcess):
@@ -150,7 +150,7 @@ def desk_side(command):
 
 @contextlib.contextmanager
 def slow_clubdesk():
-    """A clubdesk that waits two seconds before a credit or a new key. It records the home folder, as other programs see it."""
+    """A clubdesk that waits two seconds before a credit or a new key. It records the home folder that other programs see."""
     program, whole_one, home = Path("/usr/bin/clubdesk"), ROOM / "clubdesk-whole", ROOM / "home-of-clubdesk"
     shutil.copy2(program, whole_one)
     program.unlink()
@@ -165,7 +165,7 @@ def slow_clubdesk():
 
 
 def terminals_that_stop():
-    """Ctrl-Z or a closed terminal doesn't stop a command that has its turn."""
+    """Neither Ctrl-Z nor a closed terminal stops a command that has its turn."""
     with slow_clubdesk():
         for number in (signal.SIGTSTP, signal.SIGHUP, signal.SIGTTOU):
             command = begun("credit", "amy", "3")
@@ -182,7 +182,7 @@ def terminals_that_stop():
 
 
 def terminals_that_take_nothing():
-    """A blocked standard error, such as a terminal after Ctrl-S or a full pipe, doesn't hold up a turn."""
+    """A blocked standard error, such as a terminal after Ctrl-S or a full pipe, doesn't delay other commands."""
     taken, full = os.pipe()
     os.set_blocking(full, False)
     with contextlib.suppress(BlockingIOError):
@@ -203,7 +203,7 @@ def terminals_that_take_nothing():
 
 
 def folder_of_a_clerk():
-    """The desk's side uses its own user's home folder, even if sudo passes on the clerk's: a mailer obeys a file there."""
+    """The desk's side uses the home folder of its own user, even if sudo passes on the clerk's home folder. A mailer would obey a file there."""
     lax = Path("/etc/sudoers.d/zz-lax")
     lax.write_text('Defaults env_keep += "HOME"\n')
     lax.chmod(0o440)
@@ -214,7 +214,7 @@ def folder_of_a_clerk():
 
 
 def file_that_came_since():
-    """A file that got the pass's name while its key was made stays, and the pass gets another name."""
+    """If another file gets the pass's name while the office makes the key, this file stays. The pass gets another name."""
     with slow_clubdesk():
         command = begun("add-key", "amy-8", "amy", "--to", "amy-8")
         desk_side(command)
@@ -239,7 +239,7 @@ def file_that_came_since():
 
 
 def page_that_came_since():
-    """A file that got the name of the board's page while a browser printed it stays, and isn't reported as the page."""
+    """If a file gets the name of the board's page while a browser prints the page, this file stays. The office doesn't report it as the page."""
     browser, kept = Path("/usr/bin/chromium"), Path("/usr/bin/chromium-kept")
     if browser.exists():
         browser.rename(kept)
@@ -253,7 +253,8 @@ def page_that_came_since():
 
 
 def clubs_beside():
-    """A club whose file has the name of an office file stays unchanged, and the other club is refused."""
+    """A club's file may have the name of one of another club's office files. Then the office refuses the other club, and doesn't change the
+    file."""
     for ending in ("before", "book", "metrics", "new", "office", "offsite", "orders", "people.csv", "reasons", "seasons", "undo", "until-2026-12-31", "wal"):
         file, configuration = HOME / f"other-{ending}", Path(f"/etc/clubdesk/other-{ending}.conf")
         file.write_bytes(b"another club")
@@ -275,7 +276,7 @@ def clubs_beside():
 
 
 def memory_that_is_full():
-    """Without room in memory, copies are made next to the club. The next command removes the copies of killed ones."""
+    """If the memory has no room, the office makes copies next to the club. The next command removes the copies that killed commands left."""
     memory, user = Path("/dev/shm"), pwd.getpwnam("clubdesk")
     subprocess.run(["mount", "-o", "remount,size=200k", memory], check=True)
     (memory / "rest").write_bytes(bytes(190_000))
@@ -310,7 +311,8 @@ def memory_that_is_full():
 
 
 def disk_that_is_full():
-    """Without disk space a command is either done or not, and says which; a correction changes nothing. With space again everything works."""
+    """Without disk space, a command is either done or not done, and its output says which. A correction changes nothing. When the disk has space
+    again, all commands work."""
     def credited():
         return rows("SELECT credited FROM members WHERE name = 'amy'")[0][0]
 
@@ -330,7 +332,7 @@ def disk_that_is_full():
 
 
 def titles_of_the_page():
-    """club.json has each title unchanged, or the line is refused by its number."""
+    """club.json has each title unchanged, or the office refuses the line and names its number."""
     def made(text):
         titles = ROOM / "titles"
         titles.write_bytes(text)

@@ -1,15 +1,17 @@
 #!/usr/bin/env -S /usr/bin/python3 -B
 """`office` does the clerks' commands, lists, corrections and restores, and resists a hostile clerk.
 
-Each is compared with the desk. So are its refusals, passes and the book. Wants root, for a machine of its own (tests/lib/office_room.sh).
+The test compares each result with the desk. It also compares refusals, passes and the book. Needs
+root, for a machine of its own (tests/lib/office_room.sh).
 
-Runs deploy/office as clerks without root do: by the lines of deploy/office.sudoers, next to a server that a small service manager runs. Its
-parts are:
-- office_orders.py: commands and lists compared with the desk's replies; passes and their files; the book, in a file and in the journal;
+Runs deploy/office as clerks without root do, with the rules of deploy/office.sudoers. A small service
+manager runs the server meanwhile. Its parts are:
+- office_orders.py: commands and lists compared with the desk's replies; passes and their files; the
+  book, in a file and in the journal;
 - office_corrections.py: corrections compared with show-account, the sheet and the totals; restores, also over a damaged file;
 - office_season.py: a season's points, closures, letters, persons, undo, and files of old years;
 - office_findings.py: forged lines, a clerk's own programs, a stopped terminal, a silent journal, full memory or disk.
-Wants root, for a machine of its own (tests/lib/office_room.sh).
+Needs root, for a machine of its own (tests/lib/office_room.sh).
   tests/office/office_holds.py [findings|season]    findings: what others may do, alone; season: a season's club, alone
 """
 # pytestmark = [mark.package, mark.root, mark.needs("clubdesk passtool"),

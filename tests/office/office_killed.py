@@ -1,15 +1,15 @@
 #!/usr/bin/env -S /usr/bin/python3 -B
 """The office's commands, corrections, imports and restores, killed at random moments, are done once or not at all.
 
-They are killed beside a running desk, and no total is off. Wants root, for a machine of its own (tests/lib/office_room.sh).
+A desk runs while the test kills them, and no total is wrong afterwards. Needs root, for a machine of its own (tests/lib/office_room.sh).
 
-- 100 commands and corrections are killed while four clients use the desk. Each reply is right, and the desk keeps running.
-- An import of twelve members is killed before and after each of its commands, and 40 times at random. Nobody is credited twice, and
-  each pass that it leaves opens its account.
-- A restore is killed 25 times. The club is the old one or the copy's.
-- Copies elsewhere, and a restore of one, are killed at random. Each copy with a name there is whole and tested.
-- Points for all, bookings for members who call, and undos are killed at random and given again. Each member is credited once, each slot
-  booked once, each correction undone whole.
+- The test kills 100 commands and corrections while four clients use the desk. Each reply is right, and the desk keeps running.
+- The test kills an import of twelve members before and after each of its commands, and 40 times at random. No member gets a credit twice, and each
+  pass that the import leaves opens its account.
+- A restore is killed 25 times. After a restore is killed, the club is the old club or the copy's club.
+- The test kills copies to another place, and a restore of such a copy, at random. Each named copy at the place is complete and tested.
+- The test kills points for all, bookings for members who call, and undos at random, and then gives them again. Each member gets one credit, each
+  slot has one booking, and each correction is undone completely.
 
   tests/office/office_killed.py [KILLS [SEED]]
 """
@@ -43,7 +43,8 @@ YES = ["--yes", "--at", NOON]
 
 
 def books_and_cancels(server, place, text, is_over):
-    """A client at its own court, which books and cancels, each twice. Counts the replies that match its expectation, and returns the others."""
+    """A client at a court of its own. It sends each booking and each cancellation twice. Counts the replies that match the expectation, and returns
+    the other replies."""
     wrong = []
     for number in itertools.count(1):
         if is_over.wait(0.05):
@@ -101,7 +102,7 @@ def commands_beside_the_desk():
 
 
 def left():
-    """The temporary files of the office, which it must remove."""
+    """The temporary files of the office, which the office must remove."""
     return [it for folder in (Path("/dev/shm"), HOME) for it in folder.glob(".office-*")]
 
 
@@ -116,7 +117,7 @@ def command_of(attempt):
 
 
 def hold_book(commands):
-    """The club's credits and debits are those with status 0 in the book, and some of those with a question mark."""
+    """The club has the credits and debits with status 0 in the book, and some of those with a question mark."""
     book = [line.split() for line in done("log", "zoe").splitlines()]
     book = [(status, command, words) for _, _, status, command, *words in book if command in ("credit", "debit")]
     sums, counts = {0}, Counter(status for status, _, _ in book)
@@ -131,7 +132,7 @@ def hold_book(commands):
 
 
 def restores():
-    """A restore, killed at random: the club is the old one or the copy's, whole."""
+    """A restore is killed at random. Then the club is completely the old club or completely the copy's club."""
     copies, night = HOME / "back-ups", "2026-04-19T030000Z"
     configure(BACK_UPS=copies)
     run_as("clubdesk", "mkdir", "-m", "700", copies, folder="/")
@@ -163,7 +164,7 @@ def restores():
 
 
 def season_points():
-    """Points for all, killed and given again: each member gets them once, however often."""
+    """Points for all are killed and given again. Each member gets the points once, no matter how often the command runs."""
     for number in range(1, 21):
         done("add-member", f"player-{number}", "5")
     before = dict(rows("SELECT name, credited FROM members WHERE quota > 0"))
@@ -180,7 +181,7 @@ def season_points():
 
 
 def bookings_for_callers():
-    """A booking for a member who calls, killed and given again, is made once; of two hours, each is booked once."""
+    """A booking for a member who calls is made once, even if the command is killed and given again. The same holds for each of two hours."""
     done("add-member", "caller", "99")
     done("credit", "caller", "10000")
     server = Service()
@@ -198,7 +199,7 @@ def bookings_for_callers():
 
 
 def undos():
-    """An undo, killed: the club is that after the correction or that before it."""
+    """An undo is killed. Then the club is the club after the correction or the club before it."""
     for attempt in range(min(given.kills, 10)):
         before = everything()
         done("close", f"2026-08-{attempt + 1:02d}", "10-12", "room-1", "--yes")
@@ -212,7 +213,7 @@ def undos():
 
 
 def copies_elsewhere():
-    """Copies to another disk, killed: each named copy is whole and in the list of tested ones; then the last change arrives."""
+    """Copies to another disk are killed. Each named copy is complete and in the list of tested copies. Then the last change arrives."""
     place = ROOM / "away"
     place.mkdir(exist_ok=True)
     subprocess.run(["mount", "-t", "tmpfs", "-o", "mode=777", "tmpfs", place], check=True)
@@ -252,12 +253,12 @@ def copies_elsewhere():
 
 
 def copy_rows(path):
-    """The rows of a copy that nobody changes."""
+    """The rows of a copy that no program changes."""
     with contextlib.closing(sqlite3.connect(f"file:{path}?immutable=1", uri=True)) as db:
         return [it for it in db.iterdump() if "INSERT" in it]
 
 
-# Name, quota and points of each member, and the name that the office makes from it.
+# The name, quota and points of each member, and the name that the office makes from the member's name.
 MEMBERS = [
     ("Amy Müller", 5, 10000, "amy-mueller"), ("Bob", 3, 5000, "bob"), ("Çelik, Ayşe", 2, 0, "celik-ayse"), ("Ole Sørensen", 9, 700, "ole-soerensen"),
     ("Zoë", 1, 1, "zoe"), ("Łukasz Wójcik", 4, 20, "lukasz-wojcik"), ("Jean-Luc d'Arc", 6, 60, "jean-luc-d-arc"),
@@ -273,7 +274,7 @@ def make_list(members, delimiter=","):
 
 
 STOPPER = f"""#!/bin/sh
-# clubdesk, before or after whose order of this number all of the office's processes are killed.
+# A clubdesk that counts its commands. Before or after the Nth command, the test kills all processes of the office.
 case $1 in
     add-member | credit | add-key | rotate-key)
         number=$(($(cat {ROOM}/orders) + 1))
@@ -294,7 +295,7 @@ def fresh_club():
 
 
 def count_commands(stop="0 never"):
-    """Counts commands from now on, and stops before or after the Nth."""
+    """Counts commands from now on, and stops before or after the Nth command."""
     for file, text in (("orders", "0"), ("kill", stop)):
         (ROOM / file).write_text(f"{text}\n")
         (ROOM / file).chmod(0o666)
@@ -302,7 +303,7 @@ def count_commands(stop="0 never"):
 
 
 def import_stopped(*at):
-    """Runs an import that is killed before or after one of its commands; returns its status."""
+    """Runs an import that is killed before or after one of its commands. Returns the import's status."""
     count_commands(*at)
     command = begun("import", "members.csv", "--yes")
     while command.poll() is None and not (ROOM / "killed").exists():
@@ -312,7 +313,7 @@ def import_stopped(*at):
 
 
 def imported(what, members):
-    """Checks that each member exists once, was credited once, and has a key and a pass that shows its account."""
+    """Checks that each member exists once and got one credit. Each must have a key, and a pass that shows its account."""
     found = rows("SELECT name, credited, quota, used FROM members ORDER BY rowid")
     same(f"{what}: the members", sorted(found), sorted((name, points, quota, 0) for _, quota, points, name in members))
     keys = rows("SELECT member, name, hex(root) FROM keys ORDER BY rowid")
@@ -357,7 +358,7 @@ def imports():
 
 
 def refused_lists():
-    """Lists that are refused before anything is done."""
+    """The office refuses these lists before it changes anything."""
     fresh_club()
     same("no list", office("import", "members.csv", "--yes")[0], 7)
     for what, lines, status in (

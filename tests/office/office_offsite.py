@@ -1,13 +1,15 @@
 #!/usr/bin/env -S /usr/bin/python3 -B
 """Each change of a club is in a copy elsewhere within a minute, and the copy restores a lost club.
 
-The copies go by ssh or into a mounted folder, and are tested there. Wants root, for a machine of its own (tests/lib/office_room.sh).
+The copies go by ssh or into a mounted folder, and the place tests them. Needs root, for a machine of its own (tests/lib/office_room.sh).
 
-- Nothing is sent without a change. The kept copies follow the rule in Python. `copies` lists them, and `restore` takes one.
-- A host that is down, a cut transfer, a full disk there and an unmounted folder are reported and retried, and health fails.
-- deploy/check_health uses the public name, and checks the certificate's days. deploy/metrics counts requests and orders.
-- `clubdesk-setup --from` brings back the club, persons, a season's points, old years and clerks. A lost booking is booked again when it is
-repeated.
+- The service sends nothing if nothing changed. The kept copies are those of the rule in Python. `copies` lists the copies at the place, and
+  `restore` can take one of them.
+- The test uses a host that is down, a cut transfer, a full disk at the place, and an unmounted folder. The service reports each fault and retries,
+  and the health check fails meanwhile.
+- deploy/check_health uses the public name, and checks how many days the certificate is still valid. deploy/metrics counts requests and orders.
+- `clubdesk-setup --from` restores the club, persons, a season's points, old years and clerks. The client books a lost booking again by repeating
+  the request.
 """
 # pytestmark = [mark.package, mark.faults, mark.root, mark.needs("clubdesk passtool"),
 #     mark.wants("sudo sqlite3 openssl util-linux bsdutils iproute2 systemd python3-psutil openssh-server openssh-client curl")]
@@ -34,7 +36,7 @@ from pathlib import Path
 
 import psutil
 
-# The room has its own network, so that nobody else uses its ports.
+# The room has a network of its own, so that no other program uses its ports.
 os.environ.setdefault("room_net", "yes")
 
 sys.path[:0] = [str(Path(__file__).resolve().parents[1] / it) for it in ("lib", "")]
@@ -55,7 +57,7 @@ def configure(**more):
 
 
 class Sshd:
-    """An ssh server for the user carl, whose home is on another disk."""
+    """An ssh server for the user carl, whose home folder is on another disk."""
 
     def __init__(self):
         subprocess.run(["mount", "-t", "tmpfs", "-o", "size=40m", "tmpfs", AWAY.parent], check=True)
@@ -99,7 +101,7 @@ def run(*line):
 
 
 def soon(seconds, holds):
-    """Returns the value of `holds`, once it is true, within some seconds; its last value otherwise."""
+    """Calls `holds` until its value is true or some seconds have passed. Returns the last value."""
     end, found = time.monotonic() + seconds, None
     while time.monotonic() < end:
         with contextlib.suppress(OSError):
@@ -116,7 +118,7 @@ def copies():
 
 
 def once():
-    """Runs copy_offsite once; returns its status, output and errors."""
+    """Runs copy_offsite once. Returns its status, output and errors."""
     return run_as("clubdesk", "/usr/lib/clubdesk/copy_offsite", "club", "--once", folder="/")
 
 
@@ -130,7 +132,7 @@ def rows_now():
 
 
 class Keeper:
-    """copy_offsite as its service runs it."""
+    """Runs copy_offsite in the same way as its service."""
 
     def __init__(self):
         self.log = ROOM / "keeper"
@@ -160,7 +162,7 @@ def make_club():
 
 
 def within_a_minute(keeper):
-    """A booking is in a copy at the place within a minute; nothing is sent without a change."""
+    """A booking is in a copy at the place within a minute. The service sends nothing if nothing changed."""
     soon(30, copies)
     for number in range(1, 4):
         before, begun = copies(), time.monotonic()
@@ -179,7 +181,7 @@ def within_a_minute(keeper):
 
 
 def beside():
-    """The archive next to the newest copy has the configuration, persons, reasons, season points and clerks, and nothing else."""
+    """The archive next to the newest copy has exactly the configuration, persons, reasons, season points and clerks."""
     given = '{"name": "Amy Möller", "mail": "amy@example.org", "telephone": "+49 1"}'
     line = "sudo -n -u clubdesk /usr/bin/office --desk club set-person amy".split()
     same("a person", run_as("anna", *line, given=given)[0], 0)
@@ -201,7 +203,7 @@ def beside():
 
 
 def listed():
-    """`copies` lists those here and those there: age, size, whether tested, in both languages."""
+    """`copies` lists the copies on this machine and at the place. It shows their age, their size and whether they are tested, in both languages."""
     same("a copy of the night", run_as("clubdesk", "/usr/lib/clubdesk/keep_copies", CLUB, HOME / "back-ups", folder="/")[0], 0)
     found = [it.split(",") for it in done("copies", "--csv").splitlines()]
     same("the heads", found[0], ["copy", "is", "bytes", "minutes", "tested"])
@@ -215,7 +217,7 @@ def listed():
 
 
 def restored_from_there():
-    """Restores a copy that is only at the place."""
+    """Restores a copy that only the place has."""
     wanted, name = rows_of(FOLDER / copies()[-1]), copies()[-1]
     same("a booking after it", book(15, 15)[0], 200)
     done("debit", "amy", "7", "--yes")
@@ -234,7 +236,8 @@ def restored_from_there():
 
 
 def host_down(sshd, keeper):
-    """A host that is down is reported once and retried, and health fails; bookings made meanwhile arrive once it is up."""
+    """The service reports once that a host is down, and retries. The health check fails meanwhile. When the host is up again, the bookings made
+    meanwhile arrive."""
     health(0)
     sshd.stop()
     book(20)
@@ -258,7 +261,7 @@ def host_down(sshd, keeper):
 
 
 def health(status, **more):
-    """Runs check_health with the place, and the site if there is one; checks its status and returns its output."""
+    """Runs check_health with the place, and with the site if there is a site. Checks the status and returns the output."""
     line = ["env", *(f"{key}={value}" for key, value in {"CURL_CA_BUNDLE": f"{ROOM}/site.pem", **more}.items()), "/usr/lib/clubdesk/check_health", CLUB,
             str(server.port), "", "", "elsewhere:clubs/club"]
     found, out, errors = run_as("clubdesk", *line, folder="/")
@@ -279,7 +282,7 @@ def nobody_looks(keeper):
 
 
 def kept_by_rule():
-    """Of copies made each minute, the place keeps those of the rule in Python."""
+    """Of copies made each minute, the place keeps those that the rule in Python keeps."""
     chance, now, made = random.Random(7), datetime.datetime.now(datetime.timezone.utc), set(copies())
     for back in range(0, 420):
         for _ in range(chance.choice((0, 1, 3)) if back < 20 else chance.choice((0, 0, 0, 1))):
@@ -325,7 +328,7 @@ def kept_by_rule():
 
 
 def torn():
-    """A transfer that is cut or changed on its way gets no name."""
+    """If a transfer is cut off or changed on its way, its file gets no final name."""
     ssh = Path("/usr/bin/ssh")
     whole_one = ROOM / "ssh-whole"
     shutil.copy2(ssh, whole_one)
@@ -344,7 +347,7 @@ def torn():
 
 
 def full_there():
-    """A full disk at the place takes no copy, keeps no half one, and is reported."""
+    """A full disk at the place takes no copy and keeps no incomplete copy. The service reports it."""
     before = copies()
     with open(AWAY / "fill", "wb", buffering=0) as fill, contextlib.suppress(OSError):
         while True:
@@ -360,7 +363,8 @@ def full_there():
 
 
 def mounted():
-    """A folder on another disk. An unmounted one is refused, since it would be lost with the club."""
+    """A folder on another disk. The service refuses an unmounted folder, because the loss of the club's disk would also destroy the copies in
+    it."""
     place = Path("/var/lib/nas")
     place.mkdir()
     configure(OFFSITE=place)
@@ -383,7 +387,7 @@ def mounted():
     same("the other place again", once()[0], 0)
 
 
-# ---- The public name, and its certificate.
+# ---- The public name, and the certificate of the public name.
 
 
 class Site(http.server.BaseHTTPRequestHandler):
@@ -405,7 +409,7 @@ class Site(http.server.BaseHTTPRequestHandler):
 
 @contextlib.contextmanager
 def site_for(days):
-    """The site with a certificate that is valid for some days."""
+    """The site with a certificate that is valid for some more days."""
     key, certificate = ROOM / "site.key", ROOM / "site.pem"
     run("openssl", "req", "-x509", "-newkey", "ec", "-pkeyopt", "ec_paramgen_curve:P-256", "-nodes", "-days", str(days), "-subj", f"/CN={SITE}",
         "-addext", f"subjectAltName=DNS:{SITE}", "-keyout", key, "-out", certificate)
@@ -447,7 +451,7 @@ def counted():
     shutil.chown(folder, "clubdesk")
     lines = ROOM / "journal"
     journal.write_text(f"""#!/bin/sh
-# The lines of a file as a journal of one service; a cursor is the number of lines that were read.
+# The lines of a file as the journal of a service. A cursor is the number of lines that were already read.
 case "$*" in *SYSLOG_IDENTIFIER*) echo '-- cursor: 0'; exit ;; esac
 from=$(wc -l <{lines})
 case "$*" in *--after-cursor=*) from=${{*##*--after-cursor=}}; from=${{from%% *}} ;; esac
@@ -493,7 +497,7 @@ echo "-- cursor: $(wc -l <{lines})"
 
 
 def brought_back():
-    """Everything on the machine is lost. The club serves again, and a lost booking is booked again when it is repeated."""
+    """All data on the machine is lost. The club serves again. A client books a lost booking again by repeating the request."""
     same("an old year", run_as("clubdesk", "/usr/lib/clubdesk/back_up", CLUB, HOME / "club-until-2025-12-31", folder="/")[0], 0)
     (CONF / "club.health").write_text("pass")
     run("chown", "root:clubdesk", CONF / "club.health")
@@ -535,7 +539,7 @@ def brought_back():
 
 
 def hostile_archive():
-    """An archive with names that aren't a club's writes nothing elsewhere."""
+    """If an archive has names that no club has, the restore writes no file under these names."""
     newest = copies()[-1]
     kept = (FOLDER / f"{newest}.tar").read_bytes()
     made = io.BytesIO()

@@ -31,7 +31,7 @@ def before_there_is_a_club():
 
 
 def as_nobody_else():
-    """A clerk can give only the office's commands, and can't read the desk's files; the desk's user can't end other services."""
+    """A clerk can give only the office's commands, and can't read the desk's files. The desk's user can't end services other than the desk."""
     for user, line in (
         ("anna", "sudo -n -u clubdesk id"),
         ("anna", "sudo -n -u clubdesk /usr/bin/office club members"),
@@ -64,7 +64,7 @@ def commands_and_looks():
 
 
 def passes():
-    """A root is drawn, read, or an argument; a pass gets its own file, or none."""
+    """A root is random, comes from standard input, or is an argument. A pass gets its own file, or no file."""
     same("a pass in a file", done("add-key", "amy-1", "amy", "--to", "amy-1"), "")
     text = run_as("anna", "cat", "amy-1")[1]
     same("its mode", run_as("anna", "stat", "-c", "%a %U", "amy-1")[1], "600 anna\n")
@@ -124,7 +124,7 @@ def lists(server, amy, bob):
 
 
 def takes_turns():
-    """Only one command runs at a time: another one waits, and is done after it."""
+    """Only one command runs at a time. Another command waits, and runs after the first one."""
     def balance():
         return rows("SELECT credited - used FROM members WHERE name = 'amy'")[0][0]
 
@@ -163,7 +163,7 @@ def in_the_book():
 
 
 def in_the_journal():
-    """The same with systemd's journal, where only lines of the desk's user count."""
+    """The book in systemd's journal, where only lines of the desk's user count."""
     journal = subprocess.Popen(["/lib/systemd/systemd-journald"], stdout=subprocess.DEVNULL, stderr=subprocess.DEVNULL)
     entry = Path("/run/systemd/journal/socket")
     for _ in range(100):
@@ -192,7 +192,7 @@ def in_the_journal():
 
 
 def manual():
-    """The manual page has each command of --help with its words and options, and no other."""
+    """The manual page has exactly the commands of --help, with their words and options."""
     page = {}
     for line in re.findall(r"^\.It Cm (?!FILE|STOP|ZONE|PORT|BOOK)(.*)", (TESTS.parent / "man" / "office.1").read_text(encoding="ascii"), re.MULTILINE):
         command, *words = line.replace(" Ns - Ns Ar ", "-").split()

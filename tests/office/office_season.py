@@ -1,4 +1,4 @@
-"""A part of office_holds.py: a season's club, with lists, callers, persons, undo, letters, and files of old years."""
+"""A part of office_holds.py: a club's season, with lists, callers, persons, undo, letters, and files of old years."""
 
 import datetime
 import json
@@ -39,7 +39,8 @@ def make_season_club():
 
 
 def lists_as_they_are_written():
-    """A list with tabs, a byte-order mark, in UTF-16, or with other column names is read as intended, and the office first prints how."""
+    """The office reads a list with tabs, with a byte-order mark, in UTF-16, or with other column names as intended. First it prints how it reads
+    the list."""
     for called, data, words, read in (
         ("tabs.csv", "name\tquota\tpoints\nTab Ulator\t1\t5\n".encode(), [], "read as UTF-8 with tab between the columns: name = name, quota = quota, points = points"),
         ("mark.csv", "\ufeffname,quota,points\nBörte Mark,1,5\n".encode(), [], "read as UTF-8 with , between the columns: name = name, quota = quota, points = points"),
@@ -58,7 +59,7 @@ def lists_as_they_are_written():
 
 
 def for_callers(server, day):
-    """Bookings and cancellations for a member who calls are requests at the desk, under its rules."""
+    """Bookings and cancellations for a member who calls are requests to the desk, under the desk's rules."""
     shown = done("book", "moeller-kaethe", "court-1", str(day), "18", "1")
     same("a booking", shown, f"booked court-1 {day} 18:00 for moeller-kaethe, 2 persons, 400 points: moeller-kaethe-office 1\n")
     same("the key of the office", rows("SELECT member, revoked FROM keys WHERE name = 'moeller-kaethe-office'"), [("moeller-kaethe", 0)])
@@ -83,7 +84,8 @@ def for_callers(server, day):
 
 
 def for_hours(day):
-    """Each of several hours is a separate command, listing or booking. Commands are listed first; the sum is printed, and the hours not done."""
+    """The office lists or books each of several hours by a separate command. It lists the commands first. At the end it prints the sum, and the
+    hours that are not done."""
     def closed():
         return [hour for hour, in rows("SELECT hour FROM slots WHERE facility = 'boat-1' AND closed = 1 ORDER BY hour")]
 
@@ -119,7 +121,7 @@ def for_hours(day):
 
 
 def in_use_of_persons(server, lines_of, day):
-    """Full names are in lists and among the persons to tell after a correction, but not in the book, the log or a copy."""
+    """Lists contain full names, and so do the persons to tell after a correction. The book, the log and the copies contain no full name."""
     same("members", lines("members", "--csv")[1:], [
         'moeller-kaethe,800,5,1,2,"Möller, Käthe"', 'oez-ali,1000,5,0,2,"Öz, =Ali"', 'ray-bob,1000,5,0,1,"Ray, Bob"'])
     same("the file", mode(HOME / "club-people.csv"), "clubdesk 100600")
@@ -154,7 +156,7 @@ def in_use_of_persons(server, lines_of, day):
 
 
 def undone(server, day):
-    """Undo puts back the rows of the last correction, if nobody has touched them since."""
+    """Undo restores the rows of the last correction, if no other command has changed them since."""
     def as_it_is():
         return [line for line in everything() if "INSERT" in line]
 
@@ -174,7 +176,7 @@ def undone(server, day):
 
 
 def season(pages, day):
-    """Points for all are given once under a name, weekly hours are closed with a reason, and a lost pass is replaced."""
+    """Members get the points for all once under a name. Weekly hours are closed with a reason, and a lost pass is replaced."""
     count = len(rows("SELECT name FROM members WHERE quota > 0"))
     done("set-quota", "oez-ali", "9", "--yes")
     copy = [it for it in lines("copies", "--csv") if "-set-quota" in it][-1].split(",")[0]
@@ -250,7 +252,7 @@ def letters_and_records(day):
 
 
 def spare_passes(lines_of):
-    """A repeated import makes each member's spare passes, which are the second half of the member's letter."""
+    """A repeated import makes the spare passes of each member. These passes are the second half of the member's letter."""
     configure(**lines_of, SPARES=2)
     run_as("anna", "sh", "-c", "head -n 3 season.csv >spares.csv")
     done("import", "spares.csv", "--quota", "5", "--points", "1000", "--passes", "season", "--yes")
@@ -267,7 +269,7 @@ def spare_passes(lines_of):
 
 
 def old_years(server):
-    """An old year's file allows only lists; the board's page reads it too."""
+    """The office only lists an old year's file. The board's page also reads such a file."""
     with_past = HOME / "club"
     year = datetime.date.today().year
     server.stop()

@@ -1,13 +1,12 @@
 #!/usr/bin/env -S /usr/bin/python3 -B
 """`office CLUB new-year` keeps balances, keys and future slots, and a kill leaves the old or the new club.
 
-It follows a year of 1,500 requests, and the server answers the same before and after. Wants root, for a machine of its own
+The new year follows a year of 1,500 requests, and the server answers the same before and after it. Needs root, for a machine of its own
 (tests/lib/office_room.sh).
 
-Some of the club's bookings are cancelled, past and future ones. The old file is kept byte for byte. Balances, what each key has spent, keys,
-facilities and slots to come are the same by sums. The server answers the same requests with the same bytes. Each
-other command of a season works after it, and the old year is copied elsewhere.
-  tests/office/office_year.py [REQUESTS]
+Some of the club's past and future bookings are cancelled. The old file stays unchanged, byte for byte. The test compares sums of balances, of the
+points that each key has spent, of keys, of facilities, and of future slots. The server answers the same requests with the same bytes. After the new
+year, each other command of a season works, and the service copies the old year to another place.
 """
 # pytestmark = [mark.package, mark.root, mark.needs("clubdesk passtool"),
 #     mark.wants("sudo sqlite3 openssl util-linux bsdutils iproute2 systemd python3-psutil")]
@@ -33,7 +32,7 @@ FACILITIES = ("court-1", "boat-1", "room-1")
 
 
 def make_club():
-    """Four members with two keys each, a court, a boat and a room; the texts of their passes."""
+    """Four members with two keys each, a court, a boat and a room, and the texts of the passes."""
     configure()
     done("new")
     for words in ("add-facility court-1 court 4 200 8 22", "add-facility boat-1 boat 2 50 6 20", "add-facility room-1 room 50 9999 0 24"):
@@ -48,14 +47,14 @@ def make_club():
 
 
 def days():
-    """Moments of the year, each with the days that are booked then; some are still in the future at its end."""
+    """Moments of the year, each with the days that members book then. Some of these days are still in the future at the end."""
     return [(f"2025-{month:02d}-{day:02d}T07:30", f"2025-{month:02d}-{day + 3:02d}") for month in range(1, 13) for day in (2, 12, 22)] + [
         ("2025-12-31T10:00", "2025-12-31"), ("2025-12-31T10:00", "2026-01-04"), ("2025-12-31T10:01", "2026-02-20")
     ]
 
 
 def live_a_year(texts):
-    """Makes bookings and cancellations of random keys at random slots, and closes slots; refusals are ignored."""
+    """Makes bookings and cancellations of random keys at random slots, and closes slots. Ignores refusals."""
     asked, numbers, made = days(), dict.fromkeys(texts, 0), 0
     for place, (moment, on) in enumerate(asked):
         server = Service(at=moment)
@@ -74,7 +73,7 @@ def live_a_year(texts):
 
 
 def requests(texts):
-    """Sends requests of every kind about future slots, with repeats of bookings and cancellations there. The last request is under a narrowed
+    """Sends requests of every kind about future slots. They include repeats of bookings and of cancellations. The last request is under a narrowed
     pass."""
     asked = [(text, "GET", "/account") for text in texts.values()]
     for on in ("2025-12-31", "2026-01-04", "2026-02-20"):
@@ -120,7 +119,7 @@ def sum_of(path):
 
 
 def put_back():
-    """Puts the earlier file back."""
+    """Restores the file from before the new year."""
     for it in (CLUB, HOME / "club-wal"):
         it.unlink(missing_ok=True)
     subprocess.run(["cp", "-p", original, CLUB], check=True)
@@ -131,7 +130,7 @@ def kept_files():
 
 
 def goes_on():
-    """A season's commands work after a new year, which can't be undone; its old file is copied elsewhere."""
+    """A season's commands work after a new year, and nobody can undo a new year. The service copies its old file to another place."""
     place, pages = ROOM / "away", ROOM / "pages"
     for folder in (place, pages):
         subprocess.run(["install", "-d", "-o", "clubdesk", folder], check=True)
@@ -207,7 +206,7 @@ same_sums(", once more", "keys", "older roots", "facilities")
 
 goes_on()
 
-# After a kill there is the old club or the new one; then the new year is done.
+# After a kill, the club is the old club or the new club. Then the new year can be completed.
 outcomes = {"old": 0, "new": 0}
 for attempt in range(min(count // 60, 25)):
     put_back()

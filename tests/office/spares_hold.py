@@ -1,9 +1,9 @@
 #!/usr/bin/env -S /usr/bin/python3 -B
 """`office` makes spare keys for lending once each, and as many as the configuration says.
 
-An import, `add-member` and the menu's new member make them, under the configuration's names. A letter has their passes as a second half. A spare
-key pays with its member's points, has its own count, and can't reach its member's bookings. Wants root, for a machine of its own
-(tests/lib/office_room.sh).
+An import, `add-member` and the menu's task for a new member make them, with the names of the configuration. The
+second half of a letter has the passes of the spare keys. A spare key pays with its member's points, and has a count
+of its own. It can't cancel the member's bookings. Needs root, for a machine of its own (tests/lib/office_room.sh).
 """
 # pytestmark = [mark.package, mark.root, mark.needs("clubdesk passtool"),
 #     mark.wants("sudo sqlite3 openssl util-linux bsdutils iproute2 systemd qrencode python3-psutil python3-pexpect")]

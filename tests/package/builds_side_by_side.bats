@@ -1,11 +1,12 @@
 #!/usr/bin/env bats
 # `bin/proved` builds only stale programs, and an interrupted build leaves no program that counts as built.
 #
-# It goes by the sources' checksum, and two calls build once.
+# bin/proved compares the checksums of the sources. Two calls at the same time build only once.
 #
-# It uses four small crates and a stub of rt, which records its beginnings and ends. Libraries are built side by side, as many as
-# PROVED_AT_ONCE says, each after those below it. An edit in the course of a build builds again. A build that is stopped ends each rt and
-# leaves no rooms. A half-written program, or one whose build was killed, doesn't count either. A failure is shown, with status 125.
+# The test uses four small crates and a stub of rt. The stub records when it begins and ends. At most PROVED_AT_ONCE libraries are built at the same
+# time, each after its dependencies. An edit during a build causes another build. If a signal stops a build, the build ends each rt and leaves no
+# rooms. An incomplete program, or a program whose build was killed, doesn't count as built. After a failure, bin/proved shows it and ends with
+# status 125.
 # pytestmark = [mark.package, mark.wants("bats")]
 
 # A clone that was built.
@@ -43,7 +44,7 @@ RT
     [ "$(grep -c '^top: [a-z]* is proved ([0-9]* s), [0-3] left$' said)" = 4 ]
 }
 
-# built COUNT: the program runs, and rt was called for COUNT crates.
+# built COUNT: checks that the program runs, and that it called rt for COUNT crates.
 built() {
     : >calls
     [ "$(clone/bin/proved top a 'b c' 2>said)" = 'runs a b c' ]
@@ -57,7 +58,7 @@ edit() {
     echo more >>"clone/crates/$1/src/lib.rt"
     : >calls
 }
-# most: prints the most rt processes at once.
+# most: prints the greatest number of rt processes that ran at the same time.
 most() { awk '/begin/ { n++ } /end/ { n-- } n > m { m = n } END { print m }' calls; }
 # wait_for LINE: waits until rt has written this line.
 wait_for() {
@@ -122,7 +123,7 @@ proved_behind() { clone/bin/proved top "$@" >out 2>said 3>&- & }
     built 4
 }
 
-# stopped SIGNAL: ends each rt, and leaves no rooms and no program that counts as built.
+# stopped SIGNAL: sends the signal, and checks that each rt ends, that no rooms are left, and that no program counts as built.
 stopped() {
     edit low
     # A background command ignores INT.

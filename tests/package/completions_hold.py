@@ -1,8 +1,10 @@
 #!/usr/bin/env -S /usr/bin/python3 -B -m pytest -q -p no:cacheprovider
 """bash, zsh and fish complete exactly the commands, options and values of `--help`.
 
-Compares bin/completions in real shells with `--help` of both programs and of office. Each command offers its words with the typed prefix, its
-options and their values, and files for FILE; office has a club before its command, and offers the configured clubs.
+The test compares bin/completions in real shells with the `--help` of both programs and of office.
+Each command offers its words with the typed prefix. It also offers its options, their values, and
+files for FILE. In office, a club comes before the command, and the shell offers the configured
+clubs.
 """
 
 import os
@@ -24,14 +26,14 @@ CLUBS = {"rowing", "tennis"}
 
 
 class Shell:
-    """Returns a shell's offers after words, from the file of completions."""
+    """Returns the offers of a shell after some words. The shell reads the file of completions."""
 
     def __init__(self, name, folder):
         self.name, self.folder = name, folder
 
 
 class Bash(Shell):
-    """Calls the function that the file defines, as readline does."""
+    """Calls the function that the file defines, in the same way as readline."""
 
     def offers(self, *words):
         script = (f'source "{self.folder}/{self.name}.bash"; COMP_WORDS=("$@"); COMP_CWORD=$(($# - 1)); '
@@ -47,7 +49,7 @@ class Fish(Shell):
 
 
 class Zsh(Shell):
-    """An interactive shell at its own terminal; a tab writes the offers to a file."""
+    """An interactive shell at a terminal of its own. A tab writes the offers to a file."""
 
     def __init__(self, name, folder):
         super().__init__(name, folder)
@@ -82,7 +84,7 @@ print READY
 
 
 def longs(found):
-    """Drops short options, which some shells offer in addition to the long ones."""
+    """Drops the short options, because some shells offer them in addition to the long options."""
     return {it for it in found if it.startswith("--")}
 
 
@@ -96,7 +98,7 @@ def names(found):
 
 
 def hold_command(shell, before, text, files):
-    """Compares the offers after these words with the help of their command."""
+    """Compares the offers after these words with the help of the command."""
     options, words = options_of(text), words_of(text)
     assert longs(shell.offers(*before, "--")) == {f"--{it}" for it in options}, before
     for option, value in options.items():
@@ -116,7 +118,8 @@ def hold_command(shell, before, text, files):
 
 @pytest.fixture(params=["clubdesk", "passtool", "office"])
 def program(request, tmp_path, monkeypatch):
-    """A program by its name, its completions, the files that are offered, and the clubs."""
+    """A program, given by its name, with its completions, the files that it offers, and the
+    clubs."""
     monkeypatch.chdir(tmp_path)
     monkeypatch.setenv("OFFICE_CONF", str(tmp_path / "conf"))
     (tmp_path / "conf").mkdir()

@@ -1,12 +1,13 @@
 #!/usr/bin/env bats
 # `bin/demo` prints tests/package/demo.told, and always ends its server.
 #
-# It installs missing `curl` and `sqlite3` or names them. It ends even a server that doesn't listen, and after a signal.
+# If `curl` or `sqlite3` is missing, bin/demo installs it or names it. bin/demo ends its server after a signal, and also if the server doesn't
+# listen.
 #
-# When it can't continue it says why and exits, as root and as another user.
+# If bin/demo can't continue, it prints the reason and exits, for root and for another user.
 # pytestmark = [mark.pages, mark.needs("clubdesk passtool"), mark.wants("bats curl sqlite3")]
 
-# Makes a folder with this machine's commands, without those that may be missing.
+# Makes a folder with this machine's commands. Leaves out the commands that may be missing.
 setup() {
     bats_require_minimum_version 1.5.0
     load ../lib/serving.sh
@@ -20,27 +21,27 @@ setup() {
     export CLUBDESK PASSTOOL
 }
 
-# put NAME: adds a command to that folder, from standard input. is_user NUMBER: sets the user's id.
+# put NAME: adds a command from standard input to that folder. is_user NUMBER: sets the user's id.
 put() { cat >"some/$1" && chmod +x "some/$1"; }
 is_user() { echo "echo $1" | put id; }
 demo() { "$here/../../bin/demo"; }
 demo_of_some() { PATH=$some demo; }
 
-# says_what_is_missing: the demo prints nothing on standard output, and names the missing commands and the line to type.
+# says_what_is_missing: checks that the demo prints nothing on standard output. It must name the missing commands and the line to type.
 says_what_is_missing() {
     run -1 --separate-stderr demo_of_some
     [ -z "$output" ]
     [ "$stderr" = 'demo: these commands are missing: curl sqlite3. Root installs them so: apt-get install curl sqlite3' ]
 }
 
-# Replaces the desk with one whose server records its process id and never listens.
+# Replaces the desk with a desk whose server records its process id and never listens.
 silent_desk() {
     # shellcheck disable=SC2016 # another shell reads it
     printf '#!/bin/sh\n[ "$1" = serve ] || exec %s "$@"\necho $$ >%s/server\nexec sleep 600\n' "$desk" "$PWD" >silent
     chmod +x silent
     CLUBDESK=$PWD/silent
 }
-# ended: waits until that server is gone.
+# ended: waits until the server has ended.
 ended() { for _ in $(seq 20); do kill -0 "$(cat server)" 2>/dev/null || return 0; sleep 0.1; done; return 1; }
 
 @test 'with all commands' {

@@ -1,6 +1,6 @@
-"""Compares the kept copies, on each day of three years, with the rule in Python: jobs_hold.py OLD_COPIES FOLDER, run by jobs_hold.sh.
+"""Compares the kept copies with the rule in Python, on each day of three years: jobs_hold.py OLD_COPIES FOLDER. jobs_hold.sh runs this program.
 
-Each day has no copy, one or two; then the old ones are removed."""
+Each day adds no copy, one copy or two copies. Then the old copies are removed."""
 
 import datetime
 import os

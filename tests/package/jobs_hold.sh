@@ -1,12 +1,13 @@
 #!/bin/sh
-# The timers' jobs work: copies, the sheet in four zones, health, mail and reports.
+# The jobs of the timers work: copies, the sheet in four zones, health, mail and reports.
 #
-# The test copies a running club, and checks which copies are kept.
+# The test copies a running club, and checks which copies the job keeps.
 #
-# It copies a running club, and tries to copy a file that isn't a club. It kills a copy job at work, and runs two copy jobs at once. The kept
-# copies, on each day of three years, are those of the rule in Python. Health is checked for a desk that is well, and with faults.
+# The test copies a running club, and also tries to copy a file that isn't a club. It kills a copy job during its work, and runs two copy jobs at
+# the same time. On each day of three years, the kept copies are those of the rule in Python. The test checks the health of a desk that works, and
+# of a desk with faults.
 #
-# The jobs are run by hand without systemd, with the test's own mailer. A killed job leaves nothing that confuses the next one.
+# The test runs the jobs without systemd, with its own mailer. A killed job leaves nothing that disturbs the next job.
 # pytestmark = [mark.package, mark.needs("clubdesk passtool"), mark.wants("curl sqlite3 openssl procps")]
 set -eu
 . "$(dirname -- "$0")/../lib/serving.sh"
@@ -16,7 +17,7 @@ SENDMAIL=$work/mailer
 export CLUBDESK SENDMAIL
 . "$here/../lib/checks.sh"
 
-# ends WHAT STATUS COMMAND..: checks the command's status; its outputs are in `told` and `said`.
+# ends WHAT STATUS COMMAND..: checks the command's status. The outputs are in `told` and `said`.
 ends() {
     what=$1
     wanted=$2
@@ -55,7 +56,7 @@ chmod +x refuses
 ends 'a copy that clubdesk refuses' 1 env CLUBDESK="$work/refuses" "$deploy/keep_copies" club copies
 grep -q "clubdesk can't open the copy" said || fail "it doesn't say so: $(cat said)"
 same 'what is left of them' "$old $name" "$(find copies -mindepth 1 -printf '%f\n' | sort | xargs)"
-# It is killed while it works; the next run cleans up. Two at once take turns.
+# The test kills the job during its work, and the next run cleans up. Two jobs at the same time take turns.
 printf '#!/bin/sh\ntouch waits\nexec sleep 30\n' >waits.sh
 chmod +x waits.sh
 CLUBDESK=$work/waits.sh "$deploy/keep_copies" club copies >told 2>said &
@@ -77,12 +78,13 @@ same 'the copies after all that' '3 0' "$(find copies -mindepth 1 ! -name '.*' |
 ends 'a day that is none' 2 "$deploy/old_copies" copies tomorrow
 ends 'no folder' 1 "$deploy/old_copies" nowhere 2026-05-01
 
-# On each day of three years there is no copy, one or two, then the old ones are removed. The rest must match the rule each day.
+# Each day of three years adds no copy, one copy or two copies. Then the job removes the old copies. On each day, the remaining copies must match
+# the rule.
 mkdir years
 /usr/bin/python3 "$here/jobs_hold.py" "$deploy/old_copies" years
 checks=$((checks + 1100))
 
-# ---- The morning's sheet: of the zone's day, once, from its hour on.
+# ---- The day sheet: for the zone's day, once, from its hour on.
 for zone in UTC0 CET-1CEST,M3.5.0,M10.5.0/3 '<+13>-13' '<-11>11'; do
     there=$(TZ=$zone date +%F)
     ends "a sheet in $zone" 0 "$deploy/morning_sheet" club "$zone" 0 "sheets $zone"
@@ -93,7 +95,7 @@ No bookings." "$(cat "sheets $zone/$there")"
     ends "a second sheet in $zone" 0 "$deploy/morning_sheet" club "$zone" 00 "sheets $zone"
     same "the sheet in $zone, once" "mine" "$(cat "sheets $zone/$there")"
 done
-# A zone in which it is between 0 and 1 o'clock.
+# A zone in which the time is now between 0 and 1 o'clock.
 now=$(date -u +%-H)
 midnight=$(printf '<-%02d>%d' "$now" "$now")
 ends 'a sheet at midnight' 0 "$deploy/morning_sheet" club "$midnight" 1 early
@@ -136,7 +138,7 @@ grep -q '^Day sheet' mailed || fail 'a sheet that could not be mailed is not tri
 
 # ---- Reports of failures.
 mkdir configured marks path
-# The journal lags at first.
+# The journal gets the lines late.
 printf '#!/bin/sh\necho "journal of $*"\n[ ! -e %s/asked ] || echo "Failed with result"\ntouch %s/asked\n' "$work" "$work" >path/journalctl
 chmod +x path/journalctl
 report() { PATH=$work/path:$PATH CONFIGURATION=$work/configured MARKS=$work/marks "$deploy/report_failure" "$@"; }

@@ -1,12 +1,13 @@
 #!/bin/sh
-# `bin/package_library` makes the same bytes twice, and its package serves C and Python in a fresh Debian.
+# `bin/package_library` makes the same bytes twice. Its package serves C and Python in a fresh Debian.
 #
-# Programs in both read, narrow and verify the pass of README.
+# Programs in C and in Python read, narrow and verify the pass of README.
 #
-# lintian complains nowhere. Debian is made by debootstrap with a C compiler, pkg-config and Python, and is entered by chroot without a network.
-# The packages are installed by dpkg. The programs are the examples that libclubpass-dev and python3-clubpass bring: at most 30 lines in C, also
-# linked statically, and at most ten in Python. The wheel is unpacked and imported without any package. After the packages are removed nothing
-# of them is left. Needs root, and Debian's mirror for the fresh Debian. DEBIAN=FOLDER names an existing Debian; the test copies it.
+# lintian complains nowhere. debootstrap makes the Debian with a C compiler, pkg-config and Python. The test enters it by chroot, without a network.
+# dpkg installs the packages. The programs are the examples in libclubpass-dev and python3-clubpass. The C example has at most 30 lines, and is also
+# linked statically. The Python example has at most ten lines. The test unpacks the wheel and imports it without an installed package. The removal
+# of the packages leaves no file of them. Needs root, and Debian's mirror for the fresh Debian. DEBIAN=FOLDER names an existing Debian, and the test
+# copies it.
 # pytestmark = [mark.package, mark.root, mark.needs("passtool pass_c"),
 #     mark.wants("debootstrap lintian dpkg-dev xz-utils util-linux python3-build python3-setuptools python3-wheel")]
 # shellcheck disable=SC2016 # a shell of the fresh Debian reads what is quoted

@@ -1,12 +1,13 @@
 #!/bin/sh
 # Three commands set up a club on a fresh Debian behind caddy, and another machine can replace a lost machine.
 #
-# The club is served within five minutes. Its machine is lost with its disk, and within ten minutes the club serves again on another one. Wants
-# root.
+# The club's desk serves within five minutes. The test destroys the machine with its disk. Within ten minutes, another machine serves the club
+# again. Needs root.
 #
-# Debian is made by debootstrap and booted by systemd-nspawn, without a network but loopback. The clerk uses the menu alone. The lines of
-# docs/RUNNING.md under "Copies elsewhere" and "The machine is gone" are given. A third Debian's ssh takes the copies while a client books. At
-# most a minute of bookings is lost, and each is booked again by its repeat. DEBIAN=FOLDER names an existing Debian, as for package_lives.sh.
+# debootstrap makes the Debian, and systemd-nspawn boots it with only a loopback network. The clerk uses only the menu. The test runs the lines of
+# docs/RUNNING.md under "Copies elsewhere" and "The machine is gone". The ssh server of a third Debian takes the copies while a client books. At
+# most the bookings of one minute are lost, and the client makes each lost booking again by its repeat. DEBIAN=FOLDER names an existing Debian, as
+# for package_lives.sh.
 # pytestmark = [mark.package, mark.root, mark.needs("clubdesk passtool"),
 #     mark.wants("debootstrap systemd-container dpkg-dev xz-utils util-linux python3-pexpect openssl")]
 # shellcheck disable=SC2016 # a shell of the fresh Debian reads what is quoted
@@ -16,7 +17,7 @@ holder=
 ssh_server=
 client=
 
-# ---- Machines. They share a network with only loopback: each can reach the servers of the others.
+# ---- Machines. The machines share a network with only loopback, so each machine can reach the servers of the others.
 boot() { start "$1" --network-namespace-path="/proc/$holder/ns/net"; }
 end_of() {
     [ -n "$1" ] || return 0
@@ -40,19 +41,19 @@ deb=$(basename packages/*.deb)
 debian first
 printf '127.0.0.1 localhost desk.example.org elsewhere.example first second\n' >first/etc/hosts
 cp "packages/$deb" first/root/
-# Packages are fetched before the machines are cut off.
+# The test downloads the packages before it cuts the machines off from the network.
 offline first sh -c "apt-get update && apt-get install --download-only /root/$deb caddy openssh-client openssh-server prometheus-node-exporter" >apt.log 2>&1 </dev/null ||
     fail "apt-get: $(tail apt.log)"
 cp -a first second
 cp -a first elsewhere
 for name in first second elsewhere; do echo "$name" >"$name/etc/hostname"; done
 
-# The machine elsewhere: a user with a folder, and ssh's server.
+# The machine at the other place: a user with a folder, and a server of ssh.
 offline elsewhere sh -c 'apt-get install openssh-server sqlite3 && useradd --create-home --shell /bin/sh --password "*" backup-of-clubs' >apt.log 2>&1 </dev/null || fail "apt-get: $(tail apt.log)"
 there=$work/elsewhere/home/backup-of-clubs
 install -d -m 700 -o "$(stat -c %u "$there")" -g "$(stat -c %g "$there")" "$there/.ssh"
 mkdir -p elsewhere/run/sshd
-# trust FILE: lets the machine elsewhere accept this ssh key.
+# trust FILE: makes the machine at the other place accept this ssh key.
 trust() {
     cat "$1" >>"$there/.ssh/authorized_keys"
     chown "$(stat -c %u:%g "$there")" "$there/.ssh/authorized_keys"
@@ -63,13 +64,13 @@ serve_ssh() {
 }
 serve_ssh
 
-# The lines for root of RUNNING, as the package has it, with this test's place.
+# The lines for root of RUNNING, as the package contains it, with this test's place.
 dpkg-deb -x "packages/$deb" unpacked
 lines_for_root unpacked/usr/share/doc/clubdesk/docs/RUNNING.md
 sed -i 's/backup@elsewhere.example/backup-of-clubs@elsewhere.example/' running
 
-# ---- Three commands. The site's name leads to this machine alone. So caddy uses its own certificate authority.
-# by_name METHOD PATH [BODY]: a request by the public name, under the pass in the file `pass` of the machine's root.
+# ---- Three commands. The site's name leads only to this machine. So caddy uses its own certificate authority. The function by_name METHOD PATH
+# [BODY] sends a request to the public name, with the pass in the file `pass` of the machine's root.
 by_name() {
     inside sh -c 'curl -sS --max-time 20 --cacert /root/ca.pem -X "$1" ${3:+-d "$3"} -H "Authorization: Bearer $(cat /root/pass)" -w " %{http_code}" "https://desk.example.org/$2"' sh "$@"
 }
@@ -87,14 +88,14 @@ began=$(date +%s)
 gives 'the first command' <<LINES
 apt-get install ./$deb caddy ca-certificates
 LINES
-# No authority of the internet can be asked here: caddy's own one gives the certificate.
+# The machine can't reach a certificate authority on the internet, so caddy's own authority gives the certificate.
 sed -i 's/^\tauto_https disable_redirects/&\n\tlocal_certs\n\tskip_install_trust/' first/usr/share/doc/clubdesk/examples/Caddyfile
 set_up='clubdesk-setup --title "TC Example" --club club --domain desk.example.org --zone Europe/Berlin --clerk anna --mail ""'
 gives 'the second command' <<LINES
 $set_up
 LINES
 holds 'nothing is left to do' sh -c '! grep -q "Left to do" told'
-# The third command, by a clerk who reads only the menu.
+# A clerk who reads only the menu gives the third command.
 cat >menu.py <<'MENU'
 import sys
 import pexpect
@@ -150,7 +151,7 @@ same 'without TLS' 000 "$(inside curl -s -o /dev/null -w '%{http_code}' --max-ti
 same 'no pass' '{"fault":4,"text":"no pass"} 401' "$(inside curl -sS --cacert /root/ca.pem -w ' %{http_code}' https://desk.example.org/account)"
 same 'a pass of 8,192 bytes' 'too long or unknown 40' "$(inside sh -c 'curl -sS --cacert /root/ca.pem -o /dev/null -w "too long or unknown %{http_code}" -H "Authorization: Bearer $(head -c 8192 /dev/zero | tr "\0" A)" https://desk.example.org/account' | cut -c 1-22)"
 
-# The setup, again: nothing changes.
+# The setup runs again, and changes nothing.
 sums() { inside sh -c 'for folder in /etc/clubdesk /etc/caddy /var/www /etc/passwd /etc/group; do find $folder -type f -exec stat -c "%n %Y %a %U" {} + -exec sha256sum {} +; done; systemctl show --value -p MainPID clubdesk@club caddy' | sort; }
 sums >before
 gives 'the setup, again' <<LINES
@@ -161,7 +162,7 @@ if grep -q '^made' told; then fail "the setup, again: $(cat told)"; fi
 sums | diff before - >told || fail "the setup, again: $(cat told)"
 checks=$((checks + 1))
 
-# ---- Copies elsewhere, by the page's lines. The keeper of the other machine adds the key that they print.
+# ---- Copies to another place, with the lines of the page. The keeper of the other machine adds the key that these lines print.
 blocks 'Copies elsewhere' >lines
 sed '/known_hosts\|accept-new/,$d' lines | gives 'Copies elsewhere'
 grep '^ssh-ed25519' told >key || fail "no key was printed: $(cat told)"
@@ -170,7 +171,7 @@ sed -n '/accept-new/,$p' lines | gives 'Copies elsewhere'
 copies() { find "$there/clubs/club" -maxdepth 1 -name '2*Z' -printf '%f\n' 2>/dev/null | sort; }
 has_copy() { [ -n "$(copies)" ]; }
 soon 60 'no copy elsewhere' has_copy
-# By the public name: caddy's own authority gives certificates of twelve hours.
+# By the public name. caddy's own authority gives certificates that are valid for twelve hours.
 if inside systemctl start clubdesk-health@club 2>told; then fail 'health of a certificate of twelve hours'; fi
 is_asked() { inside journalctl -q -o cat -u clubdesk-health@club | grep -q 'the certificate of desk.example.org is good until .*: it is to be renewed'; }
 soon 10 'health by the public name' is_asked
@@ -192,7 +193,7 @@ grep -q '^clubdesk_copy_age_seconds{club="club",place="off-site"}' metrics || fa
 grep -q 'node_textfile_scrape_error 0' metrics || fail "node_exporter: $(grep textfile metrics)"
 checks=$((checks + 4))
 
-# ---- A client books once a second; then the plug is pulled, and the disk is gone.
+# ---- A client books once a second. Then the power fails, and the disk is lost.
 touch books
 {
     number=100
@@ -239,7 +240,7 @@ took=$(($(date +%s) - began))
 [ "$took" -lt 600 ] || fail "the club was back after $took seconds"
 checks=$((checks + 1))
 
-# Bookings from more than a minute before the loss are there; each of the others is booked again by its repeat.
+# The restored club has all bookings from more than a minute before the loss. The client makes each other booking again by its repeat.
 inside sh -c 'rm -f /root/looked; /usr/lib/clubdesk/back_up /var/lib/clubdesk/club /root/looked' >told
 inside sqlite3 /root/looked 'SELECT number FROM bookings WHERE cancelled = 0' | sort >numbers
 lost=0
@@ -258,7 +259,7 @@ same 'the health pass' '640 root clubdesk' "$(inside stat -c '%a %U %G' /etc/clu
 same 'the timers' 'clubdesk-back-up@club.timer clubdesk-health@club.timer clubdesk-sheet@club.timer' \
     "$(inside systemctl list-units --plain --no-legend --state=active 'clubdesk-*.timer' | cut -d ' ' -f 1 | sort | xargs)"
 
-# The place takes copies from the new machine once it knows the key; until then health fails.
+# The place takes copies from the new machine after it knows the machine's key. Until then the health check fails.
 blocks 'Copies elsewhere' | grep -v OFFSITE= >lines
 sed '/accept-new/,$d' lines | gives 'Copies elsewhere, on the new machine'
 grep '^ssh-ed25519' told >key
@@ -267,7 +268,7 @@ before=$(copies | tail -n 1)
 sed -n '/accept-new/,$p' lines | gives 'Copies elsewhere, on the new machine'
 has_newer() { [ "$(copies | tail -n 1)" != "$before" ]; }
 soon 60 'no copy of the new machine' has_newer
-# A host that is down, and up again.
+# A host that is down, and then up again.
 failures() { inside journalctl -q -o cat -u clubdesk-offsite@club | grep -c 'it is tried again' || :; }
 failed=$(failures)
 end_of "$ssh_server"

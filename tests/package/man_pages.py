@@ -1,8 +1,8 @@
 #!/usr/bin/env -S /usr/bin/python3 -B -m pytest -q -p no:cacheprovider
-"""The manual pages are clean to `mandoc`, and have the commands, options and statuses of `--help`.
+"""`mandoc` finds no fault in the manual pages, and they have the commands, options and statuses of `--help`.
 
-They have no others. The page of office is only checked with `mandoc` here, and against its `--help` by tests/office/office_holds.py. It refers
-to sudo's pages, so sudo must be installed.
+They have no others. The test checks the page of office only with `mandoc`. tests/office/office_holds.py compares that page with the `--help` of
+office. The page of office refers to sudo's pages, so sudo must be installed.
 """
 
 import re
@@ -29,12 +29,12 @@ def by_help(program):
 
 
 def listed(page, heading, item):
-    """Returns the text of the items in a list of the page, without its first words."""
+    """Returns the text of the items in a list of the page. Leaves out the first words of each item."""
     return re.findall(rf"^\.It {item}(.*)", re.search(rf"^{heading}\n(.*?)^\.El", page, re.MULTILINE | re.DOTALL)[1], re.MULTILINE)
 
 
 def by_page(page):
-    """Returns the same from a page's lists of commands and statuses."""
+    """Returns the commands and statuses from the lists of a manual page."""
     found = {f"status {it}" for it in listed(page, r"\.Sh EXIT STATUS", "(?=[0-9])")}
     for command, *words in map(str.split, listed(page, "The commands are:", "Cm ")):
         found |= {command, *(f"{command} {'-' * (it[0] == '-')}{it}" for it in words if re.fullmatch("-.*|[A-Z]+|command", it))}
@@ -52,6 +52,7 @@ def test_page_has_what_the_help_shows(name):
 
 
 def test_mandoc_has_nothing_to_say():
-    """mandoc runs in the pages' folder, where they find one another. An outdated index of pages on the machine isn't a fault of these pages."""
+    """mandoc runs in the folder of the pages, where they find one another. If the machine's index of pages is out of date, this isn't a fault of
+    these pages."""
     said = subprocess.run(["mandoc", "-T", "lint", "clubdesk.1", "passtool.1", "office.1"], cwd=MAN, capture_output=True, text=True, check=False)
     assert not [it for it in (said.stdout + said.stderr).splitlines() if "outdated mandoc.db" not in it]

@@ -1,5 +1,5 @@
-"""A client in the fresh Debian, which books and cancels until /root/enough exists, and retries while no desk answers:
-client DAY, with the field of its pass in /root/field. Run by package_lives.sh."""
+"""A client in the fresh Debian: client DAY. It books and cancels until /root/enough exists, and retries while no desk
+answers. The file /root/field has the field of its pass. package_lives.sh runs this program."""
 import json
 import os
 import sys

@@ -1,13 +1,14 @@
 #!/bin/sh
 # `bin/package` makes the same bytes twice, lintian has no complaint, and the package works in a fresh Debian.
 #
-# Debian is made by debootstrap and booted by systemd-nspawn, with its own systemd and without a network but loopback. The lines for root of
-# docs/RUNNING.md are run there, from the installation to the restore. They cover the desk behind nginx with TLS, its timers and what they call,
-# a second club in another zone, mail, a machine that boots again. A clerk without root has her first week: import, who booked, sheet, wrong
-# credit, price, tournament, rain, lost pass, leaving member, restore. The package is upgraded while a client books, and upgraded to one whose
-# program opens no club. It is removed, installed again, and purged. No acknowledged booking is lost, and the clubs' files stay. At the end the
-# archive for other systems, below /usr/local. Wants root, and Debian's mirror for the fresh Debian. DEBIAN=FOLDER names an existing Debian, made
-# by `debootstrap --variant=minbase --include=systemd,systemd-sysv bookworm FOLDER`. The test takes a copy.
+# debootstrap makes the Debian, and systemd-nspawn boots it with its own systemd and only a loopback network. The test runs docs/RUNNING.md's lines
+# for root in this Debian, from the installation to the restore. They cover the desk behind nginx with TLS, the timers and their jobs, and a second
+# club in another zone. They also cover mail, and a machine that boots again. A clerk without root has her first week: import, who booked, sheet,
+# wrong credit, price, tournament, rain, lost pass, leaving member, restore. The test upgrades the package while a client books. It also upgrades to
+# a package whose program opens no club. The test removes the package, installs it again, and purges it. No acknowledged booking is lost, and the
+# clubs' files stay. At the end the test checks the archive for other systems, whose files are below /usr/local. Needs root, and Debian's mirror for
+# the fresh Debian. DEBIAN=FOLDER names an existing Debian, made by
+# `debootstrap --variant=minbase --include=systemd,systemd-sysv bookworm FOLDER`. The test copies it.
 # pytestmark = [mark.package, mark.root, mark.needs("clubdesk passtool"),
 #     mark.wants("debootstrap systemd-container lintian dpkg-dev xz-utils util-linux")]
 # shellcheck disable=SC2016 # a shell of the fresh Debian reads what is quoted
@@ -21,7 +22,7 @@ boot() {
     start debian --private-network
     same 'units that failed at boot' '' "$(inside systemctl --failed --plain --no-legend)"
 }
-# What was entered from outside has to end first: it would keep the machine from its end.
+# A shell that was entered from outside must end first, because it would keep the machine from shutting down.
 halt() {
     [ -n "$machine" ] || return 0
     if [ -n "$client" ]; then { inside touch /root/enough && wait "$client"; } || :; fi
@@ -36,14 +37,14 @@ leave_all() {
 }
 trap leave_all EXIT
 
-# ---- The package has the same bytes, whoever makes it, and whenever and however.
+# ---- The package has the same bytes, no matter who makes it, when, and how.
 holds 'bin/package' "$top/bin/package" first
 (umask 077 && cd / && LC_ALL=C.UTF-8 TZ=Asia/Tokyo HOME=/nonexistent "$top/bin/package" "$work/second" >"$work/told")
 for file in first/*; do same "$file, again" "$(sha256sum <"$file")" "$(sha256sum <"second/${file##*/}")"; done
 same 'what is made' "SHA256SUMS clubdesk-$version-amd64.tar.xz clubdesk_${version}_amd64.deb" "$(cd first && echo *)"
 (cd first && sha256sum --quiet -c SHA256SUMS)
 deb=clubdesk_${version}_amd64.deb
-# Lets root run lintian, which otherwise warns.
+# Lets root run lintian, which otherwise prints a warning.
 holds lintian lintian --allow-root --fail-on error,warning --tag-display-limit 0 "first/$deb"
 same 'what lintian says' '' "$(cat told)"
 dpkg-deb -x "first/$deb" unpacked
@@ -51,8 +52,8 @@ same 'its completions' 'clubdesk office passtool _clubdesk _office _passtool clu
     "$(cd unpacked/usr/share && for folder in bash-completion/completions zsh/vendor-completions fish/vendor_completions.d; do ls $folder; done | xargs)"
 holds 'the packed clubdesk' cmp "$desk" unpacked/usr/bin/clubdesk
 holds 'the packed passtool' cmp "$tool" unpacked/usr/bin/passtool
-# A version that is newer, one whose program opens no club, and one that is newer still.
-# other VERSION [COMMAND]: the package with another version, after COMMAND has changed its tree.
+# The test makes a newer version, a version whose program opens no club, and a still newer version. For other VERSION [COMMAND], it makes the
+# package with another version, after COMMAND has changed its tree.
 other() {
     rm -rf other
     dpkg-deb -R "first/$deb" other
@@ -72,14 +73,14 @@ debian "$root"
 echo desk >"$root/etc/hostname"
 echo '127.0.0.1 localhost desk' >"$root/etc/hosts"
 cp "first/$deb" ./*.deb first/*.tar.xz "$root/root/"
-# The packages that it needs are fetched before the machine is cut off.
+# The test downloads the packages that it needs before it cuts off the machine.
 offline "$root" sh -c "apt-get update && apt-get install --download-only /root/$deb qrencode xz-utils" >apt.log 2>&1 </dev/null || fail "apt-get: $(tail apt.log)"
 boot
 
-# The lines for root of RUNNING, as the package has it.
+# The lines for root of RUNNING, as the package contains it.
 lines_for_root unpacked/usr/share/doc/clubdesk/docs/RUNNING.md
 
-# answers PORT: the desk listens there, within ten seconds, and refuses a request without a pass.
+# answers PORT: checks that the desk listens at this port within ten seconds, and that it refuses a request without a pass.
 answers() {
     soon 10 "the desk at port $1" inside curl -sS --max-time 5 "http://127.0.0.1:$1/account"
     same "the desk at port $1" '{"fault":4,"text":"no pass"}' "$(cat told)"
@@ -104,7 +105,7 @@ for unit in "$root"/usr/lib/systemd/system/clubdesk*@.*; do
     same "systemd-analyze of $unit" '' "$said"
 done
 
-# Without a club, the desk doesn't create one.
+# If no club exists, the desk doesn't create one.
 gives 'A club, configured' <<'LINES'
 cp /usr/share/doc/clubdesk/examples/club.conf /etc/clubdesk/club.conf
 systemctl start clubdesk@club && exit 1
@@ -118,7 +119,7 @@ same 'the timers' 'clubdesk-back-up@club.timer clubdesk-health@club.timer clubde
     "$(inside systemctl list-units --plain --no-legend --state=active 'clubdesk-*.timer' | cut -d ' ' -f 1 | sort | xargs)"
 same "the files' modes" '600 600' "$(inside stat -c %a /var/lib/clubdesk/club /var/lib/clubdesk/club-wal | xargs)"
 
-# Its club: amy with a key, a court.
+# The desk's club: amy with a key, and a court.
 gives 'orders' <<'LINES'
 c=/var/lib/clubdesk/club
 desk() { runuser -u clubdesk -- clubdesk "$@"; }
@@ -128,7 +129,7 @@ desk add-facility $c court-1 court 50 1 0 24
 openssl rand -hex 32 | desk add-key $c amy-1 amy --root-stdin >/root/amy-1
 LINES
 
-# ---- TLS. The certificate is the test's own, and so is the name of the site.
+# ---- TLS. The certificate and the name of the site are the test's own.
 gives 'a certificate' <<'LINES'
 mkdir -p /etc/ssl/clubdesk
 openssl req -x509 -newkey rsa:2048 -nodes -days 2 -subj /CN=desk.example.org -addext subjectAltName=DNS:desk.example.org \
@@ -137,13 +138,13 @@ LINES
 blocks TLS | gives TLS
 blocks 'The pages' | gives 'The pages'
 inside sh -c 'printf "Authorization: Bearer %s\n" "$(cat /root/amy-1)" >/root/field'
-# by_tls METHOD PATH [BODY]: a request to the desk, once it is there.
+# by_tls METHOD PATH [BODY]: sends a request to the desk when the desk listens.
 by_tls() {
     answers 8080
     inside curl -sS --max-time 20 --cacert /etc/ssl/clubdesk/certificate.pem --resolve desk.example.org:443:127.0.0.1 -w ' %{http_code}' \
         -H @/root/field -X "$1" ${3:+-d "$3"} "https://desk.example.org/$2"
 }
-# books WHAT: the booking behind TLS, and each repeat of it.
+# books WHAT: sends the booking behind TLS, and repeats it.
 books() { same "$1" '{"booking":"amy-1/7","charge":3,"left":47} 200' "$(by_tls PUT "slots/court-1/$day/18/bookings/7" '{"guests":2}')"; }
 day=$(TZ=CET-1CEST,M3.5.0,M10.5.0/3 date -d '+2 days' +%F)
 books 'a booking behind TLS'
@@ -166,7 +167,7 @@ blocks 'Is it well?' | gives 'Is it well?'
 soon 10 'what the check says' health_says ', and reads its file'
 same 'the pass of the check' '640 root clubdesk' "$(inside stat -c '%a %U %G' /etc/clubdesk/club.health)"
 
-# ---- Another club, half a day away, with mail, which goes to a file. Nobody has asked for it in the first.
+# ---- A second club, half a day away. Its mail goes to a file. The first club's configuration has no mail address.
 mkdir -p "$root/usr/sbin"
 printf '#!/bin/sh\n{ echo "== $*"; cat; } >>/var/mail/sent\n' >"$root/usr/sbin/sendmail"
 chmod 755 "$root/usr/sbin/sendmail"
@@ -199,7 +200,7 @@ same 'the mailed sheet' "== -i -t
 To: cox@example.org
 Subject: rowing: day sheet $today
 Day sheet $today" "$(inside grep -E '^(==|To|Subject|Day|Total)' /var/mail/sent)"
-# A failure is mailed once: a back-up of a file that isn't a club any more. Nothing is mailed without configuration.
+# The script mails a failure once. The failure is a back-up of a file that isn't a club any more. The service sends no mail without a configuration.
 gives 'a club that is broken' <<'LINES'
 : >/var/mail/sent
 echo broken >/var/lib/clubdesk/broken
@@ -221,14 +222,13 @@ systemctl reset-failed
 rm -r /etc/clubdesk/broken.conf /etc/clubdesk/silent.conf /var/lib/clubdesk/broken /var/backups/clubdesk/broken /var/backups/clubdesk/silent
 LINES
 
-# ---- A clerk without root, by sudo: her club, with a correction that leaves the server alone, and a restore that stops it. systemd then
-# starts it again.
+# ---- A clerk without root, by sudo. A correction doesn't stop the server, and a restore stops it. systemd then starts it again.
 blocks 'The clerks' | gives 'The clerks'
 gives 'a club of hers' <<'LINES'
 useradd --create-home carl
 printf 'FILE=/var/lib/clubdesk/tennis\nZONE=UTC0\nPORT=8083\n' >/etc/clubdesk/tennis.conf
 LINES
-# office USER WORD..: runs office as that user, at home.
+# office USER WORD..: runs office as that user, in the user's home folder.
 office() {
     user=$1
     shift
@@ -242,7 +242,7 @@ for words in 'add-member eve 5' 'credit eve 1000' 'add-facility court-1 court 4 
     # shellcheck disable=SC2086 # a command's words
     holds "$words" office anna $words
 done
-# Once a request under a pass is answered, the server has the file open.
+# When a request under a pass has its reply, the server has the file open.
 account() { inside sh -c 'curl -sS -H "Authorization: Bearer $(cat /home/anna/eve-1)" http://127.0.0.1:8083/account'; }
 same 'the account before it' '{"member":"eve","balance":1000,"quota":5,"open":0,"spent":0}' "$(account)"
 pid_of() { inside systemctl show --value -p MainPID "$1"; }
@@ -255,9 +255,9 @@ office anna log >told
 [ "$(grep -c anna told)" -ge 6 ] || fail "the book: $(cat told)"
 if office carl credit eve 1000 >told 2>&1; then fail 'a credit by somebody who is no clerk'; fi
 
-# Her first week: she does all the work of a club's office.
+# In her first week, the clerk does all the work of a club's office.
 week=$(date -u -d '+3 days' +%F)
-# asks PASS METHOD PATH [BODY]: a request to her desk, once it is there again, under a pass in a file of hers.
+# asks PASS METHOD PATH [BODY]: sends a request to her desk when the desk runs again. The pass is in one of her files.
 asks() {
     answers 8083
     inside sh -c 'curl -sS --max-time 20 -X "$2" ${4:+-d "$4"} -H "Authorization: Bearer $(cat "/home/anna/$1")" "http://127.0.0.1:8083/$3"' sh "$@"
@@ -306,7 +306,7 @@ same 'the totals of her club' 'the totals are the sums of the bookings' "$(offic
 same 'what a clerk reads of the clubs' '' "$(inside runuser -u anna -- sh -c 'cat /var/lib/clubdesk/* /var/backups/clubdesk/* 2>/dev/null' || :)"
 same 'what a clerk reads of the sheets' "$today" "$(inside runuser -u anna -- ls /var/spool/clubdesk/rowing)"
 
-# ---- Back-ups, while the desk runs; old ones go.
+# ---- Back-ups while the desk runs. Old back-ups are removed.
 gives 'old copies' <<'LINES'
 mkdir -p /var/backups/clubdesk/club
 for days in 20 21 22 23 24 25 26 500; do touch "/var/backups/clubdesk/club/$(date -u -d "-$days days" +%FT031007Z)"; done
@@ -321,14 +321,14 @@ grep -qx keep-me told || fail 'a file of another name is gone'
 copy=$(grep "^$(date -u +%Y)" told | sort | tail -n 1)
 same 'the copy' "600 clubdesk" "$(inside stat -c '%a %U' "/var/backups/clubdesk/club/$copy")"
 
-# ---- One program at a time, and the restore: what was booked after the copy is gone.
+# ---- Only one program at a time has the file. The restore removes the bookings made after the copy.
 blocks 'One program at a time' | gives 'One program at a time'
 same 'a booking after the copy' '{"booking":"amy-1/8","charge":1,"left":49} 200' "$(by_tls PUT "slots/court-1/$day/19/bookings/8" '{"guests":0}')"
 blocks Restore | sed "s/2026-05-01T031007Z/$copy/" | gives Restore
 books 'what was before it'
 same 'what came after it' '{"fault":15,"text":"no such booking"} 404' "$(by_tls DELETE "slots/court-1/$day/19/bookings/8")"
 
-# ---- A machine that boots anew, also after its plug was pulled.
+# ---- A machine boots again, also after a power failure.
 halt
 boot
 books 'the desk after a boot'
@@ -337,7 +337,7 @@ wait "$machine" || :
 boot
 books 'the desk after a power cut'
 
-# ---- An upgrade while a client books: each booking that was acknowledged is in the file, and the program is another process.
+# ---- An upgrade while a client books. The file has each acknowledged booking, and the program runs in another process.
 inside sh -c 'runuser -u clubdesk -- clubdesk credit /var/lib/clubdesk/club amy 100000 >/dev/null; cat >/root/client' <"$here/package_lives.py"
 inside sh -c "rm -f /root/enough; exec python3 /root/client $day" >booked 2>client.log &
 client=$!
@@ -367,7 +367,7 @@ same 'what was acknowledged' "$acknowledged" "$(inside sqlite3 /root/looked 'SEL
 same 'the totals' '' "$(unsound "$root/root/looked")"
 grep -q '^tries [1-9]' client.log || fail 'the upgrades interrupted nobody: they restarted nothing'
 
-# ---- Removal: the desks end; their configuration and files stay. After a new installation they continue.
+# ---- Removal: the desks end, and their configuration and files stay. After a new installation the desks continue.
 holds 'the removal' inside apt-get remove clubdesk
 same 'desks after it' '' "$(inside systemctl list-units --plain --no-legend --state=active 'clubdesk*')"
 same 'programs after it' '' "$(inside sh -c 'ls -d /usr/bin/clubdesk /usr/bin/passtool /usr/lib/clubdesk /usr/share/clubdesk 2>/dev/null || :')"

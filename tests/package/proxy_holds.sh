@@ -1,12 +1,12 @@
 #!/bin/sh
-# The lines for root of docs/RUNNING.md about pages, certificates, TLS and several clubs work behind nginx.
+# docs/RUNNING.md's lines for root about pages, certificates, TLS and several clubs work behind nginx.
 #
-# They run on a machine of the test's own (tests/lib/office_room.sh). Wants root.
+# The lines run on a machine of the test's own (tests/lib/office_room.sh). Needs root.
 #
-# These are the sections "A club", "The pages", "A certificate", "TLS" and "Several clubs". Certbot gets a certificate by nginx's site of the
-# challenges, from an authority of the test's own (Let's Encrypt's pebble). It renews it, and then the site has the new one. Then come the
-# desk's replies and the pages behind nginx with TLS, a slow client, and two clubs at one proxy. The challenges' port answers nothing else. The
-# limit of requests holds, with its sentence.
+# They are the lines of the sections "A club", "The pages", "A certificate", "TLS" and "Several clubs". Certbot gets a certificate by the challenges
+# of nginx's site. The certificate authority is the test's own (Let's Encrypt's pebble). Certbot renews the certificate, and the site then uses the
+# new certificate. The test then checks the desk's replies and the pages behind nginx with TLS, a slow client, and two clubs at one proxy. The port
+# of the challenges answers no other request. The limit of requests works, with its message.
 # pytestmark = [mark.package, mark.root, mark.needs("clubdesk passtool"),
 #     mark.wants("sudo sqlite3 openssl util-linux bsdutils iproute2 systemd curl nginx-light certbot pebble qrencode tzdata")]
 set -eu
@@ -22,7 +22,7 @@ leave_all() {
 }
 trap leave_all EXIT
 
-# is_heard URL: somebody listens there.
+# is_heard URL: checks that a server listens at this address.
 is_heard() {
     code=0
     curl -s -o heard --max-time 1 -k "$1" || code=$?
@@ -34,11 +34,11 @@ for folder in /var/log /var/www /run; do
     if [ "$folder" = /run ]; then mount -t tmpfs tmpfs "$folder"; else over "$folder"; fi
 done
 mkdir -p /var/log/nginx /run/sudo
-# No name is resolved outside.
+# The room resolves no name outside.
 sed -i 's/^hosts:.*/hosts: files/' /etc/nsswitch.conf
 echo '127.0.0.1 localhost desk.example.org rowing.example.org' >/etc/hosts
 
-# A systemctl stub for the page's commands: it reloads nginx, and serves a club that is enabled, by its configuration.
+# A stub of systemctl for the page's commands. It reloads nginx, and runs the desk of an enabled club with the club's configuration.
 cat >"$room/systemctl" <<SYSTEMCTL
 #!/bin/sh
 case "\$*" in
@@ -65,7 +65,7 @@ by_page() {
 
 # ---- The first club, made as on the page, with a member.
 by_page 'A club'
-# Each club has its own folder, since both have an amy whose spare passes are written there.
+# Each club has its own folder, because both have an amy, and the office writes her spare passes there.
 member_of() (
     mkdir "$1-clerk"
     cd "$1-clerk"
@@ -78,7 +78,7 @@ member_of club court-1 >told
 cp club-pass "$room/page/amy-1"
 systemctl enable --now clubdesk@club
 direct=http://127.0.0.1:8080 site=https://desk.example.org slot=slots/court-1/2026-05-01/18
-# asks BASE METHOD PATH PASS [BODY]: prints the reply to a request, then its status.
+# asks BASE METHOD PATH PASS [BODY]: prints the reply to a request, then the reply's status.
 asks() { curl -sS --noproxy '*' --max-time 20 -w ' %{http_code}' -X "$2" -H "Authorization: Bearer $4" ${5:+-d "$5"} "$1/$3"; }
 pass=$(cat club-pass)
 soon 10 'the desk' is_heard $direct/
@@ -98,7 +98,7 @@ if club_json Europe/Berlin >told 2>&1; then fail "a zone that isn't the server's
 same 'why it is refused' 1 "$(grep -c 'one of them is another zone' told)"
 cp configured /etc/clubdesk/club.conf
 
-# ---- A certificate, and the site that uses it.
+# ---- A certificate, and the site that uses the certificate.
 nginx
 mkdir "$room/authority"
 mkdir -p /etc/letsencrypt
@@ -108,7 +108,7 @@ cd "$room/authority"
 openssl req -x509 -newkey rsa:2048 -nodes -days 2 -subj /CN=pebble -addext subjectAltName=IP:127.0.0.1 -keyout key.pem -out own.pem 2>/dev/null
 echo '{"pebble": {"listenAddress": "127.0.0.1:14000", "managementListenAddress": "127.0.0.1:15000", "certificate": "own.pem",
     "privateKey": "key.pem", "httpPort": 80, "tlsPort": 443}}' >pebble.json
-# Each order has a challenge, and each nonce is taken.
+# The authority asks for a challenge for each order, and accepts each nonce.
 PEBBLE_AUTHZREUSE=0 PEBBLE_WFE_NONCEREJECT=0 PEBBLE_VA_NOSLEEP=1 pebble -config pebble.json >log 2>&1 &
 started="$started $!"
 cd "$work"
@@ -135,7 +135,7 @@ sleep 1
 same 'the site has the new one' "$(openssl x509 -noout -serial -in "$live/cert.pem")" "$(served)"
 same 'no challenge is left' '' "$(find /var/www/challenge -type f)"
 
-# ---- A second club: each name has its own.
+# ---- A second club. Each club has its own name.
 holds certbot certbot certonly --webroot --webroot-path /var/www/challenge --domain rowing.example.org --deploy-hook 'systemctl reload nginx'
 by_page 'Several clubs'
 member_of rowing boat-1 >told
@@ -174,7 +174,7 @@ same 'the health check' '{"member":"amy","balance":1000,"quota":99,"open":0,"spe
 same 'a health pass books nothing' '{"fault":12,"text":"caveat denies","caveat":1} 403' "$(asks $site PUT $slot/bookings/9 "$health" '{"guests":0}')"
 same 'no TLS' 400 "$(curl -o told -w '%{http_code}' http://127.0.0.1:443/account)"
 
-# A client that sends half a request holds up nobody: the proxy waits for it, not the desk.
+# A client that sends half a request delays no other client, because the proxy waits for it and the desk doesn't.
 {
     printf 'PUT /%s/bookings/9 HTTP/1.1\r\nHost: desk.example.org\r\nContent-Length: 12\r\n' $slot
     sleep 6
@@ -186,11 +186,11 @@ by_both GET account "$pass"
 [ $((($(date +%s%N) - begun) / 1000000)) -lt 3000 ] || fail 'a slow client holds up the others'
 wait "$slow" || :
 
-# ---- The limits. Under one pass 1,000 requests at once get through; later ones get the message. Another pass still gets replies, and so does
-# the same one a second later. One address may send twice as many.
+# ---- The limits. The proxy accepts 1,000 requests at once under one pass. Later requests get the message. Another pass still gets replies, and the
+# first pass gets replies again a second later. One address may send twice as many requests as one pass.
 #
-# The function `flood NAME COUNT [WORD..]` sends COUNT requests at once, with words for curl. They ask for a file, which comes sooner than a
-# reply of the desk. It prints how many got through and how many were limited; together these are all.
+# The function `flood NAME COUNT [WORD..]` sends COUNT requests at once, with words for curl. The requests ask for a file, because a file comes
+# sooner than a reply of the desk. The function prints the number of accepted requests and the number of limited requests. Their sum must be COUNT.
 flood() {
     name=$1 count=$2
     shift 2

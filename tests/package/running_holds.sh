@@ -3,7 +3,7 @@
 #
 # Installations are complete or undone, and units forbid no call of the desk.
 #
-# The units are tried by systemd's own tools. Wants root.
+# The units are tried by systemd's own tools. Needs root.
 # pytestmark = [mark.pages, mark.package, mark.root, mark.needs("clubdesk passtool"),
 #     mark.wants("curl sqlite3 openssl strace systemd util-linux tzdata")]
 set -eu
