@@ -1,7 +1,7 @@
-"""A fault for each test that must make it fail: read by `tests/run --planted`.
+"""For each test, a fault on which the test must fail. `tests/run --planted` reads this module.
 
-A fault is one change of bytes in a copy of a built program or of a repository file. Or it is a shell script in place of a program, where
-$PROGRAM stands for the program. The failed test's log must have some words, so that a failure for another reason doesn't count."""
+A fault is one change of bytes in a copy of a built program or of a repository file. A fault may also be a shell script that replaces a program. In
+the script, $PROGRAM is the program. The log of the failed test must contain some words, so that a failure for another reason doesn't count."""
 
 import os
 import shutil
@@ -14,8 +14,8 @@ import desk
 
 PROGRAMS = ("clubdesk", "passtool")
 BY_HAND = "#!/bin/sh\n"
-# test: file, bytes, their replacement, words of the log, and the arguments of a test that has a shorter run. A test with several faults has a
-# line for each, TEST:FAULT.
+# test: the file, the bytes, their replacement, words of the log, and the arguments for a shorter run of the test. A test with several faults has a
+# line for each fault, TEST:FAULT.
 PLANTS = {
     "beside": ("tests/peers/beside_go/desk.go", '"left":', '"lost":', "booking: the replies differ", "10", "1", "100"),
     "bookings_survive_kill": ("clubdesk", BY_HAND, '[ "$1" != sheet ] || rm -f "$2-wal"; exec "$PROGRAM" "$@"', "'sheet "),
@@ -158,7 +158,7 @@ def plants_of(test):
 
 
 def copied_tree(folder):
-    """Yields the repository's files, without built ones."""
+    """Yields the files of the repository. Leaves out built files."""
     names = subprocess.run(["git", "-C", desk.ROOT, "ls-files", "-co", "--exclude-standard", "-z"], check=True, capture_output=True, text=True).stdout
     for name in filter(None, names.split("\0")):
         if (desk.ROOT / name).is_file():
@@ -179,7 +179,7 @@ def spoil(path, old, new):
 
 
 def plant(name, folder):
-    """Makes a copy of the tree with a test's fault; returns the variables that name its programs."""
+    """Makes a copy of the tree with a test's fault. Returns the variables that name the tree's programs."""
     file, old, new = PLANTS[name][:3]
     folder.chmod(0o755)  # for tests with other users
     copied_tree(folder)

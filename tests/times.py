@@ -1,13 +1,15 @@
 #!/usr/bin/env python3
 """The gate's cost in processor seconds for the proof, the tests and the edits of each crate.
 
-Runs `rt ci` in a scratch clone of HEAD. Adds up the seconds of the compiler's processes for each crate's proof (with a program's builds),
-for its tests' proof and build, and for its must-fail edits. Last come the sums, the wall time, and the gate's own last line. The status is the
-gate's.
+Runs `rt ci` in a scratch clone of HEAD. Adds up the seconds of the compiler's processes for three parts of
+each crate. These are its proof (with a program's builds), the proof and build of its tests, and its
+must-fail edits. At the end it prints the sums, the wall time, and the last line of the gate. The status is
+the gate's status.
   tests/times.py                 the whole gate
   tests/times.py club_core ..    `rt ci club_core ..`: these crates, and those below them
-Times are read from /proc once a second, so a process may count up to a second less than it took. Running the programs and tests isn't counted.
-The measured times vary by about 25 percent, depending on the machine's other work.
+It reads times from /proc once a second. So a process may count up to a second less than it took. The times
+don't include running the programs and tests. The measured times vary by about 25 percent, depending on the
+machine's other work.
 """
 # pytestmark = [mark.proofs, mark.alone, mark.timeout(36000)]
 
@@ -27,7 +29,8 @@ TICKS = os.sysconf("SC_CLK_TCK")
 
 
 def process(pid):
-    """Returns a process's parent, start and ticks: its own, and those of children that it waited for."""
+    """Returns a process's parent, start and ticks. The ticks include those of children that the process
+    waited for."""
     fields = Path(f"/proc/{pid}/stat").read_text(encoding="utf-8", errors="replace").rpartition(")")[2].split()
     return int(fields[1]), fields[19], sum(map(int, fields[11:15]))
 
@@ -40,13 +43,13 @@ def task(pid, work):
     folder = os.readlink(f"/proc/{pid}/cwd")
     if not folder.startswith(f"{work}/"):
         return None
-    # an edit is checked in its own folder
+    # an edit is checked in a folder of its own
     is_edit = re.search(r"/rt-edit-[^/]*(/|$)", folder)
     return words[words.index("--crate-name") + 1], "edits" if is_edit else "tests" if "--test" in words else "proof"
 
 
 def sample(spent, work):
-    """Records the ticks of each compiling process and its children, under the topmost process."""
+    """Records the ticks of each compiling process and of its children, under the topmost process."""
     found, totals = {}, Counter()
     for pid in filter(str.isdigit, os.listdir("/proc")):
         try:
@@ -64,7 +67,8 @@ def sample(spent, work):
 def run_gate(work, names):
     """Returns the gate's status, and the ticks of each compiling process."""
     spent = Counter()
-    # The edits' folders are below the scratch folder too, so that other runs on the machine aren't counted.
+    # The folders of the edits are also below the scratch folder, so that the times don't include other runs
+    # on the machine.
     with open(work / "log", "wb") as log, subprocess.Popen(["rt", "ci", *names], cwd=work / "clone", stdin=subprocess.DEVNULL, stdout=log, stderr=log,
                                                           env={**os.environ, "TMPDIR": str(work / "rooms")}, start_new_session=True) as gate:
         try:

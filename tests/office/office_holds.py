@@ -6,11 +6,10 @@ root, for a machine of its own (tests/lib/office_room.sh).
 
 Runs deploy/office as clerks without root do, with the rules of deploy/office.sudoers. A small service
 manager runs the server meanwhile. Its parts are:
-- office_orders.py: commands and lists compared with the desk's replies; passes and their files; the
-  book, in a file and in the journal;
-- office_corrections.py: corrections compared with show-account, the sheet and the totals; restores, also over a damaged file;
-- office_season.py: a season's points, closures, letters, persons, undo, and files of old years;
-- office_findings.py: forged lines, a clerk's own programs, a stopped terminal, a silent journal, full memory or disk.
+- office_orders.py: commands and lists next to the desk's replies, passes and their files, and the book in a file and in the journal
+- office_corrections.py: corrections next to show-account, the sheet and the totals, and restores, even over a damaged file
+- office_season.py: a season's points, closures, letters, persons, undo, and files of old years
+- office_findings.py: forged lines, a clerk's own programs, a stopped terminal, a silent journal, and a full memory or disk
 Needs root, for a machine of its own (tests/lib/office_room.sh).
   tests/office/office_holds.py [findings|season]    findings: what others may do, alone; season: a season's club, alone
 """

@@ -1,7 +1,7 @@
 #!/usr/bin/env -S /usr/bin/python3 -B -m pytest -q -p no:cacheprovider
 """`tests/run` passes, fails, skips and ends tests, and reports each result.
 
-It runs over a small tree of its own, by pytest and without it. A test that takes too long, or whose run is ended, is ended with all that it began.
+The test runs tests/run over a small tree of its own, with pytest and without it. The runner must end a test that takes too long, or whose run is ended, with all its processes.
 """
 
 import os
@@ -78,7 +78,7 @@ def without_pytest(tree):
 
 
 def all_are_gone(numbers):
-    """Returns whether the processes of these numbers end within some seconds."""
+    """Returns whether the processes with these numbers end within some seconds."""
     for _ in range(100):
         if not any(Path(f"/proc/{it}/stat").exists() and " Z " not in Path(f"/proc/{it}/stat").read_text() for it in numbers):
             return True

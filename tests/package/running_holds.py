@@ -1,4 +1,5 @@
-"""Checks that a unit allows each call that strace saw: running_holds.py UNIT TRACE, run by running_holds.sh."""
+"""Checks that a unit allows each call that strace saw: running_holds.py UNIT TRACE. running_holds.sh runs this
+program."""
 import re
 import subprocess
 import sys

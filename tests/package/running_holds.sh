@@ -1,9 +1,9 @@
 #!/bin/sh
 # The claims of docs/RUNNING.md about installations, units, copies and a full disk hold.
 #
-# Installations are complete or undone, and units forbid no call of the desk.
+# An installation is complete or undone, and the units forbid no call that the desk needs.
 #
-# The units are tried by systemd's own tools. Needs root.
+# The test tries the units with systemd's own tools. Needs root.
 # pytestmark = [mark.pages, mark.package, mark.root, mark.needs("clubdesk passtool"),
 #     mark.wants("curl sqlite3 openssl strace systemd util-linux tzdata")]
 set -eu
@@ -25,12 +25,12 @@ leave_all() {
 }
 trap leave_all EXIT
 
-# asks METHOD PATH [BODY]: prints the reply to a request at $port under the pass in the file `pass`, then its status.
+# asks METHOD PATH [BODY]: prints the reply to a request at $port, then the reply's status. The file `pass` has the pass of the request.
 asks() {
     curl -sS --max-time 20 --noproxy '*' -w ' %{http_code}\n' -X "$1" -H "Authorization: Bearer $(cat pass)" ${3:+-d "$3"} "http://127.0.0.1:$port/$2"
 }
 
-# A club of this name with a member of 10,000 points, a court with 50 places, and the pass in the file `pass`.
+# Makes a club of this name, with a member of 10,000 points and a court with 50 places. The file `pass` has the pass.
 make_club() {
     for words in "add-member $1 amy 99" "credit $1 amy 10000" "add-facility $1 court-1 court 50 1 0 24"; do
         # shellcheck disable=SC2086 # a command's words
@@ -51,7 +51,7 @@ done
 version=$("$top/bin/version")
 same 'the installed programs' "clubdesk $version passtool $version" "$(local/bin/clubdesk --version) $(local/bin/passtool --version)"
 
-# refused WHAT WORDS..: the installation is refused with a line on standard error, and the folder `local` and its files stay.
+# refused WHAT WORDS..: checks that the installation is refused with a line on standard error. The folder `local` and its files must stay.
 refused() {
     what=$1
     shift
@@ -63,7 +63,7 @@ refused() {
 }
 echo old >local/bin/clubdesk
 chmod 755 "$work" local
-# Another user may be unable to read the repository, so the script is copied; it checks the folder first.
+# Another user may be unable to read the repository, so the test copies the script. The script checks the folder first.
 cp "$top/bin/install" installing
 refused 'no leave to write' runuser -u nobody -- sh "$work/installing" "$work/local"
 refused 'no folder to make' runuser -u nobody -- sh "$work/installing" "$work/other"
@@ -76,7 +76,7 @@ if sh -c "ulimit -f 1000; '$top/bin/install' local" >told 2>&1; then fail 'it in
 [ ! -e local ] || fail 'a refused installation left its folders'
 "$top/bin/install" local >told
 
-# ---- The units: those that start something are complete and confined, and name existing files.
+# ---- The units: those that start a program are complete and confined, and name existing files.
 mkdir units
 for file in "$top"/deploy/*.service "$top"/deploy/*.timer; do
     sed "s,/usr/bin/clubdesk,$PWD/local/bin/clubdesk,; s,/usr/lib/clubdesk/,$top/deploy/,; s,/etc/clubdesk/,$PWD/," "$file" >"units/${file##*/}"
@@ -94,8 +94,8 @@ for file in units/*; do
     checks=$((checks + 1))
 done
 
-# Runs its command under strace, with the example's variables except the port, as another user and with its mask. A missing club is created, a
-# request is answered, and the unit allows each call. Before the command, the unit checks that the club exists.
+# Runs the unit's command under strace, as another user and with the unit's mask. The variables are those of the example except the port. The desk
+# creates a missing club and answers a request, and the unit allows each call. Before the unit runs its command, it checks that the club exists.
 # shellcheck source=/dev/null disable=SC2034 # its line has the variables of the configuration
 command=$(. ./club.conf; PORT=0; eval "echo $(sed -n 's/^ExecStart=//p' "$unit")" | sed 's/--count 1000000/--count 2/')
 mkdir -m 700 state
@@ -114,7 +114,7 @@ holds 'its calls' /usr/bin/python3 "$here/running_holds.py" "$unit" state/calls
 same "a zone's rule" CET-1CEST,M3.5.0,M10.5.0/3 "$(tail -n 1 /usr/share/zoneinfo/Europe/Berlin)"
 grep -qxF "ZONE=$(tail -n 1 /usr/share/zoneinfo/Europe/Berlin)" club.conf || fail 'the example has another zone'
 
-# ---- Copies during writes: 900 bookings, each cancelled. Meanwhile the desk copies its log into its file.
+# ---- Copies during writes: 900 bookings, each cancelled. The desk copies its log into its file meanwhile.
 make_club club
 serve club 100000 2026-04-20T12:00
 awk -v pass="$(cat pass)" -v port="$port" 'BEGIN { for (i = 1; i <= 900; i++) for (put = 1; put >= 0; put--) {
@@ -129,7 +129,7 @@ while [ ! -e answered.all ] && [ "$copies" -lt 500 ]; do
     copies=$((copies + 1))
     holds "copy $copies" "$top/deploy/back_up" club "copy.$copies"
     [ ! -e "copy.$copies-wal" ] || fail "copy $copies has a log"
-    # The bookings are the first ones, all but the last are cancelled, and the totals match.
+    # The copy has the first bookings, all but the last are cancelled, and the totals match.
     same "the bookings of copy $copies" 1 \
         "$(sqlite3 "copy.$copies" 'SELECT count(*) = coalesce(max(number), 0) AND total(cancelled = 0) <= 1 FROM bookings')"
     same "the totals of copy $copies" '' "$(unsound "copy.$copies")"
@@ -150,7 +150,7 @@ shown >wanted
 same 'a copy' 'backed up, with 901 bookings' "$(cat told)"
 asks PUT $second/bookings/1002 '{"guests":4}' >told
 stop
-# The same, if the desk copies its log into its file between the two copies.
+# A restore gives the same bytes even if the desk copies its log into its file between the two copies.
 copy club racing
 mkdir path
 cat >path/cp <<CP
@@ -181,7 +181,7 @@ printf broken >bad
 if "$top/deploy/back_up" bad copy.bad >told 2>said; then fail 'a broken file is copied'; fi
 [ ! -e copy.bad ] || fail 'a copy of a broken file is left'
 
-# ---- A full disk: nothing is booked, but requests that change nothing are answered. Once there is space, everything works again.
+# ---- A full disk: the desk books nothing, but answers requests that change nothing. When the disk has space, all requests work again.
 disk=$work/disk
 mkdir "$disk"
 mount -t tmpfs -o size=700k tmpfs "$disk" || { disk=; fail 'no small disk could be made'; }
@@ -198,7 +198,7 @@ same 'a full disk' '{"fault":22,"text":"unavailable"} 503' "$(cat told)"
 same 'the account' "{\"member\":\"amy\",\"balance\":$((10001 - number)),\"quota\":99,\"open\":$((number - 1)),\"spent\":$((number - 1))} 200" \
     "$(asks GET account)"
 same 'a booking' '{"fault":22,"text":"unavailable"} 503' "$(asks PUT slots/court-1/2026-05-04/10/bookings/99 '{"guests":0}')"
-# A copy isn't retried there, and prints a line.
+# The script doesn't retry a copy on a full disk, and prints a line.
 begun=$(date +%s)
 if "$top/deploy/back_up" "$disk/club" "$disk/copy" >told 2>said; then fail 'a full disk takes a copy'; fi
 same 'the lines of a refused copy' 1 "$(wc -l <said)"

@@ -1,10 +1,10 @@
 #!/usr/bin/env -S /usr/bin/python3 -B
 """The questions of `deploy/clubdesk-setup` set up a club, with repeats, stops and refusals.
 
-It checks modes and owners, repeats and stops at each step, and the path to a first booking. Wants root (tests/lib/office_room.sh).
+The test checks modes and owners, repeats and stops at each step, and the steps to a first booking. Wants root (tests/lib/office_room.sh).
 
-There are five questions. When run again, also after a stop at each step, the setup changes no existing file. After it, the new clerk goes on to
-a member's first booking, through nginx's site if nginx is installed.
+There are five questions. When the setup runs again, also after a stop at any step, it changes no existing file. After the setup, the new clerk
+continues until a member has a first booking. If nginx is installed, the booking goes through nginx's site.
 """
 # pytestmark = [mark.package, mark.root, mark.needs("clubdesk passtool"),
 #     mark.wants("sudo sqlite3 openssl util-linux bsdutils iproute2 systemd python3-psutil python3-pexpect nginx-light")]
@@ -54,7 +54,7 @@ def refused():
 
 
 def by_questions():
-    """The five questions at a terminal; a wrong answer is asked for again."""
+    """The setup asks five questions at a terminal. After a wrong answer, it asks again."""
     it = pexpect.spawn("clubdesk-setup", encoding="utf-8", timeout=120, cwd="/")
     for question, answer in (("called", "TC Übersee"), ("address", "desk"), ("is no address.*address", "desk.example.org"), ("zone", "Europe/Berlin"),
                              ("clerk", "doris"), ("mailed", "it@example.org")):
@@ -80,7 +80,7 @@ def made():
 
 
 def again_and_again():
-    """Existing files stay unchanged; a run after a stop makes the missing ones."""
+    """Existing files stay unchanged. A run after a stop makes the missing files."""
     before = everything()
     status, out, _ = set_up()
     same("again", (status, "made" in out, everything() == before), (0, False, True))
@@ -108,7 +108,7 @@ def again_and_again():
 
 
 def first_booking(port):
-    """The clerk's first member, and the member's first booking, at the desk and through the site."""
+    """The clerk adds the first member. The member books at the desk, and then through the site."""
     server = Service(port=int(port), club=CLUB)
     for words in ("add-facility court-1 court 4 200 8 22", "add-member amy 5", "credit amy 10000", "add-key amy-1 amy --to amy-1"):
         same(words, office(*words.split(), by="doris", club=CLUB)[0], 0)

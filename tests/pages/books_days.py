@@ -14,7 +14,7 @@ from page_browser import check
 
 
 def books_and_cancels(page, passes):
-    """A member who got a link: looks, books, sees and cancels."""
+    """A member with a link looks at a day, books, sees the booking and cancels it."""
     page.enter(passes["amy-1"])
     check("#" not in page.driver.current_url, "the address is cleaned", page.driver.current_url)
     check(page.run("return document.documentElement.scrollWidth <= innerWidth"), "sideways scrolling")
@@ -39,7 +39,7 @@ def books_and_cancels(page, passes):
     has(card, "a booking in the list", "Court 1", "Booked", "3 persons", "600 points", "cancelling gives back everything: 600 points")
     page.cancelled_in_the_list("a cancellation", asked="Cancelling now gives back 600 points", words="600 points came back")
     page.when("byName('to-come').innerText.includes('Cancelled, 600 points came back')", "what is cancelled")
-    # Less than a day ahead half comes back.
+    # For a cancellation less than a day ahead, the member gets back half.
     page.view("day")
     page.go(day(0))
     hour = now().hour + 2
@@ -50,7 +50,7 @@ def books_and_cancels(page, passes):
     page.view("account")
     page.when("byName('account-facts').innerText.includes('999,698')", "the account")
     check("0 of 99" in page.run("return byName('account-facts').innerText"), "the account")
-    # The pass is kept: another visit needs no link, and the member can forget the pass.
+    # The browser keeps the pass, so another visit needs no link. The member can forget the pass.
     page.visit("", "isShown('day') && dayIsThere()", "another visit")
     page.view("account")
     check("The pass is kept in this browser." in page.run("return shownText('account')"), "where the pass is")
@@ -59,7 +59,7 @@ def books_and_cancels(page, passes):
     page.when("isShown('welcome')", "a forgotten pass")
     page.visit("", "isShown('welcome')", "a forgotten pass, at the next visit")
     check("Cancelled" in page.run("return byName('other-part').hidden ? '' : byName('others').textContent"), "its record stays")
-    # Pastes a pass, for this tab only.
+    # Pastes a pass that only this tab keeps.
     page.run("byName('given').value = `https://desk.example.org/book.html#${arguments[0]}\\n`; byName('use').click()", passes["amy-1"])
     page.when("isShown('day') && dayIsThere()", "a pasted pass")
     page.driver.refresh()
@@ -72,7 +72,7 @@ def books_and_cancels(page, passes):
 
 
 def day_says_what_is(page, passes):
-    """Shows each state of a slot, and the days that can be chosen."""
+    """Shows each state of a slot, and the days that the member can choose."""
     office("close-slot", "court-2", day(3), "10")
     page.enter(passes["bob-1"], 3)
     words = {place: page.run("return cellAt(...arguments).button.innerText.replace(/\\s+/g, ' ')", *place) for place in [("court-2", 10), ("court-2", 11)]}
@@ -85,7 +85,7 @@ def day_says_what_is(page, passes):
     page.run("look()")
     page.when("cellAt('court-2', 12).button.innerText === 'Full'", "a full slot")
     curl(page, "DELETE", f"/slots/court-2/{day(3)}/12/bookings/{number}", other)
-    # Today: slots that have begun are over, by the club's clock, and aren't requested.
+    # Today's slots that have begun by the club's clock are over. The page doesn't request them.
     page.requests()
     page.go(day(0))
     hour = now().hour
@@ -113,8 +113,8 @@ def day_says_what_is(page, passes):
 
 
 def says_why_it_is_closed(page, passes, server):
-    """The reason for a closed slot is shown in the day, in its detail, next to a booking that it cancelled, and when a booking meets it. Only
-    the desk knows whether it is closed."""
+    """The page shows the reason for a closed slot in the day, in the slot's detail, and next to a booking that the closure cancelled. It also shows
+    the reason when a booking meets a closed slot. Only the desk knows whether the slot is closed."""
     good, wanted = pathlib.Path("www/club.json").read_text(), day(25)
     number = (datetime.strptime(wanted, "%Y-%m-%d") - datetime(1970, 1, 1)).days
     page.enter(passes["lists-1"], 25)
@@ -155,7 +155,7 @@ def says_why_it_is_closed(page, passes, server):
 
 
 def looks_six_at_a_time(page, passes, between):
-    """The day's requests: at most six at once, first those of the facility that a narrow screen shows; the progress is shown."""
+    """The page sends at most six requests of a day at once. It begins with the facility on a narrow screen, and shows the progress."""
     page.sees(360, "light", 740)
     page.enter(passes["bob-2"], 4)
     page.run("pressIn(byName('facility-choice'), 'Double scull')")
@@ -175,7 +175,7 @@ def looks_six_at_a_time(page, passes, between):
 
 
 def swipes(page, passes):
-    """A narrow screen shows one facility, chosen by its name or by a swipe."""
+    """A narrow screen shows one facility. The member chooses it by its name or by a swipe."""
     page.sees(360, "light", 740)
     page.command("Emulation.setTouchEmulationEnabled", enabled=True)
     page.enter(passes["bob-2"], 4)
@@ -220,7 +220,7 @@ def swipes(page, passes):
 
 
 def looks_again(page, passes):
-    """A page that is shown again after a while requests its day again; after only a moment it doesn't."""
+    """A page that is shown again after a while requests its day again. After only a moment it doesn't request the day."""
     page.enter(passes["bob-2"], 4)
     own = page.driver.current_window_handle
 
@@ -243,7 +243,7 @@ def looks_again(page, passes):
     page.when("seen.length === 4 && dayIsThere() && cellAt('court-3', 14).button.innerText === 'Full'", "what changed while it was away")
     asked = Counter(address for _, address in page.requests() if "/slots/" in address)
     check(len(asked) == CELLS and set(asked.values()) == {1}, "each slot once", len(asked), Counter(asked.values()))
-    # It does so too if another view was shown meanwhile.
+    # The page also requests its day again if the member used another view in the meantime.
     curl(page, "DELETE", f"/slots/court-3/{day(4)}/14/bookings/{number}", passes["other"])
     page.view("bookings")
     page.run("lookedAt -= 16000")
@@ -262,7 +262,7 @@ return [...document.querySelectorAll("*")].filter((each) => [null, "::before", "
 
 
 def moves_little(page, passes):
-    """Nothing moves if the system is set to reduced motion."""
+    """Nothing moves on the page if the system is set to reduced motion."""
     page.enter(passes["bob-2"], 4)
     page.offer("court-1", 10)
     for wanted in ("no-preference", "reduce"):
@@ -303,7 +303,7 @@ def leaves_out_what_the_pass_denies(page, passes):
     page.enter(narrowed(whole, "actions = book,cancel"), 5)
     check(page.run("return cellAt('court-1', 15).button.innerText") == "Book", "a pass that doesn't look books")
     page.booked("court-1", 15)
-    # The page has no button that the pass would refuse; where it can't know, the desk decides.
+    # The page has no button for a request that the pass would refuse. If the page doesn't know, the desk decides.
     page.enter(narrowed(whole, "spend <= 0"), 5)
     check(page.run("return cellAt('court-1', 16).button.disabled && cellAt('court-1', 16).button.innerText.includes('Too many points for your pass')"),
           "no points, and no button", page.run("return cellAt('court-1', 16).button.innerText"))
@@ -323,7 +323,7 @@ def leaves_out_what_the_pass_denies(page, passes):
 
 
 def refusals_say_what_to_do(page, passes, between):
-    """The desk sends the refusals that a member can meet, and a proxy sends the others, each in both languages."""
+    """The desk sends the refusals that a member can meet, and a proxy sends the other refusals. The page shows each in both languages."""
     page.enter(passes["bob-1"], 6)
     page.booked("court-1", 9)
     page.booked("court-1", 10)
@@ -334,7 +334,7 @@ def refusals_say_what_to_do(page, passes, between):
     page.comes("came back", "a cancellation")
     page.book("room-1", 11)
     page.comes("enough points", "fault 20")
-    # A slot fills, or is closed, between the look and the press.
+    # A slot becomes full or closed between the look and the press.
     curl(page, "PUT", f"/slots/court-3/{day(6)}/12/bookings/77", passes["other"], '{"guests":1}')
     page.book("court-3", 12)
     page.comes("Not enough places are free any more", "fault 18")
@@ -343,7 +343,7 @@ def refusals_say_what_to_do(page, passes, between):
     page.book("court-3", 13)
     page.comes("The office closed this slot", "fault 17")
     page.when("cellAt('court-3', 13).button.innerText === 'Closed'", "a slot that was looked at again")
-    # If the key already used a number, the page picks another one.
+    # If the key already used a number, the page picks another number.
     used = 123456789
     curl(page, "PUT", f"/slots/court-2/{day(6)}/12/bookings/{used}", passes["amy-1"], '{"guests":1}')
     curl(page, "DELETE", f"/slots/court-2/{day(6)}/12/bookings/{used}", passes["amy-1"])
@@ -369,7 +369,7 @@ def refusals_say_what_to_do(page, passes, between):
         page.run("showDay()")
         page.when(f"shownText('day-fault').includes(\"{words}\")", "a refused pass", fault)
         between.fates.clear()
-    # The page's messages if the desk is away, busy or slow.
+    # The page shows a message if the desk is away, busy or slow.
     page.enter(passes["amy-1"])
     for hour, status, body, words in [(15, 502, "<html>", "isn't available just now (502)"), (16, 504, "<html>", "is taking too long to answer (504)"),
                                       (17, 503, '{"fault":22,"text":"unavailable"}', "is busy just now (503)")]:
@@ -444,7 +444,7 @@ def goes_by_keyboard(page, passes):
 
 
 def finds_a_time(page, passes):
-    """Finds a week of a kind at some hours, and the next free time; remembers the last facility; folds past hours away."""
+    """Finds the slots of a kind over a week at some hours, and the next free time. The page remembers the last facility and hides past hours."""
     page.sees(360, "light", 740)
     page.enter(passes["amy-phone"], 36)
     for name, _, kind, places, *_ in FACILITIES:
@@ -478,7 +478,7 @@ def finds_a_time(page, passes):
     entry = page.entries()[-1]
     page.click("to-find")
     page.when("dayIsThere()", "the day again")
-    # The last facility and hours are remembered, and past hours are folded away.
+    # The page remembers the last facility and hours, and hides past hours.
     page.visit("", "isShown('welcome') || isShown('day')", "another visit")
     page.enter(passes["amy-phone"])
     check(page.run("return document.querySelector('.chip[aria-pressed=true]').dataset.facility") == "court-2", "the last facility")

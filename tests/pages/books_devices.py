@@ -13,7 +13,7 @@ from page_browser import Browser, check
 
 
 def rotations(passes, front, between):
-    """A rotated key: the old pass is refused, and an open booking continues under the new one."""
+    """The desk refuses the old pass of a rotated key, and an open booking continues under the new pass."""
     with BookingPage(front) as page:
         page.enter(passes["amy-son"], 12)
         between.fates["PUT"] = ["swallowed"] + ["silent"] * 100
@@ -26,7 +26,7 @@ def rotations(passes, front, between):
         check("It isn't known whether this is booked" in page.run("return byName('to-come').innerText"), "a booking in an unknown state")
         page.visit(f"#{new}", "isShown('day') && state.entries.every((each) => unfinished(each) === null && each.stopped === undefined)", "the new pass")
         check(same_record(page, "amy-son") == 1, "one booking")
-        # A booking of another key waits for its own pass.
+        # A booking of another key waits until the member uses the pass of that key.
         between.fates["PUT"] = ["silent"] * 100
         page.go(day(12))
         page.book("court-1", 10)
@@ -42,7 +42,7 @@ def rotations(passes, front, between):
 
 
 def devices(passes, front, server):
-    """Takes the record to another browser by text, by QR code and from the office. Adds a booking by its known number and slot."""
+    """Transfers the record to another browser by text, by QR code and from the office. Adds a booking by its known number and slot."""
     with BookingPage(front) as page:
         page.enter(passes["amy-phone"], 13)
         for hour in (9, 10, 11):
@@ -111,7 +111,7 @@ def cancelled_by_the_office(passes, front, server):
 
 
 def at_hand(passes, server):
-    """The page opens without a network, with the list, and continues once there is one; a missing or old worker does no harm."""
+    """The page opens without a network, with the list, and continues when the network returns. A missing or old worker causes no harm."""
     front = start_proxy(server.port)
     with BookingPage(front) as page:
         page.enter(passes["hand-1"], 34, "Keep it")
@@ -126,7 +126,7 @@ def at_hand(passes, server):
         base = page.address.rsplit("/", 1)[0]
         manifest = page.command("Page.getAppManifest")
         check(manifest["url"].endswith("/app.webmanifest") and not manifest["errors"] and json.loads(manifest["data"])["display"] == "standalone", "the manifest", manifest)
-        # A browser that accepts this test's certificate complains only that the page is insecure.
+        # A browser that accepts this test's certificate reports only that the page is insecure.
         wrong = [each["errorId"] for each in page.command("Page.getInstallabilityErrors")["installabilityErrors"]]
         check(set(wrong) <= {"not-from-secure-origin"}, "a page for the home screen", wrong)
         check(kept == sorted(f"{base}/{name}" for name in ("book.html", "pass.html", "club.json", "app.webmanifest")), "what the worker keeps", kept)
@@ -143,7 +143,7 @@ def at_hand(passes, server):
         run_proxy(front)
         page.command("Network.emulateNetworkConditions", offline=False, latency=0, downloadThroughput=-1, uploadThroughput=-1)
         page.visit("", "isShown('day') && dayIsThere()", "online again")
-        # A new page is seen at once despite the old worker; then a new worker keeps only the new page.
+        # The browser shows a new page at once, even if the old worker still runs. Then a new worker keeps only the new page.
         whole = pathlib.Path("www/book.html").read_text()
         pathlib.Path("www/book.html").write_text(whole.replace("</body>", "<p id='newer'></p></body>"))
         page.visit("", "isShown('day') && byName('newer') !== null", "a new page beside an old worker")
@@ -178,8 +178,8 @@ def at_hand(passes, server):
 
 
 def tells_what_is_missing(passes, front):
-    """The desk's count next to the list shows a booking cancelled elsewhere, and an unlisted one; the page reminds the member to save the
-    list."""
+    """The desk's count next to the list shows that a booking was cancelled elsewhere, or that a booking isn't listed. The page reminds the member
+    to save the list."""
     key = "counts-1"
     asks = "globalThis.persistAsked = 0; navigator.storage.persist = async () => { persistAsked += 1; return true; }; navigator.storage.persisted = async () => false;"
     with BookingPage(front, before=asks) as page:
@@ -201,7 +201,7 @@ def tells_what_is_missing(passes, front):
         check(not page.run("return isShown('list-remind')"), "no reminder after the list was taken along")
         gone = first[1]
         curl(page, "DELETE", f"/slots/court-2/{day(35)}/10/bookings/{gone['number']}", passes[key])
-        # Its slot is as full as before, so that only the count shows the change.
+        # The slot of the booking is as full as before, so only the count shows the change.
         curl(page, "PUT", f"/slots/court-2/{day(35)}/10/bookings/5", passes["other"], '{"guests":1}')
         page.view("day")
         page.view("bookings")
@@ -227,7 +227,7 @@ def tells_what_is_missing(passes, front):
 
 
 def does_more_with_bookings(page, passes, between):
-    """Into the calendar, an invitation, the same a week later, and another hour or more guests."""
+    """Puts a booking into the calendar, invites somebody, repeats the booking a week later, and changes its hour or its guests."""
     page.enter(passes["more-1"], 20)
     entry = page.booked("court-2", 10)
     page.view("bookings")
@@ -256,7 +256,7 @@ def does_more_with_bookings(page, passes, between):
     page.press("Book for 200 points")
     page.comes("Booked.", "a week later")
     later = page.entries()[-1]
-    # Changes to another hour or more guests: books the new one first, then cancels the old one.
+    # Changes a booking to another hour or more guests. The page books the new slot first, and then cancels the old booking.
     more("Change")
     page.run("byName('change-hour').value = '12'; byName('change-guests').value = '1'")
     page.press("Look up")
@@ -268,7 +268,7 @@ def does_more_with_bookings(page, passes, between):
     check([found[entry["number"]][-2:], sorted(rest[:4] for rest in found.values() if not rest[-2])]
           == [(1, 200), [("court-2", day(20), 12, 1), ("court-2", day(27), 10, 0)]], "the file after a change", found)
     moved = next(each for each in page.entries() if each["hour"] == 12 and each["day"] == day(20))
-    # If the new one can't be booked, the old one stays.
+    # If the desk refuses the new booking, the old booking stays.
     number = draw.randrange(1, 10**9)
     curl(page, "PUT", f"/slots/court-2/{day(20)}/13/bookings/{number}", passes["other"], '{"guests":3}')
     page.view("bookings")
@@ -279,7 +279,7 @@ def does_more_with_bookings(page, passes, between):
     page.press("Book the new one for 400 points, cancel the old one")
     page.comes("Not changed: you still have the old booking.", "a change that isn't one")
     check(not amounts("more-1")[moved["number"]][-2], "the old booking stays")
-    # If the old one can't be cancelled any more, she has both, and the page says so.
+    # If the member can't cancel the old booking any more, she has both bookings, and the page tells her so.
     between.fates["DELETE"] = ['answer 409 {"fault":21,"text":"slot has begun"}']
     more("Change", moved["number"])
     page.run("byName('change-hour').value = '15'; byName('change-guests').value = '0'")
@@ -303,7 +303,7 @@ def does_more_with_bookings(page, passes, between):
 
 
 def letters(passes):
-    """The office's letter: its link and QR code hold the pass, and it accepts nothing but a pass."""
+    """The link and the QR code in the office's letter contain the pass. The letter program accepts only a pass."""
     address, letter = "https://desk.example.org", f"{TOP}/deploy/letter"
     link = f"{address}/book.html#{passes['amy-1']}"
     for words in ("en", "de"):

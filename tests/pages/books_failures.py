@@ -1,4 +1,4 @@
-"""A part of page_books.py: lost requests, kills, ends at each point, storage that fails, no network, limits and times."""
+"""A part of page_books.py: lost requests, kills, a page that ends at any point, storage that fails, no network, limits and times."""
 
 import contextlib
 import os
@@ -19,7 +19,7 @@ from page_browser import check
 
 
 def survives_failures(page, passes, between):
-    """A booking and a cancellation are done once each, in whatever way their requests get lost."""
+    """The desk carries out a booking and a cancellation once each, no matter how their requests get lost."""
     page.enter(passes["fails-1"], 7)
     for place, failure in enumerate(FAILURES):
         between.fates["PUT"] = [failure]
@@ -29,14 +29,14 @@ def survives_failures(page, passes, between):
         page.cancelled(entry["number"], failure)
     between.fates["PUT"] = list(FAILURES)
     page.booked("boat-1", 20)
-    # The page shows a wait after a second, and explains it after ten.
+    # The page shows after a second that it waits, and explains the delay after ten seconds.
     between.fates["PUT"] = ["silent"] * 12
     page.book("boat-1", 21)
     page.when("dialogText().includes('Sending again, try')", "sending again")
     page.when("dialogText().includes('nothing is booked twice')", "a long wait")
     between.fates["PUT"] = []
     page.comes("Booked.", "a booking at last")
-    # A slot without an answer says so, affects no other, and is requested again when pressed.
+    # A slot without an answer shows this, and doesn't affect other slots. A press requests the slot again.
     between.fates["GET"] = ["silent"] * 200  # the page may be looking at others still
     page.run("lookAt(cellAt('boat-2', 10), round)")
     page.when("cellAt('boat-2', 10).button.innerText.includes('No answer')", "a slot without an answer")
@@ -50,7 +50,7 @@ def survives_failures(page, passes, between):
 
 
 def pages_end(page, passes, between, server):
-    """If a page ends before its request is sent, during it, or before its reply, the next visit finishes it."""
+    """A page may end before it sends a request, during the request, or before the reply. The next visit then finishes the request."""
     page.enter(passes["ends-1"], 8, "Keep it")
     before = len(amounts("ends-1"))
     for place, fate in enumerate(["slow 3", "late 3", "silent"]):
@@ -61,7 +61,7 @@ def pages_end(page, passes, between, server):
         time.sleep(0.3)
         page.visit("", "allAnswered(1)", "a booking that the next visit finishes")
     check(len(amounts("ends-1")) == before + 3, "bookings of pages that ended")
-    # The page ends between recording and sending.
+    # The page ends between recording and sending a request.
     page.go(day(8))
     page.run("""state.sender.run = async () => {}; return state.sender.book({ facility: "court-2", day: arguments[0], hour: 14 }, 0, false)""", day(8))
     check(len(amounts("ends-1")) == before + 3, "nothing was sent")
@@ -88,7 +88,7 @@ def pages_end(page, passes, between, server):
 
 
 def writes_before_it_sends(passes, front):
-    """A request is on the disk before it is sent, and its reply before it counts."""
+    """The page writes a request to the disk before sending it. It writes a reply to the disk before using it."""
     watch = """{
         globalThis.order = [];
         const begin = IDBDatabase.prototype.transaction;
@@ -115,7 +115,7 @@ def writes_before_it_sends(passes, front):
 
 
 def lists_what_is_past(passes, front):
-    """Past bookings are listed separately, newest first, and can only be removed from the list."""
+    """The page lists past bookings separately, newest first. The member can only remove them from the list."""
     with BookingPage(front) as page:
         page.enter(passes["amy-phone"])
         page.view("account")
@@ -155,7 +155,7 @@ def tabs_send_nothing_twice(page, passes, between, server):
     page.driver.switch_to.window(second)
     page.comes("Booked.", "the first tab's booking")
     page.when("cellAt('court-1', 10).button.innerText.includes('Yours')", "what the other tab booked")
-    # Both tabs have something to send, and the browser allows one writer.
+    # Both tabs have a request to send, and the browser allows only one writer.
     between.fates["PUT"] = ["silent"] * 6
     page.run("return Promise.all([11, 12, 13].map((hour) => state.sender.book({ facility: 'court-1', day: arguments[0], hour }, 0, false)))", day(9))
     page.run("state.sender.run()")
@@ -165,7 +165,7 @@ def tabs_send_nothing_twice(page, passes, between, server):
     puts = {path: count - asked[method, path] for (method, path), count in server.asked().items() if method == "PUT" and day(9) in path}
     puts = {path: count for path, count in puts.items() if count}
     check(len(puts) == 5 and set(puts.values()) == {1}, "a request that was sent twice", puts)
-    # A second booking of a slot, if it is intended.
+    # Books a slot a second time, if the member intends a second booking.
     page.offer("court-1", 10)
     page.press("Book a second time")
     page.run("byName('dialog').querySelector('.main').click()")
@@ -183,7 +183,7 @@ def tabs_send_nothing_twice(page, passes, between, server):
 
 
 def survives_kills(passes, front, server):
-    """Bookings and cancellations while the server is killed: the record matches the table."""
+    """The test kills the server during bookings and cancellations. The record must match the table of bookings."""
     with BookingPage(front) as page:
         page.enter(passes["kill-1"])
         page.when("state.sender !== null", "the record")
@@ -226,7 +226,7 @@ def survives_kills(passes, front, server):
 
 
 def browser_ends(passes, front, between):
-    """A browser killed while its booking has no reply continues when it runs again."""
+    """If a browser is killed while its booking has no reply, it continues the booking when it runs again."""
     folder = os.path.abspath("profile")
     with BookingPage(front, words=[f"user-data-dir={folder}"]) as page:
         page.enter(passes["browser-1"], 10, "Keep it")
@@ -276,7 +276,7 @@ def broken_browsers(passes, front, server):
         page.book("court-1", 9)
         page.comes("Nothing was sent.", "a full storage")
         check(all(method == "GET" for method, _ in (server.asked() - looked)), "nothing was sent", server.asked() - looked, asked)
-    # If storage is full when the reply comes, the reply is shown, and requested again at the next visit.
+    # If the storage is full when the reply comes, the page shows the reply. It requests the reply again at the next visit.
     later = """const put = IDBObjectStore.prototype.put;
         IDBObjectStore.prototype.put = function (entry) { if (entry.book) throw new DOMException('full', 'QuotaExceededError'); return put.call(this, entry); };"""
     with BookingPage(front) as page:
@@ -289,7 +289,7 @@ def broken_browsers(passes, front, server):
         page.when("isShown('day') && state.entries.length === 1 && allAnswered()", "the reply again")
         number = page.entries()[0]["number"]
         check(amounts("full-1")[number][0:3] == ("court-1", day(11), 10), "the booking in the file")
-    # If storage for passes is refused, the pass lasts as long as the page.
+    # If the browser refuses to store passes, the pass lasts as long as the page.
     refused = "for (const name of ['localStorage', 'sessionStorage']) Object.defineProperty(globalThis, name, { get() { throw new DOMException('no', 'SecurityError'); } });"
     with BookingPage(front, before=refused) as page:
         page.enter(passes["full-1"])
@@ -343,7 +343,8 @@ MOST_SECONDS = 0.7  # that a day may take
 
 
 def days_at_once(passes, server):
-    """With the stored limits: ten days at four a second, ten members behind one address, and a flood under one pass next to another's day."""
+    """The repository's limits of requests apply. The test loads ten days at four a second, and uses ten members behind one address. It also sends a
+    flood under one pass during another member's day."""
     front = start_proxy(server.port, rate=None)
     log = pathlib.Path("error.log")
 
@@ -354,7 +355,7 @@ def days_at_once(passes, server):
     paths = [f"/slots/{name}/{day(9)}/{hour:02}" for name, *_, opens, shuts in FACILITIES for hour in range(opens, shuts)]
 
     def asks_for_a_day(text, place):
-        """Requests a day of slots as a page does, six at once over one connection; returns the statuses and the seconds."""
+        """Requests a day of slots in the same way as a page, six at once over one connection. Returns the statuses and the seconds."""
         pathlib.Path(f"day-{place}").write_text("".join(f'url = "https://desk.example.org:{front}{path}"\noutput = "/dev/null"\n' for path in paths))
         begun = time.monotonic()
         statuses = printed("curl", "-sS", "--noproxy", "*", "--cacert", "certificate.pem", "--resolve", f"desk.example.org:{front}:127.0.0.1", "-Z", "--parallel-max", "6",
@@ -370,14 +371,14 @@ def days_at_once(passes, server):
         page.when(f"shownDay() === '{day(10)}' && dayIsThere()", "the tenth day")
         check(page.run("return [...cells.values()].every((cell) => cell.view !== null)"), "a whole day")
         check(limited() == before, "ten days at four a second are limited", limited() - before)
-        # Takes the best of several runs, since other work on the machine varies.
+        # Takes the best of several runs, because other work on the machine changes the times.
         for ahead in range(11, 31):
             time.sleep(1)
             bare.append(page.driver.execute_async_script(REQUESTS_ALONE, day(ahead)) / 1000)
             took.append(page.driver.execute_async_script(A_DAY, day(ahead)) / 1000)
             if len(took) >= 5 and min(took) < MOST_SECONDS:
                 break
-    # If the requests take long even without a page, other work keeps the machine busy: the line below says so.
+    # If the requests take long even without a page, other work keeps the machine busy. The line below then tells so.
     most = max(MOST_SECONDS, 2.5 * min(bare))
     check(min(took) < most, "a day", took, bare, os.getloadavg())
     time.sleep(3)
@@ -391,7 +392,7 @@ def days_at_once(passes, server):
         rounds.append(max(seconds for _, seconds in together))
         time.sleep(3)
     slowest = min(rounds)
-    # The desk serves one request after the other: the last of ten simultaneous members waits for all the others.
+    # The desk serves one request after the other. So the last of ten members who ask at the same time waits for all the others.
     check(slowest < max(most, 12 * alone), "a day of ten members", rounds, alone, os.getloadavg())
     time.sleep(6)
     flood = subprocess.Popen(["curl", "-sS", "--noproxy", "*", "--cacert", "certificate.pem", "--resolve", f"desk.example.org:{front}:127.0.0.1", "-Z", "--parallel-max", "50",
@@ -411,7 +412,7 @@ def days_at_once(passes, server):
 
 
 def is_quick_and_small(passes, front):
-    """Measures a day over loopback with TLS, and the size of the pages as sent."""
+    """Measures a day over loopback with TLS, and the size of the pages that nginx sends."""
     zipped, sizes = ("-H", "Accept-Encoding: gzip"), {}
     for name in ("book.html", "pass.html", "demo.html"):
         size, version = fetched(front, f"/{name}", "-o", name, "-D", "head", *zipped, "-w", "%{size_download} %{http_version}").split()
@@ -452,7 +453,7 @@ def is_quick_and_small(passes, front):
 
 
 def waits_as_the_proxy_wants(passes, front):
-    """With more requests at once than the proxy allows, every slot is loaded in the end, and every booking made."""
+    """Sends more requests at once than the proxy allows. In the end the page has loaded every slot, and has made every booking."""
     with BookingPage(front) as page:
         page.enter(passes["other"])
         for ahead in range(20, 24):

@@ -9,8 +9,8 @@ from page_browser import check
 
 
 def lists_send_nothing(page, passes, server):
-    """A linked or pasted list sends nothing by itself: the page looks up its bookings, and sends one only by a press that names slot and
-    points."""
+    """A list from a link or a paste sends no booking by itself. The page looks up the list's bookings, and sends one only after a press on a button
+    that names slot and points."""
     key, ahead = "lists-1", 30
     page.enter(passes[key], ahead, "Keep it")
     own = page.booked("court-1", 9)
@@ -44,7 +44,7 @@ def lists_send_nothing(page, passes, server):
     page.view("day")
     check("Yours, 1 person" in page.run("return cellAt('court-1', 9).button.innerText"), "its slot is hers")
     check("4 of 4 free" in page.run("return cellAt('court-1', 10).button.innerText"), "a slot that only a list names")
-    # The press that names slot and points sends the listed booking once.
+    # A press on the button that names slot and points sends the listed booking once.
     page.view("bookings")
     page.run("""[...byName('to-come').children].find((each) => /Number 10(?![0-9])/.test(each.innerText)).querySelector('button').click()""")
     page.when("dialogText().includes('Book for 300 points')", "the press")
@@ -73,7 +73,7 @@ request.onsuccess = () => {
 
 
 def odd_fragments(passes, own):
-    """More than 100 hand-made fragments of an address: passes, lists and screens, cut, doubled, escaped, and empty."""
+    """More than 100 handmade fragments of an address: passes, lists and screens that are cut, doubled, escaped, or empty."""
     amy, other = passes["amy-1"], passes["other"]
     line = f"{own['number']}+court-1+{own['day']}+{own['hour']:02}"
     ends = ["record=", "record", "record=;", "record=lists-1", "record=Lists", f"record=lists-1;{line}", f"record=lists-1;{line}+cancel", f"record=lists-1;{line}+guests+0",
@@ -96,7 +96,7 @@ def odd_fragments(passes, own):
 
 
 def nothing_by_itself(page, passes, between, server):
-    """Without a press, no fragment, message, stored value or foreign reply sends a PUT or a DELETE, or changes stored data."""
+    """Without a press, no fragment, message, stored value or foreign reply causes a PUT or a DELETE, or changes stored data."""
     page.enter(passes["lists-1"], 31, "Keep it")
     own = page.booked("court-1", 9)
     page.visit("", "isShown('day') && dayIsThere() && allAnswered(1)", "a member's page")
@@ -150,7 +150,7 @@ def nothing_by_itself(page, passes, between, server):
         time.sleep(0.3)
         unchanged("a club's list", text)
     pathlib.Path("www/club.json").write_text(good)
-    # Stored values that no page wrote are neither sent nor deleted.
+    # The page neither sends nor deletes stored values that no page wrote.
     odd_values = ["", "null", "7", "[]", "{}", "x", "[null]", '[{"text":7,"name":"x"}]', '[{"text":"x","name":"x"}]', '[{"text":"x","name":""}]', json.dumps([{"text": passes["amy-1"], "name": "a  b"}])]
     names = ["passes", "pass", "screen", "language", "loans", "spares", "search", "last", "taken lists-1"]
     for value in odd_values:
@@ -177,7 +177,7 @@ def nothing_by_itself(page, passes, between, server):
 
 
 def keeps_each_pass(page, passes):
-    """A link never replaces a kept pass, and a screen keeps its own; passes have names and can be chosen."""
+    """A link never replaces a stored pass, and a screen keeps its own pass. Passes have names, and the member can choose one."""
     texts = "JSON.parse(localStorage.passes ?? '[]').map((each) => each.text)"
     page.enter(passes["amy-1"], keeps="Keep it")
     page.enter(narrowed(passes["bob-1"], "kind = court"))
@@ -206,7 +206,7 @@ def keeps_each_pass(page, passes):
     page.visit("#screen", "document.querySelectorAll('#screen td.free').length > 50", "the screen again")
     check(page.run("return shownText('notices')") == "", "it asks once", page.run("return shownText('notices')"))
     page.visit("", "isShown('day') && state.key === 'amy-1'", "her own pass is still there")
-    # A pass that the desk refuses leads to another one.
+    # If the desk refuses a pass, the page changes to another pass.
     page.visit(f"#{printed(TOOL, 'mint', '--root', ROOT, '--id', 'key:amy-1').strip()}", "shownText('day-fault').includes(\"doesn't know this pass\")", "a refused pass")
     page.press("Enter another pass", "day-fault")
     page.when("isShown('welcome') && document.activeElement === byName('given')", "another one is entered")

@@ -13,7 +13,7 @@ from page_browser import check
 
 
 def looks_right(passes, front):
-    """Takes pictures. Checks for sideways scrolling from 320 pixels to a wall screen, and contrasts, targets and names, in each view, language
+    """Takes pictures. Checks for sideways scrolling from 320 pixels to a wall screen. Checks contrasts, targets and names in each view, language
     and colour scheme."""
     texts = 0
     for language in ("en-US", "de-DE"):
@@ -66,7 +66,8 @@ LOGO = ('<svg xmlns="http://www.w3.org/2000/svg" viewBox="0 0 20 20"><circle cx=
 
 
 def on_three_phones(passes, front):
-    """A day, a booking and my bookings side by side, as README shows them, and a day in three widths, as docs/BOOKING.md does."""
+    """Takes pictures of a day, a booking and my bookings for README, next to each other. Also takes pictures of a day in three widths for
+    docs/BOOKING.md."""
     good = pathlib.Path("www/club.json").read_text()
     club = {**json.loads(good), "contact": "Tel. 030 1234", "closures": [{"facility": "court-1", "day": day(27), "from": 13, "until": 15, "why": "Youth training"}],
             "logo": f"data:image/svg+xml;base64,{base64.b64encode(LOGO.encode()).decode()}"}
@@ -146,7 +147,8 @@ def hall_screen(passes, front, server):
 
 
 def shows_the_club(page, passes):
-    """Shows contact, imprint, privacy, a logo, and a sentence for a facility; odd values count as missing; an ended pass shows the contact."""
+    """The page shows contact, imprint, privacy page, a logo, and a sentence for a facility. Invalid values count as missing. With an ended pass,
+    the page shows the contact."""
     good = pathlib.Path("www/club.json").read_text()
     more = {"contact": "Tel. 030 1234", "imprint": "https://club.example/imprint", "privacy": "javascript:alert(1)", "logo": "data:image/svg+xml;base64,PHN2ZyB4bWxucz0iaHR0cDovL3d3dy53My5vcmcvMjAwMC9zdmciLz4="}
     club = {**json.loads(good), **more}
@@ -223,8 +225,8 @@ return [...document.querySelectorAll("button.slot, .slot span, .slot small")].fi
 
 
 def other_engines(passes, server):
-    """The main tasks in Firefox and WebKitGTK: looking, booking, cancelling, lending, finding, several passes, a pass's limits, no network, and
-    another visit."""
+    """The main tasks in Firefox and WebKitGTK. They are looking, booking, cancelling, lending, finding, several passes, a pass's limits, no
+    network, and another visit."""
     for place, engine in engines():
         front, key, wanted = start_proxy(server.port), f"engine-{place}", day(50)
         address = f"https://{engine.host}:{front}/book.html"
@@ -242,14 +244,14 @@ def other_engines(passes, server):
         check([rest[:4] for rest in amounts(key).values()] == [("court-1", wanted, 10, 1)], engine.name, "the file", amounts(key))
         others = engine.run("return performance.getEntriesByType('resource').map((each) => each.name).filter((each) => !each.startsWith(location.origin) && !each.startsWith('data:'))")
         check(not others, engine.name, "the page asks for", others)
-        # A time is found, over a week of a kind.
+        # Finds a time for a kind, over a week.
         engine.tap("//button[@id='to-find']")
         engine.when("shown('find-looked').includes(':')", "a week")
         engine.press("Boats", "find-kinds")
         engine.tap("//button[@id='find-next']")
         engine.when("shown('find-news').startsWith('Free: Double scull')", "the next free time")
         engine.tap("//button[@id='to-find']")
-        # Spare passes, and a lent part.
+        # Spare passes, and a lent part of a pass.
         engine.open(f"{address}#spare={passes[f'engine-lend-{place}']}")
         engine.when(f"shown('dialog').includes('engine-lend-{place}')", "a spare pass")
         engine.press("Keep it", "dialog")
@@ -277,7 +279,7 @@ def other_engines(passes, server):
         engine.when("shown('dialog').includes('400 points came back')", "a cancellation")
         keep(f"{engine.name}-cancelled.png", base64.b64encode(engine.picture()))
         engine.press("Close", "dialog")
-        # The lent part, next to her own pass.
+        # The lent part, next to the member's own pass.
         engine.open(lent)
         engine.when(f"{DAY_THERE} && shown('pass-says').includes('0 of 600 points')", "what was lent")
         engine.press("Keep it", "notices")
@@ -286,7 +288,7 @@ def other_engines(passes, server):
         check(engine.run("return [...document.querySelectorAll('#facility-choice button')].every((each) => each.textContent.startsWith('Court'))"), engine.name, "courts alone")
         engine.run("const who = document.getElementById('who'); who.value = arguments[0]; who.dispatchEvent(new Event('change'))", passes[key])
         engine.when("document.querySelectorAll('#facility-choice button').length === 6", "her own pass again")
-        # A pass that only looks, and one that has ended.
+        # A pass that only looks, and a pass that has ended.
         engine.open(f"{address}#{narrowed(passes[key], 'actions = view')}")
         engine.when(f"{DAY_THERE} && [...document.querySelectorAll('#slots button')].every((each) => each.disabled)", "a pass that looks")
         engine.open(f"{address}#{narrowed(passes[key], f'until < {day(0)}T00:00')}")

@@ -1,4 +1,5 @@
-"""A part of page_narrows.py: the page narrows, reads and refuses passes and caveats as passtool does."""
+"""A part of page_narrows.py: the page narrows, reads and refuses passes and caveats in the same way as
+passtool."""
 
 import base64
 import re
@@ -56,7 +57,8 @@ SHORT = '"i":"keyid",' + S64 + "}"
 
 
 def faulty_texts():
-    """Texts that aren't passes for the desk, with the fault's number, and words of the page's explanation."""
+    """Texts that aren't passes for the desk. Each has the fault's number, and words of the page's
+    explanation."""
     v1, v2, known = passes.v1_bytes(README_PASS), passes.v2_bytes(KEYID), written("v2", KEYID)
     third_v1 = v1.replace(packet(b"cid", b"test = caveat"), packet(b"cid", b"a") + packet(b"vid", b"b") + packet(b"cl", b""))
     third_v2 = field(2, b"a") + field(4, b"") + b"\0"
@@ -110,7 +112,7 @@ def faulty_texts():
         (with_member('"l":"a","l64":"YQ"'), 2, "l and l64 are both there"), (with_member('"l64":"_"'), 2, "Its l64 breaks off"),
         (with_member('"s":"0123456789abcdef0123456789abcdef"'), 2, "s and s64 are both there"),
         (with_member('"c":[{"i":"a","v64":"_w","x":1}]'), 2, "Caveat 1 has the name “x”"), (with_member('"__proto__":1'), 2, "“__proto__”"),
-        # third-party caveats, too many caveats, too long texts
+        # third-party caveats, too many caveats, texts that are too long
         (unpadded(third_v1), 3, "Its caveat 1"), (many(0, third_v2), 3, "Its caveat 1"),
         (unpadded(b"\2" + field(2, b"a") + b"\0" + field(1, b"") + third_v2 + b"\0" + field(6, KEYID.signature)), 3, "Its caveat 1"),
         (with_member('"c":[{"i":"a"},{"i":"a","v":"b"}]'), 3, "Its caveat 2"), (with_member('"c":[{"i":"a","v64":"_w"}]'), 3, "Its caveat 1"),
@@ -139,8 +141,9 @@ def readable_texts():
 
 
 def compare_reading(text, answer):
-    """Checks that the page reads a text as passtool does. Returns the number of the fault or 0."""
-    # The only difference is that it drops spaces around a text, except for the length.
+    """Checks that the page reads a text in the same way as passtool. Returns the number of the fault, or 0
+    without a fault."""
+    # The page differs from passtool only in dropping spaces around a text, except for the length.
     cut = text.removesuffix("\n")
     wanted = 1 if len(cut.encode()) > 8192 else reading_by_tool(cut)
     if isinstance(wanted, int):
@@ -159,7 +162,7 @@ def answers_faulty_texts(page):
     for (text, fault, words), answer in zip(rows, answers):
         check(compare_reading(text, answer) == fault, "another fault", text, fault, answer)
         check(words in answer["fault"][1], "the page doesn't say what is wrong", text, words, answer)
-    # A known text that is cut anywhere. An empty text isn't a fault.
+    # Cuts off a known text at any place. An empty text isn't a fault.
     for form, it in [("v1", README_PASS), ("v2", KEYID), ("json", README_PASS)]:
         whole = written(form, it)
         cuts = [whole[:length] for length in range(1, len(whole))]
@@ -174,14 +177,15 @@ def answers_faulty_texts(page):
 
 
 def changed(text, what, letters):
-    """The text without a letter, with one more, with one twice, or with another one."""
+    """Returns the text without a letter, with one letter more, with a letter twice, or with a different
+    letter."""
     place = draw.randrange(len(text))
     rest = text[place + 1:]
     return text[:place] + [rest, draw.choice(letters) + text[place] + rest, text[place] * 2 + rest, draw.choice(letters) + rest][what]
 
 
 def spoiled(text):
-    """The text with something changed, mostly at one place."""
+    """Returns the text with a change, mostly at a single place."""
     what = draw.randrange(9)
     if what == 4 and not text.startswith("{"):
         return spoiled_bytes(text)
@@ -197,7 +201,8 @@ def bytes_of(text):
 
 
 def with_third_party(text):
-    """Adds a third-party field where one is possible, which makes an existing caveat a third party's."""
+    """Adds a third-party field at a possible place. The field turns an existing caveat into a third-party
+    caveat."""
     if text.startswith("{"):
         return re.sub(r'\{"i', draw.choice(['{"v":"","i', '{"l64":"_w","i']), text, count=1)
     data = bytes_of(text)
@@ -228,7 +233,7 @@ def reads_spoiled_texts(page):
           f"{counts[3]} have third-party caveats")
 
 
-# Adds cases to the vectors: near misses of caveats, and values at their limits.
+# Adds cases to the vectors: texts that are almost caveats, and values at their limits.
 NEAR_MISSES = [
     " ", "kind", "kind =", "kind = ", "kind=court", "kind  = court", "kind = court ", " kind = court", "kind = courts", "kind = court\n", "kind = court,boat",
     "kınd = court", "facility = ,", "facility = a,", "facility = ,a", "facility = a, b", "facility = a,,b", "facility = A", "facility = a_b", "facility = é",
@@ -269,7 +274,7 @@ def understands_as_passtool(page):
     check(len(limits) == len(texts), "limits that aren't shown", len(limits))
     understood = 0
     for text, limit in zip(texts, limits):
-        # An argument can't hold a zero byte.
+        # An argument can't contain a zero byte.
         wanted = "\0" not in text and is_understood_by_tool(text)
         check(limit["understood"] == wanted, "understood otherwise", repr(text), wanted, limit)
         check(wanted or "doesn't understand this limit" in limit["words"], "a limit that isn't understood", limit)

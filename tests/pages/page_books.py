@@ -1,19 +1,24 @@
 #!/usr/bin/env -S /usr/bin/python3 -B
 """`web/book.html` books, cancels and lends behind nginx in three browsers, with lost requests, kills and hostile input.
 
-It runs in Debian's chromium, and in short in Firefox and WebKitGTK, against the desk over a file, by the stored configuration of nginx with TLS:
-- the day, a booking, a cancellation, the account, in English and German;
-- limits of a pass, by keyboard alone, by swipes; six requests at once; a page that is looked at again;
-- requests that get lost in each way, a desk that is killed, pages, tabs and browsers that end at each point;
-- 200 bookings and cancellations while the server is killed 30 times: the record is the table of bookings, and the totals are its sums;
-- odd passes, an odd or missing list of the club, a browser that keeps nothing, a clock that is wrong, replies that aren't the desk's;
-- links, lists, messages, kept values and replies that anybody may have made: nothing is sent or replaced without a press that names it;
-- a lent part: its sentence, link and QR code, what its holder sees, and how long it takes; several passes; the page without a network;
-- the record on its way to another device, and beside what the desk counts; what deploy/record, deploy/club_json and deploy/letter print;
-- a time that is looked for over a week, a booking changed, repeated, for a calendar; days at once by the stored limits of requests;
-- the hall's screen; names for screen readers, contrasts, widths, less motion;
-- nothing goes to another origin, and nothing runs but what the page's policy names;
-- how long a day takes, and how many bytes the pages are as they are sent.
+The test uses the desk over a file, behind nginx with TLS and the repository's configuration. It runs in Debian's chromium, and a shorter part in
+Firefox and WebKitGTK. It covers:
+- the day, a booking, a cancellation and the account, in English and German
+- the limits of a pass, the keyboard alone, swipes, six requests at once, and a page that the member opens again
+- requests that get lost in each way, and kills of the desk
+- pages, tabs and browsers that end at each point
+- 200 bookings and cancellations while the test kills the server 30 times; the record must match the table of bookings, and the totals their sums
+- odd passes, an odd or missing list of the club, a browser that stores nothing, a wrong clock, and replies that aren't the desk's
+- links, lists, messages, stored values and replies that anybody may have made; without a press, the page sends and replaces nothing
+- a lent part of a pass: its sentence, its link and QR code, its holder's page, and the time that it takes
+- several passes, and the page without a network
+- the transfer of the record to another device, and the record next to the desk's count
+- the output of deploy/record, deploy/club_json and deploy/letter
+- a search for a time over a week, and a booking that the member changes, repeats, or puts into a calendar
+- days at the same time, under the repository's limits of requests
+- the hall's screen, names for screen readers, contrasts, widths, and reduced motion
+- the page's policy: no request goes to another origin, and no other script runs
+- the time that a day takes, and the size of the pages that nginx sends
 
   tests/pages/page_books.py                  all of it
   tests/pages/page_books.py FOLDER [STEP ..]     and pictures of the page into this folder; these functions alone

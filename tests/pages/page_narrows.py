@@ -1,15 +1,15 @@
 #!/usr/bin/env -S /usr/bin/python3 -B
-"""`web/pass.html` narrows 1,000 passes and reads 4,000 texts in a browser as `passtool` does, and sends nothing.
+"""`web/pass.html` narrows 1,000 passes and reads 4,000 texts in a browser in the same way as `passtool`, and sends nothing.
 
-It runs in Debian's chromium, and its main ways also in Firefox and WebKitGTK. It narrows 1,000 passes in three forms byte for byte as
-`passtool narrow` does. It reads 2,000 spoiled passes and 2,000 texts of caveats as `passtool` does, and says what is wrong with each
-faulty one. It works by keyboard alone, fits a phone, and sends nothing. It loads nothing but the club's list, where a server has one.
+The test runs in Debian's chromium. Its main parts also run in Firefox and WebKitGTK. The page narrows 1,000 passes in three forms with the same
+bytes as `passtool narrow`. It reads 2,000 spoiled passes and 2,000 texts of caveats in the same way as `passtool`, and explains each fault. The
+page works by keyboard alone, fits a phone, and sends nothing. The page loads only the club's list, if the server has one.
 
-The formats are those of tests/reference:
-- texts that are no pass, those of the formats' examples and the spoiled ones: each has its own answer, the one that passtool has;
-- what each choice says and adds, addresses, copying and sharing, a browser that doesn't sign;
-- names for a screen reader, contrasts; that nothing runs but what the page's policy names;
-- in each browser: a pass that is read, narrowed, and handed on by link and QR code, what the page says, and what it shows of the club.
+tests/reference has the formats. The test covers:
+- texts that are not passes: the formats' examples and the spoiled texts; the page's answer to each must be passtool's answer
+- each choice with its sentence and its line, addresses, copying and sharing, and a browser that doesn't sign
+- names for a screen reader, contrasts, and the page's policy, under which no other script runs
+- in each browser: a pass that the page reads, narrows and hands on by link and QR code, the page's texts, and its facts about the club
 
   tests/pages/page_narrows.py            all of it
   tests/pages/page_narrows.py FOLDER     and pictures of the page into this folder
@@ -79,7 +79,7 @@ CHOSEN = [
         "days = 2026-05-01..2026-05-01", "weekday = mon,tue,wed,thu,fri,sat,sun", "hours = 18-20", "hours = 00-24", "until < 2026-05-01T18:00",
         "guests <= 0", "spend <= 600", "spend <= 999999999")),
 ]
-# For these the page explains the required input, and adds nothing.
+# For these inputs the page explains the required form, and adds no line.
 WRONG = {
     "facility": ["Court-1", "court 1 -", "a b c d e f g h i", "é"], "until": ["1999-12-31T23:59", "2026-05-01T18:00:30"],
     "guests": ["50", "-1", "two", "01", "1.5"], "spend": ["1000000000", "1,000", "1e3", "-5"], "days-first": ["2026-05-01"], "days-last": ["2026-05-01"],
@@ -117,7 +117,7 @@ def choices_say_what_they_add(page):
 
 
 def half_a_date_is_no_date(page):
-    """A half-entered date has no value, but isn't taken for an empty one."""
+    """A half-entered date has no value, but the page doesn't treat it as empty."""
     page.visit(AMY)
     page.run("byId('days-first').focus()")
     page.press("05", Keys.TAB)
@@ -154,7 +154,7 @@ NINE_LINES = ["kind = court", "facility = court-1,court-2", "actions = view,book
 
 
 def goes_by_keyboard(page):
-    """From an empty page to a pass on the clipboard, without a mouse; each stop shows that it has the focus."""
+    """Goes from an empty page to a pass on the clipboard without a mouse. Each stop shows that it has the focus."""
     page.visit()
 
     def tab(*keys):
@@ -163,7 +163,7 @@ def goes_by_keyboard(page):
         page.press(*keys)
 
     def enter(stop, *keys):
-        """A date is entered part by part; its picker is the last stop."""
+        """The user enters a date part by part, and the last stop of the date is its picker."""
         check(page.focused() == stop, "a stop", stop, page.focused())
         page.press(*keys, Keys.TAB)
         while page.focused() == stop:
@@ -215,7 +215,7 @@ def hands_on(page):
         wanted = narrowed_by_tool(text, ["guests <= 1"])
         address = answer["address"]
         check(address.startswith(PAGE.as_uri() + "#"), "an address", address)
-        # A click copies the address; it opens the page with the pass, and can be entered as a pass.
+        # A click copies the address. The address opens the page with the pass, and the user can also enter it as a pass.
         page.click("copy-address")
         page.pause()
         pasted(page, address)
@@ -223,7 +223,7 @@ def hands_on(page):
         page.open(address)
         check(page.run("return byId('given').value") == wanted, "an address that is opened", address)
         check(len(page.run("return limitsOf(byId('given-pass'))")) == 3, "limits of an address", address)
-    # The same page switches to another pass.
+    # The same page changes to another pass.
     page.run("location.hash = '#' + arguments[0]", AMY)
     page.pause()
     check(page.run("return byId('given').value") == AMY, "another pass behind #")
@@ -239,7 +239,7 @@ def hands_on(page):
 
 
 def shares():
-    """Copying works even if the clipboard refuses."""
+    """Copying works even if the browser refuses access to the clipboard."""
     with NarrowingPage(before="""navigator.share = async (what) => { globalThis.shared = what; };
             navigator.clipboard.writeText = async () => { throw new Error(); };""") as page:
         page.visit()
@@ -262,7 +262,7 @@ class Folder(http.server.SimpleHTTPRequestHandler):
 
 @contextlib.contextmanager
 def served(folder):
-    """Starts a server with a folder's files; returns its port."""
+    """Starts a server with the files of a folder. Returns the server's port."""
     Folder.asked.clear()
     server = http.server.ThreadingHTTPServer(("127.0.0.1", 0), functools.partial(Folder, directory=folder))
     threading.Thread(target=server.serve_forever, daemon=True).start()
@@ -281,7 +281,7 @@ CLUB = {
 
 
 def of_a_club(engine, address):
-    """Logo, contact, links and facilities with their sentences; a press chooses one."""
+    """Shows the logo, contact, links, and facilities with their sentences. A press chooses a facility."""
     engine.open(f"{address}#{AMY}")
     engine.when("byId('club-contact').innerText !== ''", "the club")
     text = engine.run("return document.body.innerText")
@@ -299,7 +299,7 @@ def of_a_club(engine, address):
 
 
 def narrows_and_hands_on(engine, address):
-    """Reads and narrows passes as passtool does; checks the result's addresses, its QR code, and the page's words."""
+    """Reads and narrows passes in the same way as passtool. Checks the addresses of the result, its QR code, and the page's words."""
     base = address.rsplit("/", 1)[0]
     engine.open(address)
     for text, fault, words in faulty_texts()[::7]:
@@ -311,7 +311,7 @@ def narrows_and_hands_on(engine, address):
         engine.when("!byId('result').hidden || byId('narrow-fault').textContent !== ''", "a result", text, lines)
         found = engine.get("return byId('narrowed').value")
         check(found == narrowed_by_tool(text, lines), engine.name, "it narrows otherwise", text, lines, found)
-    # Works by hand: a pass, one choice, the button.
+    # Works by hand: enters a pass, makes one choice, and presses the button.
     engine.open(f"{address}#{AMY}")
     engine.tap("//button[@id='narrow']")
     engine.when("byId('narrow-fault').textContent === 'Choose at least one limit.'", "no choice")
@@ -333,7 +333,7 @@ def narrows_and_hands_on(engine, address):
 
 
 def other_engines():
-    """The main tasks in each browser, with a club's list next to the page. The page requests only that list from the server."""
+    """The main tasks in each browser, with a club's list next to the page. The page requests only the club's list from the server."""
     folder = pathlib.Path(ROOM.name, "club")
     folder.mkdir()
     shutil.copy(PAGE, folder)
@@ -350,7 +350,7 @@ def other_engines():
 
 
 def only_shows_where_it_cannot_sign():
-    """Over http from a name that isn't this machine's, browsers don't sign. Only the page is requested from the server."""
+    """Browsers don't sign over http if the page's name isn't the name of this machine. The browser requests only the page from the server."""
     with served(PAGE.parent) as port, NarrowingPage(rules="MAP club.example 127.0.0.1, MAP * ~NOTFOUND") as page:
         address = f"http://club.example:{port}/pass.html"
         page.open(f"{address}#{AMY}")
@@ -374,7 +374,7 @@ def named_for_screen_readers(page):
 
 
 def looks_right(page):
-    """Takes pictures of the full page, and checks for sideways scrolling on a phone, contrasts and names."""
+    """Takes pictures of the full page. Checks for sideways scrolling on a phone, and checks contrasts and names."""
     everything = Pass(b"club-desk", b"key:amy-1", [b"shoe = red" + b"x" * 300, b"facility = " + b",".join([b"a" * 24] * 8)], bytes(range(32)))
     page.visit()
     choices = fields_of("kind = court", "facility = " + ",".join(["b" * 24] * 8), *NINE_LINES[2:])
@@ -394,7 +394,7 @@ def looks_right(page):
     for width, scheme in itertools.product((390, 1200), ("light", "dark")):
         page.sees(width, scheme)
         keep(f"pass-{width}-{scheme}.png", page.picture())
-    # Shows choices and a result side by side, as in README.
+    # Shows choices and a result next to each other, as in README.
     page.sees(390, "light")
     page.run("document.activeElement.blur()")
     tops = page.run("return ['kind', 'result'].map((id) => byId(id).getBoundingClientRect().top + scrollY - 12)")
@@ -403,7 +403,7 @@ def looks_right(page):
 
 
 def large_letters():
-    """Checks double letter size at 360 pixels, with everything that the page can show, in both languages."""
+    """Checks double letter size at 360 pixels, with all parts that the page can show, in both languages."""
     for language in ("en-US", "de-DE"):
         with NarrowingPage(letters=32, language=language) as page:
             page.sees(360, "light", 740)

@@ -1,7 +1,7 @@
 #!/usr/bin/env -S /usr/bin/python3 -B -m pytest -q -p no:cacheprovider
 """The small desk of web/demo.html answers 8,000 random requests by the rules in Python.
 
-It is written in JavaScript, and serves four clubs.
+The small desk is written in JavaScript, and serves four clubs in this test.
 
 The requests are bookings, repeats and cancellations, under narrowed and odd passes, at moments of two days.
 """
@@ -57,7 +57,8 @@ def key_drawn(draw):
 
 
 def text_drawn(draw, key):
-    """Draws a key's pass, mostly full or narrowed, in each form; some have no key, another root, or are cut."""
+    """Draws a key's pass in one of the forms. Most passes are full or narrowed. Some have no key or another
+    root, or are cut off."""
     caveats = [line.encode() for line in draw.choices(LINES, k=draw.choice([0] * 9 + [1, 1, 2]))]
     root = ROOTS.get(key, b"x" * 16) if draw.random() < 0.97 else b"y" * 16
     text = passes.text_of(passes.minted(root, f"key:{key}".encode(), b"", caveats), draw.choice(["v1", "v2", "v2", "json"]))
@@ -65,7 +66,7 @@ def text_drawn(draw, key):
 
 
 def asked_drawn(draw, before):
-    """Draws a key and its request: a new one, or an earlier one, fully or partly repeated."""
+    """Draws a key and its request. The request is new, or repeats an earlier request completely or in part."""
     key = key_drawn(draw)
     action = draw.choice(["view", "book", "book", "book", "cancel", "cancel", "cancel", "account"])
     if before and action in ("book", "cancel") and draw.random() < 0.7:

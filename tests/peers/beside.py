@@ -1,19 +1,19 @@
 #!/usr/bin/env -S /usr/bin/python3 -B
 """Desks in C, Go and Python over SQLite's library give the server's replies, and their times are measured.
 
-Times are taken over 100 and 100,000 bookings, for a member with 10,000 of its own and for one with none. The desks are beside_c/desk.c, which is
-its own server; beside_go, with net/http and database/sql; and beside_flask.py, with Flask under gunicorn and one worker. They use the same file,
-transactions and pragmas, the statements of crates/club_tables, and read the same rows for an answer. C's replies are the same bytes. Those of Go
-and Flask have the same status line, body and fields, in another order, and gunicorn adds Date and Server. A plain server in C, which reads once
-and writes 133 bytes, is measured too.
+The test measures over 100 and 100,000 bookings, for a member with 10,000 of these bookings and for a member without any. The desks are
+beside_c/desk.c, which is its own server, and beside_go, with net/http and database/sql. The third is beside_flask.py, with Flask under gunicorn and
+one worker. The desks use the same file, transactions and pragmas, and the statements of crates/club_tables. They read the same rows for an answer.
+The replies of the desk in C have the same bytes. The replies of Go and Flask have the same status line, body and fields, but in another order.
+gunicorn adds Date and Server. The test also measures a plain server in C, which reads once and writes 133 bytes.
 
-Prints the medians in microseconds for a booking, its repeat, an account, a slot, a refused pass and a forged one, with clubdesk's ratios. The
-time runs from before the client connects to the end of the reply. Then it prints the ratios that have goals. The system calls of a request are
-those of 101 requests less those of one, over 100, by strace. One client asks the servers in turn; it has one processor and they have another, if
-there are two.
+Prints the medians in microseconds for a booking, its repeat, an account, a slot, a refused pass and a forged pass. Prints the ratios to clubdesk's
+medians. The time of a request runs from before the client connects until the end of the reply. Then the test prints the ratios that have goals. The
+system calls of a request are those of 101 requests less those of one request, divided by 100. strace counts them. One client sends requests to the
+servers in turn. If the machine has two processors, the client has one and the servers have the other.
 
-Each desk is run as DESK FILE MOMENT < STATEMENTS: the moment in minutes since 1970; a statement a line. It prints the line of ours, and serves
-until it is stopped. It reads a key's older root only if the key's own root didn't sign the pass, like ours.
+The test runs each desk as DESK FILE MOMENT < STATEMENTS. The moment is in minutes since 1970, and each line has one statement. A desk prints the
+same line as clubdesk, and serves until it is stopped. Like clubdesk, it reads a key's older root only if the key's own root didn't sign the pass.
 
   tests/peers/beside.py [--desks c,go,flask] [COUNT [ROUNDS [ROWS ..]]]      COUNT requests of each kind in a round; without: 500 7 100 100000
 """
@@ -52,13 +52,13 @@ def day_text(offset):
 
 
 def slot_path(number):
-    """A separate slot for each number: 48 courts, 9 days of April from the 21st on, 24 hours."""
+    """Each number has its own slot: 48 courts, 9 days of April from the 21st on, 24 hours."""
     court, rest = divmod(number, 9 * 24)
     return f"/slots/court-{3 + court}/{day_text(rest // 24)}/{rest % 24:02}"
 
 
 class Asker:
-    """The requests under some keys, which take turns. Numbers and slots go up from round to round."""
+    """The requests under some keys, which take turns. Numbers and slots increase from round to round."""
 
     def __init__(self, keys, first_number, first_slot):
         self.keys, self.first_number, self.slot, self.asked = keys, first_number, first_slot, 0
@@ -68,7 +68,7 @@ class Asker:
         self.forged = {key: it[:-2] + ("A" if it[-2] != "A" else "B") + it[-1] for key, it in self.passes.items()}
 
     def refused(self):
-        """Requests that are refused after the rounds, each for another reason."""
+        """The requests after the rounds. The desk refuses each for a different reason."""
         key, slot = self.keys[0], slot_path(self.slot)
         whole, passed, book = key_pass(key, ROOT.hex()), self.passes[key], f"/bookings/{self.first_number + 900_000}"
         return [it.data for it in (
@@ -92,7 +92,7 @@ class Asker:
 
 
 def make_file(clubdesk, path, rows, has_big):
-    """Makes a club with 50 courts and a number of past bookings; then also a member with 10,000 bookings, and one with none."""
+    """Makes a club with 50 courts and a number of past bookings. Then adds a member with 10,000 bookings and a member without bookings."""
     subprocess.run([clubdesk, "add-member", path, "x", "1"], check=True, stdout=subprocess.DEVNULL)
     numbers = "WITH n(i) AS (SELECT 1 UNION ALL SELECT i + 1 FROM n WHERE i < {})".format
     statements = [f"{numbers(50)} INSERT INTO facilities SELECT 'court-' || i, 'court', 50, 1, 0, 24 FROM n"]
@@ -122,7 +122,7 @@ def built_in_go():
     return os.path.abspath("desk_in_go")
 
 
-# The other desks: how each is built, and its command line.
+# The other desks, each with its build and its command line.
 DESKS = {
     "c": lambda: [built("desk", "-lsqlite3", "-lnettle")],
     "go": lambda: [built_in_go()],
@@ -131,14 +131,14 @@ DESKS = {
 
 
 def write_statements():
-    """Returns our SQL texts that the desks prepare, one per line."""
+    """Returns clubdesk's SQL texts that the desks prepare, one per line."""
     source = (desk.ROOT / "crates" / "club_tables" / "src" / "texts.rt").read_text(encoding="utf-8")
     texts = dict(re.findall(r'const (\w+): &str = "(.*?)";', source, re.DOTALL))
     Path("statements").write_text("".join(re.sub(r"\\\n *", "", texts[name]) + "\n" for name in STATEMENTS), encoding="utf-8")
 
 
 class Beside(desk.Server):
-    """Another server, with its own command."""
+    """Another server, with a command of its own."""
 
     killed_by = signal.SIGTERM
 
@@ -156,13 +156,13 @@ def ask(server, requests):
 
 
 def in_order(replies):
-    """Returns the replies with sorted head lines, without the lines that only that server adds."""
+    """Returns the replies with sorted head lines. Leaves out the lines that only this server adds."""
     parts = [it.partition(b"\r\n\r\n") for it in re.split(rb"(?=HTTP/1\.1 \d{3} )", replies)[1:]]
     return [(sorted(it for it in head.split(b"\r\n") if not it.startswith((b"Date: ", b"Server: "))), body) for head, _, body in parts]
 
 
 def compare(kind, replies):
-    """Compares each desk's replies with ours; returns their number."""
+    """Compares the replies of each desk with clubdesk's replies. Returns the number of replies."""
     ours, others = replies[OURS], {name: its for name, its in replies.items() if name not in (OURS, PLAIN)}
     for name, its in others.items():
         if its != ours and (name == "c" or in_order(its) != in_order(ours)):
@@ -171,7 +171,7 @@ def compare(kind, replies):
 
 
 def measure(clubdesk, path, askers, count, rounds, desks):
-    """Returns each round's medians by asker, kind and server, and the number of compared replies."""
+    """Returns the medians of each round by asker, kind and server, and the number of compared replies."""
     for name in (OURS, *desks):
         desk.copy(path, name)
     found = {title: {kind: defaultdict(list) for kind in KINDS} for title in askers}

@@ -1,10 +1,11 @@
 #!/usr/bin/env -S /usr/bin/python3 -B
 """The standard library of Python, pymacaroons, Go's macaroon.v2 and Node.js narrow 1,000 passes as `passtool` does.
 
-They are drawn by a fixed seed and narrowed by the programs of examples/: Python's standard library and Node.js in V2, pymacaroons and Go's
-macaroon.v2 in V1, V2 and JSON. V1 and V2 are compared byte for byte. JSON has several spellings, and pymacaroons writes an empty location in V2,
-which passtool omits. For these, passtool rewrites the text before the comparison. In V1 pymacaroons counts the letters of a location and an
-identifier, not their bytes. So it gets only passes with ASCII in both, like the desk's. Each narrowed pass is signed under its root.
+A fixed seed determines the passes, and the programs of examples/ narrow them. Python's standard library and Node.js do so in V2, pymacaroons and
+Go's macaroon.v2 in V1, V2 and JSON. The test compares V1 and V2 byte for byte. JSON has several spellings. In V2, pymacaroons writes an empty
+location, which passtool omits. For these texts, passtool rewrites the text before the comparison. In V1, pymacaroons counts the letters of a
+location and an identifier instead of their bytes. So pymacaroons gets only passes with ASCII in both fields, as in the desk's passes. Each narrowed
+pass is signed under its root.
 """
 # pytestmark = [mark.programs, mark.needs("passtool"), mark.wants("python3-pymacaroons nodejs golang-go golang-gopkg-macaroon.v2-dev")]
 
@@ -39,7 +40,7 @@ draw = random.Random(20260501)
 
 
 def line_of(words, given=""):
-    """Returns a program's output of one or more lines."""
+    """Returns the output of a program, which has one or more lines."""
     return subprocess.run(words, input=given, capture_output=True, check=True, text=True).stdout.removesuffix("\n")
 
 
@@ -54,7 +55,7 @@ def caveats(most):
 
 
 class Pass:
-    """Draws a pass in each form, and its root."""
+    """Draws a pass in each form, and the pass's root."""
 
     def __init__(self):
         self.root = draw.randbytes(draw.randint(1, 64)).hex()

@@ -1,5 +1,6 @@
-/* Times reading and verifying a pass of three caveats, for tests/peers/passes_beside.py: passes_beside ROUNDS. Prints a line for each kind, its name
-   and the nanoseconds of a round: by the library over V1, V2 and JSON, and by Debian's libmacaroons over V1, each from the text on. */
+/* Measures the times to read and verify a pass of three caveats, for tests/peers/passes_beside.py: passes_beside ROUNDS. Prints a line for each
+   kind, with its name and the nanoseconds of a round. The kinds are the library over V1, V2 and JSON, and Debian's libmacaroons over V1. Each
+   measurement begins with the pass's text. */
 #include <clubpass.h>
 #include <macaroons.h>
 #include <stdio.h>

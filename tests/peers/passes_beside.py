@@ -1,13 +1,13 @@
 #!/usr/bin/env -S /usr/bin/python3 -B
 """The times of the library of passes, libmacaroons and pymacaroons to read and verify a pass.
 
-The pass has three caveats, and the time starts with its text.
+The pass has three caveats, and each measurement begins with the pass's text.
 
-In C the library reads each form, and Debian's libmacaroons only V1. In Python the module reads each form, and so does pymacaroons. The other two
-libraries get the three caveats; the module tests them against a request in a separate line. Prints the medians of the processor's microseconds
-over rounds of all libraries, and the ratios.
+In C, the library reads each form, and Debian's libmacaroons reads only V1. In Python, the module and pymacaroons both read each form. The other two
+libraries get the three caveats as arguments. A separate line has the times of the module that tests the caveats against a request. Prints the
+medians of the processor's microseconds over rounds of all libraries. Also prints the ratios.
 
-The library is the one that the loader chooses for this processor.
+The loader chooses the library for this processor.
 
   tests/peers/passes_beside.py [ROUNDS [COUNT]]      COUNT passes of each kind in a round; without: 11 2000
 """

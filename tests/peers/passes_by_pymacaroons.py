@@ -1,10 +1,10 @@
 #!/usr/bin/env -S /usr/bin/python3 -B
 """1,500 requests, half of them under passes narrowed by pymacaroons, get the replies of the rules in Python.
 
-Passes are in V1, V2 and JSON.
+The passes are in V1, V2 and JSON.
 
-The rules are those of tests/reference; the club, requests and caveats are drawn as in tests/desk/hostile.py, by a fixed seed. The other passes
-are narrowed by passtool; pymacaroons reads and writes these too.
+The rules are those of tests/reference. The test draws the club, requests and caveats as in tests/desk/hostile.py, by a fixed seed. passtool narrows
+the other passes. pymacaroons also reads and writes these passes.
 """
 # pytestmark = [mark.programs, mark.needs("clubdesk passtool"), mark.wants("python3-pymacaroons")]
 
@@ -50,7 +50,7 @@ def add_caveats(macaroon, *texts):
 
 
 class World(hostile.World):
-    """Both clubs, whose keys have passes in each form, and draws from a seed."""
+    """Both clubs, whose keys have passes in each form, and random draws from a seed."""
 
     def __init__(self, folder):
         super().__init__("pymacaroons", DESK, folder)
@@ -59,7 +59,7 @@ class World(hostile.World):
         self.give(("close-slot", *CLOSED))
         self.texts = {(key, form): self.text_of(key, form) for key in hostile.KEYS for form in FORMS}
 
-    # Each third key's pass is printed in V1, in V2 and in JSON.
+    # The first key's pass is printed in V1, the second in V2, the third in JSON, and so on.
 
     def words_of(self, command):
         return [*super().words_of(command), *(["--form", self.form_of(command[1])] if command[0] == "add-key" else [])]
@@ -74,7 +74,7 @@ class World(hostile.World):
         return FORMS[hostile.KEYS.index(key) % 3]
 
     def text_of(self, key, form):
-        """A key's pass in a form, by passtool; pymacaroons makes the same from the root."""
+        """Returns a key's pass in a form, which passtool makes. pymacaroons makes the same pass from the root."""
         root, = self.roots[key]
         minted = passes.minted(root, f"key:{key}".encode())
         text = passtool("convert", "--form", form, given=passes.text_of(minted, self.form_of(key)).decode())
@@ -91,7 +91,7 @@ class World(hostile.World):
         return [self.draw.choice(NOT_UNDERSTOOD) if self.draw.random() < 0.02 else self.caveat().decode() for _ in range(count)]
 
     def narrowed(self, text, form, by_pymacaroons):
-        """Returns the pass with more caveats, and its expected refusal if it was also spoiled."""
+        """Returns the pass with more caveats. If the pass was also spoiled, returns its expected refusal."""
         more = self.caveats()
         if not by_pymacaroons:
             return passtool("narrow", "--any", "--", *more, given=text) if more else text, None
@@ -118,7 +118,7 @@ class World(hostile.World):
         return write(macaroon, form)[:-1], 6
 
     def ask_under(self, server, form, by_pymacaroons):
-        """Returns a refusal's number, or 0 if the request is served. A malformed request is refused before its pass is read."""
+        """Returns the number of a refusal, or 0 if the request is served. The desk refuses a malformed request before it reads the pass."""
         key, method, path, body = self.target()
         text, spoil = self.narrowed(self.texts[key, form], form, by_pymacaroons)
         data = b"%s %s HTTP/1.1\r\nHost: club\r\nAuthorization: Bearer %s\r\nContent-Length: %d\r\n\r\n%s" % (

@@ -1,10 +1,10 @@
 /*
- * Calls each function of clubpass.h on its happy path, at its limits and into each fault. By the word `threads` it narrows in eight threads at
- * once. Each thread has its own passes, and all of them read a shared one. tests/peers/passes_from_c.sh runs it plainly, under valgrind and with
- * AddressSanitizer. Texts and signatures are those of docs/vectors.json and of libmacaroons' README.
+ * Calls each function of clubpass.h in its normal case, at its limits and into each fault. With the word `threads`, it narrows in eight threads at
+ * once. Each thread has its own passes, and all threads read a shared pass. tests/peers/passes_from_c.sh runs this program plainly, under valgrind
+ * and with AddressSanitizer. The texts and signatures are those of docs/vectors.json and of libmacaroons' README.
  *
- * Each input is at the end of a page, before an inaccessible one: reading a byte beyond it ends the program. So does reading a byte before an
- * input at a page's beginning.
+ * Each input is at the end of a page, before an inaccessible page. A call that reads a byte beyond the input ends the program. Some inputs begin at
+ * the start of a page. A call that reads a byte before such an input also ends the program.
  */
 #define _GNU_SOURCE
 #include <clubpass.h>
@@ -245,7 +245,7 @@ static void knows_caveats(void) {
         HOLDS(!clubpass_is_caveat((const uint8_t *)others[i], strlen(others[i])));
 }
 
-/* An object of any bytes is some pass: no call reads beyond it. */
+/* An object of any bytes counts as a pass, and no call reads beyond the object. */
 static void bears_any_object(void) {
     clubpass pass;
     uint8_t out[CLUBPASS_MAX_TEXT];

@@ -1,11 +1,13 @@
 #!/usr/bin/env -S /usr/bin/python3 -B
 """The library of passes, called from Python, agrees with `passtool` on 100,000 random or damaged texts.
 
-The texts come from a seed: passes of any bytes in each form, with up to 64 caveats. Some are spoiled: bytes of the text, or of what it
-encodes, are changed, put in, taken out or doubled. Others are cut off, in another alphabet of base64, or have odd names in JSON. Each goes to
-one command of passtool and to the same calls of the library: `show` and every part, `convert`, `narrow`, `verify`. The test compares the output,
-the fault's number, and whether the pass is signed. Caveats are lines of the language or nearly so: the library knows those that `narrow` without
-`--any` takes.
+The texts come from a seed. They are passes of any bytes in each form, with up to 64 caveats. Some texts
+are spoiled. Bytes of the text, or of the bytes that it encodes, are changed, inserted, removed or
+doubled. Other texts are cut off, use another alphabet of base64, or have odd names in JSON. Each
+text goes to one command of passtool and to the same calls of the library: `show` and every part,
+`convert`, `narrow`, `verify`. The test compares the output, the fault's number, and whether the
+pass is signed. The caveats are lines of the caveat language, or almost such lines. The library
+knows the caveats that `narrow` accepts without `--any`.
 
   tests/peers/passes_from_python.py [--count N] [--seed N]
 """
@@ -33,7 +35,7 @@ NUMBERS = {"TooLong": 1, "Malformed": 2, "ThirdParty": 3, "TooMany": 4}
 
 
 class Draws:
-    """Draws a text, its root, and the command for it."""
+    """Draws a text, its root, and the command for the text."""
 
     def __init__(self, clubpass, seed):
         self.clubpass, self.draw = clubpass, random.Random(seed)
@@ -69,7 +71,7 @@ class Draws:
             return root, b"A" * 8193, form
 
     def edited(self, data):
-        """The bytes with one to three changes."""
+        """Returns the bytes with one to three changes."""
         draw, data = self.draw, bytearray(data)
         for _ in range(draw.choice([1, 1, 1, 2, 3])):
             place = draw.randrange(len(data) + 1)

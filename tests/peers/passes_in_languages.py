@@ -1,9 +1,9 @@
 #!/usr/bin/env -S /usr/bin/python3 -B -m pytest -q -p no:cacheprovider
 """The library of passes agrees with docs/vectors.json from C, Python, Go and Node.js, and both ways with libmacaroons and pymacaroons.
 
-The vectors are each pass in each form, texts that are read as the same pass, texts that are none, and the verdict of each caveat on each request.
-Each pass is also minted and narrowed once more. libmacaroons and pymacaroons narrow and verify passes that the library mints, and the library
-passes that they make. The examples of bindings/ narrow the pass of README.
+The vectors have each pass in each form, other texts of the same pass, and texts that are not passes. They also have the verdict of each caveat on
+each request. The test also mints and narrows each pass again. The libraries libmacaroons and pymacaroons narrow and verify passes that our library
+mints. Our library does the same with their passes. The examples of bindings/ narrow the pass of README.
 """
 
 import copy
@@ -58,7 +58,7 @@ def told(vector, form):
 
 
 def lines():
-    """Yields each input line of a program, with the line that it must print."""
+    """Yields each input line of a program, with the line that the program must print."""
     for vector in VECTORS["passes"]:
         for form in FORMS:
             if form in vector:
@@ -71,7 +71,7 @@ def lines():
 
 
 def words_of(request):
-    """Returns a request's action, kind, moment, facility, day, hour, guests, and points owed and spent."""
+    """Returns a request's action, kind, moment, facility, day, hour, guests, points owed and points spent."""
     commands = (it.split() for it in VECTORS["club"]["commands"])
     facilities = {name: (kind, int(price)) for _, command, _, name, kind, _, price, *_ in (it for it in commands if it[1] == "add-facility")}
     words = request["path"].strip("/").split("/")
@@ -85,7 +85,7 @@ def words_of(request):
 
 
 def narrowed(*caveats):
-    """Returns a text with these caveats, made by the reference."""
+    """Returns a text with these caveats, which the reference makes."""
     made = passes.minted(b"root", b"key:a-1")
     for caveat in caveats:
         made = made.narrowed(caveat.encode())
@@ -177,7 +177,7 @@ def test_vectors(library, language):
 
 @pytest.mark.parametrize("language", ["c", "python", "go", "node"])
 def test_lent_pass_of_the_page(library, language):
-    """The example narrows the pass of README, and prints it and `signed`."""
+    """The example narrows the pass of README, and prints the pass and `signed`."""
     page = (desk.ROOT / "README.md").read_text(encoding="utf-8")
     text = next(it for it in page.split() if it.startswith("AgEJ"))
     folder = {"c": "c", "python": "python", "go": "go", "node": "node"}[language]
@@ -230,7 +230,7 @@ def test_types_of_the_module():
 
 
 def test_objects_of_dropped_passes(clubpass):
-    """A live pass is unaffected when others are dropped and made, even in eight threads."""
+    """A live pass doesn't change when other passes are dropped and made, even in eight threads."""
     with pytest.raises(TypeError):
         clubpass.Pass()
 
@@ -254,7 +254,7 @@ draw = random.Random(20260501)
 
 
 def drawn():
-    """Draws root, identifier, location and caveats in ASCII, which all these libraries accept."""
+    """Draws a root, an identifier, a location and caveats in ASCII, which all these libraries accept."""
     line = lambda least: "".join(chr(draw.randint(33, 126)) for _ in range(draw.randint(least, 40)))
     return draw.randbytes(draw.randint(1, 64)), line(1), line(1), [line(1) for _ in range(draw.randint(0, 8))]
 
@@ -283,7 +283,7 @@ def test_pymacaroons_both_ways(clubpass):
 
 
 class Libmacaroons:
-    """The needed calls of Debian's libmacaroons, through ctypes. It reads and writes only V1."""
+    """The necessary calls of Debian's libmacaroons, through ctypes. This library reads and writes only V1."""
 
     def __init__(self):
         self.c = ctypes.CDLL("libmacaroons.so.0")

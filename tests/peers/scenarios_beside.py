@@ -1,11 +1,11 @@
 #!/usr/bin/env -S /usr/bin/python3 -B
 """The desks in C and Go of `tests/peers/beside.py` give the stated answers to the scenarios' lines that they know.
 
-They know views, bookings and accounts, under passes in V2 with four kinds of caveats.
+The desks know views, bookings and accounts, under passes in V2 with four kinds of caveats.
 
-A scenario is played up to the first line that they don't know, such as a cancellation. `clubdesk` carries out commands and listings, over the
-same file. The desk in C writes the same bytes as ours. The desk in Go writes the lines of a head in another order, and is skipped if Go is
-missing.
+The test runs a scenario up to the first line that the desks don't know, such as a cancellation. `clubdesk` carries out commands and listings, over
+the same file. The desk in C writes the same bytes as clubdesk. The desk in Go writes the lines of a head in another order. The test skips it if Go
+is missing.
 
     tests/peers/scenarios_beside.py [FILE ..]
 """
@@ -36,7 +36,7 @@ STATEMENTS = "KEY OLDER_ROOT MEMBER FACILITY SLOT BOOKING COSTS_UNDER_KEY OPEN A
 
 
 def knows(event):
-    """Tells whether the desks know what a line asks."""
+    """Returns whether the desks know the request of a line."""
     if not isinstance(event, Request):
         return not isinstance(event, Crash) and not (isinstance(event, Reopen) and event.version)
     try:
@@ -51,7 +51,7 @@ def knows(event):
 
 
 def known(scenario):
-    """Returns the events before the first one that the desks don't know."""
+    """Returns the events before the first event that the desks don't know."""
     for number, event in enumerate(scenario.events):
         if not knows(event):
             return scenario.events[:number]
@@ -59,7 +59,7 @@ def known(scenario):
 
 
 class Server(programs.Server):
-    """Another server, with its own command line."""
+    """Another server, with a command line of its own."""
 
     killed_by = signal.SIGTERM
 
@@ -69,7 +69,7 @@ class Server(programs.Server):
 
 
 class Beside(Programs):
-    """Plays requests by another desk, and commands by `clubdesk`, over the same file."""
+    """Sends requests to another desk and commands to `clubdesk`, over the same file."""
 
     def __init__(self, desk, folder, words, statements, has_order):
         super().__init__(desk, folder)
@@ -86,13 +86,13 @@ class Beside(Programs):
 
 
 def in_order(reply):
-    """Sorts the lines of a reply's head, and drops those that only another server adds."""
+    """Sorts the lines of a reply's head, and drops the lines that only the other server adds."""
     head, _, body = reply.partition(b"\r\n\r\n")
     return b"\r\n".join([*sorted(it for it in head.split(b"\r\n") if not it.startswith((b"Date: ", b"Server: "))), body])
 
 
 def statements(folder):
-    """Writes our SQL statements that the desks prepare into a file, one a line."""
+    """Writes clubdesk's SQL statements that the desks prepare into a file, one per line."""
     source = (programs.ROOT / "crates" / "club_tables" / "src" / "texts.rt").read_text(encoding="utf-8")
     texts = dict(re.findall(r'const (\w+): &str = "(.*?)";', source, re.DOTALL))
     path = Path(folder, "statements")
@@ -101,7 +101,7 @@ def statements(folder):
 
 
 def desks(folder):
-    """Builds the desks. Yields the name of each, its command line, and whether its heads are in our order."""
+    """Builds the desks. Yields the name of each desk, its command line, and whether its heads have clubdesk's order."""
     in_c, in_go = Path(folder, "desk_in_c"), Path(folder, "desk_in_go")
     subprocess.run(["cc", "-O2", "-o", in_c, programs.TESTS / "peers" / "beside_c" / "desk.c", "-lsqlite3", "-lnettle"], check=True)
     yield "C", [str(in_c)], True

@@ -1,4 +1,4 @@
-"""A second implementation of the desk, with Python's standard library, written only from docs/DESK.md, docs/PASSES.md and docs/CAVEATS.md.
+"""A second implementation of the desk with Python's standard library, written only from docs/DESK.md, docs/PASSES.md and docs/CAVEATS.md.
 
-Tests ask the built programs and this package the same, and compare bytes. It shares no code with the product, and keeps its rows in
-plain dicts. So a rule that was read wrongly on one side shows as a difference."""
+Tests send the same requests to the built programs and to this package, and compare the bytes of the replies. The package shares no code with the
+product, and keeps its rows in plain dicts. So if one side misreads a rule, the test shows a difference."""

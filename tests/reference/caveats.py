@@ -15,7 +15,7 @@ FIRST_DAY, LAST_DAY = (date(2000, 1, 1) - EPOCH).days, (date(2099, 12, 31) - EPO
 
 @dataclass
 class Ask:
-    """A request as the caveats of a pass see it. `slot` is a facility, a day and an hour, or None; `kind` that of the facility."""
+    """A request as the caveats of a pass see it. `slot` is a facility, a day and an hour, or None. `kind` is the kind of the facility."""
 
     action: str
     slot: tuple | None
@@ -27,7 +27,7 @@ class Ask:
 
 
 def day_of(text):
-    """Returns the number of a day since 1970-01-01, or None for a text that isn't a day of the club."""
+    """Returns the number of a day since 1970-01-01, or None if the text isn't a day of the club."""
     if not re.fullmatch(r"\d{4}-\d{2}-\d{2}", text, re.ASCII):
         return None
     try:
@@ -42,7 +42,7 @@ def hour_of(text):
 
 
 def moment_of(text):
-    """Returns the minute since 1970-01-01T00:00, or None for a text that isn't a moment of the club."""
+    """Returns the minute since 1970-01-01T00:00, or None if the text isn't a moment of the club."""
     found = re.fullmatch(r"(\d{4}-\d{2}-\d{2})T([01]\d|2[0-3]):([0-5]\d)", text, re.ASCII)
     day = day_of(found[1]) if found else None
     return None if day is None else (day * 24 + int(found[2])) * 60 + int(found[3])
@@ -53,7 +53,7 @@ def number_of(text, most):
 
 
 def listed(text, words):
-    """Matches at least one of the words, in their order, separated by commas."""
+    """Matches at least one of the words, in their given order, with commas between them."""
     places = [words.index(it) if it in words else None for it in text.split(",")]
     return None not in places and all(one < other for one, other in zip(places, places[1:])) and places
 
@@ -126,7 +126,8 @@ NOT_UNDERSTOOD, DENIES = 11, 12
 
 
 def first_fault(caveats, ask):
-    """Returns the fault and the number, from 1, of the first caveat that isn't understood or denies, or None if all allow the request."""
+    """Returns the fault and the number of the first caveat that isn't understood or denies. Caveats are counted from 1. Returns None if all allow
+    the request."""
     for number, caveat in enumerate(caveats, 1):
         test = test_of(caveat)
         if test is None:

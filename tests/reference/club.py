@@ -10,7 +10,7 @@ DAY_MINUTES = 1440
 AHEAD_MINUTES = 86_400
 MOST_POINTS = 999_999_999
 
-# Planted faults, to test the tests: each makes one rule wrong.
+# Planted faults, which test the tests. Each fault makes one rule wrong.
 PLANTS = ("until_takes_its_minute", "cancels_without_a_refund", "counts_cancelled_as_open", "repeats_with_places_of_now",
           "spends_of_the_member", "rounds_refunds_up", "older_root_for_ever", "quota_by_key")
 
@@ -50,7 +50,7 @@ class Booking:
 
 @dataclass
 class Served:
-    """A reply with status 200: the names and values of its body, in order."""
+    """A reply with status 200. It has the names and values of its body, in order."""
 
     body: dict
 
@@ -109,13 +109,13 @@ class Club:
         return self.taken_in.get(slot, 0)
 
     def most_taken(self, facility):
-        """Returns the persons of a facility's fullest slot on any day."""
+        """Returns the persons in the fullest slot of a facility on any day."""
         return max((persons for slot, persons in self.taken_in.items() if slot[0] == facility), default=0)
 
     # ---- a request under a pass
 
     def ask(self, text, request, moment):
-        """Returns the reply to a request with this text as pass."""
+        """Returns the reply to a request with this text as its pass."""
         try:
             given = passes.read(text)
         except passes.NoPass as fault:
@@ -217,7 +217,8 @@ class Club:
     # ---- the office
 
     def command(self, words):
-        """Does a command; `words` are its name and its values. Raises CommandRefused if it is refused."""
+        """Carries out a command. `words` has the command's name and values. Raises CommandRefused if the club refuses
+        the command."""
         name, *values = words
         return getattr(self, "command_" + name.replace("-", "_"))(*values)
 

@@ -14,7 +14,7 @@ NO_JSON = (ValueError, RecursionError)  # what `json_value` raises
 
 
 class NoPass(Exception):
-    """Why a text is no pass: `fault` is the number of the desk's refusal."""
+    """The reason why a text is not a pass. `fault` is the number of the desk's refusal."""
 
     def __init__(self, fault):
         super().__init__(fault)
@@ -59,7 +59,7 @@ def minted(root, identifier, location=b"club-desk", caveats=()):
     return Pass(location, identifier, list(caveats), chain(root, identifier, caveats))
 
 
-# A parsed pass: each caveat is its identifier, and whether it is a third party's.
+# A parsed pass. Each caveat has its identifier, and whether it is a third-party caveat.
 @dataclass
 class WidePass:
     location: bytes
@@ -79,13 +79,13 @@ class WidePass:
 
 
 class Packets:
-    """V1's packets, read one by one."""
+    """Reads the packets of V1 one by one."""
 
     def __init__(self, data):
         self.data, self.at = data, 0
 
     def peek(self, key):
-        """Returns the next packet's data and end, if it has this key."""
+        """Returns the data and the end of the next packet, if the packet has this key."""
         digits = self.data[self.at:self.at + 4]
         if not re.fullmatch(rb"[0-9a-f]{4}", digits):
             raise Malformed
@@ -141,7 +141,7 @@ END, LOCATION, IDENTIFIER, VERIFIER, SIGNATURE = 0, 1, 2, 4, 6
 
 
 class Fields:
-    """V2's fields, read one by one."""
+    """Reads the fields of V2 one by one."""
 
     def __init__(self, data):
         self.data, self.at = data, 0
@@ -228,7 +228,7 @@ def v2_bytes(it):
 
 
 def whole_number(text):
-    """Reads a number without a fraction as serde_json does: only a number that fits unsigned 64 bits counts as a whole number."""
+    """Reads a number without a fraction in the same way as serde_json. Only a number that fits in unsigned 64 bits counts as a whole number."""
     number = finite(text)
     return int(text) if not text.startswith("-") and int(text) < 2**64 else number
 
@@ -262,7 +262,7 @@ def has_lone_surrogate(value):
 
 
 def json_value(data):
-    """Returns serde_json's value of the bytes; of equal names the last counts. Raises one of NO_JSON for other bytes."""
+    """Returns serde_json's value of the bytes. Of equal names in an object, the last counts. Raises one of NO_JSON for bytes that aren't JSON."""
     seen = []
 
     def pairs(found):
@@ -270,7 +270,7 @@ def json_value(data):
         return dict(found)
 
     value = json.loads(data.decode(), object_pairs_hook=pairs, parse_int=whole_number, parse_float=finite, parse_constant=refused_constant)
-    # a value is checked even if a later one with the same name replaces it
+    # serde_json checks a value even if a later value with the same name replaces it
     everything = [value, *(it for pair in seen for it in pair)]
     if any(map(has_lone_surrogate, everything)) or depth(data.decode()) > DEEPEST:
         raise ValueError("no JSON of serde_json")
@@ -278,7 +278,7 @@ def json_value(data):
 
 
 def json_bytes_of(value, plain, encoded):
-    """The bytes under a plain name or under its `64` name, never under both; None if neither is there."""
+    """The bytes under a plain name or under the name's `64` form, but never under both. None if both are missing."""
     if plain in value and encoded in value:
         raise Malformed
     text = value.get(plain, value.get(encoded))
@@ -342,7 +342,7 @@ def to_base64(data):
 
 
 def from_base64(text):
-    """Decodes either alphabet, but only one in a text, without padding or with the right padding; trailing bits must be zero."""
+    """Decodes both alphabets, but only one of them in a text. The text has no padding or the right padding, and trailing bits must be zero."""
     letters = text.rstrip(b"=")
     padding = len(text) - len(letters)
     if not re.fullmatch(rb"[A-Za-z0-9_-]*|[A-Za-z0-9/+]*", letters) or len(letters) % 4 == 1 or padding not in (0, -len(letters) % 4):
@@ -376,7 +376,7 @@ def read_wide(text):
 
 
 def read(text):
-    """Returns the pass that a text encodes. Raises NoPass with the fault that comes first."""
+    """Returns the pass that a text encodes. Raises NoPass with the first fault in the order of the checks."""
     if len(text) > MOST_BYTES:
         raise NoPass(TOO_LONG)
     try:

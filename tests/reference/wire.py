@@ -28,7 +28,7 @@ PATH = re.compile(r"/slots/(%s)/([^/]*)/([^/]*)(?:/bookings/([1-9][0-9]{0,8}))?"
 
 
 class NotDecoded(Exception):
-    """Bytes that the desk refuses before it looks at the pass: `fault` is the refusal's number, `methods` those of the path."""
+    """Bytes that the desk refuses before it reads the pass. `fault` is the refusal's number, and `methods` are the methods of the path."""
 
     def __init__(self, fault, methods=None):
         super().__init__(fault)
@@ -36,7 +36,7 @@ class NotDecoded(Exception):
 
 
 def split(data):
-    """Parses the method, target, fields and body at the beginning of bytes. The input ends after them."""
+    """Parses the method, target, fields and body at the beginning of bytes. No bytes follow these bytes in the input."""
     end = data.find(b"\r\n\r\n", 0, MOST_HEAD)
     if end < 0:
         raise NotDecoded(1)
@@ -69,7 +69,7 @@ def body_of(method, fields, rest):
 
 
 def guests_in(body):
-    """Returns the guests in the body of a PUT."""
+    """Returns the number of guests in the body of a PUT."""
     try:
         value = json_value(body)
     except NO_JSON as fault:
@@ -81,7 +81,7 @@ def guests_in(body):
 
 
 def decoded(data):
-    """Returns the text of the pass, and the request, that bytes encode."""
+    """Returns the text of the pass and the request that bytes encode."""
     method, target, fields, body = split(data)
     guests = guests_in(body) if method == b"PUT" else 0
     if target == "/account":
@@ -98,7 +98,7 @@ def decoded(data):
 
 
 def slot_request(method, target, guests):
-    """Returns a method's request at a slot's path, if the path has the method, and the path's methods."""
+    """Returns the request of a method at a slot's path, if the path has the method. Also returns the path's methods."""
     parts = PATH.fullmatch(target)
     day, hour = (day_of(parts[2]), hour_of(parts[3])) if parts else (None, None)
     if day is None or hour is None:

@@ -1,4 +1,4 @@
-// Sends requests to a desk one after the other, each over its own connection, and prints each one's microseconds, from before it connects to the
+// Sends requests to a desk one after the other, each over its own connection. Prints the microseconds of each, from before it connects until the
 // end of the reply. The replies go to a file, one after the other.
 //   client PORT REQUESTS REPLIES      REQUESTS: for each its length in a line, then its bytes
 #include <arpa/inet.h>

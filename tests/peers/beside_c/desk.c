@@ -1,6 +1,6 @@
-// A desk over SQLite's C library, to compare clubdesk's times with: the same file, statements and
-// replies, one connection after the other. It reads what an answer needs and no more: the key, then
-// the signature, and only then other rows. It knows only the caveats that beside.py writes: guests, until, spend, actions.
+// A desk over SQLite's C library, for comparing its times with clubdesk's. It has the same file, statements and replies, and serves one connection
+// after the other. The desk reads only what an answer needs: the key, then the signature, and only then other rows. The desk knows only the caveats
+// that beside.py writes: guests, until, spend, actions.
 //   desk FILE MOMENT < STATEMENTS      as beside.py says of each desk
 //   desk                               for each connection it reads once, writes 133 bytes and closes
 #include <arpa/inet.h>
@@ -55,7 +55,7 @@ static void copy_root(enum statement s, int column, struct root *to) {
     memcpy(to->at, sqlite3_column_blob(statements[s], column), to->len = (size_t)sqlite3_column_bytes(statements[s], column));
 }
 
-// The values of a statement, by their kinds: t a text, n a number.
+// The values of a statement, by their kinds: t is a text, n is a number.
 static void set(enum statement s, const char *kinds, ...) {
     va_list values;
     va_start(values, kinds);
@@ -65,7 +65,7 @@ static void set(enum statement s, const char *kinds, ...) {
     va_end(values);
 }
 
-// Whether a statement has one row more, of whose columns it takes some by their kinds: t a text, n a number, r a root.
+// Returns whether a statement has another row. Reads columns of the row by their kinds: t is a text, n is a number, r is a root.
 static bool next_row(enum statement s, const char *kinds, ...) {
     int status = sqlite3_step(statements[s]);
     if (status == SQLITE_DONE) return sqlite3_reset(statements[s]), false;
@@ -96,7 +96,7 @@ struct pass {
     uint8_t signature[SIGNATURE];
 };
 
-// Takes a field of a type from the rest. The end of a section, type 0, has no bytes.
+// Takes a field of a given type from the rest. The end of a section has type 0 and no bytes.
 static bool take(struct bytes *rest, uint8_t type, struct bytes *field) {
     const uint8_t *at = rest->at, *end = at + rest->len;
     size_t length = 0;
@@ -179,7 +179,7 @@ struct request {
 static char reply[MAX_REPLY];
 static int reply_len;
 
-// The body by a format and its values.
+// Writes the body with a format and its values.
 static void respond(const char *status, const char *more, const char *format, ...) {
     char body[256];
     va_list values;
@@ -208,7 +208,7 @@ static int day_number(int year, int month, int day) {
     return (int)(timegm(&(struct tm){.tm_year = year - 1900, .tm_mon = month - 1, .tm_mday = day}) / 86400);
 }
 
-// Reads head and body; it produces only the refusals that the test requests.
+// Reads the head and the body. It produces only the refusals that the test requests.
 static bool read_request(char *bytes, struct request *it) {
     char method[8], path[96];
     int year, month, date;
@@ -236,7 +236,7 @@ static int moment;
 
 struct row { char key[NAME], member[NAME]; int revoked; };
 
-// The key that a pass names, where the pass is signed under a root of it that is good.
+// Returns the key that a pass names, if a good root of the key signed the pass.
 static bool verify(const struct pass *pass, struct row *row) {
     char name[NAME];
     struct root root;
@@ -275,7 +275,7 @@ static struct member member_of(const char *name) {
     return it;
 }
 
-// Whether a key has spent more than this. Its costs are summed only if its member's used points don't decide.
+// Returns whether a key has spent more than a number of points. It sums the key's costs only if the points that the member has used don't decide.
 static bool has_spent_above(const struct row *row, int most) {
     return most < 0 || (member_of(row->member).used > most && spent_by(row->key) > most);
 }
@@ -308,7 +308,8 @@ static struct booking booking_of(const char *key, int number) {
     return it;
 }
 
-// Returns the number of the first caveat that denies, or minus the number of one that isn't understood, or 0.
+// Returns the number of the first caveat that denies, or minus the number of the first caveat that isn't understood. Returns 0 if all caveats
+// allow.
 static int first_fault(const struct pass *pass, const struct request *request, const struct row *row, int owed) {
     static const char *const actions[] = {"view", "book", "account"};
     for (int n = 0; n < pass->count; n++) {

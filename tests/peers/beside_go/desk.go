@@ -1,5 +1,5 @@
-// A desk by net/http and SQLite's C library, to compare clubdesk's times with: the same file,
-// statements and replies as beside_c/desk.c.
+// A desk with net/http and SQLite's C library, for comparing its times with clubdesk's. It has the
+// same file, statements and replies as beside_c/desk.c.
 //
 //	desk FILE MOMENT < STATEMENTS      as beside.py says of each desk
 package main
@@ -60,7 +60,7 @@ func newDesk(path string, moment int) *desk {
 	return d
 }
 
-// isFound scans a query's row, if there is one.
+// isFound scans the row of a query, if there is a row.
 func isFound(row *sql.Row, to ...any) bool {
 	err := row.Scan(to...)
 	if !errors.Is(err, sql.ErrNoRows) {
@@ -92,7 +92,7 @@ func (d *desk) spentBy(key string) (spent int) {
 	return spent
 }
 
-// hasSpentAbove sums a key's costs only if its member's used points don't decide.
+// hasSpentAbove sums a key's costs only if the points that the member has used don't decide.
 func (d *desk) hasSpentAbove(key key, most int) bool {
 	_, _, used := d.memberOf(key.member)
 	return used > most && d.spentBy(key.name) > most
@@ -144,7 +144,7 @@ func refuse(fault int, more string) reply {
 	return reply{faults[fault].status, fmt.Sprintf(`{"fault":%d,"text":%q%s}`, fault, faults[fault].body, more)}
 }
 
-// readRequest reads the path and the body; fault 0 is none.
+// readRequest reads the path and the body. The fault 0 means no fault.
 func readRequest(r *http.Request) (it request, fault int) {
 	if r.URL.Path == "/account" {
 		return request{action: "account"}, 0
@@ -188,7 +188,7 @@ type key struct {
 	revoked      bool
 }
 
-// signer returns the key that a pass names, if a good root of the key signed it.
+// signer returns the key that a pass names, if a good root of the key signed the pass.
 func (d *desk) signer(p *macaroon.Macaroon) (it key, isSigned bool) {
 	name := strings.TrimPrefix(string(p.Id()), "key:")
 	if name == string(p.Id()) || !isFound(d.key.QueryRow(name), &it.name, &it.member, &it.root, &it.revoked) {

@@ -1,11 +1,11 @@
 /*
- * A target of libFuzzer over the library of passes, for tests/peers/passes_fuzzed.sh. An input's first byte names the kind of the rest: a text,
- * bytes to encode in base64, a caveat, or the bytes of an object. The target aborts if a call breaks its header. A text that is read must be
- * written and read again as the same pass. A narrowed pass must be signed under the root of its minting. A fault must leave the state that the
- * header says.
+ * A target of libFuzzer over the library of passes, for tests/peers/passes_fuzzed.sh. The first byte of an input names the kind of the other bytes.
+ * They are a text, bytes to encode in base64, a caveat, or an object. The target aborts if a call doesn't do what the header describes. If a call
+ * reads a text, the target writes the pass and reads it again. The result must be the same pass. A narrowed pass must be signed under the root with
+ * which it was minted. After a fault, the state must be the state that the header describes.
  *
- * The library's code counts no branches, so this file's branches guide the fuzzer: faults, forms, counts and lengths. Each text is at
- * the end of a page, before an inaccessible one.
+ * The library's code counts no branches. So the branches of this file guide the fuzzer, by faults, forms, counts and lengths. Each text is at the
+ * end of a page, before an inaccessible page.
  */
 #include <clubpass.h>
 #include <stdio.h>
@@ -26,7 +26,7 @@ static uint8_t *end_of_page;
 static const uint8_t root[32] = "0123456789abcdef0123456789abcde";
 static volatile unsigned seen;
 
-/* Returns the text, placed so that no byte beyond it can be read. */
+/* Returns the text at a place where a read beyond the text ends the program. */
 static const uint8_t *at_the_edge(const uint8_t *text, size_t len) {
     if (!end_of_page) {
         size_t page = (size_t)sysconf(_SC_PAGESIZE), whole = 16 * page;

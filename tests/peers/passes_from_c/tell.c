@@ -1,5 +1,5 @@
 /*
- * What the library says of each line of standard input, whose words have bytes in hexadecimal, and `-` for none:
+ * Prints what the library returns for each line of standard input. The words of a line have bytes in hexadecimal, and `-` for no bytes:
  *
  *     pass ROOT TEXT         fault N, or form, location, identifier, caveats with commas, signature, its three texts, the signature of a
  *                            pass that is minted under the root and narrowed by the same caveats, and `signed` or `not signed`
@@ -33,7 +33,7 @@ static size_t from_hex(const char *text, uint8_t *bytes) {
     return len;
 }
 
-/* A call that fails to fill an object leaves no pass in it. */
+/* If a call fails to fill an object, the object contains no pass. */
 static bool is_empty(const clubpass *pass) {
     static const uint8_t zeros[CLUBPASS_SIGNATURE];
     uint8_t signature[CLUBPASS_SIGNATURE], byte[1];
@@ -43,7 +43,7 @@ static bool is_empty(const clubpass *pass) {
            clubpass_location(pass, byte, 0, &len) == CLUBPASS_OK && clubpass_identifier(pass, byte, 0, &len) == CLUBPASS_OK && len == 0;
 }
 
-/* The same pass, minted and narrowed under a root. */
+/* Mints the same pass under a root and narrows it. */
 static clubpass minted_again(const clubpass *pass, const uint8_t *root, size_t root_len) {
     static uint8_t identifier[CLUBPASS_ROOM];
     clubpass made = CLUBPASS_INIT;
@@ -110,7 +110,7 @@ static void tell_caveat(char **words) {
     puts(clubpass_is_caveat(out, len) ? "yes" : "no");
 }
 
-/* The place of a word in a list, from 1; 0 for none. */
+/* Returns the place of a word in a list, counted from 1, or 0 if the list doesn't contain the word. */
 static uint32_t place_of(const char *word, const char *const *list) {
     for (uint32_t i = 0; list[i]; i++)
         if (strcmp(word, list[i]) == 0)

@@ -1,4 +1,4 @@
-// As tell.c, by the package for Go.
+// Does the same as tell.c, with the package for Go.
 package main
 
 import (

@@ -1,4 +1,4 @@
-// As tell.c, by the module for Node.js.
+// Does the same as tell.c, with the module for Node.js.
 "use strict";
 
 const { Pass, PassError, isCaveat } = require(process.env.CLUBPASS_JS);

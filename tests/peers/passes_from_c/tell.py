@@ -1,4 +1,4 @@
-"""As tell.c, by the Python module."""
+"""Does the same as tell.c, with the Python module."""
 
 import sys
 from datetime import date, datetime
