@@ -22,7 +22,7 @@ ROOM = tempfile.TemporaryDirectory()
 PICTURES = sys.argv[1] if sys.argv[1:] else ROOM.name
 PASSES, SPOILED, CAVEATS = 1000, 2000, 2000
 FORMS = list(passes.FORMS)
-FAULTS = {"This text is too long for a pass.": 1, "This text isn't a whole pass.": 2, "This pass has a third-party caveat.": 3,
+FAULTS = {"This text is too long for a pass.": 1, "This text isn't a complete pass.": 2, "This pass has a third-party caveat.": 3,
           "This pass has too many limits.": 4}
 # The page's choices, in the order in which the page adds their lines.
 CHOICES = ["kind", "facility", "actions", "days", "weekday", "hours", "until", "guests", "spend"]
@@ -71,7 +71,7 @@ def reading_by_tool(text):
     values = [line.partition(" ")[2] for line in output.splitlines()]
     key = re.fullmatch("key:([a-z0-9][a-z0-9-]{0,23})", values[2])
     facts = {"Name": key[1]} if key else {"Identifier": values[2] or "(empty)"}
-    facts |= {"Form": values[0].upper(), "Location": f"{values[1]} (a hint, which nobody checks)" if values[1] else "none"}
+    facts |= {"Form": values[0].upper(), "Location": f"{values[1]} (a hint that nobody checks)" if values[1] else "none"}
     return facts, [value.partition(" ")[2] or "(empty)" for value in values[3:-1]]
 
 

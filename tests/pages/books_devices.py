@@ -21,9 +21,9 @@ def rotations(passes, front, between):
         page.when("dialogText().includes('Sending again')", "no reply")
         new = office("rotate-key", "amy-son", "99" + ROOT, "2000-01-01T00:00")
         between.fates.clear()
-        page.comes("isn't known", "a pass that is refused meanwhile")
+        page.comes("doesn't know whether", "a pass that is refused meanwhile")
         page.view("bookings")
-        check("It isn't known whether this is booked" in page.run("return byName('to-come').innerText"), "a booking in an unknown state")
+        check("The page doesn't know whether this slot is booked" in page.run("return byName('to-come').innerText"), "a booking in an unknown state")
         page.visit(f"#{new}", "isShown('day') && state.entries.every((each) => unfinished(each) === null && each.stopped === undefined)", "the new pass")
         check(same_record(page, "amy-son") == 1, "one booking")
         # A booking of another key waits until the member uses the pass of that key.
@@ -84,7 +84,7 @@ def devices(passes, front, server):
         page.run("byName('lost-part').open = true")
         unused = next(each for each in range(1, 1000) if each not in amounts("amy-phone"))
         before = amounts("amy-phone")
-        for asked, words in (("0", "Give a number from 1"), (unused, "never used this number"), (number, "Noted")):
+        for asked, words in (("0", "Enter a number from 1"), (unused, "never used this number"), (number, "Noted")):
             page.run("""["number", "facility", "day", "hour"].forEach((name, place) => { byName(`lost-${name}`).value = arguments[place]; });
                 byName("lost").requestSubmit();""", *map(str, (asked, *slot[:3])))
             page.when(f"shownText('lost-news').includes('{words}')", "a booking by its number")
@@ -189,7 +189,7 @@ def tells_what_is_missing(passes, front):
             page.booked("court-2", 9 + place, guests)
         check(page.run("return persistAsked") == 1, "the browser is asked once to keep the list", page.run("return persistAsked"))
         page.view("bookings")
-        has(page.run("return shownText('list-kept')"), "what it promised", "This browser keeps the list until you clear it.")
+        has(page.run("return shownText('list-kept')"), "what it promised", "This browser keeps the list until you clear the browser's data.")
         first = page.entries()
         page.view("bookings")
         page.when("state.account?.spent === 800", "the account")
@@ -260,9 +260,9 @@ def does_more_with_bookings(page, passes, between):
     more("Change")
     page.run("byName('change-hour').value = '12'; byName('change-guests').value = '1'")
     page.press("Look up")
-    page.when("dialogText().includes('Book the new one for 400 points, cancel the old one')", "what a change costs")
+    page.when("dialogText().includes('Book the new slot for 400 points, cancel the old booking')", "what a change costs")
     has(page.run("return dialogText()"), "what a change does", "12:00 to 13:00", "2 persons", "The old booking gives back 200 points", "you have both")
-    page.press("Book the new one for 400 points, cancel the old one")
+    page.press("Book the new slot for 400 points, cancel the old booking")
     page.comes("Changed. 200 points came back.", "a change")
     found = amounts("more-1")
     check([found[entry["number"]][-2:], sorted(rest[:4] for rest in found.values() if not rest[-2])]
@@ -276,7 +276,7 @@ def does_more_with_bookings(page, passes, between):
     page.run("byName('change-hour').value = '13'")
     page.press("Look up")
     page.when("dialogText().includes('cancel the old one')", "a full slot")
-    page.press("Book the new one for 400 points, cancel the old one")
+    page.press("Book the new slot for 400 points, cancel the old booking")
     page.comes("Not changed: you still have the old booking.", "a change that isn't one")
     check(not amounts("more-1")[moved["number"]][-2], "the old booking stays")
     # If the member can't cancel the old booking any more, she has both bookings, and the page tells her so.
@@ -285,14 +285,14 @@ def does_more_with_bookings(page, passes, between):
     page.run("byName('change-hour').value = '15'; byName('change-guests').value = '0'")
     page.press("Look up")
     page.when("dialogText().includes('cancel the old one')", "another hour")
-    page.press("Book the new one for 200 points, cancel the old one")
+    page.press("Book the new slot for 200 points, cancel the old booking")
     page.comes("You have both bookings: the old one wasn't cancelled.", "a change of which half fails")
     both = page.entries()[-1]
     check([amounts("more-1")[each["number"]][-2] for each in (moved, both)] == [0, 0], "both are in the file")
     page.cancelled(both["number"], "the new one")
     more("Change", moved["number"])
     page.press("Look up")
-    check("That is your booking already." in page.run("return dialogText()"), "no change")
+    check("You already have this booking." in page.run("return dialogText()"), "no change")
     page.press("Close")
     curl(page, "DELETE", f"/slots/court-2/{day(20)}/13/bookings/{number}", passes["other"])
     for each in (moved, later):

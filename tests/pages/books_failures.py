@@ -121,8 +121,8 @@ def lists_what_is_past(passes, front):
         page.view("account")
         page.when("shownText('account-facts').includes('of 99')", "the account")
         page.view("account")
-        has(page.run("return shownText('account')"), "what is said where it bites", "A pass for each person.", "A pass for each device.",
-            "as amy-phone, each keeps", "Lost your phone?", "Forget the pass")
+        has(page.run("return shownText('account')"), "what is said where it bites", "Each person needs a separate pass.", "Each device needs a separate pass.",
+            "as amy-phone, each device keeps", "Lost your phone?", "Forget the pass")
         page.run("byName('import-text').value = arguments[0]; byName('import').requestSubmit()", "record of amy-phone\n"
                  f"5 court-1 {day(-3)} 10 guests 1 charge 400 left 2\n6 boat-1 {day(-2)} 09 guests 0 charge 150 left 1 refund 75\n")
         page.when("shownText('import-news').includes('2 bookings')", "a record of past bookings")
@@ -255,7 +255,7 @@ BROKEN = {
                    "doesn't let the page store anything"),
     "no storage, later": ("IDBFactory.prototype.open = function () { const request = new EventTarget(); request.error = new Error('no'); "
                           "setTimeout(() => request.dispatchEvent(new Event('error'))); return request; };", "doesn't let the page store anything"),
-    "no locks": ("Object.defineProperty(navigator, 'locks', { value: undefined });", "This browser is too old to book with"),
+    "no locks": ("Object.defineProperty(navigator, 'locks', { value: undefined });", "This browser is too old for booking"),
 }
 
 
@@ -284,7 +284,7 @@ def broken_browsers(passes, front, server):
         page.run(later)
         page.book("court-1", 10)
         page.when("dialogText().includes('Booked.')", "a storage that gets full")
-        check("couldn't save the answer" in page.run("return dialogText()"), "it says so")
+        check("couldn't save the desk's answer" in page.run("return dialogText()"), "it says so")
         page.driver.refresh()
         page.when("isShown('day') && state.entries.length === 1 && allAnswered()", "the reply again")
         number = page.entries()[0]["number"]

@@ -35,10 +35,10 @@ def lists_send_nothing(page, passes, server):
         page.view("bookings")
         time.sleep(1.5)
         check(not unasked(server, before), "what a list sent by itself", unasked(server, before))
-    page.when("byName('to-come').innerText.includes('fewer persons in it than this list says')", "what the list names is looked up")
+    page.when("byName('to-come').innerText.includes('fewer persons in it than the list shows')", "what the list names is looked up")
     text = page.run("return byName('to-come').innerText")
-    has(text, "what a list says", "From a list: asked for, with no answer yet", "From a list: being cancelled", "From a list: cancelled, 601 points came back",
-        "A list says that this was cancelled.")
+    has(text, "what a list says", "From a list: requested, with no answer yet", "From a list: being cancelled", "From a list: cancelled, 601 points came back",
+        "A list shows this booking as cancelled.")
     own_card = page.run("return [...byName('to-come').children].find((each) => each.innerText.includes(arguments[0])).innerText", f"Number {own['number']}")
     check("Booked" in own_card and "From a list" not in own_card and "may have" not in own_card, "a list can't show a standing booking as cancelled", own_card)
     page.view("day")
@@ -48,7 +48,7 @@ def lists_send_nothing(page, passes, server):
     page.view("bookings")
     page.run("""[...byName('to-come').children].find((each) => /Number 10(?![0-9])/.test(each.innerText)).querySelector('button').click()""")
     page.when("dialogText().includes('Book for 300 points')", "the press")
-    has(page.run("return dialogText()"), "what the press names", "Book Double scull", "10:00 to 11:00", "300 points", "nothing is booked twice")
+    has(page.run("return dialogText()"), "what the press names", "Book Double scull", "10:00 to 11:00", "300 points", "books nothing twice")
     check(not unasked(server, before), "sent before the press", unasked(server, before))
     page.press("Book for 300 points")
     page.comes("Booked.", "what a list named")
@@ -227,8 +227,8 @@ def keeps_each_pass(page, passes):
 
 def odd_passes(page, passes):
     whole = passes["amy-1"]
-    rows_of = [("", "isn't a whole pass"), ("nonsense!", "isn't a whole pass"), (whole[:-1], "isn't a whole pass"), (whole[:20], "isn't a whole pass"),
-               ("A" * 8193, "too long for a pass"), ("{" * 100, "isn't a whole pass")]
+    rows_of = [("", "isn't a complete pass"), ("nonsense!", "isn't a complete pass"), (whole[:-1], "isn't a complete pass"), (whole[:20], "isn't a complete pass"),
+               ("A" * 8193, "too long for a pass"), ("{" * 100, "isn't a complete pass")]
     page.open(page.address)
     for text, words in rows_of[1:]:
         page.run("byName('given').value = arguments[0]; byName('use').click()", text)

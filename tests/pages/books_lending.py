@@ -40,7 +40,7 @@ def lends(passes, front, between):
         page.sees(360, "light", 740)
         page.enter(passes["amy-1"], keeps="Keep it")
         page.view("lend")
-        has(page.run("return shownText('lend-which')"), "without a spare pass", "No spare pass is kept here.", "anyone with the link can cancel them")
+        has(page.run("return shownText('lend-which')"), "without a spare pass", "This browser keeps no spare pass.", "anyone with the link can cancel your bookings")
         page.visit(f"#spare={passes['amy-lend-1']};{passes['amy-lend-2']}", "dialogText().includes('amy-lend-1, amy-lend-2')", "spare passes in a link")
         check(page.run("return localStorage.spares") is None, "nothing is kept before the press")
         page.press("Keep it")
@@ -127,10 +127,10 @@ def lends(passes, front, between):
         curl(page, "DELETE", f"/slots/court-1/{day(3)}/12/bookings/{number}", passes["amy-lend-1"])
         page.enter(passes["amy-1"])
         page.cancelled_at(own, "court-2")
-        for length, words in ((20, "scan this code"), (900, "It is dense"), (3000, "too long for a QR code")):
+        for length, words in ((20, "scan this code"), (900, "The code is dense"), (3000, "too long for a QR code")):
             page.run("byName('to-lend').click(); showMade('A'.repeat(arguments[0]), 'x')", length)
             check(words in page.run("return shownText('lend-qr-words')"), "a QR code of a long link", length, page.run("return shownText('lend-qr-words')"))
-        page.visit("#spare=AgEJ;x", "dialogText().includes(\"isn't whole\")", "a link of spare passes that isn't whole")
+        page.visit("#spare=AgEJ;x", "dialogText().includes(\"isn't complete\")", "a link of spare passes that isn't whole")
     print("a part is lent by a spare pass in a sentence, a link, a QR code; who has it books within it, and is shown no button that it refuses")
 
 
@@ -167,7 +167,7 @@ def tries_the_club(address):
             engine.run("document.getElementById('change-hour').value = '10'")
             engine.press("Look up", "dialog")
             engine.when("shown('dialog').includes('If the old one')", "what happens if one of both fails")
-            engine.press("Book the new one for 200 points, cancel the old one", "dialog")
+            engine.press("Book the new slot for 200 points, cancel the old booking", "dialog")
             engine.when("shown('dialog').includes('Changed. 200 points came back')", "a change")
             engine.press("Close", "dialog")
             books(8, ahead[19])
@@ -180,7 +180,7 @@ def tries_the_club(address):
             engine.when("/(copied|sent|Will you come)/.test(shown('dialog'))", "an invitation")
             engine.press("Close", "dialog")
             of_the_card("Into the calendar")
-            engine.when("shown('list-remind').includes(\"3 bookings aren't saved\") && shown('list-says') === ''", "a reminder, and a list that is whole")
+            engine.when("shown('list-remind').includes(\"3 bookings are saved only\") && shown('list-says') === ''", "a reminder, and a list that is whole")
             engine.open(f"{address}#record=anna-1;77+court-2+{ahead[21]}+09+guests+0+charge+200+left+3")
             engine.when("shown('dialog').includes('1 booking of anna-1')", "a list by a link")
             engine.press("Add to this browser", "dialog")
@@ -196,7 +196,7 @@ def tries_the_club(address):
             engine.when(f"{DAY_THERE} && shown('pass-says').includes('0 of 200 points booked in this browser.')", "the holder's page")
             goes_to(engine, ahead[20])
             engine.tap(slot_path("Court 1", 12))
-            engine.when("shown('dialog').includes(\"Your pass ends before this slot. After that you can't cancel the booking.\")", "a slot after the pass's end")
+            engine.when("shown('dialog').includes(\"Your pass ends before this slot. When the pass has ended, you can't cancel the booking.\")", "a slot after the pass's end")
             engine.press("Book for 200 points", "dialog")
             engine.when("shown('dialog').includes('Booked.')", "the holder's booking")
             engine.press("Close", "dialog")
@@ -250,14 +250,14 @@ def lends_what_the_pass_opens(address):
             page.run("localStorage.removeItem('demo loans'); localStorage['demo spares'] = JSON.stringify(arguments[0])", spares)
             opens(page)
             which = page.run("return shownText('lend-which')")
-            check((wanted is None) == ("None of your spare passes can be used." in which and "can cancel them" in which), "which spare pass is taken", wanted, which)
+            check((wanted is None) == ("None of your spare passes can be used." in which and "can cancel your bookings" in which), "which spare pass is taken", wanted, which)
             check(made(page)[0] == (wanted or "anna-1"), "the pass that is lent", wanted)
         # Uses such spare passes again, but the page notices the fault only after the press.
         page.run("localStorage.removeItem('demo loans'); localStorage['demo spares'] = JSON.stringify([arguments[0]])", renewed)
         opens(page)
         page.run("unfit.clear(); showChosen()")
         check(page.run("return shownText('lend-which')") == "", "nothing is known yet")
-        check("Nothing was made yet" in made(page) and page.run("return keptLoans().length") == 0, "no loan of her own pass before she is told")
+        check("The link isn't made yet" in made(page) and page.run("return keptLoans().length") == 0, "no loan of her own pass before she is told")
         check("None of your spare passes" in page.run("return shownText('lend-which')") and made(page)[0] == "anna-1", "and one once she presses again")
         # A pass with limits.
         last = page.run("return daysLater(clubMoment().slice(0, 10), 1)")
@@ -310,7 +310,7 @@ def says_what_it_keeps(address):
         page.helpers = HELPERS
         opens_lend(page, address)
         page.run(FULL)
-        for key, words in [("anna-lend-1", "may lend it again"), ("anna-lend-2", "may lend it again"), ("anna-1", "until you reload or close this page.")]:
+        for key, words in [("anna-lend-1", "may lend it again"), ("anna-lend-2", "may lend it again"), ("anna-1", "until you reload or close the page.")]:
             found = made(page)
             check(found[0] == key and page.run("return shownText('lend-news')").endswith(words) == (key == "anna-1"), "no spare pass twice", key, found)
             check(words in page.run("return shownText('lend-news')"), "what isn't kept", key, page.run("return shownText('lend-news')"))
@@ -330,7 +330,7 @@ def says_what_it_keeps(address):
         opens_lend(page, f"{address}#" + text_of(page, "return writePass(await narrowed(readPass(await passToTry('anna-1')), ['until < 2026-01-02T18:00']))"))
         page.run("byName('to-day').click(); byName('to-find').click()")
         for place in ("find-looked", "lend-trouble"):
-            has(page.run(f"return byName('{place}').textContent"), f"a pass that has ended: {place}", "This pass has ended.", "January 2", "Ask whoever gave it to you", "Enter another pass")
+            has(page.run(f"return byName('{place}').textContent"), f"a pass that has ended: {place}", "This pass has ended.", "January 2", "ask the office, or the person who gave you this pass", "Enter another pass")
         check(page.run("return byName('find-grid').rows.length") == 0, "no grid without a word", page.run("return shownText('find-part')"))
         page.click("find-next")
         check(page.run("return shownText('find-news')") == "This pass has ended.", "the next free time of it", page.run("return shownText('find-news')"))
@@ -353,7 +353,7 @@ def keeps_so_many(address):
         page.run("localStorage['demo passes'] = JSON.stringify(arguments[0].map((text, count) => ({ text, name: `pass ${count + 1}` })))", passes)
         opens_lend(page, f"{address}#{last}")
         page.run("pressIn(byName('notices'), 'Keep it')")
-        has(page.run("return shownText('notices')"), "a 21st pass", "This browser keeps 20 passes, and it can't keep more.", "“Forget the pass” under “Account”")
+        has(page.run("return shownText('notices')"), "a 21st pass", "This browser keeps 20 passes, and can't keep more.", "“Forget the pass” under “Account”")
         check("can't keep the pass" not in page.run("return shownText('notices')"), "a 21st pass", page.run("return shownText('notices')"))
         page.run("byName('to-account').click(); pressIn(byName('pass-buttons'), 'Keep the pass in this browser')")
         has(page.run("return shownText('pass-news')"), "once more", "20 passes are kept")
@@ -368,7 +368,7 @@ def keeps_so_many(address):
         page.run("localStorage.removeItem('demo passes'); localStorage['demo spares'] = JSON.stringify(arguments[0])", passes)
         page.run("localStorage['demo loans'] = JSON.stringify([{ given: arguments[0], says: 'lent', spare: arguments[0] }])", passes[0])
         opens_lend(page, f"{address}#spare={first};{last}")
-        has(page.run("return dialogText()"), "a 21st spare pass", "These aren't kept yet: a browser keeps 20 spare passes. Remove 2 that you no longer need.")
+        has(page.run("return dialogText()"), "a 21st spare pass", "These spare passes aren't kept yet: a browser keeps at most 20 spare passes. Remove 2 spare passes that you no longer need.")
         check(page.run("return byName('dialog').querySelectorAll('li').length") == 19, "one that is lent isn't removed", page.run("return dialogText()"))
         keep("spares-full.png", page.driver.get_screenshot_as_base64())
         for count in (0, 1):
@@ -379,7 +379,7 @@ def keeps_so_many(address):
         time.sleep(0.5)
         page.run("pressIn(byName('dialog'), 'Keep it')")
         time.sleep(0.5)
-        check("They are kept." in page.run("return dialogText()") and page.run("return keptSpares()") == [passes[0], *passes[3:], first, last], "kept", page.run("return dialogText()"))
+        check("The spare passes are kept." in page.run("return dialogText()") and page.run("return keptSpares()") == [passes[0], *passes[3:], first, last], "kept", page.run("return dialogText()"))
         page.run("pressIn(byName('dialog'), 'Close')")
         page.run(FULL)
         page.run("offerSpares([arguments[0]]); pressIn(byName('dialog'), 'Remove anna-1')", passes[1])

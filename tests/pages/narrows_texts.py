@@ -41,7 +41,7 @@ def refuses_to_write_as_passtool(page):
         fault = narrowed_by_tool(text, lines)
         answer = page.narrow(text, *fields_of(*lines))
         check(fault == ("fault 1: too long" if words == "bytes" else "fault 4: too many caveats"), "passtool", lines, fault)
-        check("can't be narrowed like this" in answer.get("fault", ""), "a pass that grows too much", lines, answer)
+        check("can't be narrowed with these limits" in answer.get("fault", ""), "a pass that grows too much", lines, answer)
         check(words in answer["fault"], "how much it grows", lines, answer)
     at_most = page.narrow(nearly, ("kind", ["court"]), ("guests", "1"))
     check(at_most.get("text") == narrowed_by_tool(nearly, ["kind = court", "guests <= 1"]), "64 limits", at_most)
@@ -94,33 +94,33 @@ def faulty_texts():
         # V2
         (unpadded(b"\2\2\x85\0keyid"), 2, "isn't written in the shortest way"),
         (unpadded(v2.replace(b"\5keyid", b"\x85\0keyid")), 2, "isn't written in the shortest way"), (unpadded(v2 + b"\0"), 2, "continues after the signature"),
-        (unpadded(b"\2\2\xff\xff\xff\x7f"), 2, "greater than that of the whole text"), (unpadded(b"\2"), 2, "breaks off in the identifier"),
+        (unpadded(b"\2\2\xff\xff\xff\x7f"), 2, "greater than the length of the whole text"), (unpadded(b"\2"), 2, "breaks off in the identifier"),
         (unpadded(b"\2\6\1a"), 2, "something else where the identifier should be"),
         (unpadded(b"\2" + field(2, b"a") + field(4, b"a")), 2, "something else where the identifier should end"),
         (written("v2", replace(KEYID, signature=bytes(33))), 2, "33 bytes, not 32"), (unpadded(v2[:-40]), 2, "breaks off in"),
         # JSON
-        ("{", 2, "breaks off"), ("{}", 2, "Its i is missing"), ("[]", 2, "“[” at position 1"), ("{i", 2, "at position 2"), ('{"i":"keyid"}', 2, "Its s is missing"),
-        ("{" + S64 + "}", 2, "Its i is missing"), ("{" + SHORT + "x", 2, "more text after the end"),
+        ("{", 2, "breaks off"), ("{}", 2, "Field i is missing"), ("[]", 2, "“[” at position 1"), ("{i", 2, "at position 2"), ('{"i":"keyid"}', 2, "Field s is missing"),
+        ("{" + S64 + "}", 2, "Field i is missing"), ("{" + SHORT + "x", 2, "more text after the end"),
         ('{"i":"keyid","s64":"fN7nklEcW8b1KEhYBd_psk54XijiqZMB-dcRxgnjjg"}', 2, "31 bytes, not 32"), ("\ufeff{" + SHORT, 2, "at position 1"),
         (unpadded(b'{"\xff'), 2, "isn't text in UTF-8"), ('{"i":"a\nb",' + S64 + "}", 2, "text in quotes"),
         ('{"i":"\\ud800",' + S64 + "}", 2, "half a character"), (nested(127), 2, "more than 127 nested brackets"),
         *((with_member('"v":' + it), 2, "isn't the whole number 2") for it in ("1", "2.0", "2e0", "-2", "null", '"2"')),
-        (with_member('"v":1e999'), 2, "too large"), (with_member('"v":02'), 2, "a comma or }"), (with_member('"i64":"_w"'), 2, "i and i64 are both there"),
+        (with_member('"v":1e999'), 2, "too large"), (with_member('"v":02'), 2, "a comma or }"), (with_member('"i64":"_w"'), 2, "i and field i64 must not both be there"),
         (with_member('"c":null'), 2, "aren't a list"), (with_member('"c":{}'), 2, "aren't a list"), (with_member('"c":["a"]'), 2, "Caveat 1 isn't an object"),
-        (with_member('"c":[{"l":"x"}]'), 2, "Caveat 1's i is missing"), (with_member('"x":1'), 2, "the name “x”"),
-        (with_member('"c":[{"i":"a","i64":"_w"}]'), 2, "Caveat 1's i and i64"), (with_member('"l":null'), 2, "Its l isn't a text"),
-        (with_member('"l":"a","l64":"YQ"'), 2, "l and l64 are both there"), (with_member('"l64":"_"'), 2, "Its l64 breaks off"),
-        (with_member('"s":"0123456789abcdef0123456789abcdef"'), 2, "s and s64 are both there"),
-        (with_member('"c":[{"i":"a","v64":"_w","x":1}]'), 2, "Caveat 1 has the name “x”"), (with_member('"__proto__":1'), 2, "“__proto__”"),
-        # third-party caveats, too many caveats, texts that are too long
-        (unpadded(third_v1), 3, "Its caveat 1"), (many(0, third_v2), 3, "Its caveat 1"),
-        (unpadded(b"\2" + field(2, b"a") + b"\0" + field(1, b"") + third_v2 + b"\0" + field(6, KEYID.signature)), 3, "Its caveat 1"),
-        (with_member('"c":[{"i":"a"},{"i":"a","v":"b"}]'), 3, "Its caveat 2"), (with_member('"c":[{"i":"a","v64":"_w"}]'), 3, "Its caveat 1"),
-        (with_member('"c":[{"i":"a","l":""}]'), 3, "Its caveat 1"), (with_member('"c":[{"i":"a","l64":""}]'), 3, "Its caveat 1"),
-        (many(65), 4, "It has 65 limits"), (many(64, third_v2), 3, "Its caveat 65"), (many(65, behind=b"\0"), 2, "continues after"),
-        (with_member('"c":[' + ",".join([guests] * 65) + "]"), 4, "It has 65 limits"),
-        (with_member('"c":[' + ",".join([guests] * 65) + ",{}]"), 2, "Caveat 66's i is missing"),
-        (with_member('"c":[' + ",".join([guests] * 65) + ',{"i":"x","v64":""}]'), 3, "Its caveat 66"), ("{" * 8193, 1, "8,193 bytes"),
+        (with_member('"c":[{"l":"x"}]'), 2, "Field i of caveat 1 is missing"), (with_member('"x":1'), 2, "a field “x”"),
+        (with_member('"c":[{"i":"a","i64":"_w"}]'), 2, "Field i of caveat 1 and field i64"), (with_member('"l":null'), 2, "Field l isn't a text"),
+        (with_member('"l":"a","l64":"YQ"'), 2, "l and field l64 must not both be there"), (with_member('"l64":"_"'), 2, "Field l64 breaks off"),
+        (with_member('"s":"0123456789abcdef0123456789abcdef"'), 2, "s and field s64 must not both be there"),
+        (with_member('"c":[{"i":"a","v64":"_w","x":1}]'), 2, "Caveat 1 has a field “x”"), (with_member('"__proto__":1'), 2, "“__proto__”"),
+        # third-party caveats, too many caveats, too long texts
+        (unpadded(third_v1), 3, "Caveat 1 needs"), (many(0, third_v2), 3, "Caveat 1 needs"),
+        (unpadded(b"\2" + field(2, b"a") + b"\0" + field(1, b"") + third_v2 + b"\0" + field(6, KEYID.signature)), 3, "Caveat 1 needs"),
+        (with_member('"c":[{"i":"a"},{"i":"a","v":"b"}]'), 3, "Caveat 2 needs"), (with_member('"c":[{"i":"a","v64":"_w"}]'), 3, "Caveat 1 needs"),
+        (with_member('"c":[{"i":"a","l":""}]'), 3, "Caveat 1 needs"), (with_member('"c":[{"i":"a","l64":""}]'), 3, "Caveat 1 needs"),
+        (many(65), 4, "The pass has 65 limits"), (many(64, third_v2), 3, "Caveat 65 needs"), (many(65, behind=b"\0"), 2, "continues after"),
+        (with_member('"c":[' + ",".join([guests] * 65) + "]"), 4, "The pass has 65 limits"),
+        (with_member('"c":[' + ",".join([guests] * 65) + ",{}]"), 2, "Field i of caveat 66 is missing"),
+        (with_member('"c":[' + ",".join([guests] * 65) + ',{"i":"x","v64":""}]'), 3, "Caveat 66 needs"), ("{" * 8193, 1, "8,193 bytes"),
         ("A" * 8193, 1, "8,193 bytes"), ("é" * 4097, 1, "8,194 bytes"), ("{" * 8192, 2, "in quotes"), ("{" + SHORT + " " * 8128, 1, "8,193 bytes"),
     ]
 

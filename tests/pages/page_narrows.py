@@ -53,21 +53,21 @@ SENTENCES = {
     "facility = court-1,court-1": "Only court-1.",
     "facility = court-1,court-2,room-1": "Only court-1, court-2 or room-1.",
     "hours = 18-20": "Only slots that begin at 18:00 or later and before 20:00.",
-    "days = 2026-05-01..2026-05-31": "Only from Friday 1 May 2026 to Sunday 31 May 2026, both included.",
+    "days = 2026-05-01..2026-05-31": "Only from Friday 1 May 2026 to Sunday 31 May 2026, including both days.",
     "days = 2024-02-29..2024-02-29": "Only on Thursday 29 February 2024.",
     "until < 2026-05-01T18:00": "Until Friday 1 May 2026, 18:00.",
     "until < 2000-01-01T00:00": "Until the end of Friday 31 December 1999.",
     "until < 2099-12-31T23:59": "Until Thursday 31 December 2099, 23:59.",
     "weekday = sat,sun": "Only on Saturdays or Sundays.",
     "weekday = mon": "Only on Mondays.",
-    "guests <= 0": "Bookings with no guests.",
-    "guests <= 1": "Bookings with at most 1 guest.",
-    "guests <= 12": "Bookings with at most 12 guests.",
-    "spend <= 0": "Nothing that costs points.",
-    "spend <= 1": "At most 1 point in all. Every booking ever made with this pass or a part of it counts.",
-    "spend <= 123456789": "At most 123,456,789 points in all. Every booking ever made with this pass or a part of it counts.",
-    "actions = view,book": "Only to look at slots or book.",
-    "actions = view,cancel,account": "Only to look at slots, cancel bookings or look at the account.",
+    "guests <= 0": "Only bookings with no guests.",
+    "guests <= 1": "Only bookings with at most 1 guest.",
+    "guests <= 12": "Only bookings with at most 12 guests.",
+    "spend <= 0": "No bookings that cost points.",
+    "spend <= 1": "At most 1 point in all. Every booking ever made with this pass or a part of it counts towards this limit.",
+    "spend <= 123456789": "At most 123,456,789 points in all. Every booking ever made with this pass or a part of it counts towards this limit.",
+    "actions = view,book": "The holder may only look at slots or book.",
+    "actions = view,cancel,account": "The holder may only look at slots, cancel bookings or look at the account.",
     "shoe = red": "The desk doesn't understand this limit, so it refuses the pass.",
 }
 # The lines that fields make, also from other spellings.
@@ -142,8 +142,8 @@ def notes_say_what_matters(page):
     check("no name that the desk could know" in stranger["shown"], "a stranger's pass", stranger)
     check(stranger["facts"]["Identifier"] == "we used our secret key", "whose a stranger's pass is", stranger)
     text = page.run("return document.body.innerText")
-    for words in ["The desk counts every booking ever made with this pass", "narrow a spare pass or a pass of their own",
-                  "can also cancel bookings made with your pass", "Days and times are the club's"]:
+    for words in ["The desk counts every booking ever made with this pass", "narrow a spare pass or a separate pass",
+                  "can also cancel bookings made with your pass", "Days and times are in the club's time zone"]:
         check(words in re.sub(r"\s+", " ", text), "the page doesn't say", words)
     print(f"{len(NOTES)} passes come with what matters of them")
 
@@ -355,11 +355,11 @@ def only_shows_where_it_cannot_sign():
         address = f"http://club.example:{port}/pass.html"
         page.open(f"{address}#{AMY}")
         check(page.run("return window.isSecureContext") is False, "a page over http is no secure context")
-        check("can't sign here" in page.run("return byId('unsigned').textContent"), "a page that can't sign says so")
+        check("can't sign a pass here" in page.run("return byId('unsigned').textContent"), "a page that can't sign says so")
         check(page.run("return byId('narrow').disabled"), "a page that can't sign doesn't narrow")
         check(page.run("return factsOf(byId('given-pass')).Name") == "amy-1", "a page that can't sign shows a pass")
         answer = page.narrow(AMY, ("guests", "1"))
-        check("can't sign here" in answer.get("fault", ""), "a page that can't sign doesn't narrow, asked by whatever way", answer)
+        check("can't sign a pass here" in answer.get("fault", ""), "a page that can't sign doesn't narrow, asked by whatever way", answer)
         page.sent_nothing(address)
     check(Folder.asked == ["GET /pass.html HTTP/1.1"], "what the server was asked", Folder.asked)
     print("a page that can't sign shows a pass and narrows none; of its server one thing was asked, the page")
