@@ -25,16 +25,16 @@ TEXTS = {
     "not confirmed": ("not confirmed; nothing changed", "nicht bestätigt; nichts geändert"),
     "is past": ("{day} is past.", "{day} ist vorbei."),
     "is far": (
-        "{day} is {ahead} days ahead: bookings open 60 days ahead, so nobody can book it yet.",
+        "{day} is {ahead} days ahead. Bookings open 60 days ahead, so nobody can book that day yet.",
         "{day} ist erst in {ahead} Tagen: gebucht werden kann höchstens 60 Tage im Voraus.",
     ),
     "is much": (
-        "{points} points is more than ten times the usual {usual}.",
+        "{points} points is more than ten times the usual {usual} points.",
         "{points} Punkte sind mehr als das Zehnfache der üblichen {usual}.",
     ),
     "several fit": ("{typed} may be", "{typed} passt auf"),
     "which": ("Number, or Enter for none: ", "Nummer oder Enter für keine: "),
-    "more": ("and {count} more: type more of the name", "und {count} weitere: mehr vom Namen eingeben"),
+    "more": ("and {count} more names match: type more of the name", "und {count} weitere: mehr vom Namen eingeben"),
     "nobody": ("no name matches", "dazu passt kein Name"),
     "no day": ("not a day: write sa, 5.12., +3, tomorrow or 2026-12-05", "kein Tag: etwa sa, 5.12., +3, morgen oder 2026-12-05"),
     "no hours": ("not hours: write 15 or 15-17", "keine Uhrzeit: etwa 15 oder 15-17"),
@@ -45,14 +45,14 @@ TEXTS = {
     # The menu.
     "menu": ("The office of {club}, {day}", "Das Büro von {club}, {day}"),
     "menu ends": (
-        "Type a task's number or a word of it; Enter ends, Ctrl-C goes back.",
+        "Type a task's number or a word of its name. Enter ends the menu, Ctrl-C goes back.",
         "Nummer oder ein Wort davon; Enter beendet. Strg-C geht zurück, ändert nichts.",
     ),
     "task": ("Task: ", "Aufgabe: "),
     "back": ("back; nothing changed", "zurück; nichts geändert"),
     "enter": ("Enter for the menu ", "Enter für das Menü "),
-    "broken off": ("interrupted: `office {club} log` shows what was done by then", "abgebrochen: `office {club} log` zeigt, was bis dahin gemacht wurde"),
-    "no such file": ("there is no such file", "diese Datei gibt es nicht"),
+    "broken off": ("interrupted: `office {club} log` shows what was already done", "abgebrochen: `office {club} log` zeigt, was bis dahin gemacht wurde"),
+    "no such file": ("this file doesn't exist", "diese Datei gibt es nicht"),
     "no task": ("no task has that name", "so heißt keine Aufgabe"),
     "do it": ("Do it? [Y/n] ", "Ausführen? [J/n] "),
     "no": ("n no", "n nein no"),
@@ -79,7 +79,7 @@ TEXTS = {
     "task report": ("the board's page", "der Bericht für den Vorstand"),
     "task page": ("rebuild the page's list", "die Liste der Seite neu machen"),
     "task undo": ("undo the last correction", "letzte Korrektur zurücknehmen"),
-    "task key": ("one more key, for a device", "ein weiterer Schlüssel, für ein Gerät"),
+    "task key": ("another key, for a device", "ein weiterer Schlüssel, für ein Gerät"),
     "task lost": ("a lost pass", "ein verlorener Pass"),
     "task quota": ("how much a member may book", "wie viel ein Mitglied buchen darf"),
     "task leave": ("a member leaves", "ein Mitglied tritt aus"),
@@ -107,14 +107,14 @@ TEXTS = {
     "ask member": ("Member (part of the name)", "Mitglied (Teil des Namens)"),
     "ask key": ("Key", "Schlüssel"),
     "ask facility": ("Court, boat or room", "Platz, Boot oder Raum"),
-    "ask facilities": ("Which (parts of names, all, courts, boats, rooms)", "Welche (Teile der Namen, alle, Plätze, Boote, Räume)"),
+    "ask facilities": ("Which facilities (parts of names, all, courts, boats, rooms)", "Welche (Teile der Namen, alle, Plätze, Boote, Räume)"),
     "ask day": ("Day (sa, 5.12., +3, tomorrow)", "Tag (sa, 5.12., +3, morgen)"),
     "ask first day": ("First day (tue, 5.12., 2027-01-05)", "Erster Tag (di, 5.12., 2027-01-05)"),
     "ask last day": ("Last day", "Letzter Tag"),
     "ask hours": ("Hours, as 15-17", "Stunden, etwa 15-17"),
     "ask hour": ("Hours, as 15 or 15-17", "Stunden, etwa 15 oder 15-17"),
     "ask guests": ("How many come along", "Wie viele kommen mit"),
-    "ask label": ("A name, so that it is credited once, such as {example}", "Ein Name, damit es nur einmal gutgeschrieben wird, etwa {example}"),
+    "ask label": ("A name for the credit, so that it is made only once, such as {example}", "Ein Name, damit es nur einmal gutgeschrieben wird, etwa {example}"),
     "ask why": ("Why, for the page", "Grund, den die Seite zeigt"),
     "ask points": ("Points", "Punkte"),
     "ask new name": ("Full name", "Vor- und Nachname"),
@@ -135,7 +135,7 @@ TEXTS = {
     "ask new places": ("New number of places, or Enter for {now}", "Neue Anzahl der Plätze oder Enter für {now}"),
     "ask new opening": ("New opening hours, or Enter for {now}", "Neue Öffnungszeiten oder Enter für {now}"),
     "member has": ("{balance} points, {quota} bookings at a time", "{balance} Punkte, {quota} Buchungen zugleich"),
-    "lost removed": ("{path} held the lost pass and was removed", "in {path} war der verlorene Pass; die Datei ist gelöscht"),
+    "lost removed": ("{path} contained the lost pass and was removed", "in {path} war der verlorene Pass; die Datei ist gelöscht"),
     "pass is in": ("the pass is in the file {file} in this folder", "der Pass ist in der Datei {file} in diesem Ordner"),
     # What corrections and a restore do.
     "person": ("1 person", "1 Person"),
@@ -147,7 +147,7 @@ TEXTS = {
     "closes": ("closes {slot}", "sperrt {slot}"),
     "opens": ("opens {slot} again", "öffnet {slot} wieder"),
     "was done": (
-        "this was interrupted on {moment} and is done now: nothing is left to do",
+        "this correction was interrupted on {moment} and is done now: nothing is left to do",
         "das wurde am {moment} unterbrochen und ist jetzt erledigt: es bleibt nichts zu tun",
     ),
     "quota of": ("quota of {member}: {before}, then {then}", "gleichzeitige Buchungen von {member}: {before}, dann {then}"),
@@ -158,7 +158,7 @@ TEXTS = {
     ),
     "places of": ("places of {facility}: {before}, then {then}", "Plätze von {facility}: {before}, dann {then}"),
     "hours of": ("hours of {facility}: {before}, then {then}", "Zeiten von {facility}: {before}, dann {then}"),
-    "revokes": ("revokes the key {key} and renames it {then}", "widerruft den Schlüssel {key}, der zu {then} wird"),
+    "revokes": ("revokes the key {key} and renames it to {then}", "widerruft den Schlüssel {key}, der zu {then} wird"),
     "becomes": (
         "renames member {member} to {then}, with quota 0 and a balance of {balance}",
         "Mitglied {member} wird zu {then}, kann nichts mehr buchen und hat noch {balance} Punkte",
@@ -175,15 +175,15 @@ TEXTS = {
     "forgets member": ("removes the member {name}", "entfernt das Mitglied {name}"),
     "has member": ("brings back the member {name}", "stellt das Mitglied {name} wieder her"),
     "facility as was": ("changes the facility {facility} back", "setzt die Anlage {facility} zurück"),
-    "nothing to come": ("nothing in the future changes", "für die Zeit ab jetzt ändert sich nichts"),
+    "nothing to come": ("the restore changes nothing in the future", "für die Zeit ab jetzt ändert sich nichts"),
     "forgets key": ("removes the key {key}: its passes are refused", "entfernt den Schlüssel {key}: seine Pässe gelten nicht mehr"),
     "has key": ("brings back the key {key} and its passes", "stellt den Schlüssel {key} und seine Pässe wieder her"),
     "rotated back": (
-        "accepts the passes of {key} from before its rotation, and refuses later ones",
+        "accepts the passes of {key} from before its rotation, and refuses later passes",
         "nimmt Pässe von {key} aus der Zeit vor dem Wechsel wieder an, spätere nicht mehr",
     ),
-    "revoked again": ("refuses the passes of {key}: it is revoked again", "lehnt die Pässe von {key} ab: er ist wieder widerrufen"),
-    "revoked now": ("accepts the passes of {key}, which is revoked now", "nimmt die Pässe von {key} wieder an, der jetzt widerrufen ist"),
+    "revoked again": ("refuses the passes of {key}: the key is revoked again", "lehnt die Pässe von {key} ab: er ist wieder widerrufen"),
+    "revoked now": ("accepts the passes of the key {key}, which is revoked now", "nimmt die Pässe von {key} wieder an, der jetzt widerrufen ist"),
     "loses": (
         "loses {slot}, {persons}, {points} points: {key} {number}, {member}",
         "verliert {slot}, {persons}, {points} Punkte: {key} {number}, {member}",
@@ -206,7 +206,7 @@ TEXTS = {
     "not mailed": ("{name}: couldn't be mailed", "{name}: E-Mail konnte nicht verschickt werden"),
     "mail subject": ("{club}: your booking was cancelled", "{club}: Deine Buchung wurde abgesagt"),
     "mail text": (
-        "Dear {name},\n\nthe office had to cancel what you had booked:\n\n{lines}\n\nYou have {points} points back.\n\n{club}\n",
+        "Dear {name},\n\nthe office had to cancel your booking:\n\n{lines}\n\nYou get {points} points back.\n\n{club}\n",
         "Hallo {name},\n\ndas Büro musste deine Buchung absagen:\n\n{lines}\n\nDu bekommst {points} Punkte zurück.\n\n{club}\n",
     ),
     # A list.
@@ -216,7 +216,7 @@ TEXTS = {
     "import in all": ("in all: {count} of {rows} rows left to do, {points} points", "zusammen: {count} von {rows} Zeilen zu erledigen, {points} Punkte"),
     "spare pass": ("spare pass {key}", "Ersatzpass {key}"),
     "imported": (
-        "{done} of {rows} rows done, {there} already there; passes are in {folder}",
+        "{done} of {rows} rows done, {there} rows already there; passes are in {folder}",
         "{done} von {rows} Zeilen erledigt, {there} waren schon da; die Pässe sind in {folder}",
     ),
     "new": ("new", "neu"),
@@ -238,10 +238,10 @@ TEXTS = {
     "sums are right": ("the totals are the sums of the bookings", "die Summen stimmen mit den Buchungen überein"),
     # The season's points.
     "credits all": (
-        "credits {members} members with {points} points each, {total} in all, as {label}; members with quota 0 get none",
+        "credits {members} members with {points} points each, {total} in all, as {label}; members with quota 0 get no points",
         "schreibt {members} Mitgliedern je {points} Punkte gut, zusammen {total}, als {label}; wer nichts buchen darf, bekommt nichts",
     ),
-    "points lost": ("{label} is no longer credited: credit-all credits it again", "{label} ist nicht mehr gutgeschrieben: credit-all schreibt es wieder gut"),
+    "points lost": ("the points of {label} are no longer credited: credit-all credits these points again", "{label} ist nicht mehr gutgeschrieben: credit-all schreibt es wieder gut"),
     "credited before": ("{count} have them already", "{count} haben sie schon"),
     "credited": ("{count} members credited with {points} points, as {label}", "{count} Mitgliedern {points} Punkte gutgeschrieben, als {label}"),
     # Undo.
@@ -257,7 +257,7 @@ TEXTS = {
     # Letters.
     "letter title": ("Book at {club}", "Buchen bei {club}"),
     "letter first": (
-        "Your pass is called {key}. Use it to book and cancel, on a phone or a computer.",
+        "Your pass is called {key}. Use the pass to book and cancel, on a phone or a computer.",
         "Dein Pass heißt {key}. Damit kannst du buchen und absagen, am Handy oder am Computer.",
     ),
     "letter step 1": (
@@ -271,14 +271,14 @@ TEXTS = {
     "letter step 3": ("Choose the day, press a free slot, and book.", "Wähle den Tag, tippe auf eine freie Zeit und buche."),
     "letter lend title": ("To lend", "Zum Verleihen"),
     "letter lend": (
-        "Cut off this half and keep it. Open its link once on your own device. Then you can lend a part of your pass under “Lend” on the page, such as the courts until"
-        " Friday for 600 points. Its bookings count separately, and nobody can use it to cancel yours.",
+        "Cut off this half and keep it. Open the link of this half once on your own device. Then you can lend a part of your pass under “Lend” on the page, such as the"
+        " courts until Friday for 600 points. Bookings of a lent part count separately. Nobody can use a lent part to cancel your own bookings.",
         "Schneide diese Hälfte ab und behalte sie. Öffne ihren Link einmal auf einem eigenen Gerät: Dann kannst du auf der Seite unter „Verleihen“"
         " einen Teil deines Passes verleihen, etwa die Plätze bis Freitag für 600 Punkte. Was damit gebucht wird, zählt für sich, und deine eigenen Buchungen kann damit niemand absagen.",
     ),
     "letter care": (
-        "Anyone who has this sheet can book with your points. Throw it away afterwards, or keep it as safe as a house key. For somebody else the"
-        " office makes a separate pass. If you lose this sheet or your phone, call the office.",
+        "Anyone who has this sheet can book with your points. Throw the sheet away afterwards, or keep it as safe as a house key. The office"
+        " makes a separate pass for somebody else. If you lose this sheet or your phone, call the office.",
         "Wer dieses Blatt hat, kann mit deinen Punkten buchen. Wirf es danach weg, oder verwahre es wie einen Hausschlüssel. Für jemand anderen macht"
         " das Büro einen eigenen Pass. Hast du das Blatt oder das Handy verloren, ruf im Büro an.",
     ),
@@ -302,7 +302,7 @@ TEXTS = {
     "report heat boat": ("Boats by weekday and hour", "Boote nach Wochentag und Stunde"),
     "report heat room": ("Rooms by weekday and hour", "Räume nach Wochentag und Stunde"),
     "report heat note": (
-        "Each cell is the percentage of the open slots that were used. Over all hours it is {share}; in {period} it was {before}.",
+        "Each cell shows the percentage of open slots that were used. Over all hours the percentage is {share}; in {period} the percentage was {before}.",
         "Jedes Feld zeigt, wie viel Prozent der offenen Zeiten genutzt wurden. Über alle Stunden sind es {share}, in {period} waren es {before}.",
     ),
     "report months": ("Points kept, by month", "Verbrauchte Punkte nach Monaten"),

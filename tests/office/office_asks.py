@@ -171,7 +171,7 @@ def calls():
     task("name, mail", ("Member", "bob"), ("Full name", "Bob Müller"), ("Mail", "bob@example.org"), ("Telephone", "+49 1")).has("a person", "done")
     task("what a member has", ("Member", "müller bob")).has("a member by the name as it is written", "Bob Müller")
     task("a lost list", ("Member", "bob"), ("none: ", "2")).has("a lost list", "record of mueller-bob-office")
-    task("one more key", ("Member", "bob"), ("Do it", ENTER)).has("one more key", "the pass is in the file passes/mueller-bob-2", "are in letter-mueller-bob-2.html")
+    task("another key", ("Member", "bob"), ("Do it", ENTER)).has("one more key", "the pass is in the file passes/mueller-bob-2", "are in letter-mueller-bob-2.html")
     task("the sheet", ("Day", "+2")).has("a sheet", "Day sheet", "mueller-bob-office")
     task("who has booked a day", ("Day", "+2")).has("a day", "mueller-bob-office")
     task("who has booked one", ("Court", "court-2")).has("a court", "mueller-bob-office")
@@ -183,7 +183,7 @@ def season_start():
     run_as("anna", "sh", "-c", "printf 'Name;Buchungen;Punkte\\nIda Lund;3;500\\nÖzil, Can;3;500\\n' >members.csv")
     task("members from a list", ("File", "members.csv"), ("Shall", "y")).has("a list", "read as UTF-8 with ;", "ida-lund: done", "2 of 2 rows done")
     run_as("anna", "sh", "-c", "printf 'Vorname;Nachname\nBea;Noll\n' >names.csv")
-    task("members from a list", ("File", "nothing.csv"), ("no such file", "names.csv"), ("Open bookings", "3"), ("Points", "500"), ("Shall", "n")).has(
+    task("members from a list", ("File", "nothing.csv"), ("file doesn't exist", "names.csv"), ("Open bookings", "3"), ("Points", "500"), ("Shall", "n")).has(
         "a list of names", "office club import names.csv --quota=3 --points=500", "noll-bea", "in all: 1 of 1 rows left to do, 500 points")
     wide = "Zu Guttenberg und Tannenberg, Karl-Theodor Maria Nikolaus"
     run_as("anna", "sh", "-c", f"printf 'name;quota;points\n{wide};3;500\n' >wide.csv")
@@ -264,7 +264,7 @@ def interrupted():
     with open(HOME / "club-orders", "r+", encoding="ascii") as turn:
         fcntl.flock(turn, fcntl.LOCK_EX)
         shown = task("a new member", ("Full name", "Zoë"), ("Open", "5"), ("Points", "100"), ("Do it", ENTER), ("waiting for another command", None))
-        shown.has("Ctrl-C at a command", "interrupted: `office club log` shows what was done by then",
+        shown.has("Ctrl-C at a command", "interrupted: `office club log` shows what was already done",
                   "not done: office club person zoe; office club credit zoe 100; office club add-key zoe-1 zoe --to passes/zoe-1; office club letters zoe-1")
         terminal = Terminal("club", "debit", "mueller-bob", "1")
         terminal.answers(("Shall", "y"), ("waiting for another command", None))

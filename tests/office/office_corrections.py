@@ -186,7 +186,7 @@ def restores(server):
     same("the copies", {",".join(line.split(",")[:2]) for line in lines("copies", "--csv")} >= {"copy,is", f"{night},back-up"}, True)
     shown = [
         "removes the member dora", f"balance of amy: {balance + 250}, then {balance}", "removes the key dora-1: its passes are refused",
-        "accepts the passes of amy-3 from before its rotation, and refuses later ones", "accepts the passes of amy-5, which is revoked now",
+        "accepts the passes of amy-3 from before its rotation, and refuses later passes", "accepts the passes of the key amy-5, which is revoked now",
         "changes the facility boat-1 back", f"opens court-2 {DAY} 11:00 again", f"loses court-2 {DAY} 09:00, 1 person, 200 points: amy-6 63, amy",
         f"books again court-2 {DAY} 19:00, 2 persons, 400 points: amy-6 61, amy", "in all: 9 changes",
     ]
@@ -202,7 +202,7 @@ def restores(server):
     same("its own copy is listed", f"{undone},before a correction" in {",".join(line.split(",")[:2]) for line in lines("copies", "--csv")}, True)
     same("what undoes it", lines("restore", undone, *YES), [
         "brings back the member dora", f"balance of amy: {balance}, then {balance + 250}", "brings back the key dora-1 and its passes",
-        "accepts the passes of amy-3 from before its rotation, and refuses later ones", "refuses the passes of amy-5: it is revoked again",
+        "accepts the passes of amy-3 from before its rotation, and refuses later passes", "refuses the passes of amy-5: the key is revoked again",
         "changes the facility boat-1 back", f"closes court-2 {DAY} 11:00", f"loses court-2 {DAY} 19:00, 2 persons, 400 points: amy-6 61, amy",
         f"books again court-2 {DAY} 09:00, 1 person, 200 points: amy-6 63, amy", "in all: 9 changes", "done",
     ])

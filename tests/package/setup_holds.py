@@ -56,13 +56,13 @@ def refused():
 def by_questions():
     """The setup asks five questions at a terminal. After a wrong answer, it asks again."""
     it = pexpect.spawn("clubdesk-setup", encoding="utf-8", timeout=120, cwd="/")
-    for question, answer in (("called", "TC Übersee"), ("address", "desk"), ("is no address.*address", "desk.example.org"), ("zone", "Europe/Berlin"),
-                             ("clerk", "doris"), ("mailed", "it@example.org")):
+    for question, answer in (("name", "TC Übersee"), ("address", "desk"), ("is no address.*address", "desk.example.org"), ("zone", "Europe/Berlin"),
+                             ("clerk", "doris"), ("mail address", "it@example.org")):
         it.expect(question)
         it.sendline(answer)
     it.expect(pexpect.EOF)
     it.close()
-    same("by questions", (it.exitstatus, "doris begins by: office tc-uebersee" in it.before), (0, True))
+    same("by questions", (it.exitstatus, "doris starts with: office tc-uebersee" in it.before), (0, True))
 
 
 def made():
