@@ -35,7 +35,7 @@ def rotations(passes, front, between):
         between.fates.clear()
         page.when("isShown('day') && dayIsThere()", "another key's pass")
         page.view("bookings")
-        page.when("shownText('needs-pass').includes('1 request of amy-son has no answer yet')", "a request that needs its pass")
+        page.when("shownText('needs-pass').includes('1 request of the pass amy-son has no answer yet')", "a request that needs its pass")
         page.visit(f"#{new}", "isShown('day') && allAnswered()", "its pass again")
         check(same_record(page, "amy-son") == 2, "two bookings")
     print("a rotated key, and passes of two keys: what had no reply goes on under its own key")
@@ -286,7 +286,7 @@ def does_more_with_bookings(page, passes, between):
     page.press("Look up")
     page.when("dialogText().includes('cancel the old one')", "another hour")
     page.press("Book the new slot for 200 points, cancel the old booking")
-    page.comes("You have both bookings: the old one wasn't cancelled.", "a change of which half fails")
+    page.comes("You have both bookings: the old booking wasn't cancelled.", "a change of which half fails")
     both = page.entries()[-1]
     check([amounts("more-1")[each["number"]][-2] for each in (moved, both)] == [0, 0], "both are in the file")
     page.cancelled(both["number"], "the new one")
