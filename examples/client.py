@@ -8,8 +8,8 @@
     client.py show FACILITY DAY HOUR          shows a slot
     client.py account                         shows the account
 
-The variable DESK has the desk's address (by default http://127.0.0.1:8080). PASS names the file with the pass (by default pass).
-Before the client sends a booking or cancellation, it writes the request to the file RECORD (by default record). The client also writes the
+The variable DESK has the desk's address, which is http://127.0.0.1:8080 by default. The variable PASS names the file with the pass, which is pass by
+default. Before the client sends a booking or cancellation, it writes the request to the file RECORD (by default record). The client also writes the
 reply to this file. If no reply comes, the client sends the request again for PATIENCE seconds (by default 60). The client prints each
 reply. The client ends with status 1 after a refusal, and with status 3 if no reply came. After status 3, the command `repeat` finishes
 the request.
@@ -66,7 +66,7 @@ class Record:
 
 
 class Client:
-    """Sends requests to the desk. A reply is a dict, and the dict of a refusal has a `fault`."""
+    """Sends requests to the desk. Each reply is a dict. If the desk refuses the request, the dict has the key `fault`."""
 
     def __init__(self, address, text, record, patience=60):
         self.address, self.text, self.record, self.patience = address, text, record, patience
@@ -132,7 +132,7 @@ class Client:
         return self._finish(number, "cancel")
 
     def repeat(self):
-        """Sends each request without a reply again, and returns the replies."""
+        """Repeats each request that has no reply, and returns the replies."""
         return [self._finish(number, action) for number, action in self.record.unfinished()]
 
     def show(self, facility, day, hour):

@@ -7,7 +7,7 @@ import textwrap
 from club_office.reading import found, read_day, read_facilities, read_hours
 from club_office.texts import day_text, means, say
 
-# The most matches in a printed list.
+# The greatest number of matches in a printed list.
 MOST_LISTED = 15
 BOOKABLE_DAYS = 60
 
@@ -100,7 +100,7 @@ def ask_day(prompt, today):
 
 
 def doubts(day, today):
-    """Returns what is odd about a day for a booking or a closure. Returns None if the day is in the future and can be booked."""
+    """Returns a text that says why a day is odd for a booking or a closure. Returns None if the day isn't past and members can book it."""
     if day < today:
         return say("is past", day=day_text(day))
     if day > today + datetime.timedelta(BOOKABLE_DAYS):

@@ -1,4 +1,4 @@
-"""Writes the book of commands, and gives turns to commands that change a club."""
+"""Writes the book of commands, and lets only one command at a time change a club."""
 
 import fcntl
 import io
@@ -16,11 +16,11 @@ from club_office.copies import clear_unnamed
 from club_office.faults import STORAGE, Fault, fault, storage_failed
 from club_office.texts import say
 
-# The seconds that a command waits for another command's turn to end, and the seconds that a line waits for the journal.
+# The number of seconds that a command waits until another command's turn ends, and the number of seconds that a line waits for the journal.
 WAITS_FOR_TURN = 60
 WAITS_FOR_JOURNAL = 2
 JOURNAL = "/run/systemd/journal/socket"
-# The most bytes in a line. The journal and the file accept a line of this length whole.
+# The greatest number of bytes in a line. The journal and the file accept a line of this length without truncation.
 MOST_LINE = 8_000
 BEGUN = re.compile(r"(?s)20[0-9-]{8}T[0-9:]{8} \S+ \? .*")
 # A terminal sends these signals at Ctrl-Z, when it closes, and to background processes. These signals don't stop a command that has its turn.
@@ -76,7 +76,7 @@ def is_taken(club, line):
 
 
 def add_line(path, line):
-    """Adds a line to a file. The line is a new line even if a full disk has truncated the file's last line."""
+    """Adds a line to a file. Begins a new line even if a full disk has truncated the file's last line."""
     book = os.open(path, os.O_RDWR | os.O_APPEND | os.O_CREAT, 0o600)
     try:
         end = os.lseek(book, 0, os.SEEK_END)
@@ -136,8 +136,8 @@ class Turn:
         raise storage_failed("order under way", seconds=WAITS_FOR_TURN)
 
     def is_gained(self):
-        """Returns whether this process got the lock. This process blocks signals. So no signal stops it between taking the lock and ignoring the
-        signals."""
+        """Returns whether this process got the lock. This process blocks signals. So no signal stops the process between taking the lock and ignoring
+        the signals."""
         signal.pthread_sigmask(signal.SIG_BLOCK, HELD_BACK)
         try:
             fcntl.flock(self.file, fcntl.LOCK_EX | fcntl.LOCK_NB)
@@ -196,7 +196,7 @@ def refuse(club, words, failure):
 
 
 def give_order(club, command, words, options=(), root=None):
-    """Runs a command of clubdesk in a turn of its own."""
+    """Takes the turn, and runs a command of clubdesk."""
     printed = []
 
     def act():

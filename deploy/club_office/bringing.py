@@ -1,5 +1,5 @@
 """Restores a club from its other place after the loss of its machine. Restores the configuration, the newest tested copy, persons, reasons, season
-points, and old years' files. It leaves existing files unchanged, so a clerk can run it again after an interruption."""
+points, and old years' files. The restore leaves existing files unchanged, so it can be run again after an interruption."""
 
 import grp
 import io
@@ -37,7 +37,7 @@ def read_beside(data):
 
 
 class Bringing:
-    """Restores a club from its other place. The restore calls `said` with each path, and with whether it created the file or found it."""
+    """Restores a club from its other place. For each file, the restore calls `said` with the path, and with whether the restore created the file."""
 
     def __init__(self, text, called, configurations, said):
         self.place = place_of(text)
@@ -52,7 +52,7 @@ class Bringing:
         beside = sorted(it.name for it in self.there if BESIDE.fullmatch(it.name))
         if not beside:
             raise refusal("place without conf", place=text)
-        # An older copy also gets the newest copy's archive, because the place keeps only the newest archive.
+        # For an older copy, the restore uses the newest copy's archive, because the place keeps only the newest archive.
         self.files = read_beside(given_by(self.place, f"{self.copy}.tar" if f"{self.copy}.tar" in beside else beside[0], True))
         names = sorted(name.removeprefix("conf/").removesuffix(".conf") for name in self.files if re.fullmatch(r"conf/[a-z0-9][a-z0-9-]{0,23}\.conf", name))
         if len(names) != 1:
@@ -76,7 +76,7 @@ class Bringing:
         return self.said(path)
 
     def configuration(self):
-        """Writes the configuration files. Clerks can read them, except the pass for health checks."""
+        """Writes the configuration files. Clerks can read these files, except the pass for health checks."""
         os.makedirs(self.configurations, 0o755, exist_ok=True)
         for name, data in sorted(self.files.items()):
             part, _, called = name.partition("/")

@@ -1,4 +1,5 @@
-"""Makes corrections by commands of clubdesk while the server runs: shows them, asks, and gives the commands one after the other."""
+"""Makes corrections by commands of clubdesk while the server runs. Shows the correction, asks the clerk, and gives the commands one after the
+other."""
 
 import contextlib
 import sqlite3
@@ -17,10 +18,10 @@ from club_office.undoing import Record, broken_off, forget_undo, rows_edited, ro
 from club_office.values import date_of
 
 CORRECTIONS = ("set-quota", "debit", "set-facility", "reopen-slot", "cancel", "close", "rain", "leave")
-# These corrections give only the commands that the clerk has seen and that are still missing. Each other correction fails if its plan has changed
-# since the clerk saw it.
+# These corrections give the desk only commands that the clerk has seen, without commands that the desk has already carried out. Every other
+# correction fails if its plan has changed since the clerk saw it.
 LISTED = ("cancel", "close", "rain", "leave")
-# The most times that a correction asks about slots that members booked in the meantime.
+# The greatest number of rounds in which a correction asks about slots that members booked in the meantime.
 MOST_ROUNDS = 20
 # The status of clubdesk if it doesn't know whether the desk carried out a command.
 NO_ANSWER = 8
@@ -88,8 +89,7 @@ class Correction:
         return refusal("not confirmed")
 
     def plan(self, db, left):
-        """Plans the correction. `left` is the record of an earlier, interrupted run, or None. The plan may be empty only if such a record
-        exists."""
+        """Plans the correction. `left` is the record of an earlier, interrupted run, or None. The plan may be empty only if `left` is a record."""
         try:
             if left and self.words.command == "debit":
                 plan = plan_rest_of_debit(db, self.words, left)
@@ -126,7 +126,7 @@ class Correction:
                 show_lines(plans[0].all_lines())
 
     def give_all(self, turn, shown, plans):
-        """Gives the desk all commands of the plan, and adds the plan to the list of plans."""
+        """Gives the desk all commands of the current plan, and adds this plan to `plans`."""
         wants_file(self.club)
         refuse_to_come(self.words)
         left = broken_off(self.club, self.words)
@@ -201,7 +201,7 @@ class Correction:
         raise fault(status, "command undone", order=" ".join(words), said=in_language(said) or f"status {done.returncode}")
 
     def look_again(self):
-        """Prints the bookings that members made after the copy and that aren't within the new hours. The new hours stay."""
+        """Prints the bookings outside the new hours that members made after the correction's copy. The new hours stay."""
         try:
             with snapshot(self.club) as db:
                 self.plan(db, None)
@@ -227,7 +227,7 @@ class Correction:
         forget_person(self.club, self.words.member)
 
     def tell_concerned(self):
-        """Prints whom to tell about cancellations by this run and by interrupted runs. With --mail it also mails these persons."""
+        """Prints whom to tell about cancellations by this run and by interrupted runs. With --mail the office also mails these persons."""
         cancelled = [Booking(*it) for it in self.record.content["cancelled"]]
         show_concerned(self.club, [it.member for it in cancelled])
         if getattr(self.words, "mail", False):
@@ -235,7 +235,7 @@ class Correction:
 
 
 def refuse_unsound(rows):
-    """Refuses to take more from a total than the total has. A change by hand may have made the total too small."""
+    """Refuses to make a total negative. A change by hand may have made the total too small."""
     for table, _, was, is_now in rows:
         if table == "slots" and is_now[TAKEN] < 0:
             raise refusal("nothing changed", why=say("taken off", facility=is_now[0], day=date_of(is_now[1]), hour=is_now[2], persons=-is_now[TAKEN]))

@@ -45,7 +45,7 @@ def add_reasons(club, words, today):
 
 
 def closures_of(db, reasons, today):
-    """Returns the closed hours from today on that have a reason, in the page's form. Each hour has its newest reason."""
+    """Returns the closed hours from today on that have a reason, in the page's form. If an hour has several reasons, the newest reason counts."""
     why = {(it["facility"], it["day"], hour): it["why"] for it in reasons for hour in range(it["from"], it["until"])}
     found = []
     for facility, day, hour in db.execute("SELECT facility, day, hour FROM slots WHERE closed = 1 AND day >= ? ORDER BY facility, day, hour", [today]):

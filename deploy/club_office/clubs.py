@@ -54,8 +54,8 @@ def settings(path):
     return found
 
 
-# The files that clubdesk or the office makes next to a club's file. Each has the file's name with one of these endings, or with `-until-` and a
-# day.
+# The files that clubdesk or the office makes next to a club's file. The name of each such file is the name of the club's file with one of these
+# endings, or with `-until-` and a day.
 ENDINGS = ("-before", "-book", "-metrics", "-new", "-office", "-offsite", "-orders", "-people.csv", "-reasons", "-seasons", "-undo", "-wal")
 
 
@@ -122,7 +122,7 @@ def old_file(file, year):
     return whole[0] if whole else part[-1]
 
 
-# The path on which the desk's side finds programs, and the environment variables that it keeps.
+# The PATH of the desk's side, and the environment variables that the desk's side keeps.
 PATH = "/usr/local/sbin:/usr/local/bin:/usr/sbin:/usr/bin:/sbin:/bin"
 KEPT = ("LANG", "LC_ALL", "LC_CTYPE", "LOGNAME", "OFFICE_CLERK", "SUDO_USER", "TERM", "COLUMNS", "USER")
 
@@ -136,7 +136,7 @@ def forget_environment():
 
 
 def program(variable, called):
-    """Returns the path of a program. The path is in a variable, or the shell finds it."""
+    """Returns the path of a program. The path is in a variable; without the variable, the office searches the PATH."""
     found = os.environ.get(variable) or shutil.which(called, path=os.environ.get("PATH", "") + ":/usr/local/bin:/usr/bin")
     if not found:
         raise fault(STORAGE, "no program", path=called)
@@ -181,9 +181,9 @@ def clubdesk(club, command, words, options=(), root=None):
 
 
 def ended_by_itself(line, given=None, **how):
-    """Waits until a command ends. Returns its status, and the output that it wrote into a pipe. clubdesk itself handles Ctrl-C, because a clerk's
-    process can't end sudo's process. A command that only reads counts as interrupted after Ctrl-C. The status of any other command tells its
-    result."""
+    """Waits until a command ends. Returns the command's status, and the output that the command wrote into a pipe. clubdesk itself handles Ctrl-C,
+    because a clerk's process can't end sudo's process. A command that only reads counts as interrupted after Ctrl-C. For any other command, the
+    status tells whether the command succeeded."""
     command = subprocess.Popen(line, **how)
     text, is_interrupted = given, False
     while True:

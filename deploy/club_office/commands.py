@@ -1,4 +1,4 @@
-"""Defines the commands of the office, their arguments, and the function that carries out each command."""
+"""Defines the office's commands, with the arguments and the function of each command."""
 
 import argparse
 import collections
@@ -73,7 +73,7 @@ Command = collections.namedtuple("Command", "kind words help does")
 # calls it.
 ORDER, LOOK, PASS, LIST, CORRECTION, DESK, COUNTER = "order look pass list correction desk counter".split()
 
-# The most words of a command, including its name, and the most bytes of a word.
+# The greatest number of words of a command, including its name, and the greatest number of bytes of a word.
 MOST_WORDS = 200
 MOST_BYTES = 1_000
 AT = ("--at", {"metavar": "MOMENT", "type": moment, "help": "use this moment instead of the clock's"})
@@ -410,7 +410,7 @@ def show_names(club, sheet):
 
 
 def refuse_too_much(given):
-    """No clerk's command has more words than this, and the book has no room for more."""
+    """Refuses a command with too many words or bytes, because the book has no room for it. No clerk needs such a command."""
     if len(given) > MOST_WORDS or any(len(os.fsencode(it)) > MOST_BYTES for it in given):
         raise bad_value("too many words", words=MOST_WORDS, bytes=MOST_BYTES)
 
@@ -475,7 +475,7 @@ def carry_out(club, given):
 
 
 def read_at_counter(given):
-    """Returns a command's words in the form that the desk's side takes. At a terminal it asks the clerk about odd words."""
+    """Returns a command's words in the form that the desk's side takes. At a terminal, asks the clerk about odd words."""
     club, called, command = club_named(given[0]), given[1], COMMANDS[given[1]]
     reader = Reader(club, called)
     made = [*given[:2], *read_words(reader, command, given[2:])]

@@ -1,4 +1,4 @@
-"""Makes copies of a club: in memory for lists, before a correction, and byte for byte."""
+"""Makes copies of a club: copies in memory for lists, copies from before corrections, and copies byte for byte."""
 
 import contextlib
 import glob
@@ -18,7 +18,7 @@ from club_office.faults import storage_failed
 
 BACK_UPS_KEPT = 30
 MEMORY = "/dev/shm"
-# Inodes for the folder of the copy, the copy, its log, and a few more for other programs.
+# The number of free inodes that a copy in memory requires: for its folder, its file and its log, and a few more for other programs.
 FILES_FREE = 20
 
 
@@ -36,7 +36,7 @@ def begun_at(process):
 
 
 def clear_killed(home):
-    """Removes the folders of this user's processes that have ended. The name of a folder has the number of its process."""
+    """Removes the folders that this user's ended processes left. The name of each folder contains the number of its process."""
     for stale in glob.glob(os.path.join(glob.escape(home), ".office-*")):
         owner = re.match(r"\.office-([0-9]+)-([0-9]+)-", os.path.basename(stale))
         with contextlib.suppress(OSError):
@@ -51,15 +51,16 @@ def clear_left(club):
 
 
 def homes(club, size=None):
-    """Returns the folders that may get copies of the club, or of a file of this size. The first is in memory if it has room, and the last has the
-    club's file."""
+    """Returns the folders that may get copies of the club, or of a file of this size. The first folder is in memory if the memory has room, and the
+    last folder is the folder of the club's file."""
     beside = os.path.dirname(club.file)
     if size is None:
         size = sum(os.path.getsize(club.file + it) for it in ("", "-wal") if os.path.exists(club.file + it))
     found = [beside]
     if os.access(MEMORY, os.W_OK | os.X_OK):
         room = os.statvfs(MEMORY)
-        # Room for the copy, its log, and the pages that SQLite copies from the log. A file system without a fixed number of inodes reports 0.
+        # The memory needs room for the copy, its log, and the pages that SQLite copies from the log. A file system without a fixed number of inodes
+        # reports 0 inodes.
         if room.f_bavail * room.f_frsize > 3 * size + 1_000_000 and (room.f_files == 0 or room.f_favail > FILES_FREE):
             found.insert(0, MEMORY)
     return found
@@ -176,7 +177,8 @@ def is_run(words):
 
 
 def copy_file(club, db, to):
-    """Copies the file and its log, byte for byte, in another process. If this process opened and closed the file, it would lose its locks."""
+    """Copies the file and its log, byte for byte, in another process. If this process opened and closed the file, the process would lose its
+    locks."""
     if db.execute("PRAGMA wal_checkpoint(TRUNCATE)").fetchone()[0]:
         raise storage_failed("log uncopied")
     place = next(path for path in [to, *(f"{to}-{more}" for more in range(2, 1000))] if not os.path.exists(path))

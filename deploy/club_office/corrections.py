@@ -1,4 +1,4 @@
-"""Makes corrections that need the file: shows them, asks, and carries them out while no server has the file open."""
+"""Makes corrections that need the file. Shows the correction, asks the clerk, and carries it out while no server has the file open."""
 
 import contextlib
 import sqlite3
@@ -49,7 +49,8 @@ def preview(club, words, planned):
 
 
 def carry_out(club, words, planned, plans, shown):
-    """Carries out a correction on the club. If its effect differs from the shown effect, changes nothing. Adds the plan to the list of plans."""
+    """Carries out a correction on the club. If the correction's effect differs from the shown effect, changes nothing. Adds the plan to the list of
+    plans."""
     try:
         with contextlib.closing(file_taken(club)) as db:
             plan = planned(db, words, now_of(words))
@@ -71,13 +72,13 @@ def carry_out(club, words, planned, plans, shown):
 
 
 def file_taken(club):
-    """Yields a connection that has the file for itself. If a server has the file, the club's service stops the server, and restarts it after a
-    second. The restarted server waits for the file until this connection ends, even if a signal kills this process."""
+    """Returns a connection to the file that excludes all other connections. If a server has the file, the club's service stops the server, and
+    restarts it after a second. The restarted server waits for the file until this connection ends, even if a signal kills this process."""
     db = sqlite3.connect(address(club.file, "rw"), uri=True, timeout=0, isolation_level=None)
     try:
         db.execute("PRAGMA locking_mode = EXCLUSIVE")
         db.execute("PRAGMA foreign_keys = ON")
-        # SQLite overwrites values in the file that it removes from a row, such as a leaving member's name.
+        # With this setting, SQLite overwrites deleted values in the file, such as a leaving member's name.
         db.execute("PRAGMA secure_delete = ON")
         take(club, db)
     except BaseException:
@@ -106,7 +107,7 @@ def take(club, db):
 
 
 def ended(club):
-    """Stops the club's server. Returns the message of the service, such as that no service exists."""
+    """Stops the club's server. Returns the error message about the service, such as that no such service exists."""
     try:
         done = subprocess.run(club.stop, stdin=subprocess.DEVNULL, capture_output=True, text=True, errors="replace", check=False, timeout=WAITS_FOR_FILE)
     except (OSError, subprocess.TimeoutExpired) as fault:

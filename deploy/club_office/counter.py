@@ -1,4 +1,4 @@
-"""The clerk's side of every command. It calls the desk's user by sudo, and reads and writes the clerk's own files."""
+"""The clerk's side of every command: runs commands as the desk's user by sudo, and reads and writes the clerk's own files."""
 
 import contextlib
 import heapq
@@ -41,7 +41,7 @@ def desk_line(club, words):
 
 
 def as_desk(club, words, given=None):
-    """Runs a command as the desk's user. Returns its status and output."""
+    """Runs a command as the desk's user. Returns the command's status and output."""
     line, how = desk_line(club, words)
     return ended_by_itself(line, given, stdin=subprocess.DEVNULL if given is None else subprocess.PIPE, stdout=subprocess.PIPE, **how)
 
@@ -124,7 +124,7 @@ def show_book(club):
 
 
 def ask_person(club, words):
-    """Asks for a member's personal data. Passes the data on by standard input, never in an argument."""
+    """Asks for a member's personal data. Passes the data to the desk's side by standard input, never in an argument."""
     status, text = as_desk(club, ["show-person", words.member])
     if status:
         return status

@@ -15,7 +15,7 @@ class Fault(Exception):
 
 
 def fault(status, text, /, **values):
-    """A fault with a line from the tables of texts."""
+    """Returns a fault whose line is a text of the tables of texts."""
     return Fault(status, say(text, **values))
 
 
@@ -25,12 +25,12 @@ def refusal(text, /, **values):
 
 
 class NothingLeft(Fault):
-    """A refusal because an earlier command has already made the whole change. If a clerk repeats an interrupted command and gets this refusal, the
-    change is complete."""
+    """Returns a refusal because an earlier command has already made the whole change. If a clerk repeats an interrupted command and gets this
+    refusal, the change is complete."""
 
 
 class Doubtful(Fault):
-    """A refusal to continue an interrupted command. If a clerk repeats the command, it starts from the beginning."""
+    """Returns a refusal to continue an interrupted command. If a clerk repeats the command, it starts from the beginning."""
 
 
 def doubtful(text, /, **values):

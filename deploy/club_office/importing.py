@@ -1,4 +1,4 @@
-"""Imports members from a list. Plans each row, makes the passes, and carries out each row on the desk's side."""
+"""Imports members from a list. For each row of the list, plans the commands, and makes the member, key and passes on the desk's side."""
 
 import collections
 import contextlib
@@ -38,11 +38,10 @@ def read_given():
 
 
 def import_row(club, words):
-    """Imports a row: member, credit, key and person. Adds each of them only if it is missing. Prints the pass of a new key.
+    """Imports a row: member, credit, key and person. Adds only what is missing of these four. Prints the pass of a new key.
 
-    Standard input has the person, and the roots that this import drew for the key. The newest root comes last. If a key has one of these roots,
-    this import made the key and nobody has its pass. So the key gets the newest root.
-    """
+    Standard input has the person, and the roots that this import drew for the key. The newest root comes last. If the key already has one of these
+    roots, this import made the key, and nobody has a pass of the key yet. So the key gets the newest root. """
     roots, person = read_given()
     passes = []
     with Turn(club) as turn:
@@ -174,8 +173,8 @@ def state(row, members, keys, folder):
 
 
 def mark_of(folder, key):
-    """Returns the path of a key's mark: a file with the roots drawn for the key, and the digest of its pass. The mark exists from before the
-    command that makes the key until the pass has its name."""
+    """Returns the path of a key's mark: a file with the roots drawn for the key, and the digest of its pass. The import writes the mark before it
+    makes the key, and removes the mark when the file of the pass has its final name."""
     return os.path.join(folder, f".{key}.roots")
 
 

@@ -37,7 +37,7 @@ def code_of(link):
 
 
 def half(club, spares):
-    """Returns the half of a sheet that a member cuts off and opens once. It has the spare passes, for lending."""
+    """Returns the half of a sheet that a member cuts off and opens once. This half has the spare passes, for lending."""
     link = f"{club.site}/book.html#spare={';'.join(spares)}"
     return f"""<div class="half"><h2>{html.escape(say("letter lend title"))}</h2><p>{html.escape(say("letter lend"))}</p>
 {code_of(link)}
@@ -58,7 +58,7 @@ def sheet(club, name, key, text, spares):
 
 
 def passes_of(folder, keys):
-    """Returns the passes in a folder, or only the passes of some keys. Each pass comes with its key."""
+    """Returns the passes in a folder, or only the passes of some keys. Returns each pass together with its key."""
     if not keys:
         try:
             keys = sorted(it for it in os.listdir(folder) if NAME.fullmatch(it))
@@ -92,7 +92,7 @@ def refuse_old(club, folder, texts):
 
 
 def spares_of(club, names, texts):
-    """Removes the spare passes from the passes and returns them. They become the second half of each member's first sheet."""
+    """Removes the spare passes from the passes and returns them. The spare passes become the second half of each member's first sheet."""
     found = {}
     for key in list(texts):
         member = names.keys[key].member

@@ -1,6 +1,6 @@
-"""Writes metrics of a club's desk in Prometheus' text format. They count requests by status and time, and commands by status. They also give the
-age of copies, sizes, and the version. Counts the requests in the desk's log, and the commands in the book. FILE-metrics has the counts, and the
-positions of the last lines that the earlier run read."""
+"""Writes metrics of a club's desk in Prometheus' text format. The metrics are the number of requests by status and time, the number of commands by
+status, the age of the copies, sizes, and the version. Counts the requests in the desk's log, and the commands in the book. FILE-metrics has the
+counts, and the positions of the last lines that the previous run read."""
 
 import json
 import os
@@ -40,7 +40,7 @@ def keep_counts(club, counts):
 
 
 def journal_lines(counts, called, *match):
-    """Returns the journal's new lines. Returns none on the first run, or if the journal no longer has the last line that was read."""
+    """Returns the journal's new lines. Returns no lines on the first run, or if the journal no longer has the last line that was read."""
     cursor = counts["cursors"].get(called)
     line = [program("JOURNALCTL", "journalctl"), "--quiet", "--no-pager", "--output=cat", "--show-cursor", *match]
     done = subprocess.run([*line, f"--after-cursor={cursor}" if cursor else "--lines=0"], capture_output=True, check=False, timeout=MOST_SECONDS)

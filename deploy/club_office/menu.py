@@ -30,7 +30,7 @@ Task = collections.namedtuple("Task", "group called words is_asked")
 
 
 class Office:
-    """A club, with the names that it had when the task began."""
+    """A club, with the names in the club when the task began."""
 
     def __init__(self, club, names):
         self.club = club
@@ -112,7 +112,8 @@ def new_member_words(office):
 
 
 def key_words(office, member, spares=()):
-    """Makes a member's new key. Writes its pass where letters look for it, and a letter with the spare passes if the letter is possible."""
+    """Makes a member's new key. Writes the key's pass to the file where letters look for it. If possible, also writes a letter with the spare
+    passes."""
     key = free_key(office, member)
     return [["add-key", key, member, "--to", f"{PASSES}/{key}"], *letter_words(office, [key, *spares], f"letter-{key}")]
 
@@ -130,7 +131,7 @@ def new_key_words(office):
 
 
 def lost_words(office):
-    """Makes a new pass where letters look for it, and the letter for the pass."""
+    """Makes a new pass in the file where letters look for it, and a letter with this pass."""
     key = key_of(office)
     return [["lost-pass", key, "--to", f"{PASSES}/{key}"], *letter_words(office, [key], f"letter-{key}-{office.today}")]
 
@@ -248,7 +249,7 @@ def restore_words(office):
 
 
 def log_words(office):
-    """Shows the whole book, or only the lines that contain a word. A part of one member's name means that member."""
+    """Shows the whole book, or only the lines that contain a word. If the word is a part of only one member's name, it means that member."""
     word = ask(say("ask word") + ": ")
     fits = found_members(word, office.names)
     return [["log", *(fits if len(fits) == 1 else [word] if word else [])]]
@@ -333,8 +334,8 @@ def menu_lines():
 
 
 def tasks_named(answer):
-    """Returns the task with a number, or the tasks whose title matches the text. A title matches completely, by its beginning, by a word, or by
-    letters in it."""
+    """Returns the task with a number, or the tasks whose title matches the text. The text may be the whole title, its beginning, the beginning of one
+    of its words, or letters in it."""
     if answer.isdigit():
         return [TASKS[int(answer) - 1]] if 0 < int(answer) <= len(TASKS) else []
     typed = plain(answer)

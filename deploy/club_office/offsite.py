@@ -1,7 +1,7 @@
 """Copies a club, and the files next to it, to another place within a minute of a change. So the club survives the loss of its machine.
 
-back_up makes a copy, and clubdesk opens it. Then the copy is sent to the place and tested there. FILE-offsite names the last copy. If copying
-fails, it has the reason and the time of the first failure. deploy/check_health and deploy/metrics read this file."""
+back_up makes a copy, and clubdesk opens it. Then the copy is sent to the place and tested there. FILE-offsite names the last copy. If copying fails,
+FILE-offsite also has the reason and the time of the first failure. deploy/check_health and deploy/metrics read this file."""
 
 import glob
 import grp
@@ -18,11 +18,11 @@ from club_office.copies import homes, scratch
 from club_office.faults import STORAGE, Fault, fault
 from club_office.places import BESIDE, NAME, OLD_YEAR, kept_in, place_of, refuse_own_disk, remove, take
 
-# The seconds until the next check of the file: normally, after a copy, and after a failure.
+# The number of seconds until the next check of the file: normally, after a copy, and after a failure.
 LOOKS, RESTS, RETRIES = 3, 15, 20
-# The most tries for a copy while the files next to the club change.
+# The greatest number of tries for a copy, if the files next to the club change during each try.
 TRIES = 5
-# The seconds between two notes that the service is still running.
+# The number of seconds between two notes that the service is still running.
 NOTES = 30
 # The files next to the club, named by their suffixes.
 BESIDE_FILES = ("-people.csv", "-seasons", "-reasons", "-book")
@@ -127,8 +127,8 @@ def made_together(club):
 
 
 def copy_now(club, place, state):
-    """Copies the club and the files next to it, if the place doesn't have them. Returns the message about the copy. A copy gets its name after the
-    archive has the same name. So a copy always has its archive."""
+    """Copies the club and the files next to it, if the place doesn't have them. Returns the message about the copy. The archive is at the place
+    before the copy of the same name. So a copy always has its archive."""
     refuse_own_disk(place, club.file)
     data, beside = made_together(club)
     digest, beside_digest = (hashlib.sha256(it).hexdigest() for it in (data, beside))

@@ -1,4 +1,4 @@
-"""Prints what the desk's side makes from a copy. This is a key's bookings in the page's form, the page's list of the club, or the board's page."""
+"""Prints a key's bookings in the page's form, the page's list of the club, or the board's page. The desk's side makes all three from a copy."""
 
 import datetime
 import os

@@ -1,5 +1,5 @@
-"""Writes club.json for the booking page. It has the club's name, zone, contact, imprint, privacy page and logo, and its facilities with titles,
-kinds and hours."""
+"""Writes club.json for the booking page. club.json has the club's name, zone, contact, imprint, privacy page and logo, and the club's facilities with
+titles, kinds and hours."""
 
 import base64
 import json
@@ -10,7 +10,7 @@ from club_office.faults import STORAGE, fault, refusal
 from club_office.texts import say
 
 ZONES = "/usr/share/zoneinfo"
-# The most UTF-16 code units in a title on the page. JavaScript measures texts in these units.
+# The greatest number of UTF-16 code units in a title on the page. JavaScript measures texts in UTF-16 code units.
 MOST_TITLE = 80
 
 

@@ -17,7 +17,7 @@ KINDS = {b"location": 1, b"cl": 1, b"identifier": IDENTIFIER, b"cid": IDENTIFIER
 
 
 def bytes_of(text):
-    """Returns the bytes of a one-line pass in V1 or V2."""
+    """Returns the decoded bytes of a one-line pass in V1 or V2."""
     if not re.fullmatch(r"[A-Za-z0-9_+/=-]{1,8192}", text) or re.fullmatch("[0-9a-f]+", text):
         raise ValueError(say("no one-line pass"))
     return base64.urlsafe_b64decode(text.rstrip("=").replace("+", "-").replace("/", "_") + "=" * (-len(text.rstrip("=")) % 4))

@@ -1,5 +1,5 @@
-"""Keeps persons: the members' full names, mail addresses and telephone numbers. They are in FILE-people.csv next to the club, with the club's mode
-and owner. Personal data never gets into the book, an argument of a process, or a copy of the club."""
+"""Keeps persons: the members' full names, mail addresses and telephone numbers. The persons are in FILE-people.csv next to the club's file, with the
+mode and owner of the club's file. Personal data never gets into the book, an argument of a process, or a copy of the club."""
 
 import collections
 import contextlib
@@ -27,7 +27,7 @@ def people_of(club):
 
 
 def read_people(club):
-    """Returns each person by the member's name. Returns none if there is no file."""
+    """Returns each person by the member's name. Returns no person if there is no file."""
     with contextlib.suppress(FileNotFoundError), open(people_of(club), encoding="utf-8", newline="") as file:
         rows = csv.DictReader(file)
         return {row["member"]: Person(*(row.get(it) or "" for it in Person._fields)) for row in rows if row.get("member")}
@@ -47,7 +47,7 @@ def write_people(club, people):
 
 
 def person_of(values):
-    """Makes a person from typed or imported values. A value of several lines is a bad value."""
+    """Makes a person from typed or imported values. Refuses a value of several lines."""
     found = Person(*(" ".join(str(values.get(it) or "").split()) for it in Person._fields))
     for it in found:
         if len(it) > MOST_LETTERS or not it.isprintable():
@@ -117,7 +117,7 @@ def show_concerned(club, members):
 
 def mail_concerned(club, bookings, slot_text, record):
     """Mails each affected person the person's cancellations, with the machine's mailer. Prints which persons have no address, and which mails
-    failed. A person whom the record names gets no second mail."""
+    failed. If the record names a person as mailed, the person gets no second mail."""
     people, of_member = read_people(club), collections.defaultdict(list)
     for it in bookings:
         of_member[it.member].append(it)

@@ -19,7 +19,7 @@ from club_office.plans import slot_text
 from club_office.texts import in_language, say
 from club_office.values import date_of
 
-# The timeout of the desk's reply in seconds, and the number of retries.
+# The number of seconds that the office waits for the desk's reply, and the number of retries.
 PATIENCE = 15
 TRIES = 5
 OFFICE_KEY = "-office"
@@ -126,8 +126,8 @@ def said_at_the_end():
 
 
 def each_hour(turn, words, hours, lines, act, total):
-    """Runs a command for each hour, until the desk refuses one. `does` returns the points of an hour. For several hours it also prints the sum of
-    the points, and the hours that are not done."""
+    """Runs a command for each hour, until the desk refuses an hour. `does` returns the points of an hour. If there are several hours, also prints the
+    sum of the points, and the hours that are not done."""
     points = []
     try:
         for hour in hours:
@@ -164,7 +164,8 @@ def put(club, words, hour, key, lines):
 
 
 def cancel_for(club, words):
-    """Cancels a member's bookings in these hours, each under the key that booked it. The refund is the same as for a cancellation by the member."""
+    """Cancels a member's bookings in these hours, each booking under the key that made the booking. The refund is the same as for a cancellation by
+    the member."""
     wants_file(club)
     with said_at_the_end() as lines, Turn(club) as turn:
         return each_hour(turn, words, list(range(*words.hour)), lines, lambda hour: delete(club, words, hour, lines), "called off in all")

@@ -14,17 +14,17 @@ Place = collections.namedtuple("Place", "text host folder")
 # A file at the place: its size, its digest, and its test. The test is `whole` by SQLite, `sum` by its digest alone, or `no`.
 Kept = collections.namedtuple("Kept", "name size sum tested")
 NAME = re.compile(r"20[0-9]{2}-[0-9]{2}-[0-9]{2}T[0-9]{6}Z")
-# The archive of the files next to the club. It is from the same time as the copy with its name.
+# The archive of the files next to the club. The archive is from the same time as the copy of the same name.
 BESIDE = re.compile(NAME.pattern + r"[.]tar")
 OLD_YEAR = re.compile(r"until-[0-9]{4}-[0-9]{2}-[0-9]{2}(-[0-9]{1,3})?")
-# The timeout of a silent host, and the timeout of a file's transfer, in seconds.
+# The greatest number of seconds to wait for a silent host, and for the transfer of a file.
 PATIENCE, MOST_SECONDS = 10, 300
 OPTIONS = (f"ConnectTimeout={PATIENCE}", "ServerAliveInterval=5", "ServerAliveCountMax=3", "LogLevel=ERROR")
 # ssh asks for the password once, because later calls share the connection of the first call.
 ASKS = ("ControlMaster=auto", "ControlPersist=60", "ControlPath=~/.clubdesk-%C")
 
-# In each script, $1 is the folder. A file has a temporary name until it is complete and tested. The list gets the file's line before the file gets
-# its final name.
+# In each script, $1 is the folder. A file has a temporary name until it is complete and tested. The script adds the file's line to the list before it
+# gives the file its final name.
 TAKE = """set -eu
 umask 077
 [ "$5" = mounted ] || mkdir -p -- "$1"
@@ -101,7 +101,7 @@ def run_there(place, script, *words, given=None, asks=False):
 
 
 def take(place, name, data, digest, kind):
-    """Stores a file at the place, and gives it its name when it is complete. Returns how the place tested the file."""
+    """Stores a file at the place. The file gets its final name when it is complete. Returns how the place tested the file."""
     return run_there(place, TAKE, name, digest, kind, "there" if place.host else "mounted", given=data).decode().strip()
 
 

@@ -13,13 +13,13 @@ THURSDAY = 3
 Booking = collections.namedtuple("Booking", "key number facility day hour guests charge member")
 # A command of clubdesk, and its effect on the club's rows.
 Order = collections.namedtuple("Order", "words edits")
-# A row of a table, named by its key, with new values for some columns and amounts to add to other columns.
+# A change of a table's row: the row's key, new values for some columns, and amounts to add to other columns.
 Edit = collections.namedtuple("Edit", "table key sets adds", defaults=({}, {}))
 
 
 class Plan:
-    """A correction: the lines that the clerk sees, and the clubdesk commands that carry it out. A correction of the file has SQL statements
-    instead, each with its values and the number of rows that it changes."""
+    """A correction: the lines that the clerk sees, and the clubdesk commands that carry out the correction. Instead of commands, a correction of the
+    file has SQL statements, each with its values and the number of rows that it changes."""
 
     def __init__(self):
         self.lines = []
@@ -167,8 +167,8 @@ def plan_facility(db, words, now):
 
 
 def refuse_unfit(db, facility, places, opens, shuts, now):
-    """The new hours must include every future booking. A past slot also needs enough places, because no slot of a sound club has more persons than
-    places."""
+    """The new hours must include every future booking. The facility must also have enough places for each past slot, because no slot of a sound club
+    has more persons than places."""
     for it in bookings_of(db, "facility = ? AND day * 1440 + hour * 60 > ?", facility, now):
         if not opens <= it.hour < shuts:
             raise refusal("is booked at", key=it.key, number=it.number, day=date_of(it.day), hour=it.hour)
@@ -230,7 +230,8 @@ def plan_close(db, words, _now):
             close_hours(db, plan, facility, day, begin, end)
     if not plan.orders:
         raise nothing_left("all closed")
-    # The desk closes each slot right after it cancels the slot's bookings. So members have almost no time to book the slot in between.
+    # The desk closes each slot right after it cancels the slot's bookings. So members have almost no time to book the slot between the cancellation
+    # and the closing.
     plan.orders.sort(key=lambda it: (it.edits[-1].key[1:], it.edits[-1].key[0]))
     return plan
 
@@ -297,8 +298,8 @@ def free_number(db):
 
 
 def plan_new_year(db, words, now, club):
-    """Removes the bookings of all days before a given day from the file. For each key, one cancelled booking with the bookings' total cost replaces
-    them."""
+    """Removes the bookings of all days before a given day from the file. For each key, one cancelled booking with the total cost replaces the removed
+    bookings."""
     before = now // 1440 if words.before is None else words.before
     if before > now // 1440:
         raise refusal("is to come", day=date_of(before))
@@ -327,8 +328,8 @@ def plan_new_year(db, words, now, club):
 
 
 def carry_forward(db, before):
-    """Returns rows that keep the cost of a key's old bookings spent. They are cancelled bookings without a refund, under the highest free
-    numbers."""
+    """Returns rows for a key, which make the cost of the key's removed bookings still count as spent. The rows are cancelled bookings without a
+    refund, under the highest free numbers."""
     rows = []
     for key, cost, facility in db.execute(
         "SELECT pass_key, sum(charge - refund), min(facility) FROM bookings WHERE day < ? GROUP BY pass_key HAVING sum(charge - refund) > 0"

@@ -9,8 +9,8 @@ import unicodedata
 from club_office.texts import MONTHS, WEEKDAYS
 
 LETTERS = {"ä": "ae", "ö": "oe", "ü": "ue", "ß": "ss", "æ": "ae", "ø": "oe", "å": "aa", "œ": "oe", "đ": "d", "ł": "l", "þ": "th", "ð": "d", "ı": "i", "ə": "e", "ħ": "h", "ŧ": "t", "ŋ": "n"}
-# The facts about a club that the parsers use. A member has its credit, balance and quota. A key has its member, and is revoked or not. A facility
-# has its kind, hours, places and price. `written` has the members' known full names.
+# The facts about a club that the parsers use: the members with credit, balance and quota, the keys with their members and whether they are revoked,
+# and the facilities with kind, hours, places and price. `written` has the members' known full names.
 Names = collections.namedtuple("Names", "members keys facilities written")
 Member = collections.namedtuple("Member", "credited balance quota")
 Key = collections.namedtuple("Key", "member revoked")
@@ -43,7 +43,8 @@ def found(typed, names):
     whole = "-".join(parts)
     if whole in names:
         return [whole]
-    # First matches the typed text, where a plain vowel also matches an umlaut. If no name matches, a typed umlaut also matches a plain vowel.
+    # First compares the names with the typed text, in which a plain vowel also stands for an umlaut. If no name matches, a typed umlaut also stands
+    # for a plain vowel.
     for made in (lambda text: text, loose):
         fits = [it for it in names if all(made(part) in made(it) or part in loose(it) for part in parts)]
         if fits:
@@ -147,7 +148,7 @@ def is_group(word):
 
 def read_facilities(text, facilities):
     """Returns the facilities that a text means. The text is `all`, a kind such as `courts`, or parts of names with commas or spaces between them.
-    Each part gives a list of matches. If a list has several matches, the caller chooses one."""
+    Returns a list of matches for each part. If a list has several matches, the caller chooses one."""
     words = [it for it in re.split(r"[\s,]+", text.strip()) if it]
     if all(plain(it) in ALL for it in words) and words:
         return [[it] for it in facilities]

@@ -160,7 +160,7 @@ def heat_map(use, kind):
                 cells.append('<td class="none">·</td>')
                 continue
             share = 100 * used[weekday, hour] / offered[weekday, hour]
-            # Even on the darkest cell, dark letters have a contrast of 5 to 1.
+            # Even on the cell with the darkest colour, the dark letters have a contrast of 5 to 1.
             cells.append(f'<td style="background:hsl(156 59% {96 - share * 0.55:.0f}%)">{share:.0f}</td>')
         lines.append(f"<tr>{''.join(cells)}</tr>")
     heads = ["", *(it[:2] for it in WEEKDAYS[language()])]
@@ -200,7 +200,7 @@ def facilities_table(use, before):
 
 
 def members_table(use, has_names):
-    """Returns the members with the most bookings that took place. Returns only their ranks if the page leaves names out."""
+    """Returns the members with the most bookings that took place. If the page leaves names out, returns only the members' ranks."""
     count, points = collections.Counter(it.member for it in use.held()), collections.Counter()
     for it in use.bookings:
         points[it.member] += it.charge - it.refund
@@ -232,7 +232,7 @@ def page(title, use, before, today, has_names):
 
 
 def report_of(club, db, year, today, has_names):
-    """Returns the page of a year, compared with the same days of the year before. The current year ends with today."""
+    """Returns the page of a year, compared with the same days of the year before. In the current year, today is the last day."""
     last = min(datetime.date(year, 12, 31), today)
     before = datetime.date(year - 1, last.month, 28 if (last.month, last.day) == (2, 29) else last.day)
     use, then = use_of(club, db, datetime.date(year, 1, 1), last), use_of(club, db, datetime.date(year - 1, 1, 1), before)

@@ -1,4 +1,4 @@
-"""Restores a club: replaces it with a copy."""
+"""Restores a club by replacing it with a copy."""
 
 import calendar
 import collections
@@ -45,7 +45,7 @@ def copies_of(club):
 
 
 def copies_off_site(club):
-    """Returns the copies at the place of OFFSITE. Returns none if the configuration has no such place. Prints a line if the place doesn't
+    """Returns the copies at the place of OFFSITE. Returns no copies if the configuration has no line OFFSITE. Prints a line if the place doesn't
     answer."""
     if not club.settings.get("offsite"):
         return []
@@ -94,7 +94,7 @@ def copy_named(club, called):
 
 
 def brought(place, called, path, asks=False):
-    """Fetches a copy to a path. The copy's digest must be the digest that was sent with it."""
+    """Fetches a copy to a path. The copy's digest must be the digest that was sent with the copy."""
     kept = next(it for it in kept_in(place, asks) if it.name == called)
     data = given_by(place, called, asks)
     if kept.sum and hashlib.sha256(data).hexdigest() != kept.sum:
@@ -106,7 +106,7 @@ def brought(place, called, path, asks=False):
 
 @contextlib.contextmanager
 def copy_opened(club, called):
-    """Yields a copy in memory, after checking its totals. clubdesk has opened the copy, which may update the copy's tables."""
+    """Yields a copy in memory, after checking the totals in the copy. clubdesk has opened the copy, which may update the copy's tables."""
     memory = sqlite3.connect(":memory:", isolation_level=None)
     found = copy_named(club, called)
     with scratch(club, homes(club, found.size)[0]) as folder:
@@ -164,7 +164,7 @@ def keys_changed(keys, then):
 
 
 def of_whom(lines):
-    """Returns the members whose bookings a restore changes. Each name is the last word of such a line."""
+    """Returns the members whose bookings a restore changes. Each member's name is the last word of a line about a booking."""
     begin = [say(it, **dict.fromkeys(("slot", "persons", "points", "key", "number", "member"), "")).split()[0] for it in ("loses", "books again")]
     return [line.split()[-1] for line in lines if line.split()[0] in begin and "," in line]
 
@@ -229,12 +229,12 @@ def write_over(club, words, copy, lines, shown):
             raise storage_failed("nothing changed", why=fault) from None
         lines[:] = [say("file unread", fault=fault)]
         put_new_file(club, copy)
-        # A server may have opened the old file in the meantime. It still uses that file under the file's other name.
+        # A server may have opened the old file in the meantime. Such a server still uses the old file, which now has another name.
         ended(club)
 
 
 def keep_or_put_away(club, db, words, copy, lines, shown):
-    """Keeps the current club before a restore. Keeps a copy as before a correction, or a copy byte for byte if the club is damaged."""
+    """Keeps the current club before a restore, in a copy like the copy before a correction. If the club is damaged, makes this copy byte for byte."""
     try:
         lines += what_changes(copy, db, now_of(words))
         if shown is not None and lines != shown:
@@ -253,7 +253,7 @@ def keep_or_put_away(club, db, words, copy, lines, shown):
 
 
 def put_new_file(club, copy):
-    """Gives another name to a file that SQLite can't open, and to its log. Then gives the file's name to a copy."""
+    """Gives another name to a file that SQLite can't open, and to its log. Then gives the name of the damaged file to a copy."""
     made = club.file + "-new"
     with contextlib.suppress(FileNotFoundError):
         os.unlink(made)

@@ -22,7 +22,7 @@ def ledger_of(club):
 
 
 def steps_of(club, label):
-    """Returns the last step of each member under a name, and the steps for all members together."""
+    """Returns each member's last step for the credit of this name, and the steps for all members together."""
     found = {}
     try:
         with open(ledger_of(club), encoding="ascii") as lines:

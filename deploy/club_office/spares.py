@@ -1,4 +1,4 @@
-"""Members' spare keys. The page lends the passes of these keys. The configuration sets their number and names."""
+"""Members' spare keys. The page lends the passes of these keys. The configuration sets the number and the names of a member's spare keys."""
 
 from club_office.faults import STORAGE, Fault, fault
 from club_office.values import name, number
@@ -10,7 +10,7 @@ LONGEST_NAME = 24
 
 def spare_keys(club, member):
     """Returns the names of a member's spare keys, such as amy-lend-1. The configuration has the number of spare keys in SPARES. SPARE_NAME is the
-    word in their names, `lend` by default."""
+    word in the spare keys' names, `lend` by default."""
     try:
         count, called = number(0, MOST_SPARES)(club.settings.get("spares") or "0"), name(club.settings.get("spare_name") or "lend")
     except Fault as failure:

@@ -133,7 +133,8 @@ MAKES_A_KEY = ("add-key", "letters")
 
 
 def places_of(command):
-    """The kinds of a command's words without a dash, in order. It also has whether the last kind repeats, and the options that take a value."""
+    """Returns the kinds of the words of a command that aren't options, in order. Also returns whether the last kind may repeat, and which options
+    take a value."""
     called, is_repeated, takes_value = [], False, set()
     for place, how in command.words:
         if place.startswith("-"):
@@ -145,7 +146,7 @@ def places_of(command):
 
 
 def read_words(reader, command, words):
-    """Returns a command's words in the desk's form. Of the options, only a day changes."""
+    """Returns a command's words in the desk's form. Among the values of options, converts only days."""
     called, is_repeated, takes_value = places_of(command)
     made, place, option, is_over = [], 0, None, False
     for word, following in zip(words, [*words[1:], ""]):
@@ -184,7 +185,7 @@ def without_options(command, words):
 
 def confirms_odd(reader, command, words, is_order):
     """Asks the clerk about odd input if the command itself doesn't ask. Odd input is a past day, a day far ahead, many points, or a guessed name.
-    If a word has several days, checks only the first day."""
+    If a word means several days, checks only the first day."""
     odd, called = [], reader.called
     plain = without_options(command, words)
     with contextlib.suppress(KeyError, IndexError, ValueError):

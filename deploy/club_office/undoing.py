@@ -1,5 +1,5 @@
-"""Records the rows that the last correction changes, in a file next to the club, before the correction begins. So `undo` can restore those rows
-that have not changed since. The record also lets an interrupted correction continue."""
+"""Records the rows that the last correction changes, in a file next to the club, before the correction begins. So `undo` can restore the rows that
+have not changed since the correction. The record also lets an interrupted correction continue."""
 
 import contextlib
 import json
@@ -17,8 +17,8 @@ TABLES = ("members", "facilities", "keys", "slots", "bookings", "old_roots")
 KEYS = {"slots": 3, "bookings": 2}
 # The columns of the tables that commands change.
 COLUMNS = {"members": ("name", "credited", "quota", "used"), "facilities": ("name", "kind", "places", "price", "opens", "shuts")}
-# A clerk can't undo a correction that changes more rows than this. A new year can't be undone either, because it replaces the file and keeps the
-# old one.
+# A clerk can't undo a correction that changes more rows than this. Nor can a clerk undo a new year, because it replaces the club's file and keeps the
+# old file.
 MOST_ROWS = 5_000
 NOT_UNDONE = "new-year"
 # Options that don't affect the changes that a correction makes to the club.
@@ -42,8 +42,8 @@ def value_of(stored):
 
 
 def rows_changed(db):
-    """Returns the rows that differ from the copy attached as `before`. Each has its table and rowid, its old values and its new values. None stands
-    for the values of a missing row."""
+    """Returns the rows that differ from the copy attached as `before`. For each row, returns its table and rowid, its old values and its new values.
+    None stands for the values of a missing row."""
     found = []
     for table in TABLES:
         was, is_now = (
@@ -62,8 +62,8 @@ def row_of(db, table, key):
 
 
 def rows_edited(db, edits):
-    """Returns the rows of a copy that the edits of commands change. They have the form of the result of `rows_changed`. A slot without a row has no
-    rowid."""
+    """Returns the rows of a copy that the edits of commands change. These rows have the same form as the result of `rows_changed`. A slot without a
+    row has no rowid."""
     found = {}
     for it in edits:
         columns, place = columns_of(db, it.table), (it.table, *it.key)
@@ -89,7 +89,7 @@ def forget_undo(club):
 
 
 def write_undo(club, db, words):
-    """Records the rows that a correction is about to commit. If the commit fails, no row has the recorded new values. Then `undo` refuses. An undo
+    """Records the rows that a correction is about to commit. If the commit fails, no row has the recorded new values, so `undo` refuses. An undo
     doesn't record its own rows. So the correction's record stays until SQLite commits the undo."""
     if words.command == "undo":
         return
@@ -100,7 +100,7 @@ def write_undo(club, db, words):
     write(club, content_of(words, rows, True)).close()
 
 
-# ---- The record of a correction that consists of commands. The first line is the record's content, and later lines show the progress.
+# ---- The record of a correction that consists of commands. The first line of the record is its content, and later lines show the progress.
 
 DONE, MAILED = "done", "mailed "
 
@@ -179,7 +179,8 @@ class Record:
 
 
 def with_sums(row, cancelled):
-    """Returns the row with new old sums: the current sums plus the cancelled bookings. Members may have booked between the two runs."""
+    """Returns the row with corrected old sums, because members may have booked between the two runs: the current sums plus the sums of the cancelled
+    bookings."""
     table, rowid, was, is_now = row
     if table == "slots":
         persons = sum(it[5] + 1 for it in cancelled if it[2:5] == is_now[:3])
@@ -249,7 +250,7 @@ def is_undo(content):
 
 
 def order_between(table, now, then):
-    """Returns the command that turns one row into another, with the command's edit. Returns None if no single command does this."""
+    """Returns the command that turns one row into another, with the command's edit. Returns None if no single command can do so."""
     columns = COLUMNS.get(table) if now and then else None
     changed = {it: after for it, before, after in zip(columns or (), now or (), then or ()) if before != after}
     if changed.keys() == {"quota"}:
@@ -262,7 +263,8 @@ def order_between(table, now, then):
 
 
 def row_undone(content):
-    """Returns the row that an undo changes, with its values before and after the undo, if one command can restore it. Otherwise returns None."""
+    """If one command can undo the correction, returns the row that the command changes, with its values before and after the undo. Otherwise returns
+    None."""
     rows = content["rows"] or [] if content else []
     if len(rows) != 1:
         return None

@@ -1,4 +1,4 @@
-"""Parsers of arguments. Each function takes a word and returns its value, or raises a bad value."""
+"""Parsers of arguments. Each function takes a word and returns the word's value, or raises a fault if the word is invalid."""
 
 import datetime
 import re

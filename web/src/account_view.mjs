@@ -161,8 +161,8 @@ function lostFault(number, day) {
   return null;
 }
 
-// Returns whether the key has used a number. The function asks the desk to cancel a booking at a slot that can't exist. The desk's reply answers
-// the question, and no booking changes.
+// Returns whether the key has used a number. The function asks the desk to cancel a booking at a slot that can't exist. The desk's reply tells
+// whether the key has used the number, and no booking changes.
 async function isUsed(number) {
   const nowhere = { facility: "none-such", day: "2000-01-01", hour: 0 };
   if (denial("cancel", nowhere) > 0) return true; // the pass doesn't allow the question

@@ -1,4 +1,5 @@
-// Actions on a booking other than cancelling it. They add the booking to the calendar, invite somebody, repeat it a week later, or change it.
+// Actions on a booking other than cancelling it. These actions add the booking to the calendar, invite somebody to it, repeat it a week later, or
+// change it.
 import { offerBooking, slotText } from "./booking_dialog.mjs";
 import { calendarText } from "./calendar.mjs";
 import { facilityOf, hoursOf, titleOf, whyClosed } from "./club.mjs";
@@ -58,7 +59,7 @@ async function invite(entry) {
   }
 }
 
-// Returns the desk's reply about a slot, or null if the pass doesn't show it. Shows a fault to the member.
+// Returns the desk's reply about a slot, or null if the pass doesn't show the slot. Shows a fault to the member.
 async function lookedUp(slot, title) {
   try {
     const reply = denial("view", slot) > 0 ? null : await ask(state.text, "view", slot, 2);
@@ -119,7 +120,7 @@ function offerChange(entry, whenDone) {
   ], whenDone);
 }
 
-// Before it sends a request, it shows the cost, the refund, and the result if one of the two requests fails.
+// Before the page sends a request, it shows the cost, the refund, and what happens if one of the two requests fails.
 async function confirmChange(entry, slot, guests, whenDone) {
   const title = say("change-title", { facility: titleOf(state.club, entry.facility) });
   const found = await lookedUp(slot, title);
@@ -139,7 +140,7 @@ async function confirmChange(entry, slot, guests, whenDone) {
   ], whenDone);
 }
 
-// Returns the result of an entry as soon as the desk's reply, or a refusal of the pass, decides it.
+// Waits until the desk has replied to an entry's request or has refused the pass, then returns the entry.
 function decidedOf(entry) {
   return new Promise((done) => {
     state.sender.follow(entry, (now) => {

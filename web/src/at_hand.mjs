@@ -1,5 +1,4 @@
-// Makes the page work without a network, by a service worker. If the browser has no service workers, the
-// rest of the page still works.
+// Uses a service worker, so that the page works without a network. If the browser has no service workers, the page needs a network.
 
 let isAtHand = false;
 
@@ -22,6 +21,6 @@ export async function keepPage(whenKept) {
     isAtHand = true;
     whenKept();
   } catch {
-    // The page works without a worker, and tells the member so under Account.
+    // Without the worker the page needs a network, and tells the member so under Account.
   }
 }

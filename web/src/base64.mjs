@@ -1,4 +1,4 @@
-// Base64. Reads both alphabets of base64, but only one of them in a text. Writes URL-safe text
+// Base64. Reads both alphabets of base64, but refuses a text that mixes them. Writes URL-safe text
 // without padding.
 import { characters, quoted } from "./bytes.mjs";
 import { malformed } from "./pass_faults.mjs";

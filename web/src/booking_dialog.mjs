@@ -1,4 +1,4 @@
-// Booking and cancelling: shows the cost, needs one press, and shows the result.
+// The dialogs for booking and cancelling. Each dialog shows the cost, has one button to press, and shows the result.
 import { facilityOf, titleOf, whyClosed } from "./club.mjs";
 import { hourText, startOf } from "./dates.mjs";
 import { closeDialog, isDialogOpen, openDialog } from "./dialog.mjs";
@@ -55,7 +55,7 @@ function mostGuests(slot, view) {
 
 // ---- Booking
 
-// `view` is the desk's reply about the slot, or null if the pass doesn't show it.
+// `view` is the desk's reply about the slot, or null if the pass doesn't show the slot.
 export function offerBooking(slot, view, whenDone) {
   const own = ownAt(slot, view);
   const mine = own.length > 0 ? own : liveAt(slot);
@@ -124,7 +124,7 @@ function offerFirst(slot, view, title, isMeant, whenDone) {
   openDialog(title, [element("p", "slot-time", slotText(slot)), ...(about === "" ? [] : [element("p", "hint", about)]), places, stepper, facts, ...endNote(slot), outcome, element("div", "buttons", press)], whenDone);
 }
 
-// A pass that ends before the slot can't cancel the booking after the pass's end.
+// If the pass ends before the slot begins, the member can cancel the booking only until the pass ends.
 function endNote(slot) {
   const end = endOf(state.pass);
   if (end === null || end > startOf(slot)) return [];
@@ -147,7 +147,7 @@ function costFacts(view, guests) {
   return facts;
 }
 
-// Sends a listed booking whose answer isn't known to the desk, with the booking's own number and guests.
+// Offers to send a listed booking to the desk if the browser doesn't know the desk's answer. The request has the booking's own number and guests.
 export function offerListed(entry, view, whenDone) {
   const facts = element("dl", "cost", ...costFacts(view, entry.guests));
   const outcome = element("div", "outcome-box");

@@ -91,7 +91,7 @@ function go(wanted) {
   }
 }
 
-// The page calls this after the record has changed, in this tab or in another tab. If the desk answered a request,
+// The page calls this function after the record has changed, in this tab or in another tab. If the desk answered a request,
 // the account has also changed.
 async function refresh() {
   const open = openRequests();
@@ -113,7 +113,7 @@ function openRequests() {
 
 // ---- The pass
 
-// The page calls this when it has a pass, which may be the earlier pass or a new one.
+// The page calls this function when it has a pass: the earlier pass or a new pass.
 function begin() {
   view = "day";
   show();

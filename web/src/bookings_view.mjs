@@ -80,7 +80,7 @@ function stateText(entry) {
   return now === "listed" ? listedText(entry) : say("state-booked");
 }
 
-// Marks the claims of a list as claims.
+// Returns a text which says that the state of the booking is only a list's claim.
 function listedText({ guests, listed }) {
   if (listed.refund !== undefined) return say("listed-cancelled", { count: listed.refund });
   if (listed.cancel) return say("listed-cancelling");
@@ -157,7 +157,7 @@ function noteSlot(name, { taken, closed }) {
 
 let lookRound = 0; // numbers each check of the slots: results of an older check are dropped
 
-// Checks whether the slots of these bookings still have the bookings' persons.
+// Checks for each of these bookings whether its slot still includes the booking's persons.
 export async function lookAfterBookings(whenDone) {
   const moment = clubMoment();
   if (moment === null || state.pass === null) return;

@@ -4,7 +4,7 @@ export function bytesOf(text) {
   return new TextEncoder().encode(text);
 }
 
-// Decodes bytes as UTF-8. Returns null if they aren't valid UTF-8.
+// Decodes bytes as UTF-8. Returns null if the bytes aren't valid UTF-8.
 export function textOf(bytes) {
   try {
     return new TextDecoder("utf-8", { fatal: true, ignoreBOM: true }).decode(bytes);

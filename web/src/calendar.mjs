@@ -6,8 +6,8 @@ import { momentIn, startOf } from "./dates.mjs";
 const LONGEST_LINE = 75; // bytes
 const REMINDER = "-PT2H";
 
-// Returns the instant, in milliseconds, when the zone's wall clock first shows a moment. For a moment that the clock skips, it uses the offset from
-// before the clock change.
+// Returns the instant, in milliseconds, when the zone's wall clock first shows a moment. If the clock skips the moment, the function uses the offset
+// from before the clock change.
 export function instantOf(zone, moment) {
   const wanted = Date.parse(`${moment}Z`);
   const lead = (instant) => Date.parse(`${momentIn(zone, instant)}Z`) - instant;

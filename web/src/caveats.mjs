@@ -1,5 +1,5 @@
-// Each line that the desk understands as a caveat, with its values and the requests that it allows. All these lines are far shorter than the limit
-// of 256 bytes.
+// Each line that the desk understands as a caveat, with its values and the requests that it allows. Each such line is far shorter than the limit of
+// 256 bytes.
 import { characters } from "./bytes.mjs";
 import { isDate, WEEKDAYS, weekdayOf } from "./dates.mjs";
 
@@ -23,7 +23,7 @@ const LINES = {
 };
 const PATTERNS = Object.entries(LINES).map(([name, [pattern, values]]) => ({ name, pattern: new RegExp(`^${pattern}$`), values }));
 
-// Matches some of the words in their given order, with commas between them.
+// Matches a list of one or more of these words, in the given order, with commas between the words.
 function chosenWords(text, known) {
   const words = text.split(",");
   const inOrder = known.filter((word) => words.includes(word));
@@ -47,8 +47,8 @@ export function readCaveat(bytes) {
 }
 
 // Returns whether a caveat allows a request. Each request has an action and a moment. A request for a slot also has a facility, its kind, a day and
-// an hour. The kind is null if the club has no such facility. A booking also has its number of guests, the points owed, and the points that the key
-// has spent. A value that the page doesn't know is undefined, and is never a reason to deny, because the desk decides.
+// an hour. The kind is null if the club doesn't have the facility. A request to book also has the number of guests, the cost in points, and the
+// points that the key has spent. A value that the page doesn't know is undefined, and is never a reason to deny, because the desk decides.
 const TESTS = {
   facility: (caveat, { slot }) => slot !== undefined && caveat.facilities.includes(slot.facility),
   kind: (caveat, { slot }) => slot !== undefined && slot.kind === caveat.kind,

@@ -34,8 +34,8 @@ function pictureOr(value) {
   return typeof value === "string" && value.length <= LONGEST_LOGO && /^data:image\/(?:png|jpeg|webp|svg\+xml);base64,[A-Za-z0-9+/=]+$/.test(value) ? value : "";
 }
 
-// Reads a club from JSON. Returns null if it isn't a club. The club needs a zone and facilities. Each other part counts as missing if it is
-// invalid: titles and sentences, reasons for closed slots, contact, imprint and privacy pages, logo.
+// Reads a club from JSON. Returns null if the value isn't a club. The club needs a zone and facilities. The other parts are titles with sentences,
+// reasons for closed slots, contact, imprint page, privacy page and logo. If one of these parts is invalid, it counts as missing.
 export function readClub(value) {
   if (typeof value !== "object" || value === null || !isZone(value.zone) || !Array.isArray(value.facilities)) return null;
   if (!value.facilities.every(isFacility)) return null;

@@ -1,5 +1,5 @@
 // Days, hours and minutes on the club's wall clock. A day is a text YYYY-MM-DD, and a moment is a text YYYY-MM-DDTHH:MM. The functions use UTC only
-// for counting. Only `momentIn` uses time zones.
+// to count days and minutes. Only `momentIn` uses time zones.
 
 export const WEEKDAYS = ["mon", "tue", "wed", "thu", "fri", "sat", "sun"];
 

@@ -251,7 +251,7 @@ function press(cell) {
 
 // ---- Looking
 
-// Requests each slot of the day that the pass allows to see and that isn't over.
+// Requests each slot of the day that isn't over and that the pass allows the member to see.
 export async function look() {
   round += 1;
   const mine = round;
@@ -280,7 +280,8 @@ export async function look() {
   showLooked();
 }
 
-// The facility on a narrow screen comes first, even if the member chooses it while the page requests other slots.
+// The page first requests the slots of the facility that a narrow screen shows, even if the member chooses this facility while the page requests
+// other slots.
 function chosenFirst() {
   waiting.sort((a, b) => (b.slot.facility === chosen) - (a.slot.facility === chosen));
 }

@@ -97,7 +97,7 @@ function replyOf(status, body) {
   return new Response(JSON.stringify(body), { status, headers: { "Content-Type": "application/json", Date: new Date().toUTCString() } });
 }
 
-// Answers requests of the page to its own origin.
+// Answers the requests that the page sends to its own origin.
 function answerHere(desk) {
   return async (path, options = {}) => {
     if (path === "club.json") return replyOf(200, CLUB);

@@ -63,8 +63,8 @@ export function paused(milliseconds) {
 
 const MOST_WAITS = 30;
 
-// Sends a request that changes nothing. Repeats the request up to a number of tries. A try that the proxy postpones doesn't count. Throws the last
-// NoReply.
+// Sends a request that changes nothing. If no reply comes, repeats the request, with at most `tries` tries. A try that the proxy postpones doesn't
+// count. Throws the last NoReply.
 export async function ask(pass, action, asked, tries = 4, waits = MOST_WAITS) {
   try {
     return await exchange(pass, action, asked);
@@ -79,8 +79,8 @@ export async function ask(pass, action, asked, tries = 4, waits = MOST_WAITS) {
   }
 }
 
-// Runs a task for each item, a few at a time. Stops when `goesOn` returns false. It takes the items from the front of the list. The order of the
-// list may change while the tasks run.
+// Runs a task for each item, a few at a time. Stops when `goesOn` returns false. The function takes the items from the front of the list. The order
+// of the list may change while the tasks run.
 export async function eachAtOnce(items, task, goesOn = () => true) {
   const work = async () => {
     while (items.length > 0 && goesOn()) await task(items.shift());

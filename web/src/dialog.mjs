@@ -19,8 +19,7 @@ export function openDialog(title, content, whenClosed = () => {}) {
   heading.focus();
 }
 
-// The browser's own event comes later, when another dialog may be open. So this function closes the dialog
-// completely.
+// The browser reports the closing only later, when another dialog may be open. So this function does all the work of closing itself.
 export function closeDialog() {
   const whenClosed = closed;
   closed = null;
@@ -41,7 +40,7 @@ export function setUpDialog() {
   });
   // At a second Escape, the browser closes the dialog without asking the page.
   dialog.addEventListener("close", () => { if (!dialog.open && closed !== null) closeDialog(); });
-  // A press outside the dialog also closes it.
+  // A press outside the dialog also closes the dialog.
   dialog.addEventListener("click", (event) => { if (event.target === dialog) closeDialog(); });
 }
 

@@ -56,7 +56,7 @@ function isToBook(slot) {
   return hasRoom(slot) && !isDenied(slot, views.get(slotName(slot)), 0);
 }
 
-// If a pass can only look, a slot with a free place counts as free.
+// If the pass allows only looking, a slot with a free place counts as free.
 function isFree(slot) {
   return isToBook(slot) || (hasRoom(slot) && denial("book", slot) > 0);
 }

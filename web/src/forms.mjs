@@ -1,5 +1,5 @@
 // The two binary forms of a pass. V1 consists of packets: a length, a key, a space, the data and a line feed. V2 consists of fields with a type, a
-// length and the data. Each section ends with a zero byte.
+// length and the data. Each section of V2 ends with a zero byte.
 import { base64Of } from "./base64.mjs";
 import { bytesOf, characters, joined, quoted, shown } from "./bytes.mjs";
 import { malformed, part } from "./pass_faults.mjs";

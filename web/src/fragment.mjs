@@ -1,5 +1,5 @@
 // Reads the part of the page's address after #. The part is a pass, a list of bookings, spare passes, or the mark of the hall's screen. A pass may
-// follow the mark.
+// follow the mark of the screen.
 import { textOfFragment } from "./pass.mjs";
 import { recordOfFragment } from "./record.mjs";
 

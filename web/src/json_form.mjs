@@ -1,6 +1,6 @@
 // The form in JSON. JSON.parse accepts texts that the desk refuses, such as lone surrogates, 2.0 for 2, huge numbers and any depth. So this module
-// reads the texts itself. A JSON string becomes a string, an array an array, and an object a Map. Of equal names in an object the last counts. A
-// number becomes this class:
+// parses JSON itself. A JSON string becomes a string, an array becomes an array, and an object becomes a Map. If an object has a name several times,
+// the last value counts. A number becomes this class:
 import { base64Of, bytesOfBase64 } from "./base64.mjs";
 import { bytesOf, quoted, shown, textOf } from "./bytes.mjs";
 import { checkedSignature } from "./forms.mjs";
@@ -82,7 +82,7 @@ class JsonReader {
     return new JsonNumber(spelling);
   }
 
-  // No valid pass has these values. But an object may have one under a duplicate name whose last value replaces it.
+  // No valid pass has the value true, false or null. But an object may have such a value if a later value with the same name replaces it.
   word() {
     const word = this.match(/true|false|null/y);
     if (word === null) this.refuse("json-none");
@@ -156,7 +156,8 @@ function member(object, name, named) {
   return optionalMember(object, name, named) ?? malformed("json-missing", { subject: named(name) });
 }
 
-// Returns the bytes of the text under the plain name, or of the base64 under the name that ends with `64`. Returns null if the object has neither.
+// Returns the bytes of the text under the plain name, or of the base64 under the name that ends with `64`. Returns null if the object has neither
+// name.
 function optionalMember(object, name, named) {
   const name64 = `${name}64`;
   if (object.has(name) && object.has(name64)) malformed("json-both", { subject: named(name), other: name64 });

@@ -51,7 +51,7 @@ function keptList(name, isRight) {
   }
 }
 
-// ---- Permanently stored passes. Each has a name, and the most recently used pass comes first
+// ---- Permanently stored passes. Each pass has a name, and the most recently used pass comes first
 
 export function plainName(text) {
   return text.replace(/\s+/g, " ").trim().slice(0, LONGEST_NAME);
@@ -66,12 +66,12 @@ export function keptPasses() {
   return keptList("passes", isKeptPass);
 }
 
-// Returns whether the browser already stores the most other passes.
+// Returns whether the browser already stores so many other passes that it can't store this pass.
 export function isPassTooMany(text) {
   return keptPasses().filter((each) => each.text !== text).length >= MOST_PASSES;
 }
 
-// Adds a pass in front of the others. If the pass is already stored, renames it. Never removes another pass.
+// Adds a pass in front of the other passes. If the pass is already stored, renames it. Never removes another pass.
 export function keepPass(text, name) {
   const others = keptPasses().filter((each) => each.text !== text);
   return !isPassTooMany(text) && keep(true, "passes", JSON.stringify([{ text, name }, ...others]));
@@ -137,7 +137,8 @@ function isLoan(each) {
   return typeof each === "object" && each !== null && [each.given, each.says, each.spare].every((text) => typeof text === "string");
 }
 
-// A loan has the pass that the member handed on, the sentence about it, and the spare pass that it narrows. The spare pass is "" if there is none.
+// A loan has the pass that the member handed on, the sentence about the loan, and the spare pass that was narrowed for the loan. If no spare pass was
+// narrowed, the spare pass is "".
 export function keptLoans() {
   return [...loansOfPage, ...keptList("loans", isLoan)].map(({ given, says, spare }) => ({ given, says, spare, ...splitGiven(given) }));
 }
@@ -167,7 +168,7 @@ export function noteTakenAlong(key, numbers) {
   keep(true, `taken ${key}`, JSON.stringify(numbers.slice(-MOST_NOTED)));
 }
 
-// Returns the last search, and the facility and hour of the last booking. Both may come from another club.
+// Returns the last search, and the facility and hour of the last booking. The search and the booking may come from another club.
 export function keptSearch() {
   const [found] = keptList("search", (each) => typeof each === "object" && each !== null && typeof each.kind === "string"
     && Number.isInteger(each.from) && Number.isInteger(each.to) && each.from >= 0 && each.from < each.to && each.to <= 24);

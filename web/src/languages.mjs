@@ -1,4 +1,4 @@
-// The page's language. It is the first language of the browser's user that the page supports, until the user chooses another language.
+// The page's language. Until the user chooses a language, the page uses the first language in the browser's list that the page supports.
 /* global WORDS */
 import { byName, element } from "./elements.mjs";
 import { language, languageFor, languages, say, useWords } from "./words.mjs";

@@ -36,8 +36,8 @@ export function allowsFacility(pass, { name, kind }) {
   return caveatsOf(pass, "facility").every(({ facilities }) => facilities.includes(name)) && caveatsOf(pass, "kind").every((caveat) => caveat.kind === kind);
 }
 
-// Returns the lines of a loan. A loan is for a kind or a facility, to look or to book, until a last day. Its points come on top of the points that
-// the key has already spent.
+// Returns the lines of a loan. A loan allows its holder to look or to book, for a kind or a facility, until a last day. The line about points
+// allows the loan's points in addition to the points that the key has already spent.
 export function linesOf({ kind = "", facility = "", isToLook, last, points, spent }) {
   const lines = [];
   if (kind !== "") lines.push(`kind = ${kind}`);

@@ -1,4 +1,4 @@
-// Lends a part of a pass. Asks what, how, until when and for how many points, then shows the link.
+// Lends a part of a pass. Asks the member what to lend, in which way, until when and for how many points, then shows the link.
 import { titleOf } from "./club.mjs";
 import { KINDS, readCaveat } from "./caveats.mjs";
 import { daysLater, isDate } from "./dates.mjs";
@@ -156,8 +156,8 @@ async function lend(event) {
   }
 }
 
-// Makes a loan, shows it, and returns the text below it. If the member has no usable spare pass after all, it first tells the member so and makes
-// no loan.
+// Makes a loan, shows it, and returns the text below it. If it turns out that the member has no usable spare pass, the function tells the member so
+// and makes no loan.
 async function makeLoan(loan) {
   const wasOfOwn = sparesToLend().length === 0;
   const { pass, spent, spare, refusal } = loan.isToLook ? { pass: state.pass, spent: 0, spare: "" } : await basisOf();
@@ -231,7 +231,7 @@ function loanCard(loan) {
   const facts = [];
   if (isOver) facts.push(say("lend-over"));
   if (spent !== undefined && limit !== null) facts.push(say("lend-used", { spent: Math.max(0, spent - loan.spent), most: limit - loan.spent }));
-  // A current loan stays in the list, because its spare pass is lent.
+  // A member can remove only a loan that is over, because the spare pass of a current loan is still lent.
   const press = isOver ? button("", say("remove"), () => { dropLoan(loan); showLend(); })
     : button("", say("lend-again"), () => showMade(loan.given, loan.says));
   return element("li", isOver ? "card cancelled" : "card booked", element("p", "", loan.says), element("p", "hint", facts.join(" \u00b7 ")),
@@ -316,7 +316,7 @@ export function setUpLend() {
   byName("lend-share").addEventListener("click", shareLoan);
 }
 
-// Summarizes a narrowed pass for its holder: its limits, its end, and how many of its points bookings have used.
+// Summarizes a narrowed pass for its holder: the limits, the end, and the number of points that bookings have used.
 export function passSays(pass) {
   const parts = pass.caveats.map(shortText).filter((part) => part !== "");
   const limit = limitOf(pass);

@@ -1,4 +1,4 @@
-// The page that narrows a pass. The page sends nothing. It loads only the club's list, and only from a server that has one.
+// The page that narrows a pass. The page sends nothing. The page loads only the club's list, and only if its server has such a list.
 import { bytesOf, shown } from "./bytes.mjs";
 import { readClub } from "./club.mjs";
 import { showClub } from "./club_view.mjs";
@@ -10,8 +10,7 @@ import { fact, faultContent, isAboutSlots, keyFacts, keyWarning, leavesOut, limi
 import { drawQr, qrWords } from "./qr_picture.mjs";
 import { say } from "./words.mjs";
 
-// ---- The choices: for the id of each fieldset, the line that its fields make, or "" if they are empty. The lines have the order of their
-// addition.
+// ---- The choices: for the id of each fieldset, the line that its fields make, or "" if they are empty. The page adds the lines in this order.
 
 const CHOICES = {
   kind: kindLine,
@@ -124,7 +123,8 @@ function chosenLines() {
   return new Map(Object.keys(CHOICES).map((id) => [id, chosenLine(id, form)]));
 }
 
-// Shows below a fieldset the line that it adds. Shows a fault only when the user leaves the fieldset or narrows the pass, not at the first key.
+// Shows below a fieldset the line that the fieldset adds. Shows a fault only when the user leaves the fieldset or narrows the pass, not at the first
+// keystroke.
 function showChoice(id) {
   const line = chosenLine(id, new FormData(choices));
   put(`${id}-made`, ...(line ? [sentenceOf(bytesOf(line)), element("code", "", line)] : []));
@@ -200,7 +200,7 @@ function showResult(narrower, text, old) {
   result.scrollIntoView();
 }
 
-// An address in a folder doesn't work on another telephone.
+// If the page was opened from a folder, its address doesn't work on another telephone.
 function showQr(address) {
   const isHere = location.protocol === "file:";
   const picture = isHere ? null : drawQr(address, say("lend-qr-label"));
@@ -293,7 +293,7 @@ function fillHours() {
   byName("hours-to").append(...hours.slice(1).map((hour) => new Option(`${hour}:00`, hour)));
 }
 
-// Adds two lines below each fieldset: the line that the fieldset adds to the pass, and its fault. A screen reader reads both with the fields.
+// Adds two lines below each fieldset: the line that the fieldset adds to the pass, and its fault. A screen reader reads both lines with the fields.
 function addMessages(id) {
   const made = element("p", "made");
   made.id = `${id}-made`;

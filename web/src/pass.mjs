@@ -1,6 +1,6 @@
-// A pass has a location, an identifier, caveats and a signature, which are all bytes. It also has the form of its text: v1, v2 or json. A caveat is
-// a line that narrows the pass. The signature before a caveat signs the caveat. So any holder of a pass can add a caveat without a secret, and
-// nobody can remove one.
+// A pass has a location, an identifier, caveats and a signature, which are all bytes. A pass also has the form of its text: v1, v2 or json. A caveat
+// is a line that narrows the pass. The key that signs a caveat is the signature before the caveat. So any holder of a pass can add a caveat without a
+// secret, and nobody can remove a caveat.
 import { bytesOfBase64 } from "./base64.mjs";
 import { bytesOf, characters } from "./bytes.mjs";
 import { NAME } from "./caveats.mjs";
@@ -49,8 +49,8 @@ function refuseManyCaveats(count, key) {
   if (count > MOST_CAVEATS) throw new Fault(TOO_MANY, key, { count, most: MOST_CAVEATS });
 }
 
-// Returns the text of a pass for a request's field. A pass in JSON may have line breaks and letters outside ASCII. So the page sends it as V2 if V2
-// can encode it.
+// Returns the text of a pass for a request's field. A pass in JSON may have line breaks and letters outside ASCII. So the page sends such a pass as
+// V2 if V2 can encode the pass.
 export function sentText(pass, text) {
   if (pass.form !== "json" || !text.trim().startsWith("{")) return text.trim();
   try {
@@ -72,8 +72,8 @@ export function pastedText(pasted) {
   return /^\s*(?:https?|file):\/\/[^#]*#/.test(text) ? textOfFragment(text.slice(text.indexOf("#"))) : text;
 }
 
-// The text of a pass may also have the points that its key spent before the loan: `PASS;spent=N`. The page only shows this number. It doesn't trust
-// the number, because the desk decides.
+// The text of a pass may also have the points that its key spent before the loan: `PASS;spent=N`. The page only shows this number. The page doesn't
+// trust the number, because the desk decides.
 export function withSpent(text, spent) {
   return spent > 0 ? `${text};spent=${spent}` : text;
 }

@@ -1,5 +1,5 @@
 // The reasons why the desk refuses a text as a pass, in the order in which the desk checks them. A fault has a kind and a sentence. The sentence is
-// a key of the table of words, with values. A value may itself be such a key.
+// a key of the table of words, with values. A value may itself be a key of that table.
 
 export const LONGEST_TEXT = 8192; // bytes
 export const MOST_CAVEATS = 64;

@@ -1,4 +1,4 @@
-// Texts about passes for readers, which both pages use.
+// Texts about passes. The booking page and the page that narrows a pass show these texts.
 import { characters, shown } from "./bytes.mjs";
 import { readCaveat } from "./caveats.mjs";
 import { daysLater, hourText } from "./dates.mjs";
@@ -21,7 +21,7 @@ const SENTENCES = {
   actions: ({ words }) => say("limit-actions", { actions: listed(words.map((word) => say(`action-${word}`))) }),
 };
 
-// Shows midnight as the end of the day before.
+// Shows midnight as the end of the previous day.
 export function untilText(date, time) {
   return time === "00:00" ? say("limit-until-end", { day: dateText(daysLater(date, -1)) }) : say("limit-until", { day: dateText(date), time });
 }

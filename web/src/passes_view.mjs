@@ -62,7 +62,7 @@ function wasTaken(text) {
 }
 
 // Uses the pass in the address, and removes it from the address at once. Without such a pass, uses the pass of this page or tab, or the pass that
-// this browser used last. If the address contains something else, returns its kind and text: a list or spare passes.
+// this browser used last. If the address contains a list or spare passes, returns the kind ("record" or "spare") and the text.
 export function findPass() {
   const { kind, text } = readFragment(location.hash);
   const held = passOfPage();
@@ -172,7 +172,7 @@ function loseState() {
   isEntering = false;
 }
 
-// The page calls this when another tab has stored or forgotten a pass.
+// The page calls this function when another tab has stored or forgotten a pass.
 export function keptElsewhere() {
   const isThere = keptPasses().some((each) => each.text === state.given);
   if (state.isKept && !isThere) forgetPass();
@@ -198,7 +198,7 @@ export function passNotices() {
   return notices;
 }
 
-// Returns the text about a pass that has ended: its end, and what the member can do. Returns none if the pass hasn't ended.
+// Returns the text about a pass that has ended: its end, and what the member can do. Returns no text if the pass hasn't ended.
 export function endedContent() {
   const end = state.pass === null || state.club === null ? null : endOf(state.pass);
   if (end === null || end > clubMoment()) return [];

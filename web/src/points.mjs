@@ -1,7 +1,7 @@
 // Returns the cost of a booking, and whether the pass refuses this cost as far as the page knows.
 import { denial } from "./state.mjs";
 
-// `view` is the desk's reply about the slot, or null if the pass doesn't show it.
+// `view` is the desk's reply about the slot, or null if the pass doesn't show the slot.
 export function owedFor(view, guests) {
   return view === null ? 0 : view.price * (guests + 1);
 }

@@ -1,4 +1,5 @@
-// QR codes (ISO/IEC 18004). A code has the bytes of a text as rows of dark and light modules. Its error correction level L is enough for a screen.
+// QR codes (ISO/IEC 18004). A QR code encodes the bytes of a text as rows of dark and light modules. The codes have error correction level L, which
+// is enough for a screen.
 
 // The number of error correction codewords per block, and the number of blocks, for each version up to 25 at level L.
 const CORRECTION = [7, 10, 15, 20, 26, 18, 20, 24, 30, 18, 20, 24, 26, 30, 22, 24, 28, 30, 28, 28, 28, 28, 30, 30, 26];
@@ -142,7 +143,7 @@ class Code {
     if (this.version >= 7) this.drawVersion();
   }
 
-  // Writes level L and the mask twice. Each copy has its own error correction.
+  // Writes level L and the mask twice. Each of the two copies has its own error correction.
   drawFormat(mask) {
     const value = 1 << 3 | mask;
     let rest = value;
@@ -212,7 +213,7 @@ class Code {
   }
 }
 
-// Returns the rows of a text's code. Returns null if a telephone couldn't read such a long code from a screen.
+// Returns the rows of a text's code. Returns null if the text is so long that a telephone couldn't read the code from a screen.
 export function qrRows(text) {
   const bytes = new TextEncoder().encode(text);
   const version = versionFor(bytes.length);

@@ -1,13 +1,13 @@
-// The record of bookings. It has an entry for each booking, with the requests to the desk and the desk's answers. An entry has:
+// The record of bookings. The record has an entry for each booking, with the requests to the desk and the desk's answers. An entry has:
 //
 // - key, number, facility, day, hour: the identity of the booking at the desk.
 // - guests: the number of guests, or null if the browser knows only the booking's number and slot.
-// - book: the reply to the PUT of the booking, or null before the reply. An empty object means that somebody else has the number.
+// - book: the reply to the PUT of the booking, or null before the reply. An empty object means that another booking has the number.
 // - cancel: the reply to the DELETE of the booking, null before the reply, or undefined without a DELETE.
 // - unsure: whether the desk may have carried out a request of this entry although no reply came.
 // - asked: the time when the entry was made, in milliseconds.
 // - listed: the claims of a list about this entry: charge, left, refund, cancel. The desk hasn't confirmed any of these claims to this browser. So
-//   the page never sends a listed entry automatically, and never counts it as cancelled.
+//   the page never sends a listed entry automatically, and never counts the entry as cancelled.
 // - saidCancelled: whether a list claims that a booking of this browser was cancelled.
 //
 // The functions of this module return new entries, and never change an entry.
@@ -35,14 +35,15 @@ export function newBooking(key, number, slot, guests, asked) {
   return { key, number, facility, day, hour, guests, book: null, unsure: false, asked };
 }
 
-// Returns the request to send for an entry: "book", "cancel" or null. The page sends a PUT without a reply before the DELETE.
+// Returns the request to send for an entry: "book", "cancel" or null. If the PUT has no reply yet, the page repeats the PUT before it sends the
+// DELETE.
 export function unfinished(entry) {
   if (entry.book === null) return "book";
   return entry.cancel === null ? "cancel" : null;
 }
 
-// Returns the entry with the reply to its request. If the desk refuses the pass, the request stays open if the desk may have carried it out
-// earlier.
+// Returns the entry with the reply to its request. After a refusal of the pass, the request stays open if the desk may have carried out an earlier
+// try of the request.
 export function answered(entry, action, reply) {
   if (reply.fault !== undefined && isOfPass(reply) && entry.unsure) return { ...entry, stopped: reply };
   const { stopped, saidCancelled, ...rest } = entry;
@@ -63,7 +64,7 @@ export function stateOf(entry) {
   return entry.cancel === null ? "cancelling" : "cancelled";
 }
 
-// Returns whether an entry has places in its slot, or may have some.
+// Returns whether an entry has, or may have, places in its slot.
 export function isLive(entry) {
   return ["asked", "booked", "cancelling"].includes(stateOf(entry)) || (stateOf(entry) === "listed" && entry.listed.refund === undefined);
 }
@@ -129,8 +130,8 @@ export function isAt(entry, slot) {
   return entry.facility === slot.facility && entry.day === slot.day && entry.hour === slot.hour;
 }
 
-// Returns whether a refused request needs another number. A listed number may belong to a booking with other guests. The page doesn't book such a
-// booking twice.
+// Returns whether a refused request needs another number. An entry from a list never gets another number: its number may belong to the same booking
+// with other guests, which the page must not book twice.
 export function wantsOtherNumber(entry) {
   return entry.book?.fault === NUMBER_USED && !entry.ofList;
 }
@@ -143,7 +144,7 @@ export function isTooFarAhead(slot, moment) {
   return minutesOf(startOf(slot)) > minutesOf(moment) + DAYS_AHEAD * 1440;
 }
 
-// Returns the charge and the places left of an entry. They come from the desk, otherwise from a list.
+// Returns the charge and the places left of an entry. If the desk has replied, the values come from its reply, otherwise from a list.
 export function amountsOf(entry) {
   return entry.book?.charge === undefined ? entry.listed ?? {} : entry.book;
 }
@@ -229,7 +230,7 @@ export function merged(own, other) {
   return place >= 0 && known(other)[place] ? { ...own, guests: other.guests ?? own.guests, listed: other.listed } : own;
 }
 
-// Returns a record as the part of an address after #. There, a semicolon separates lines, and + stands for a space.
+// Returns a record as the part of an address after #. In the address, a semicolon separates lines, and + stands for a space.
 export function fragmentOfRecord(text) {
   return `record=${text.trim().slice("record of ".length).replaceAll("\n", ";").replaceAll(" ", "+")}`;
 }

@@ -1,5 +1,5 @@
 // Reads replies. A reply comes from the desk if its body is JSON of the expected shape, or a fault whose status is the response's status. Any other
-// response isn't a reply. It doesn't show whether the desk carried out the request.
+// response isn't a reply. Such a response doesn't show whether the desk carried out the request.
 
 // The status of each fault, by the fault's number.
 const STATUSES = {
@@ -59,8 +59,8 @@ export function readReply(action, asked, status, text) {
   return body;
 }
 
-// Returns whether a refusal concerns the form of the request or its pass. The desk may have served an earlier try of the same request, and such a
-// refusal doesn't show whether it did.
+// Returns whether a refusal concerns the form of the request or its pass. Such a refusal doesn't show whether the desk served an earlier try of the
+// same request.
 export function isOfPass(reply) {
   return reply.fault <= CAVEAT_DENIES;
 }

@@ -1,4 +1,5 @@
-// A small desk with the rules of the real desk (docs/DESK.md), for trying the page. It keeps a club in the page, and nothing about it is proved.
+// A small desk with the rules of the real desk (docs/DESK.md), for trying the page. The small desk keeps a club in the page, and its code isn't
+// proved.
 import { bytesOf, characters } from "./bytes.mjs";
 import { allows, readCaveat } from "./caveats.mjs";
 import { minutesOf, startOf } from "./dates.mjs";

@@ -42,20 +42,21 @@ export function withKind(slot) {
   return { ...slot, kind: facilityOf(state.club, slot.facility)?.kind ?? null };
 }
 
-// Returns the number of the first caveat that denies a request, counted from 1, or 0. The page may not know every denial; the desk decides.
+// Returns the number of the first caveat that denies a request, counted from 1, or 0. The desk may deny a request for further reasons, because the
+// page doesn't know every value.
 export function denial(action, slot, more = {}) {
   const place = slot === undefined ? undefined : withKind(slot);
   return firstDenial(state.pass, { action, moment: clubMoment() ?? "2000-01-01T00:00", slot: place, spent: spentOfKey(), ...more });
 }
 
-// Returns the points that the key has spent. The desk reports them. Before its report, they are the points that came with the pass plus the points
-// of bookings in this browser.
+// Returns the points that the key has spent. The desk reports these points. Before the desk's report, the function returns the points that came with
+// the pass plus the points of bookings in this browser.
 export function spentOfKey() {
   return state.account?.spent ?? ownEntries().reduce((sum, entry) => sum + (isLost(entry) ? 0 : costOf(entry)), state.base);
 }
 
-// Returns whether the slot of an entry has too few persons. Then the booking is gone or never existed. The persons of listed bookings cast no doubt
-// on bookings that the desk confirmed.
+// Returns whether the slot of an entry has too few persons for this browser's bookings. If so, the entry's booking is gone or never existed. For an
+// entry that the desk confirmed, the function doesn't count listed bookings.
 export function isLost(entry) {
   const found = state.taken.get(slotName(entry));
   const isThere = (each) => isLive(each) && (stateOf(each) === "booked" || (stateOf(each) === "listed" && stateOf(entry) === "listed"));
