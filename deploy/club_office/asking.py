@@ -100,7 +100,7 @@ def ask_day(prompt, today):
 
 
 def doubts(day, today):
-    """Returns a text that says why a day is odd for a booking or a closure. Returns None if the day isn't past and members can book it."""
+    """Returns a text which says that a day is past or far ahead, for a booking or a closure. Returns None if members can book the day."""
     if day < today:
         return say("is past", day=day_text(day))
     if day > today + datetime.timedelta(BOOKABLE_DAYS):

@@ -136,8 +136,8 @@ class Turn:
         raise storage_failed("order under way", seconds=WAITS_FOR_TURN)
 
     def is_gained(self):
-        """Returns whether this process got the lock. This process blocks signals. So no signal stops the process between taking the lock and ignoring
-        the signals."""
+        """Returns whether this process got the lock. The process blocks signals, so that no signal stops it after it takes the lock and before it
+        ignores the signals."""
         signal.pthread_sigmask(signal.SIG_BLOCK, HELD_BACK)
         try:
             fcntl.flock(self.file, fcntl.LOCK_EX | fcntl.LOCK_NB)
@@ -159,8 +159,8 @@ class Turn:
         os.ftruncate(self.file, 0)
 
     def order(self, words, act):
-        """Runs a command by calling `act`, which returns the command's status. Writes the command's line into the book. A refused command also gets
-        a line. The line of an interrupted command has a question mark."""
+        """Runs a command by calling `act`, which returns the command's status. Writes the command's line into the book. A refused command also gets a
+        line in the book. The line of an interrupted command has a question mark."""
         moment, status = now(), "?"
         os.pwrite(self.file, (line_of(moment, "?", words) + "\n").encode(), 0)
         os.fsync(self.file)
@@ -186,7 +186,7 @@ def now():
 
 
 def refuse(club, words, failure):
-    """Ends a command with a fault, and writes its line into the book."""
+    """Ends a command with a fault, and writes the command's line into the book."""
 
     def act():
         raise failure

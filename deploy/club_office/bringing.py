@@ -17,7 +17,7 @@ from club_office.places import BESIDE, NAME, OLD_YEAR, kept_in, place_of, given_
 from club_office.restoring import brought
 from club_office.texts import say
 
-# A file in the archive: the part of the archive, and the name within the part.
+# The name of a file in the archive: a part of the archive and the file's name in this part, or the list of clerks.
 MEMBER = re.compile(r"(conf|beside|titles|logo)/([A-Za-z0-9][A-Za-z0-9._-]{0,60})|clerks")
 MOST_BYTES = 50_000_000
 MOST_CLERKS = 100

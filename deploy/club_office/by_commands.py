@@ -18,7 +18,7 @@ from club_office.undoing import Record, broken_off, forget_undo, rows_edited, ro
 from club_office.values import date_of
 
 CORRECTIONS = ("set-quota", "debit", "set-facility", "reopen-slot", "cancel", "close", "rain", "leave")
-# These corrections give the desk only commands that the clerk has seen, without commands that the desk has already carried out. Every other
+# These corrections give the desk only commands that the clerk has seen and that the desk hasn't carried out yet. Every other
 # correction fails if its plan has changed since the clerk saw it.
 LISTED = ("cancel", "close", "rain", "leave")
 # The greatest number of rounds in which a correction asks about slots that members booked in the meantime.
@@ -48,7 +48,7 @@ def correct(club, words, planned, then):
         raise
     print(say("done"), flush=True)
     it.tell_concerned()
-    # The record ends last, because a clerk whose command was killed saw no result and gives the command again.
+    # The record ends last. If the command is killed earlier, the clerk sees no result and gives the command again.
     it.record.finish()
     return 0
 

@@ -102,8 +102,8 @@ def club_named(called, is_at_desk=False):
 
 
 def old_files(file):
-    """Returns the files of old years next to a club, oldest first, each with its last day. If two files have the same day, the later file
-    counts."""
+    """Returns the files of old years next to a club, oldest first, each with its last day. If two files have the same day, the file that was changed
+    later counts."""
     found = {}
     for path in sorted(glob.glob(glob.escape(file) + "-until-*"), key=lambda it: (os.stat(it).st_mtime_ns, it)):
         day = re.fullmatch(r".*-until-([0-9]{4}-[0-9]{2}-[0-9]{2})(-[0-9]+)?", path)
@@ -128,7 +128,7 @@ KEPT = ("LANG", "LC_ALL", "LC_CTYPE", "LOGNAME", "OFFICE_CLERK", "SUDO_USER", "T
 
 
 def forget_environment():
-    """Clears the environment. So a clerk's variables can't choose a program or folder for the desk's side, even if sudo passes them on."""
+    """Clears the environment. So a clerk's variables can't choose a program or folder for the desk's side, even if sudo passes the variables on."""
     for each in set(os.environ) - set(KEPT):
         del os.environ[each]
     os.environ["PATH"] = PATH
@@ -161,7 +161,7 @@ def clock():
 
 
 def refuse_to_come(words):
-    """At a future minute, a correction would treat future bookings as over."""
+    """Refuses a future moment of --at, because a correction at that moment would treat future bookings as over."""
     if getattr(words, "at", None) is not None and words.at > clock():
         raise refusal("at is to come", at=moment_text(words.at), now=moment_text(clock()))
 

@@ -107,7 +107,7 @@ def take(club, db):
 
 
 def ended(club):
-    """Stops the club's server. Returns the error message about the service, such as that no such service exists."""
+    """Stops the club's server. Returns the error message, for example if the service doesn't exist."""
     try:
         done = subprocess.run(club.stop, stdin=subprocess.DEVNULL, capture_output=True, text=True, errors="replace", check=False, timeout=WAITS_FOR_FILE)
     except (OSError, subprocess.TimeoutExpired) as fault:

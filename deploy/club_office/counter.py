@@ -87,7 +87,7 @@ def lost_files(words):
 
 
 def remove_lost(words, paths):
-    """Removes the files of a lost pass, so that no letter uses the pass. Leaves a file that the new pass replaces."""
+    """Removes the files of a lost pass, so that no letter uses the pass. Prints the path of each file, except the path of the new pass."""
     for path in paths:
         with contextlib.suppress(FileNotFoundError):
             os.unlink(path)

@@ -25,12 +25,12 @@ def refusal(text, /, **values):
 
 
 class NothingLeft(Fault):
-    """Returns a refusal because an earlier command has already made the whole change. If a clerk repeats an interrupted command and gets this
+    """The refusal if an earlier command has already made the whole change. If a clerk repeats an interrupted command and gets this
     refusal, the change is complete."""
 
 
 class Doubtful(Fault):
-    """Returns a refusal to continue an interrupted command. If a clerk repeats the command, it starts from the beginning."""
+    """The refusal to continue an interrupted command. If a clerk repeats the command, it starts from the beginning."""
 
 
 def doubtful(text, /, **values):

@@ -41,7 +41,8 @@ def import_row(club, words):
     """Imports a row: member, credit, key and person. Adds only what is missing of these four. Prints the pass of a new key.
 
     Standard input has the person, and the roots that this import drew for the key. The newest root comes last. If the key already has one of these
-    roots, this import made the key, and nobody has a pass of the key yet. So the key gets the newest root. """
+    roots, this import made the key, and nobody has a pass of the key yet. So the key gets the newest root.
+    """
     roots, person = read_given()
     passes = []
     with Turn(club) as turn:
@@ -198,7 +199,8 @@ def row_fault(status, row, text, **values):
 
 
 def import_one(club, row, folder):
-    """Imports a row, and removes its mark when the file of the pass has its final name. Leaves a file of that name that another program made."""
+    """Imports a row, and removes its mark when the file of the pass has its final name. If another program made a file of that name, leaves this
+    file."""
     place, mark = os.path.join(folder, row.key), mark_of(folder, row.key)
     taken = row_fault(REFUSED, row, "other's file", path=place)
     roots, digest = read_mark(mark)

@@ -75,7 +75,7 @@ class Office:
 
 
 def key_of(office):
-    """Returns a member's key that isn't revoked. Asks only if the member has several such keys."""
+    """Returns a member's key that isn't revoked. Asks only if the member has several keys that aren't revoked."""
     member = office.member()
     keys = [it for it, key in office.names.keys.items() if key.member == member and not key.revoked]
     if not keys:
@@ -249,7 +249,7 @@ def restore_words(office):
 
 
 def log_words(office):
-    """Shows the whole book, or only the lines that contain a word. If the word is a part of only one member's name, it means that member."""
+    """Shows the whole book, or only the lines that contain a word. If the word is a part of just one member's name, it stands for that member."""
     word = ask(say("ask word") + ": ")
     fits = found_members(word, office.names)
     return [["log", *(fits if len(fits) == 1 else [word] if word else [])]]
@@ -270,8 +270,8 @@ def with_points(command, most):
 
 # The statuses of a command that Ctrl-C interrupted.
 BROKEN_OFF = (130, -signal.SIGINT)
-# In a clerk's order. The last part tells whether the menu asks before the command. The menu asks if the command changes something and doesn't ask
-# by itself.
+# In a clerk's order. The last part of each entry tells whether the menu asks before the command. The menu asks before a command that changes
+# something and doesn't ask the clerk itself.
 TASKS = [
     Task("group today", "task today", lambda office: [["bookings", str(office.today)]], False),
     Task("group today", "task sheet", lambda office: [["sheet", office.day()]], False),
@@ -334,8 +334,8 @@ def menu_lines():
 
 
 def tasks_named(answer):
-    """Returns the task with a number, or the tasks whose title matches the text. The text may be the whole title, its beginning, the beginning of one
-    of its words, or letters in it."""
+    """Returns the task with a number, or the tasks whose title matches the text. The text may be the whole title, its beginning, one of its words, or
+    letters in it."""
     if answer.isdigit():
         return [TASKS[int(answer) - 1]] if 0 < int(answer) <= len(TASKS) else []
     typed = plain(answer)

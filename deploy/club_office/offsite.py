@@ -127,7 +127,7 @@ def made_together(club):
 
 
 def copy_now(club, place, state):
-    """Copies the club and the files next to it, if the place doesn't have them. Returns the message about the copy. The archive is at the place
+    """Copies the club and the files next to it, if the place doesn't have them. Returns the message about the copy. Stores the archive at the place
     before the copy of the same name. So a copy always has its archive."""
     refuse_own_disk(place, club.file)
     data, beside = made_together(club)

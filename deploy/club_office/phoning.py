@@ -1,6 +1,6 @@
-"""Makes bookings and cancellations for a member who calls by telephone. They are requests to the desk, like requests of the member's page. The
-desk's side makes the passes for them from a key's root, and shows these passes to nobody. The desk decides about each request, and applies its
-rules for refunds."""
+"""Makes bookings and cancellations for a member who calls by telephone. The office sends requests to the desk, as the member's page does. The desk's
+side makes the passes for these requests from a key's root, and shows the passes to nobody. The desk decides about each request, and applies its rules
+for refunds."""
 
 import contextlib
 import http.client

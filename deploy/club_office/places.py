@@ -11,7 +11,8 @@ from club_office.clubs import program
 from club_office.faults import STORAGE, bad_value, fault
 
 Place = collections.namedtuple("Place", "text host folder")
-# A file at the place: its size, its digest, and its test. The test is `whole` by SQLite, `sum` by its digest alone, or `no`.
+# A file at the place: its size, its digest, and its test. The test is `whole` if SQLite tested the file, `sum` if only its digest was compared, or
+# `no`.
 Kept = collections.namedtuple("Kept", "name size sum tested")
 NAME = re.compile(r"20[0-9]{2}-[0-9]{2}-[0-9]{2}T[0-9]{6}Z")
 # The archive of the files next to the club. The archive is from the same time as the copy of the same name.

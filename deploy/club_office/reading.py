@@ -70,7 +70,7 @@ NEAR = {
 
 
 def read_day(text, today):
-    """Returns the day that a text means on the day `today`, or None. A weekday or a day of a month means the next such day, perhaps today."""
+    """Returns the day that a text means on the day `today`, or None. A weekday or a day of a month means the next such day, which may be today."""
     text = plain(text).rstrip(",")
     if text in NEAR:
         return today + datetime.timedelta(NEAR[text])

@@ -1,4 +1,5 @@
-"""Converts a clerk's typed words to the desk's form. A word may be a part of a name at a terminal, a day, hours, or several facilities."""
+"""Converts a clerk's typed words to the desk's form. A word may be a day, hours, or several facilities. At a terminal, a word may also be a part of a
+name."""
 
 import contextlib
 import datetime

@@ -13,7 +13,7 @@ from club_office.texts import say
 from club_office.values import MOST_CREDIT
 
 TABLES = ("members", "facilities", "keys", "slots", "bookings", "old_roots")
-# The key columns of these tables. In each other table the first column is the key.
+# The number of key columns in each of these tables. In every other table the first column is the key.
 KEYS = {"slots": 3, "bookings": 2}
 # The columns of the tables that commands change.
 COLUMNS = {"members": ("name", "credited", "quota", "used"), "facilities": ("name", "kind", "places", "price", "opens", "shuts")}

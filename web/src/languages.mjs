@@ -3,7 +3,7 @@
 import { byName, element } from "./elements.mjs";
 import { language, languageFor, languages, say, useWords } from "./words.mjs";
 
-// Shows the page by calling `sayPage`, in the chosen language or in the browser's language. Offers the other languages. The function calls `keep`
+// Calls `sayPage`, which shows the page in the chosen language or in the browser's language. Offers the other languages. The function calls `keep`
 // with each language that the user chooses.
 export function offerLanguages(sayPage, before = null, keep = () => {}) {
   useWords(WORDS, "en");

@@ -102,8 +102,8 @@ export function costOf(entry) {
 
 // Compares the record with the desk's count of the points that the key has spent. Returns "same" if they agree, and "more" if a booking isn't in
 // the record. Returns "less" with the possible entries if a booking was cancelled elsewhere. The result also has the difference in points. Returns
-// null if no comparison is possible. Returns "claims" if the desk counts everything that it confirmed to this browser. Then only the claims of
-// lists are in doubt. No refund is larger than its charge.
+// null if no comparison is possible. Returns "claims" if the desk counts everything that it confirmed to this browser. In this case only the claims
+// of lists are in doubt. No refund is larger than its charge.
 export function compared(entries, spent, moment) {
   const counted = entries.filter((entry) => stateOf(entry) !== "refused");
   if (counted.some((entry) => unfinished(entry) !== null || amountsOf(entry).charge === undefined)) return null;
