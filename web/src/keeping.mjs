@@ -66,7 +66,7 @@ export function keptPasses() {
   return keptList("passes", isKeptPass);
 }
 
-// Returns whether the browser already stores so many other passes that it can't store this pass.
+// Returns whether the other stored passes leave no room for this pass.
 export function isPassTooMany(text) {
   return keptPasses().filter((each) => each.text !== text).length >= MOST_PASSES;
 }
