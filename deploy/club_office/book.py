@@ -32,7 +32,7 @@ def clerk():
     return os.environ.get("SUDO_USER") or os.environ.get("OFFICE_CLERK") or pwd.getpwuid(os.getuid()).pw_name
 
 
-# ---- Lines of the book. A line goes to a file if the configuration names one, if there is no journal, or if the journal doesn't take the line.
+# ---- Lines of the book. A line goes to a file if the configuration names a file, if there is no journal, or if the journal doesn't take the line.
 
 
 def printable(text):

@@ -30,11 +30,11 @@ TAKEN, USED = 4, 3
 
 
 class BookedMeanwhile(Fault):
-    """Members booked slots after the clerk saw the plan, so the correction asks about them in its next round."""
+    """Members booked slots after the clerk saw the plan, so the correction asks about these slots in its next round."""
 
 
 class RestDeclined(Fault):
-    """The clerk confirmed one round, but not the next round."""
+    """The clerk confirmed one round of the correction, but not the next round."""
 
 
 def correct(club, words, planned, then):

@@ -26,7 +26,7 @@ FILES_FREE = 20
 
 
 def begun_at(process):
-    """Returns the time when a process began, in ticks. Returns None if there is no such process or it is a zombie."""
+    """Returns the time when a process began, in ticks. Returns None if the process doesn't exist or is a zombie."""
     try:
         with open(f"/proc/{process}/stat", encoding="utf-8", errors="replace") as stat:
             state, *rest = stat.read().rpartition(")")[2].split()
@@ -77,7 +77,7 @@ def scratch(club, home=None):
 
 @contextlib.contextmanager
 def snapshot(club):
-    """Yields a copy of the current club in memory. back_up makes the copy in a temporary folder, and the folder is removed at once."""
+    """Yields a copy of the current club in memory. back_up makes the copy in a temporary folder, and this process then removes the folder."""
     wants_file(club)
     memory = sqlite3.connect(":memory:", isolation_level=None)
     said = ""

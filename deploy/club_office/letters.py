@@ -84,7 +84,7 @@ def passes_of(folder, keys):
 
 
 def refuse_old(club, folder, texts):
-    """Refuses passes that are out of date because their keys have newer passes. The desk refuses such passes now or soon."""
+    """Refuses passes that are out of date because their keys have newer passes. The desk already refuses such a pass, or will refuse it soon."""
     status, text = as_desk(club, ["old-passes"], json.dumps(texts).encode())
     if status:
         raise fault(status, "club unread")

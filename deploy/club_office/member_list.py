@@ -54,7 +54,7 @@ def decoded(path, data, called):
 
 
 def columns_of(path, heads, given):
-    """Returns the meaning of each column, found by its name or given by a map such as name=Player,points=Balance."""
+    """Returns the meaning of each column. A column's name gives its meaning, or a map does, such as name=Player,points=Balance."""
     called = [plain(it) for it in heads]
     found = {}
     for what, names in HEADS.items():

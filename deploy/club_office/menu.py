@@ -195,7 +195,7 @@ def new_facility_words(office):
 
 
 def import_words(_office):
-    """Asks for a list, and for values such as the quota that the list's columns don't give."""
+    """Asks for a list of members, and for values that the list's columns don't give, such as the quota."""
     file = until_read(say("ask file"), lambda typed: typed if os.path.isfile(typed) else None, say("no such file"))
     most = {"quota": 99, "points": 1_000_000}
     return [["import", file, *(f"--{it}={ask_number(say(f'ask {it}'), 0, most[it])}" for it in lacking(file))]]
@@ -270,8 +270,8 @@ def with_points(command, most):
 
 # The statuses of a command that Ctrl-C interrupted.
 BROKEN_OFF = (130, -signal.SIGINT)
-# In a clerk's order. The last part of each entry tells whether the menu asks before the command. The menu asks before a command that changes
-# something and doesn't ask the clerk itself.
+# In a clerk's order. The last part of each entry tells whether the menu asks before the command. The menu asks if the command changes something and
+# has no question of its own.
 TASKS = [
     Task("group today", "task today", lambda office: [["bookings", str(office.today)]], False),
     Task("group today", "task sheet", lambda office: [["sheet", office.day()]], False),

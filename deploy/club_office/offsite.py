@@ -116,7 +116,8 @@ def too_old(names, day):
 
 
 def made_together(club):
-    """Makes a copy and an archive of the same moment. Tries again if a file next to the club has changed in the meantime."""
+    """Makes a copy of the club, and an archive of the files next to it from the same time. Tries again if a file next to the club has changed in the
+    meantime."""
     for _ in range(TRIES):
         beside = beside_of(club)
         with scratch(club, homes(club)[0]) as folder:

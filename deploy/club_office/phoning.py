@@ -127,7 +127,7 @@ def said_at_the_end():
 
 def each_hour(turn, words, hours, lines, act, total):
     """Runs a command for each hour, until the desk refuses an hour. `does` returns the points of an hour. If there are several hours, also prints the
-    sum of the points, and the hours that are not done."""
+    sum of the points, and the hours for which no command succeeded."""
     points = []
     try:
         for hour in hours:
@@ -142,7 +142,7 @@ def each_hour(turn, words, hours, lines, act, total):
 
 
 def order_of(words, hour):
-    """Returns the words of a command for one hour, as the book needs them."""
+    """Returns the words of a command for one hour, in the form that the book needs."""
     if len(range(*words.hour)) == 1:
         return words.given
     line = [words.command, words.member, words.facility, date_of(words.day), str(hour)]

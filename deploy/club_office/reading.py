@@ -34,7 +34,7 @@ def loose(text):
 
 
 def found(typed, names):
-    """Returns the names that contain each typed part. If one name matches exactly, returns only that name."""
+    """Returns the names that contain each typed part. If a name equals the typed text, returns only that name."""
     if typed in names:
         return [typed]
     parts = re.findall("[a-z0-9]+", plain(typed))

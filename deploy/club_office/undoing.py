@@ -153,7 +153,8 @@ def broken_off(club, words):
 
 
 class Record:
-    """The record of a running correction. `left` is the content of an interrupted run's record. An undo restores the rows of both runs."""
+    """The record of a running correction. `left` is the content of an interrupted run's record. An undo restores the rows that either run has
+    changed."""
 
     def __init__(self, club, words, left):
         self.club, self.file = club, None

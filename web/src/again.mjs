@@ -1,4 +1,4 @@
-// Actions on a booking other than cancelling it. These actions add the booking to the calendar, invite somebody to it, repeat it a week later, or
+// The actions on a booking, except the cancellation. These actions add the booking to the calendar, invite somebody to it, repeat it a week later, or
 // change it.
 import { offerBooking, slotText } from "./booking_dialog.mjs";
 import { calendarText } from "./calendar.mjs";

@@ -19,7 +19,7 @@ export function openDialog(title, content, whenClosed = () => {}) {
   heading.focus();
 }
 
-// The browser reports the closing only later, when another dialog may be open. So this function does all the work of closing itself.
+// The browser reports the closing only later, when another dialog may be open. So this function does all the work of the closing.
 export function closeDialog() {
   const whenClosed = closed;
   closed = null;

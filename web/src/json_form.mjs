@@ -1,6 +1,6 @@
-// The form in JSON. JSON.parse accepts texts that the desk refuses, such as lone surrogates, 2.0 for 2, huge numbers and any depth. So this module
-// parses JSON itself. A JSON string becomes a string, an array becomes an array, and an object becomes a Map. If an object has a name several times,
-// the last value counts. A number becomes this class:
+// The form in JSON. JSON.parse accepts texts that the desk refuses, such as texts with lone surrogates, with 2.0 for 2, with huge numbers or with
+// deeply nested values. So this module parses JSON itself. A JSON string becomes a string, an array becomes an array, and an object becomes a Map. If
+// an object has a name several times, the last value counts. A number becomes this class:
 import { base64Of, bytesOfBase64 } from "./base64.mjs";
 import { bytesOf, quoted, shown, textOf } from "./bytes.mjs";
 import { checkedSignature } from "./forms.mjs";

@@ -238,7 +238,7 @@ function loanCard(loan) {
     element("div", "buttons", press));
 }
 
-// Asks the desk for the points spent under each lent spare pass, and for the usable spare passes among the others.
+// Asks the desk for the points spent under each lent spare pass, and for the other spare passes that the member can use.
 async function lookAfterLoans() {
   const lent = sparesLent(keptLoans(), clubMoment());
   for (const text of lent) {

@@ -61,8 +61,8 @@ function wasTaken(text) {
   }
 }
 
-// Uses the pass in the address, and removes it from the address at once. Without such a pass, uses the pass of this page or tab, or the pass that
-// this browser used last. If the address contains a list or spare passes, returns the kind ("record" or "spare") and the text.
+// Uses the pass in the address, and removes it from the address at once. If the address has no valid pass, uses the pass of this page or tab, or the
+// pass that this browser used last. If the address contains a list or spare passes, returns the kind ("record" or "spare") and the text.
 export function findPass() {
   const { kind, text } = readFragment(location.hash);
   const held = passOfPage();

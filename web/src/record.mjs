@@ -130,8 +130,8 @@ export function isAt(entry, slot) {
   return entry.facility === slot.facility && entry.day === slot.day && entry.hour === slot.hour;
 }
 
-// Returns whether a refused request needs another number. An entry from a list never gets another number: its number may belong to the same booking
-// with other guests, which the page must not book twice.
+// Returns whether a refused request needs another number. An entry from a list keeps its number, because the number may belong to the same booking
+// with other guests.
 export function wantsOtherNumber(entry) {
   return entry.book?.fault === NUMBER_USED && !entry.ofList;
 }
