@@ -126,7 +126,7 @@ class Bringing:
 
 
 def bring_back(text, called, configurations, said):
-    """Restores a club; returns its name and its clerks."""
+    """Restores a club, and returns the club's name and clerks."""
     it = Bringing(text, called, configurations, said)
     found = it.configuration()
     if not os.path.isabs(found.get("file", "")):

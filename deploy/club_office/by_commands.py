@@ -62,7 +62,8 @@ class Correction:
         self.record = None
 
     def go_through(self):
-        """Shows the correction, asks and gives the commands, and repeats this until it has closed all slots that members booked in the meantime."""
+        """Shows the correction, asks the clerk, and gives the commands. Repeats these steps until all slots that members booked in the meantime are
+        closed."""
         for _ in range(MOST_ROUNDS):
             shown = None if self.words.yes else self.asked()
             try:

@@ -136,8 +136,8 @@ def name_new(made, path):
 
 
 def is_named(made, path):
-    """Gives a file a name if no other file has the name. On a disk without hard links, it first creates an empty file with the name. Then the file
-    replaces the empty file."""
+    """Gives a file a name if no other file has the name. On a disk without hard links, the function first creates an empty file with the name. Then
+    the file replaces the empty file."""
     try:
         os.link(made, path)
     except FileExistsError:

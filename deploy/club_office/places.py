@@ -12,7 +12,7 @@ from club_office.faults import STORAGE, bad_value, fault
 
 Place = collections.namedtuple("Place", "text host folder")
 # A file at the place: its size, its digest, and its test. The test is `whole` if SQLite tested the file, `sum` if only its digest was compared, or
-# `no`.
+# `no` if there was no test.
 Kept = collections.namedtuple("Kept", "name size sum tested")
 NAME = re.compile(r"20[0-9]{2}-[0-9]{2}-[0-9]{2}T[0-9]{6}Z")
 # The archive of the files next to the club. The archive is from the same time as the copy of the same name.

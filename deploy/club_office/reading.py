@@ -9,8 +9,8 @@ import unicodedata
 from club_office.texts import MONTHS, WEEKDAYS
 
 LETTERS = {"ä": "ae", "ö": "oe", "ü": "ue", "ß": "ss", "æ": "ae", "ø": "oe", "å": "aa", "œ": "oe", "đ": "d", "ł": "l", "þ": "th", "ð": "d", "ı": "i", "ə": "e", "ħ": "h", "ŧ": "t", "ŋ": "n"}
-# The facts about a club that the parsers use. For each member the facts are its credit, balance and quota. For each key they are its member and
-# whether the key is revoked. For each facility they are its kind, hours, places and price. `written` has the members' known full names.
+# The facts about a club that the parsers use. `members` has each member's credit, balance and quota. `keys` has each key's member, and whether the
+# key is revoked. `facilities` has each facility's kind, hours, places and price. `written` has the members' known full names.
 Names = collections.namedtuple("Names", "members keys facilities written")
 Member = collections.namedtuple("Member", "credited balance quota")
 Key = collections.namedtuple("Key", "member revoked")

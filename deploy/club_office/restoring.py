@@ -217,7 +217,7 @@ def put_in_place(club, words, lines, shown, lost):
 
 
 def write_over(club, words, copy, lines, shown):
-    """Writes a copy over the club's file in one transaction. Replaces the file instead if it is missing or SQLite can't open it."""
+    """Writes a copy over the club's file in one transaction. If the file is missing or SQLite can't open it, replaces the file with the copy."""
     try:
         if not os.path.exists(club.file):
             raise sqlite3.DatabaseError(f"there is no file {club.file}")
