@@ -95,10 +95,9 @@ def add_line(path, line):
 class Turn:
     """The turn of a command that changes a club: a lock on FILE-orders. Only one command has the turn at a time.
 
-    While a command runs, FILE-orders has the command's line for the book, with a question mark as status. A command may find a line in FILE-orders
-    when it gets the lock. That line belongs to an interrupted command, and goes into the book unchanged. Lines for standard error wait until the
-    command releases the lock. So a terminal that takes no output, as after Ctrl-S, doesn't block other commands.
-    """
+    While a command runs, FILE-orders has the command's line for the book, with a question mark as status. If FILE-orders has a line when a command
+    gets the lock, this line belongs to an interrupted command, and goes into the book unchanged. Lines for standard error wait until the command
+    releases the lock. So a terminal that takes no output, as after Ctrl-S, doesn't block other commands. """
 
     def __init__(self, club):
         self.club = club

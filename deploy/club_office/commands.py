@@ -487,7 +487,7 @@ def read_at_counter(given):
 def main():
     given = sys.argv[1:]
     try:
-        # Prints a word that isn't UTF-8 with the numbers of its bytes.
+        # If a word isn't UTF-8, prints its invalid bytes as numbers.
         sys.stdout.reconfigure(errors="backslashreplace")
         refuse_too_much(given)
         if given[:1] == ["--desk"]:

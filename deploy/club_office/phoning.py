@@ -127,7 +127,7 @@ def said_at_the_end():
 
 def each_hour(turn, words, hours, lines, act, total):
     """Runs a command for each hour, until the desk refuses an hour. `does` returns the points of an hour. If there are several hours, also prints the
-    sum of the points, and the hours for which no command succeeded."""
+    sum of the points, and the hours that the desk didn't book or cancel."""
     points = []
     try:
         for hour in hours:

@@ -118,7 +118,7 @@ def next_of(today, day, month, year):
 
 
 def read_hours(text):
-    """Returns the first hour and the hour after the last, or None. The text is, for example, 15-17, 15, 15:00-17:00 or 15 Uhr."""
+    """Returns the first hour and the hour after the last hour, or None. The text is, for example, 15-17, 15, 15:00-17:00 or 15 Uhr."""
     text = re.sub(r"(:00|uhr|h)\b|\s", "", text.strip().lower()).replace("–", "-").replace("bis", "-").replace("to", "-")
     parts = re.fullmatch(r"([0-9]{1,2})(?:-([0-9]{1,2}))?", text)
     if not parts:

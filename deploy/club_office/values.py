@@ -68,7 +68,7 @@ def weekday(word):
 
 
 def hour_or_hours(word):
-    """Returns the first hour and the hour after the last. The word is one hour or a span of hours."""
+    """Returns the first hour and the hour after the last hour. The word is one hour or a span of hours."""
     if re.fullmatch("[0-9]{1,2}", word) and int(word) < 24:
         return int(word), int(word) + 1
     return hours(word)

@@ -67,7 +67,7 @@ function valueOf(id) {
   return byName(id).querySelector("input:checked")?.value ?? "";
 }
 
-// Returns the member's choices. If a choice is missing or wrong, returns the key of the text about it.
+// Returns the member's choices. If a choice is missing or wrong, returns the key of the text about this choice.
 function chosenLoan() {
   const what = valueOf("lend-what");
   const last = valueOf("lend-until") === "other" ? byName("lend-day").value : valueOf("lend-until");

@@ -80,7 +80,7 @@ export function withRequest(entry) {
   return { ...rest, book: null, unsure: true, ofList: true };
 }
 
-// Returns whether a stored value is an entry. The page neither shows nor sends other values.
+// Returns whether a stored value is an entry. The page neither shows nor sends stored values that aren't entries.
 export function isEntry(value) {
   if (typeof value !== "object" || value === null) return false;
   const { key, number, facility, day, hour, guests, book, cancel, listed, asked } = value;
@@ -216,8 +216,8 @@ function detailsOf(text) {
   return details;
 }
 
-// Merges an entry with a listed entry of the same number. The desk's replies to this browser and the open requests stay. The entry notes a list's
-// claim of a cancellation. If both entries come from lists, the claims of the more complete entry stay.
+// Merges an entry with a listed entry of the same number. The merged entry keeps the desk's replies to this browser and the open requests. The entry
+// notes a list's claim of a cancellation. If both entries come from lists, the claims of the more complete entry stay.
 export function merged(own, other) {
   if (own === undefined) return other;
   if (!isAt(own, other)) return own;
