@@ -38,9 +38,9 @@ function served(body) {
   return { status: 200, body };
 }
 
-// Maps each member's name to its credited points and its quota. Maps each facility's name to its kind, places, price, opening hour and closing hour.
-// Maps each key's name to its member, its root, and whether the key is revoked. The names of the closed slots. The list of bookings, each with its
-// key and number.
+// `members` maps each member's name to its credited points and its quota. `facilities` maps each facility's name to its kind, places, price, opening
+// hour and closing hour. `keys` maps each key's name to its member, its root, and whether the key is revoked. `closed` has the names of the closed
+// slots. `bookings` is the list of bookings, each with its key and number.
 export class SmallDesk {
   constructor({ members, facilities, keys, closed = [], bookings = [] }) {
     const [memberRows, facilityRows, keyRows] = [members, facilities, keys].map((rows) => new Map(Object.entries(rows)));
