@@ -11,7 +11,7 @@ from office_room import CLUB, HOME, ROOM, Service, begun, configure, desk, done,
 
 
 def corrections(server, amy, bob):
-    same("a price", lines("set-facility", "court-1", "--price", "250", *YES), ["price of court-1: 200, then 250; existing bookings keep their charge", "done"])
+    same("a price", lines("set-facility", "court-1", "--price", "250", *YES), ["price of court-1 changes from 200 to 250; existing bookings keep their charge", "done"])
     same("its view", slot(server, amy, "court-1", 18), {
         "facility": "court-1", "day": DAY, "hour": 18, "kind": "court", "price": 250, "places": 4, "taken": 3, "closed": False})
     same("a booking at it", book(server, amy, "court-1", 19, 9, 0), {"booking": "amy-1/9", "charge": 250, "left": 3})
@@ -24,12 +24,12 @@ def corrections(server, amy, bob):
         refused(["set-facility", "court-1", option, value, *YES], 3, "bad value")
     done("set-facility", "court-1", "--places", "3", "--hours", "7-20", *YES)
     same("places and hours", lines("show-slot", "court-1", DAY, "18")[5:7], ["places 3", "taken 3"])
-    same("a quota", lines("set-quota", "bob", "0", *YES), ["quota of bob: 2, then 0", "done"])
+    same("a quota", lines("set-quota", "bob", "0", *YES), ["quota of bob changes from 2 to 0", "done"])
     same("bookings above it stay", account(server, bob), {"member": "bob", "balance": 2900, "quota": 0, "open": 1, "spent": 100})
     done("set-quota", "bob", "9", *YES)
     refused(["set-quota", "bob", "100", *YES], 3, "bad value")
     refused(["set-quota", "bo", "1", *YES], 1, "refused: there is no member bo")
-    same("a debit", lines("debit", "amy", "500", *YES), ["balance of amy: 8950, then 8450", "done"])
+    same("a debit", lines("debit", "amy", "500", *YES), ["balance of amy changes from 8950 to 8450", "done"])
     same("the balance", account(server, amy)["balance"], 8450)
     refused(["debit", "amy", "8451", *YES], 1, "refused: the balance of amy is 8450")
     refused(["debit", "amy' OR 1=1 --", "1", *YES], 3, "bad value")
@@ -185,10 +185,10 @@ def restores(server):
     after = everything()
     same("the copies", {",".join(line.split(",")[:2]) for line in lines("copies", "--csv")} >= {"copy,is", f"{night},back-up"}, True)
     shown = [
-        "removes the member dora", f"balance of amy: {balance + 250}, then {balance}", "removes the key dora-1: its passes are refused",
-        "accepts the passes of amy-3 from before its rotation, and refuses later passes", "accepts the passes of the key amy-5, which is revoked now",
-        "changes the facility boat-1 back", f"opens court-2 {DAY} 11:00 again", f"loses court-2 {DAY} 09:00, 1 person, 200 points: amy-6 63, amy",
-        f"books again court-2 {DAY} 19:00, 2 persons, 400 points: amy-6 61, amy", "in all: 9 changes",
+        "removes the member dora", f"balance of amy changes from {balance + 250} to {balance}", "removes the key dora-1: its passes are refused",
+        "accepts the passes that amy-3 had before its rotation, and refuses the later passes of amy-3", "accepts the passes of the key amy-5 again: at present the key is revoked",
+        "changes the facility boat-1 back", f"opens court-2 {DAY} 11:00 again", f"loses the booking court-2 {DAY} 09:00, 1 person, 200 points: amy-6 63, amy",
+        f"books court-2 {DAY} 19:00 again, 2 persons, 400 points: amy-6 61, amy", "in all: 9 changes",
     ]
     same("a restore that isn't confirmed", refused(["restore", night, *AT], 1, "refused: not confirmed", given="n\n").splitlines()[:-1], shown)
     starts = server.starts
@@ -201,10 +201,10 @@ def restores(server):
     undone = sorted(file for file in os.listdir(f"{HOME}/club-before") if file.endswith("-restore"))[-1]
     same("its own copy is listed", f"{undone},before a correction" in {",".join(line.split(",")[:2]) for line in lines("copies", "--csv")}, True)
     same("what undoes it", lines("restore", undone, *YES), [
-        "brings back the member dora", f"balance of amy: {balance}, then {balance + 250}", "brings back the key dora-1 and its passes",
-        "accepts the passes of amy-3 from before its rotation, and refuses later passes", "refuses the passes of amy-5: the key is revoked again",
-        "changes the facility boat-1 back", f"closes court-2 {DAY} 11:00", f"loses court-2 {DAY} 19:00, 2 persons, 400 points: amy-6 61, amy",
-        f"books again court-2 {DAY} 09:00, 1 person, 200 points: amy-6 63, amy", "in all: 9 changes", "done",
+        "brings back the member dora", f"balance of amy changes from {balance} to {balance + 250}", "brings back the key dora-1 and its passes",
+        "accepts the passes that amy-3 had before its rotation, and refuses the later passes of amy-3", "refuses the passes of amy-5: the key is revoked again",
+        "changes the facility boat-1 back", f"closes court-2 {DAY} 11:00", f"loses the booking court-2 {DAY} 19:00, 2 persons, 400 points: amy-6 61, amy",
+        f"books court-2 {DAY} 09:00 again, 1 person, 200 points: amy-6 63, amy", "in all: 9 changes", "done",
     ])
     same("it is undone", everything(), after)
     refused(["restore", "2001-01-01T000000Z", *YES], 1, "refused: there is no copy 2001-01-01T000000Z")

@@ -223,7 +223,7 @@ def restored_from_there():
     done("debit", "amy", "7", "--yes")
     shown = done("restore", name, "--yes").splitlines()
     same("what changes, and whom to tell", [it for it in shown if it[:5] in ("loses", "done", "To te", "    A")], [
-        f"loses court-1 {DAY} 15:00, 1 person, 1 points: amy-1 15, amy", "done", "To tell:", "    Amy Möller  amy@example.org  +49 1"])
+        f"loses the booking court-1 {DAY} 15:00, 1 person, 1 points: amy-1 15, amy", "done", "To tell:", "    Amy Möller  amy@example.org  +49 1"])
     same("the club of the copy", rows_now(), wanted)
     soon(60, lambda: rows_of(FOLDER / copies()[-1]) == rows_now())
     broken = FOLDER / copies()[0]

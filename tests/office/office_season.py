@@ -191,7 +191,7 @@ def season(pages, day):
     refused(["credit-all", "7", "--as", "season-2027", "--yes"], 1, "refused: season-2027 was given already")
     shown = done("restore", copy, "--yes").splitlines()
     same("a restore of before them", shown[-1], "the points of season-2027 are no longer credited: credit-all credits these points again")
-    same("also of a quota", [it for it in shown if it.startswith("quota")], ["quota of oez-ali: 9, then 5"])
+    same("also of a quota", [it for it in shown if it.startswith("quota")], ["quota of oez-ali changes from 9 to 5"])
     same("nobody has them", dict(rows("SELECT name, credited FROM members")), before)
     same("points for all, again", done("credit-all", "500", "--as", "season-2027", "--yes"), out)
     refused(["credit-all", "500", "--as", "season-2027", "--yes"], 1, "refused: season-2027 was given already")

@@ -276,7 +276,7 @@ same 'who booked' "$week,10,court-1,amy,amy-1,1,2,20,Amy $week,12,court-1,muelle
     "$(office anna bookings "$week" --csv | tail -n +2 | xargs)"
 same 'the sheet' 'Total bookings 3, persons 4, charge 40' "$(office anna sheet "$week" | grep Total)"
 holds 'a wrong credit' office anna credit amy 500
-same 'its correction' 'balance of amy: 10470, then 9970 done' "$(office anna debit amy 500 --yes | xargs)"
+same 'its correction' 'balance of amy changes from 10470 to 9970 done' "$(office anna debit amy 500 --yes | xargs)"
 holds 'a price' office anna set-facility court-1 --price 12 --yes
 same 'the price' 'price 12' "$(office anna show-slot court-1 "$week" 10 | grep price)"
 same 'a tournament' "cancels court-1 $week 10:00, 2 persons, 20 points back: amy-1 1, amy closes court-1 $week 10:00 in all: 1 booking cancelled, 20 points back to amy, 1 slot closed done To tell: Amy" \
