@@ -138,7 +138,7 @@ def says_why_it_is_closed(page, passes, server):
     page.run("byName('dialog').querySelector('.main').click()")
     check(page.run("return document.activeElement === cellAt('court-3', 10).button"), "the slot has the focus again")
     page.offer("court-3", 9)
-    has(page.run("return dialogText()"), "her own slot", "The office closed this slot: Training der Jugend", "The office therefore cancelled your booking.", "Cancel the booking")
+    has(page.run("return dialogText()"), "her own slot", "The office closed this slot: Training der Jugend", "The office cancelled your booking because the slot is closed.", "Cancel the booking")
     page.press("Back")
     page.view("bookings")
     page.when("byName('to-come').innerText.includes('The office closed this slot: Training der Jugend')", "beside the booking")
@@ -384,7 +384,7 @@ def refusals_say_what_to_do(page, passes, between):
         page.go(day(6))
         between.fates["PUT"] = [f"answer {status} {body}"] * 50
         page.book("court-2", hour)
-        page.when(f"dialogText().includes(\"{words}\") && dialogText().includes('Sending again, try')", "a booking", status)
+        page.when(f"dialogText().includes(\"{words}\") && dialogText().includes('The page sends again, attempt')", "a booking", status)
         between.fates.clear()
         page.comes("Booked.", "a booking at last")
         check([place[:3] for place in amounts("amy-1").values()].count(("court-2", day(6), hour)) == 1, "it is booked once", status)

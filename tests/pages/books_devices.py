@@ -18,7 +18,7 @@ def rotations(passes, front, between):
         page.enter(passes["amy-son"], 12)
         between.fates["PUT"] = ["swallowed"] + ["silent"] * 100
         page.book("court-1", 9)
-        page.when("dialogText().includes('Sending again')", "no reply")
+        page.when("dialogText().includes('The page sends again')", "no reply")
         new = office("rotate-key", "amy-son", "99" + ROOT, "2000-01-01T00:00")
         between.fates.clear()
         page.comes("doesn't know whether", "a pass that is refused meanwhile")
@@ -30,7 +30,7 @@ def rotations(passes, front, between):
         between.fates["PUT"] = ["silent"] * 100
         page.go(day(12))
         page.book("court-1", 10)
-        page.when("dialogText().includes('Sending again')", "no reply")
+        page.when("dialogText().includes('The page sends again')", "no reply")
         page.open(f"{page.address}#{passes['bob-2']}")
         between.fates.clear()
         page.when("isShown('day') && dayIsThere()", "another key's pass")
@@ -71,7 +71,7 @@ def devices(passes, front, server):
         page.when("shownText('import-news') !== ''", "the office's record")
         check(same_record(page, "amy-phone") == len(by_office.splitlines()) - 1, "what the office printed is the record")
         page.run("byName('import').requestSubmit()")
-        page.when("shownText('import-news').includes('were here already')", "the same again")
+        page.when("shownText('import-news').includes('This browser already had all bookings')", "the same again")
         page.run("byName('import-text').value = 'record of amy-phone\\n12 court-1'; byName('import').requestSubmit()")
         page.when("shownText('import-news').includes(\"Line 2 isn't one\")", "an odd record")
         page.cancelled_in_the_list("a cancellation of what another browser booked")
@@ -260,9 +260,9 @@ def does_more_with_bookings(page, passes, between):
     more("Change")
     page.run("byName('change-hour').value = '12'; byName('change-guests').value = '1'")
     page.press("Look up")
-    page.when("dialogText().includes('Book the new slot for 400 points, cancel the old booking')", "what a change costs")
+    page.when("dialogText().includes('Book the new slot for 400 points, and cancel the old booking')", "what a change costs")
     has(page.run("return dialogText()"), "what a change does", "12:00 to 13:00", "2 persons", "The old booking gives back 200 points", "you have both")
-    page.press("Book the new slot for 400 points, cancel the old booking")
+    page.press("Book the new slot for 400 points, and cancel the old booking")
     page.comes("Changed. 200 points came back.", "a change")
     found = amounts("more-1")
     check([found[entry["number"]][-2:], sorted(rest[:4] for rest in found.values() if not rest[-2])]
@@ -276,7 +276,7 @@ def does_more_with_bookings(page, passes, between):
     page.run("byName('change-hour').value = '13'")
     page.press("Look up")
     page.when("dialogText().includes('cancel the old one')", "a full slot")
-    page.press("Book the new slot for 400 points, cancel the old booking")
+    page.press("Book the new slot for 400 points, and cancel the old booking")
     page.comes("Not changed: you still have the old booking.", "a change that isn't one")
     check(not amounts("more-1")[moved["number"]][-2], "the old booking stays")
     # If the member can't cancel the old booking any more, she has both bookings, and the page tells her so.
@@ -285,7 +285,7 @@ def does_more_with_bookings(page, passes, between):
     page.run("byName('change-hour').value = '15'; byName('change-guests').value = '0'")
     page.press("Look up")
     page.when("dialogText().includes('cancel the old one')", "another hour")
-    page.press("Book the new slot for 200 points, cancel the old booking")
+    page.press("Book the new slot for 200 points, and cancel the old booking")
     page.comes("You have both bookings: the old booking wasn't cancelled.", "a change of which half fails")
     both = page.entries()[-1]
     check([amounts("more-1")[each["number"]][-2] for each in (moved, both)] == [0, 0], "both are in the file")

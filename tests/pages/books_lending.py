@@ -60,7 +60,7 @@ def lends(passes, front, between):
         page.run("byName('lend-share').hidden = false; byName('lend-share').click()")
         page.when("shownText('lend-made-news') === 'The link is sent.'", "a shared link")
         check(page.run("return sharedIt") == {"title": "Rowing & tennis", "text": says, "url": address}, "what is shared", page.run("return sharedIt"))
-        second = made(page, f"Max may look at everything until the end of {page_date(day(0))}, and book nothing.", "all", day(0), how="look")
+        second = made(page, f"Max may look at everything until the end of {page_date(day(0))}, but may not book.", "all", day(0), how="look")
         check(lines_in(page, second) == ["amy-1", "actions = view", f"until < {day(1)}T00:00"], "to look takes no spare pass", lines_in(page, second))
         page.run("byName('lend-facility').value = 'boat-1'")
         third = made(page, f"Max may book Double scull until the end of {friday}.", "one", points="none")
@@ -167,7 +167,7 @@ def tries_the_club(address):
             engine.run("document.getElementById('change-hour').value = '10'")
             engine.press("Look up", "dialog")
             engine.when("shown('dialog').includes('If the old one')", "what happens if one of both fails")
-            engine.press("Book the new slot for 200 points, cancel the old booking", "dialog")
+            engine.press("Book the new slot for 200 points, and cancel the old booking", "dialog")
             engine.when("shown('dialog').includes('Changed. 200 points came back')", "a change")
             engine.press("Close", "dialog")
             books(8, ahead[19])
@@ -310,7 +310,7 @@ def says_what_it_keeps(address):
         page.helpers = HELPERS
         opens_lend(page, address)
         page.run(FULL)
-        for key, words in [("anna-lend-1", "may lend it again"), ("anna-lend-2", "may lend it again"), ("anna-1", "until you reload or close the page.")]:
+        for key, words in [("anna-lend-1", "may lend the spare pass again"), ("anna-lend-2", "may lend the spare pass again"), ("anna-1", "until you reload or close the page.")]:
             found = made(page)
             check(found[0] == key and page.run("return shownText('lend-news')").endswith(words) == (key == "anna-1"), "no spare pass twice", key, found)
             check(words in page.run("return shownText('lend-news')"), "what isn't kept", key, page.run("return shownText('lend-news')"))
@@ -330,7 +330,7 @@ def says_what_it_keeps(address):
         opens_lend(page, f"{address}#" + text_of(page, "return writePass(await narrowed(readPass(await passToTry('anna-1')), ['until < 2026-01-02T18:00']))"))
         page.run("byName('to-day').click(); byName('to-find').click()")
         for place in ("find-looked", "lend-trouble"):
-            has(page.run(f"return byName('{place}').textContent"), f"a pass that has ended: {place}", "This pass has ended.", "January 2", "ask the office, or the person who gave you this pass", "Enter another pass")
+            has(page.run(f"return byName('{place}').textContent"), f"a pass that has ended: {place}", "This pass has ended.", "January 2", "ask the office or the person who gave you this pass", "Enter another pass")
         check(page.run("return byName('find-grid').rows.length") == 0, "no grid without a word", page.run("return shownText('find-part')"))
         page.click("find-next")
         check(page.run("return shownText('find-news')") == "This pass has ended.", "the next free time of it", page.run("return shownText('find-news')"))

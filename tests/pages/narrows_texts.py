@@ -79,10 +79,10 @@ def faulty_texts():
         ("!", 2, "“!” at position 1"), ("Ag EJ", 2, "a space or a line break at position 3"), ("AgEJ\nAgEJ", 2, "a space or a line break at position 5"),
         ("\u00a0", 2, "a space or a line break at position 1"), ("A", 2, "breaks off"), ("Ag=E", 2, "“=” at position 3"), ("😀", 2, "“😀” at position 1"),
         ("Bearer " + known, 2, "position 7"), ("https://club.example/" + known, 2, "“:” at position 6"),
-        (known.replace("_", "/").replace("-", "_"), 2, "two different alphabets"), (known + "==", 2, "the wrong number of = signs"),
-        (known[:-1] + "d", 2, "ends with a character that can't be right"), ("====", 2, "the wrong number of = signs"),
+        (known.replace("_", "/").replace("-", "_"), 2, "two base64 alphabets"), (known + "==", 2, "the wrong number of = signs"),
+        (known[:-1] + "d", 2, "ends with a wrong character"), ("====", 2, "the wrong number of = signs"),
         # no form
-        ("Aw", 2, "doesn't begin like any form"), ("MDA", 2, "breaks off in the location"), ("Zw", 2, "doesn't begin like any form"),
+        ("Aw", 2, "doesn't begin like a pass of any form"), ("MDA", 2, "breaks off in the location"), ("Zw", 2, "doesn't begin like a pass of any form"),
         # V1
         (unpadded(v1 + b"x"), 2, "continues after the signature"), (unpadded(b"0003"), 2, "a length of 3"),
         (unpadded(b"0003location http://mybank/\n"), 2, "a length of 3"), (unpadded(b"001Clocation"), 2, "“001C”"),
@@ -92,25 +92,25 @@ def faulty_texts():
         (unpadded(v1.replace(b"cid ", b"vid ")), 2, "“vid” where a caveat or the signature should be"),
         (written("v1", replace(KEYID, signature=bytes(31))), 2, "31 bytes, not 32"),
         # V2
-        (unpadded(b"\2\2\x85\0keyid"), 2, "isn't written in the shortest way"),
-        (unpadded(v2.replace(b"\5keyid", b"\x85\0keyid")), 2, "isn't written in the shortest way"), (unpadded(v2 + b"\0"), 2, "continues after the signature"),
+        (unpadded(b"\2\2\x85\0keyid"), 2, "isn't written with the fewest possible bytes"),
+        (unpadded(v2.replace(b"\5keyid", b"\x85\0keyid")), 2, "isn't written with the fewest possible bytes"), (unpadded(v2 + b"\0"), 2, "continues after the signature"),
         (unpadded(b"\2\2\xff\xff\xff\x7f"), 2, "greater than the length of the whole text"), (unpadded(b"\2"), 2, "breaks off in the identifier"),
         (unpadded(b"\2\6\1a"), 2, "something else where the identifier should be"),
-        (unpadded(b"\2" + field(2, b"a") + field(4, b"a")), 2, "something else where the identifier should end"),
+        (unpadded(b"\2" + field(2, b"a") + field(4, b"a")), 2, "continues where the identifier should end"),
         (written("v2", replace(KEYID, signature=bytes(33))), 2, "33 bytes, not 32"), (unpadded(v2[:-40]), 2, "breaks off in"),
         # JSON
         ("{", 2, "breaks off"), ("{}", 2, "Field i is missing"), ("[]", 2, "“[” at position 1"), ("{i", 2, "at position 2"), ('{"i":"keyid"}', 2, "Field s is missing"),
         ("{" + S64 + "}", 2, "Field i is missing"), ("{" + SHORT + "x", 2, "more text after the end"),
         ('{"i":"keyid","s64":"fN7nklEcW8b1KEhYBd_psk54XijiqZMB-dcRxgnjjg"}', 2, "31 bytes, not 32"), ("\ufeff{" + SHORT, 2, "at position 1"),
-        (unpadded(b'{"\xff'), 2, "isn't text in UTF-8"), ('{"i":"a\nb",' + S64 + "}", 2, "text in quotes"),
-        ('{"i":"\\ud800",' + S64 + "}", 2, "half a character"), (nested(127), 2, "more than 127 nested brackets"),
+        (unpadded(b'{"\xff'), 2, "isn't valid UTF-8"), ('{"i":"a\nb",' + S64 + "}", 2, "a quoted text without"),
+        ('{"i":"\\ud800",' + S64 + "}", 2, "half of a character"), (nested(127), 2, "more than 127 nested brackets"),
         *((with_member('"v":' + it), 2, "isn't the whole number 2") for it in ("1", "2.0", "2e0", "-2", "null", '"2"')),
-        (with_member('"v":1e999'), 2, "too large"), (with_member('"v":02'), 2, "a comma or }"), (with_member('"i64":"_w"'), 2, "i and field i64 must not both be there"),
-        (with_member('"c":null'), 2, "aren't a list"), (with_member('"c":{}'), 2, "aren't a list"), (with_member('"c":["a"]'), 2, "Caveat 1 isn't an object"),
+        (with_member('"v":1e999'), 2, "too large"), (with_member('"v":02'), 2, "a comma or }"), (with_member('"i64":"_w"'), 2, "i and field i64 are both there"),
+        (with_member('"c":null'), 2, "isn't a list"), (with_member('"c":{}'), 2, "isn't a list"), (with_member('"c":["a"]'), 2, "Caveat 1 isn't an object"),
         (with_member('"c":[{"l":"x"}]'), 2, "Field i of caveat 1 is missing"), (with_member('"x":1'), 2, "a field “x”"),
         (with_member('"c":[{"i":"a","i64":"_w"}]'), 2, "Field i of caveat 1 and field i64"), (with_member('"l":null'), 2, "Field l isn't a text"),
-        (with_member('"l":"a","l64":"YQ"'), 2, "l and field l64 must not both be there"), (with_member('"l64":"_"'), 2, "Field l64 breaks off"),
-        (with_member('"s":"0123456789abcdef0123456789abcdef"'), 2, "s and field s64 must not both be there"),
+        (with_member('"l":"a","l64":"YQ"'), 2, "l and field l64 are both there"), (with_member('"l64":"_"'), 2, "Field l64 breaks off"),
+        (with_member('"s":"0123456789abcdef0123456789abcdef"'), 2, "s and field s64 are both there"),
         (with_member('"c":[{"i":"a","v64":"_w","x":1}]'), 2, "Caveat 1 has a field “x”"), (with_member('"__proto__":1'), 2, "“__proto__”"),
         # third-party caveats, too many caveats, too long texts
         (unpadded(third_v1), 3, "Caveat 1 needs"), (many(0, third_v2), 3, "Caveat 1 needs"),
@@ -121,7 +121,7 @@ def faulty_texts():
         (with_member('"c":[' + ",".join([guests] * 65) + "]"), 4, "The pass has 65 limits"),
         (with_member('"c":[' + ",".join([guests] * 65) + ",{}]"), 2, "Field i of caveat 66 is missing"),
         (with_member('"c":[' + ",".join([guests] * 65) + ',{"i":"x","v64":""}]'), 3, "Caveat 66 needs"), ("{" * 8193, 1, "8,193 bytes"),
-        ("A" * 8193, 1, "8,193 bytes"), ("é" * 4097, 1, "8,194 bytes"), ("{" * 8192, 2, "in quotes"), ("{" + SHORT + " " * 8128, 1, "8,193 bytes"),
+        ("A" * 8193, 1, "8,193 bytes"), ("é" * 4097, 1, "8,194 bytes"), ("{" * 8192, 2, "a quoted text without"), ("{" + SHORT + " " * 8128, 1, "8,193 bytes"),
     ]
 
 

@@ -64,8 +64,8 @@ SENTENCES = {
     "guests <= 1": "Only bookings with at most 1 guest.",
     "guests <= 12": "Only bookings with at most 12 guests.",
     "spend <= 0": "No bookings that cost points.",
-    "spend <= 1": "At most 1 point in all. Every booking ever made with this pass or a part of it counts towards this limit.",
-    "spend <= 123456789": "At most 123,456,789 points in all. Every booking ever made with this pass or a part of it counts towards this limit.",
+    "spend <= 1": "At most 1 point in all. Every booking ever made with this pass, or with a part of this pass, counts towards this limit.",
+    "spend <= 123456789": "At most 123,456,789 points in all. Every booking ever made with this pass, or with a part of this pass, counts towards this limit.",
     "actions = view,book": "The holder may only look at slots or book.",
     "actions = view,cancel,account": "The holder may only look at slots, cancel bookings or look at the account.",
     "shoe = red": "The desk doesn't understand this limit, so it refuses the pass.",
@@ -103,7 +103,7 @@ def choices_say_what_they_add(page):
         fields, choice = list(zip(names, value.split() if names[1:] else [value])), names[0].partition("-")[0]
         answer = page.narrow(AMY, *fields)
         made, wrong, marked = page.run("return shownOf(arguments[0])", choice)
-        check("A choice isn't right yet" in answer.get("fault", ""), "a wrong choice", fields, answer)
+        check("One of your choices is wrong" in answer.get("fault", ""), "a wrong choice", fields, answer)
         check(wrong and marked and not made, "a wrong choice and its words", fields, made, wrong, marked)
         # The message disappears as soon as the field is empty again.
         page.run("for (const name of arguments[0]) choose(name, '');", names)
@@ -112,7 +112,7 @@ def choices_say_what_they_add(page):
     nothing = page.narrow(AMY)
     check(nothing.get("fault") == "Choose at least one limit.", "no choice", nothing)
     nothing = page.narrow("", ("guests", "1"))
-    check("First enter a pass above" in nothing.get("fault", ""), "no pass", nothing)
+    check("First enter a pass that the page can read" in nothing.get("fault", ""), "no pass", nothing)
     print(f"{len(SENTENCES)} sentences, and {len(CHOSEN) + sum(map(len, WRONG.values()))} choices that say and add their lines, or what they want")
 
 
@@ -139,7 +139,7 @@ def notes_say_what_matters(page):
         answer = page.narrow(amys("v2", *lines), ("guests", "3"))
         check(answer["notes"] == titles, "what a person should know of a pass", lines, titles, answer["notes"])
     stranger = page.each("read", [written("v2", README_PASS)])[0]
-    check("no name that the desk could know" in stranger["shown"], "a stranger's pass", stranger)
+    check("name that the desk can look up" in stranger["shown"], "a stranger's pass", stranger)
     check(stranger["facts"]["Identifier"] == "we used our secret key", "whose a stranger's pass is", stranger)
     text = page.run("return document.body.innerText")
     for words in ["The desk counts every booking ever made with this pass", "narrow a spare pass or a separate pass",
@@ -355,11 +355,11 @@ def only_shows_where_it_cannot_sign():
         address = f"http://club.example:{port}/pass.html"
         page.open(f"{address}#{AMY}")
         check(page.run("return window.isSecureContext") is False, "a page over http is no secure context")
-        check("can't sign a pass here" in page.run("return byId('unsigned').textContent"), "a page that can't sign says so")
+        check("can't sign a pass" in page.run("return byId('unsigned').textContent"), "a page that can't sign says so")
         check(page.run("return byId('narrow').disabled"), "a page that can't sign doesn't narrow")
         check(page.run("return factsOf(byId('given-pass')).Name") == "amy-1", "a page that can't sign shows a pass")
         answer = page.narrow(AMY, ("guests", "1"))
-        check("can't sign a pass here" in answer.get("fault", ""), "a page that can't sign doesn't narrow, asked by whatever way", answer)
+        check("can't sign a pass" in answer.get("fault", ""), "a page that can't sign doesn't narrow, asked by whatever way", answer)
         page.sent_nothing(address)
     check(Folder.asked == ["GET /pass.html HTTP/1.1"], "what the server was asked", Folder.asked)
     print("a page that can't sign shows a pass and narrows none; of its server one thing was asked, the page")
