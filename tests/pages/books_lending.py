@@ -35,7 +35,7 @@ def lends(passes, front, between):
         return page.run("const pass = readPass(splitGiven(arguments[0]).text); return [keyName(pass), ...pass.caveats.map(characters)]", address.split("#")[1])
 
     friday = page_date(day(4))
-    says = f"Max may book courts until the end of {friday}, for 600 points in all."
+    says = f"Max may book courts until the end of {friday}, up to 600 points."
     with BookingPage(front) as page:
         page.sees(360, "light", 740)
         page.enter(passes["amy-1"], keeps="Keep it")
@@ -467,7 +467,7 @@ def lends_in_a_minute(passes, server):
             press(member, f"//input[@name='lend-until'][@value='{day(friday)}']/..")
             press(member, "//button[@id='lend-make']")
             member.when("document.getElementById('lend-made').offsetParent !== null", "a link")
-            says = f"Anyone with the link may book courts until the end of {page_date(day(friday))}, for 600 points in all."
+            says = f"Anyone with the link may book courts until the end of {page_date(day(friday))}, up to 600 points."
             check(member.get("return shown('lend-made-says')") == says, "what she lends", member.get("return shown('lend-made-says')"))
             press(member, "//button[@id='lend-copy']")
             sent = member.run("return document.getElementById('lend-address').value").replace(member.host, son.host)
