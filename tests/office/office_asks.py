@@ -194,7 +194,7 @@ def season_start():
     same("they have them", rows("SELECT credited FROM members WHERE name = 'ida-lund'"), [(800,)])
     task("the season's points", ("Points", "300"), ("A name", "season 2027")).has("once", "season-2027 was given already")
     first = TODAY + datetime.timedelta(7)
-    task("close each week", ("First", "+7"), ("Last", "+28"), ("Hours", "18-20"), ("Why", "Training"), ("Which", "court-1"), ("Shall", "y")).has(
+    task("close slots each week", ("First", "+7"), ("Last", "+28"), ("Hours", "18-20"), ("Why", "Training"), ("Which", "court-1"), ("Shall", "y")).has(
         "training", f"office club close {first}..{TODAY + datetime.timedelta(28)} 18-20 court-1 --weekday {first:%A} --why Training".lower().replace("training", "Training"), "in all: 8 slots closed")
     task("a new one", ("Short", "court-3"), ("Kind", "court"), ("Places", "2"), ("Points", "100"), ("Opening", "8-22"), ("Do it", ENTER)).has("a new court", "office club add-facility court-3 court 2 100 8 22")
     task("the page's list").has("the page's list", "club.json: done")

@@ -187,7 +187,7 @@ def restores(server):
     shown = [
         "removes the member dora", f"balance of amy changes from {balance + 250} to {balance}", "removes the key dora-1: its passes are refused",
         "accepts the passes that amy-3 had before its rotation, and refuses the later passes of amy-3", "accepts the passes of the key amy-5 again: at present the key is revoked",
-        "changes the facility boat-1 back", f"opens court-2 {DAY} 11:00 again", f"loses the booking court-2 {DAY} 09:00, 1 person, 200 points: amy-6 63, amy",
+        "changes the facility boat-1 back to its earlier state", f"opens court-2 {DAY} 11:00 again", f"loses the booking court-2 {DAY} 09:00, 1 person, 200 points: amy-6 63, amy",
         f"books court-2 {DAY} 19:00 again, 2 persons, 400 points: amy-6 61, amy", "in all: 9 changes",
     ]
     same("a restore that isn't confirmed", refused(["restore", night, *AT], 1, "refused: not confirmed", given="n\n").splitlines()[:-1], shown)
@@ -203,7 +203,7 @@ def restores(server):
     same("what undoes it", lines("restore", undone, *YES), [
         "brings back the member dora", f"balance of amy changes from {balance} to {balance + 250}", "brings back the key dora-1 and its passes",
         "accepts the passes that amy-3 had before its rotation, and refuses the later passes of amy-3", "refuses the passes of amy-5: the key is revoked again",
-        "changes the facility boat-1 back", f"closes court-2 {DAY} 11:00", f"loses the booking court-2 {DAY} 19:00, 2 persons, 400 points: amy-6 61, amy",
+        "changes the facility boat-1 back to its earlier state", f"closes court-2 {DAY} 11:00", f"loses the booking court-2 {DAY} 19:00, 2 persons, 400 points: amy-6 61, amy",
         f"books court-2 {DAY} 09:00 again, 1 person, 200 points: amy-6 63, amy", "in all: 9 changes", "done",
     ])
     same("it is undone", everything(), after)
