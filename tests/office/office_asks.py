@@ -1,11 +1,11 @@
 #!/usr/bin/env -S /usr/bin/python3 -B
-"""The office's menu and questions, in English and German, do each task of a week and of a season's start.
+"""With the office's menu, in English and German, a clerk can do each task of a week and of a season's start.
 
-The test runs the office at a terminal, and compares the changes of each task. Needs root, for a machine of its own (tests/lib/office_room.sh).
+The test runs the office at a terminal, and checks what each task changes. Needs root, for a machine of its own (tests/lib/office_room.sh).
 
-The clerk knows no command, and uses only the menu. The clerk writes names, days and hours in the ways that people use, also in commands. If two
-members match a name, or if the input is odd, the office asks. Refusals, lists and usage also appear in German. Ctrl-C in any question changes
-nothing. Without a terminal, the office doesn't accept a part of a name.
+The menu and the commands accept names, days and hours as people write them. The office asks again if two members match a name, or if an input is
+unusual. It prints its refusals, lists and usage text in German, too. Ctrl-C at any question changes nothing. Commands without a terminal accept only
+whole names.
 """
 # pytestmark = [mark.package, mark.root, mark.needs("clubdesk passtool"),
 #     mark.wants("sudo sqlite3 openssl util-linux bsdutils iproute2 systemd qrencode python3-psutil python3-pexpect")]
@@ -28,7 +28,7 @@ ENTER = ""
 
 
 class Terminal:
-    """The office at a terminal of 80 columns, in one language."""
+    """Runs the office at a terminal of 80 columns, in one language."""
 
     def __init__(self, *words, language="C.UTF-8"):
         line = ["-u", "anna", "--", "env", f"LANG={language}", "TERM=dumb", "office", *words]
@@ -36,7 +36,7 @@ class Terminal:
         self.shown = ""
 
     def answers(self, *pairs):
-        """Waits for each question, given as a pattern, and answers it. The answer None stands for Ctrl-C."""
+        """Waits for each question and sends its answer. A pair has a pattern of the question, and the answer. The answer None sends Ctrl-C."""
         for question, answer in pairs:
             try:
                 self.it.expect(question)
@@ -129,7 +129,7 @@ def in_german():
 
 
 def refused_in_german():
-    """Refusals are in the clerk's language. Values with commas between them are the same in each language."""
+    """The office prints refusals in the clerk's language."""
     def german(*words):
         return run_as("anna", "env", "LANG=de_DE.UTF-8", "office", "club", *words)
 
@@ -156,7 +156,7 @@ def refused_in_german():
 
 
 def calls():
-    """The menu serves the wishes of members who call."""
+    """The clerk uses the menu for members who call by telephone."""
     day = TODAY + datetime.timedelta(2)
     shown = task("book for", ("Member", "bob"), ("Court", "court 2"), ("Day", "+2"), ("Hours", "15-17"), ("How many", "1"), ("Do it", ENTER))
     shown.has("a booking for a caller", f"office club book mueller-bob court-2 {day} 15-17 1", f"booked court-2 {day} 16:00 for mueller-bob, 2 persons",
@@ -179,7 +179,8 @@ def calls():
 
 
 def season_start():
-    """The menu starts a season: members from a list, letters, points for all, training, a new court, a new year, and the board's page."""
+    """The menu has the tasks of a season's start: members from a list, letters, points for all, training, a new court, a new year, and the board's
+    page."""
     run_as("anna", "sh", "-c", "printf 'Name;Buchungen;Punkte\\nIda Lund;3;500\\nÖzil, Can;3;500\\n' >members.csv")
     task("members from a list", ("File", "members.csv"), ("Shall", "y")).has("a list", "read as UTF-8 with ;", "ida-lund: done", "2 of 2 rows done")
     run_as("anna", "sh", "-c", "printf 'Vorname;Nachname\nBea;Noll\n' >names.csv")
@@ -207,8 +208,7 @@ def season_start():
 
 
 def what_is_odd():
-    """The office asks about a day that is over or far ahead, and about points above ten times the usual number. It asks in the menu and in
-    commands."""
+    """The menu and the commands ask again about a day that is over or far ahead, and about more than ten times the usual points."""
     before = everything()
     for words, text in ((["close", "-1", "10", "court-1"], "is past"), (["close", "+100", "10", "court-1"], "100 days ahead"),
                         (["close", f"{TODAY - datetime.timedelta(7)}..{TODAY}", "10", "court-1", "--why", "x"], "is past"),
@@ -221,7 +221,7 @@ def what_is_odd():
 
 
 def words_of_commands():
-    """Commands at a terminal accept the same input. Without a terminal, they don't accept a part of a name."""
+    """Commands at a terminal accept the same input as the menu. Commands without a terminal accept only whole names."""
     terminal = Terminal("club", "credit", "bäck kar", "10")
     terminal.answers(("Number", "1"), ("Go on", "y"))
     same("two that fit", (terminal.ends(), rows("SELECT credited FROM members WHERE name = 'baecker-karin'")), (0, [(4760,)]))
@@ -254,7 +254,7 @@ def words_of_commands():
 
 
 def interrupted():
-    """Ctrl-C in any question of a task returns to the menu, and changes nothing."""
+    """Ctrl-C at any question of a task returns to the menu, and changes nothing."""
     before = everything()
     questions = {"a new member": [("Full name", "Zoë"), ("Open", "5"), ("Points", "100"), ("Do it", None)], "credit points": [("Member", "bob"), ("Points", "7"), ("Do it", None)],
                  "close for": [("Day", "+3"), ("Hours", "15"), ("Which", "courts"), ("Shall", None)], "a member leaves": [("Member", "bob"), ("Shall", None)]}

@@ -1,10 +1,10 @@
 #!/usr/bin/env -S /usr/bin/python3 -B
-"""Corrections by commands keep the server running, and are done once even if they are killed and repeated.
+"""Corrections by commands don't stop the server, and take effect once even if the test kills them and gives them again.
 
-The test kills each correction before and after each program that it runs, and while no reader takes its output. Then the test gives the same
-command again. The club must be as after a single command, and the book must have both commands. A clubdesk command that outlives its correction
-delays the next correction. The test compares the rows of the copy before each correction, and the rows that `undo` restores. Needs root, for a
-machine of its own (tests/lib/office_room.sh).
+The test kills each correction before and after each program that the correction runs. It also kills a correction whose output no program reads. Then
+the test gives the same command again. The club must be the same as after one command. If a correction is killed but its clubdesk command still runs,
+the next correction waits for that command. The test also checks the copy that the office makes before a correction, and the rows that `undo`
+restores. Needs root, for a machine of its own (tests/lib/office_room.sh).
 
   tests/office/office_by_commands.py [debit|times]    debit: debits alone; times: how long a tournament takes, and a client beside it waits
 """
@@ -34,7 +34,7 @@ TODAY = datetime.date.today()
 PASSES = {}
 PROGRAMS = {"clubdesk": Path("/usr/bin/clubdesk"), "back_up": Path("/usr/lib/clubdesk/back_up"), "systemctl": Path("/usr/bin/systemctl")}
 STOPPER = f"""#!/bin/sh
-# A program with a planned kill or delay. The test kills the order before or after its Nth call of the program, or starts the program late.
+# Replaces a program that the office calls. At the Nth call, the script waits before or after the real program, so that the test can kill the office.
 number=$(($(cat {ROOM}/calls) + 1))
 [ "$1" != serve ] || exec {ROOM}/NAME "$@"
 echo $number >{ROOM}/calls
@@ -47,7 +47,7 @@ read -r at how <{ROOM}/stop
 
 
 def put_stoppers():
-    """Counts the programs that a command runs from now on, and can stop them."""
+    """Replaces each program by a script that counts its calls, and that can wait at one of them."""
     ROOM.chmod(0o777)
     stop_at("0 never")
     for name, path in PROGRAMS.items():
@@ -57,7 +57,7 @@ def put_stoppers():
 
 
 def stop_at(point):
-    """Stops before or after the Nth call."""
+    """Sets the call at which the script waits, and resets the counter of calls."""
     for file, text in (("calls", "0"), ("stop", point)):
         (ROOM / file).write_text(f"{text}\n", encoding="ascii")
         (ROOM / file).chmod(0o666)
@@ -65,12 +65,12 @@ def stop_at(point):
 
 
 def calls():
-    """Counts the programs that the command has called since the test last set a stop."""
+    """Returns the number of calls since the last reset."""
     return int((ROOM / "calls").read_text(encoding="ascii"))
 
 
 def stopped(point, words):
-    """Gives a command that stops at a point."""
+    """Gives a command, and returns when the command waits at this point."""
     stop_at(point)
     command = begun(*words)
     while command.poll() is None and not (ROOM / "stopped").exists():
@@ -106,7 +106,7 @@ def killed_at_its_output(words):
 
 
 class Correction:
-    """A correction at a new place each time. It has its preparation, its words, and the rows that an SQL statement finds after it."""
+    """A kind of correction. Each call of `next` returns the words of a new correction, and the rows that `sql` must find afterwards."""
 
     def __init__(self):
         self.number = 0
@@ -124,7 +124,7 @@ class Quota(Correction):
 
 
 class Undoing(Correction):
-    """An undo of one command's change."""
+    """Undoes the change of a quota."""
 
     sql = "SELECT quota FROM members WHERE name = 'amy'"
 
@@ -135,7 +135,7 @@ class Undoing(Correction):
 
 
 class Reopening(Correction):
-    """Three hours of a day. The second is open."""
+    """Reopens three hours of a day. The second hour is already open."""
 
     def made(self):
         day = str(TODAY + datetime.timedelta(self.number))
@@ -146,7 +146,7 @@ class Reopening(Correction):
 
 
 class Prices(Correction):
-    """A new price, with the facility's present places and hours."""
+    """Sets a new price, and keeps the facility's places and hours."""
 
     sql = "SELECT * FROM facilities WHERE name = 'court-1'"
 
@@ -155,7 +155,7 @@ class Prices(Correction):
 
 
 class Debit(Correction):
-    """An amount of points that two commands must take back."""
+    """Debits so many points that the office needs two debit commands."""
 
     sql = "SELECT credited FROM members WHERE name = 'zoe'"
 
@@ -165,7 +165,7 @@ class Debit(Correction):
 
 
 class OfBookings(Correction):
-    """A correction on a day of its own. zoe has bookings at ten and at eleven, one of them with a guest."""
+    """A correction of a day on which zoe has bookings at ten and at eleven, one of them with a guest."""
 
     bookings = 2
 
@@ -198,7 +198,7 @@ class Raining(OfBookings):
 
 
 class Closing(OfBookings):
-    """A third hour is free. The office writes the reason only once."""
+    """Closes zoe's two hours and a free hour. The office writes the reason only once."""
 
     court, booked = "court-4", 3000
 
@@ -212,7 +212,7 @@ class Closing(OfBookings):
 
 
 class Leaving(Correction):
-    """A member with two keys. One key is revoked, and each key has a future booking."""
+    """A member with two keys leaves. One key is already revoked, and each key has a future booking."""
 
     def made(self):
         member = f"m{self.number}"
@@ -233,7 +233,7 @@ class Leaving(Correction):
 
 
 def killed_and_given_again(correction, programs):
-    """Makes a correction. Then kills the correction at each point and gives it again."""
+    """Makes a correction without a kill. Then kills a correction of this kind at each point, and gives the killed command again."""
     words, wanted = correction.next()
     command, before = words[0], rows(correction.sql)
     stop_at("0 never")
@@ -255,7 +255,7 @@ def killed_and_given_again(correction, programs):
 
 
 def rows_of_copy(command, sql):
-    """Returns the rows that a statement finds in the newest copy from before a correction."""
+    """Returns the rows that a statement finds in the newest copy that the office made before such a command."""
     newest = max((HOME / "club-before").glob(f"*-{command}*"), key=lambda it: it.stat().st_mtime_ns)
     with contextlib.closing(sqlite3.connect(f"file:{newest}?immutable=1", uri=True)) as db:
         return db.execute(sql).fetchall()
@@ -279,7 +279,7 @@ def outlives_its_order(correction, programs):
 
 
 def credited_meanwhile(correction):
-    """An interrupted debit doesn't continue if the member's credit has changed. When the clerk gives it again, it starts from the beginning."""
+    """If the member's credit has changed meanwhile, the office doesn't continue an interrupted debit. The same command then starts a new debit."""
     words, _ = correction.next()
     killed("3 before", [*words, "--yes"])
     done("credit", "zoe", "7")
@@ -290,7 +290,7 @@ def credited_meanwhile(correction):
 
 
 def late(point, words, path):
-    """Gives a command that stops at a point until amy has booked. Returns the command's status and output."""
+    """Gives a command that waits at this point until amy has booked. Returns the command's status and output."""
     order = stopped(f"{point} late", words)
     same(path, server.answer(PASSES["amy"], "PUT", path, '{"guests":0}')[0], 200)
     out, errors = order.communicate()

@@ -1,4 +1,4 @@
-"""A part of office_holds.py: each correction with its refusals, and restores, even of a damaged file."""
+"""A part of office_holds.py: each correction with its refusals, and restores of the club, even over a damaged file."""
 
 import os
 import re
@@ -100,7 +100,7 @@ def member_leaves(server, bob):
 
 
 def breaks_no_total(server):
-    """Somebody changed a booking by hand. Its cancellation would take back more places than the slot has."""
+    """After a change of the file by hand, a booking has more places than its slot has taken. The office refuses to cancel this booking."""
     text = done("add-key", "amy-4", "amy").strip()
     book(server, text, "court-2", 20, 5, 1)
     by_hand("UPDATE bookings SET guests = 3 WHERE pass_key = 'amy-4'")
@@ -114,7 +114,7 @@ def breaks_no_total(server):
 
 
 def by_hand(sql):
-    """Changes the file with SQLite's shell after the server has released it."""
+    """Changes the club's file with SQLite's shell, as soon as the server has released the file."""
     for _ in range(50):
         subprocess.run(["systemctl", "kill", "clubdesk@club.service"], check=False)
         status, _, errors = run_as("clubdesk", "sqlite3", "-bail", CLUB, sql, folder="/")
@@ -125,8 +125,8 @@ def by_hand(sql):
 
 
 def booked_meanwhile(server):
-    """If a member books a slot between the question and the answer, the slot stays open. The office names the slot and asks again. The booking
-    stays if the clerk declines."""
+    """If a member books a slot after the office has asked whether to close it, the office names this slot and asks again. The booking stays if the
+    clerk declines."""
     text, slot_text = done("add-key", "amy-5", "amy").strip(), f"court-2 {DAY} 17:00"
     for number, answers, status, last in ((1, "y\nn\n", 1, None), (3, "y\ny\n", 0, "done")):
         book(server, text, "court-2", 17, number, 0)
@@ -145,7 +145,7 @@ def booked_meanwhile(server):
 
 
 def back_ups():
-    """Each completed correction kept a copy of the club from before it."""
+    """Before each completed correction, the office made a copy of the club."""
     made = sorted((HOME / "club-before").iterdir())
     same("their number", 10 <= len(made) <= 30, True)
     same("their modes", {mode(it) for it in made}, {"clubdesk 100600"})
@@ -156,14 +156,14 @@ def back_ups():
 
 
 def keep_copy():
-    """A night's copy; its name."""
+    """Runs the nightly job that copies the club, and returns the copy's name."""
     before = set(COPIES.glob("*"))
     same("a night's copy", run_as("clubdesk", "/usr/lib/clubdesk/keep_copies", CLUB, COPIES, folder="/")[0], 0)
     return (set(COPIES.glob("*")) - before).pop().name
 
 
 def restores(server):
-    """Restores a copy. The office shows the changes, keeps the old club as a copy, and keeps a damaged file."""
+    """Restores a copy. The office shows what the restore changes. It keeps a copy of the old club, or the damaged file."""
     configure(BACK_UPS=COPIES)
     same("no copy of a night", [line for line in lines("copies", "--csv") if "back-up" in line], [])
     text = done("add-key", "amy-6", "amy").strip()
@@ -229,7 +229,7 @@ def restores(server):
 
 
 def spoil(what):
-    """Destroys the head of the club's file, all its other pages, the first page of an index, all its bytes, or the file."""
+    """Overwrites a part of the club's file, empties the file, or removes it."""
     if what == "gone":
         CLUB.rename(HOME / "mislaid")
         return
@@ -243,7 +243,7 @@ def spoil(what):
 
 
 def damaged(server, text, night, before, was):
-    """Restores over a file without its head, all its other pages, or a page of an index. Also restores over an empty file and a missing file."""
+    """Restores a copy over a damaged file, an empty file and a missing file."""
     def lost_files():
         return len([it for it in HOME.glob("club-lost-*") if not it.name.endswith("-wal")])
 

@@ -1,4 +1,4 @@
-"""A part of office_holds.py: a hostile clerk, full memory, a full disk, and a silent journal."""
+"""A part of office_holds.py: a hostile clerk, a full memory, a full disk, and a program that holds the journal's socket but reads nothing."""
 
 import contextlib
 import json
@@ -20,7 +20,8 @@ from office_room import CLUB, HOME, NOON, ROOM, begun, done, kill, office, rows,
 
 
 def journal_that_is_silent():
-    """A program may have the journal's socket and read nothing. Then no command waits, and its line goes into the file."""
+    """If the program behind the journal's socket reads nothing, no command waits for that program. The command's line goes into the file of the
+    book."""
     entry = Path("/run/systemd/journal/socket")
     entry.parent.mkdir(parents=True, exist_ok=True)
     with socket.socket(socket.AF_UNIX, socket.SOCK_DGRAM) as silent, socket.socket(socket.AF_UNIX, socket.SOCK_DGRAM) as sender:
@@ -41,7 +42,7 @@ def journal_that_is_silent():
 
 
 def copies_of_one_second():
-    """Several corrections within one second keep a copy each."""
+    """If a clerk makes several corrections within one second, the office keeps a copy for each of them."""
     before = len(list((HOME / "club-before").glob("*-debit*")))
     with ThreadPoolExecutor(6) as pool:
         for _ in range(6):
@@ -53,7 +54,7 @@ def copies_of_one_second():
 
 
 def moments_to_come():
-    """A correction at a future moment would treat future bookings as over."""
+    """The office refuses a correction at a future moment, because the correction would treat future bookings as over."""
     for words in (["new-year"], ["set-facility", "court-1", "--hours", "8-9"], ["cancel", "amy-1", "--all"], ["restore", "2026-01-01T000000Z"]):
         refused([*words, "--yes", "--at", "2099-12-31T00:00"], 1, "refused: --at 2099-12-31T00:00 is to come: it is 20")
     same("in the book", book_lines()[-1], "anna 1 restore 2026-01-01T000000Z --at 2099-12-31T00:00")
@@ -84,7 +85,7 @@ def lines_that_are_forged():
 
 
 def orders_that_cannot_be_read():
-    """A power cut may leave half a line in the book. The office keeps this half, as a line with a question mark."""
+    """A power cut may leave half a line in the book. The office keeps this half, and shows it as a line with a question mark."""
     for left in (b"\0" * 40, b"2026-04-20T12:00:00 b", b'{"moment"', b"2026-04-20T12:00:00 ben 0 credit amy 9\n2026"):
         TURN.write_bytes(left)
         done("credit", "amy", "1")
@@ -98,7 +99,8 @@ def orders_that_cannot_be_read():
 
 
 def programs_of_a_clerk():
-    """A clerk can't choose a program or a folder for the desk's side, even if sudo passes on the clerk's environment."""
+    """A clerk can't choose a program or a folder for the office's part that runs as the desk's user, even if sudo passes on the clerk's
+    environment."""
     home, lax = Path("/home/anna"), Path("/etc/sudoers.d/zz-lax")
     (home / "bin").mkdir()
     (home / "conf").mkdir()
@@ -129,7 +131,7 @@ def programs_of_a_clerk():
 
 
 def inner_words():
-    """The desk's side checks the words that only the clerk's side sends, before it does anything."""
+    """The office's part that runs as the desk's user refuses wrong arguments from the clerk's part, and then changes nothing."""
     line = "sudo -n -u clubdesk /usr/bin/office --desk club import-row zed 1 5 zed-1".split()
     for given in ("", "00", "g" * 64, f"{'0' * 64} x", "0" * 63):
         same(f"the roots {given}", run_as("anna", *line, given=given)[0], 3)
@@ -137,7 +139,7 @@ def inner_words():
 
 
 def desk_side(command):
-    """Waits until one of the desk user's processes has its turn and calls clubdesk. Returns the desk user's processes of the command."""
+    """Waits until the command calls clubdesk. Returns those of the command's processes that run as the desk's user."""
     user = pwd.getpwnam("clubdesk").pw_uid
     for _ in range(400):
         with contextlib.suppress(psutil.NoSuchProcess):
@@ -150,7 +152,7 @@ def desk_side(command):
 
 @contextlib.contextmanager
 def slow_clubdesk():
-    """A clubdesk that waits two seconds before a credit or a new key. It records the home folder that other programs see."""
+    """Replaces clubdesk by a script that waits two seconds before a credit or a new key. The script records its variable HOME."""
     program, whole_one, home = Path("/usr/bin/clubdesk"), ROOM / "clubdesk-whole", ROOM / "home-of-clubdesk"
     shutil.copy2(program, whole_one)
     program.unlink()
@@ -165,7 +167,7 @@ def slow_clubdesk():
 
 
 def terminals_that_stop():
-    """Neither Ctrl-Z nor a closed terminal stops a command that has its turn."""
+    """Neither Ctrl-Z nor a closed terminal stops a command that already runs clubdesk."""
     with slow_clubdesk():
         for number in (signal.SIGTSTP, signal.SIGHUP, signal.SIGTTOU):
             command = begun("credit", "amy", "3")
@@ -182,7 +184,7 @@ def terminals_that_stop():
 
 
 def terminals_that_take_nothing():
-    """A blocked standard error, such as a terminal after Ctrl-S or a full pipe, doesn't delay other commands."""
+    """If a command can't write to its standard error, for example after Ctrl-S, other commands don't wait for this command."""
     taken, full = os.pipe()
     os.set_blocking(full, False)
     with contextlib.suppress(BlockingIOError):
@@ -203,7 +205,8 @@ def terminals_that_take_nothing():
 
 
 def folder_of_a_clerk():
-    """The desk's side uses the home folder of its own user, even if sudo passes on the clerk's home folder. A mailer would obey a file there."""
+    """The office's part that runs as the desk's user has that user's home folder, even if sudo passes on the clerk's home folder. A mailer would read
+    a configuration file in the clerk's home folder."""
     lax = Path("/etc/sudoers.d/zz-lax")
     lax.write_text('Defaults env_keep += "HOME"\n')
     lax.chmod(0o440)
@@ -214,7 +217,8 @@ def folder_of_a_clerk():
 
 
 def file_that_came_since():
-    """If another file gets the pass's name while the office makes the key, this file stays. The pass gets another name."""
+    """While the office makes a key, another program may create a file with the name of the pass. This file stays, and the office gives the pass
+    another name."""
     with slow_clubdesk():
         command = begun("add-key", "amy-8", "amy", "--to", "amy-8")
         desk_side(command)
@@ -239,7 +243,8 @@ def file_that_came_since():
 
 
 def page_that_came_since():
-    """If a file gets the name of the board's page while a browser prints the page, this file stays. The office doesn't report it as the page."""
+    """While a browser prints the board's page, another program may create a file with the page's name. This file stays, and the office doesn't report
+    it as the page."""
     browser, kept = Path("/usr/bin/chromium"), Path("/usr/bin/chromium-kept")
     if browser.exists():
         browser.rename(kept)
@@ -253,8 +258,7 @@ def page_that_came_since():
 
 
 def clubs_beside():
-    """A club's file may have the name of one of another club's office files. Then the office refuses the other club, and doesn't change the
-    file."""
+    """A club's file may have the same name as an office file of another club. Then the office refuses the other club, and doesn't change the file."""
     for ending in ("before", "book", "metrics", "new", "office", "offsite", "orders", "people.csv", "reasons", "seasons", "undo", "until-2026-12-31", "wal"):
         file, configuration = HOME / f"other-{ending}", Path(f"/etc/clubdesk/other-{ending}.conf")
         file.write_bytes(b"another club")
@@ -276,7 +280,8 @@ def clubs_beside():
 
 
 def memory_that_is_full():
-    """If the memory has no room, the office makes copies next to the club. The next command removes the copies that killed commands left."""
+    """If the file system in memory is full, the office makes its temporary copies next to the club. The next command removes the copies that killed
+    commands left."""
     memory, user = Path("/dev/shm"), pwd.getpwnam("clubdesk")
     subprocess.run(["mount", "-o", "remount,size=200k", memory], check=True)
     (memory / "rest").write_bytes(bytes(190_000))
@@ -311,8 +316,8 @@ def memory_that_is_full():
 
 
 def disk_that_is_full():
-    """Without disk space, a command is either done or not done, and its output says which. A correction changes nothing. When the disk has space
-    again, all commands work."""
+    """On a full disk, a command's output says whether the command was done. A correction changes nothing. When the disk has space again, all commands
+    work."""
     def credited():
         return rows("SELECT credited FROM members WHERE name = 'amy'")[0][0]
 
@@ -332,7 +337,7 @@ def disk_that_is_full():
 
 
 def titles_of_the_page():
-    """club.json has each title unchanged, or the office refuses the line and names its number."""
+    """club.json has each title unchanged, or the office refuses the title's line and prints the line's number."""
     def made(text):
         titles = ROOM / "titles"
         titles.write_bytes(text)

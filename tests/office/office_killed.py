@@ -1,15 +1,16 @@
 #!/usr/bin/env -S /usr/bin/python3 -B
 """The office's commands, corrections, imports and restores, killed at random moments, are done once or not at all.
 
-A desk runs while the test kills them, and no total is wrong afterwards. Needs root, for a machine of its own (tests/lib/office_room.sh).
+A desk runs while the test kills the commands, and no total is wrong afterwards. Needs root, for a machine of its own (tests/lib/office_room.sh).
 
 - The test kills 100 commands and corrections while four clients use the desk. Each reply is right, and the desk keeps running.
-- The test kills an import of twelve members before and after each of its commands, and 40 times at random. No member gets a credit twice, and each
-  pass that the import leaves opens its account.
-- A restore is killed 25 times. After a restore is killed, the club is the old club or the copy's club.
-- The test kills copies to another place, and a restore of such a copy, at random. Each named copy at the place is complete and tested.
-- The test kills points for all, bookings for members who call, and undos at random, and then gives them again. Each member gets one credit, each
-  slot has one booking, and each correction is undone completely.
+- The test kills an import of twelve members before and after each command of the import, and at 40 random moments. No member gets a credit twice, and
+  each pass that the import has written works.
+- The test kills a restore 25 times. After each kill, the club is either the old club or the copy's club.
+- At random moments, the test kills the job that copies the club to another disk, and the restore from that disk. Each copy with a final name is
+  complete and tested.
+- The test kills credits for all members, bookings for members who call, and undos at random moments. Then the test gives the killed command again.
+  Each member gets one credit, each slot has one booking, and each undo is complete.
 
   tests/office/office_killed.py [KILLS [SEED]]
 """
@@ -43,8 +44,8 @@ YES = ["--yes", "--at", NOON]
 
 
 def books_and_cancels(server, place, text, is_over):
-    """A client at a court of its own. It sends each booking and each cancellation twice. Counts the replies that match the expectation, and returns
-    the other replies."""
+    """Runs a client that alone uses this court, and that sends each booking and each cancellation twice. Counts the expected replies, and returns the
+    unexpected replies."""
     wrong = []
     for number in itertools.count(1):
         if is_over.wait(0.05):
@@ -65,7 +66,7 @@ def seconds_of(*words):
 
 
 def commands_beside_the_desk():
-    """Credits, debits, quotas, closings and cancellations, each killed."""
+    """Kills credits, debits, quotas, closings and cancellations while clients use the desk."""
     configure()
     done("new")
     for place in range(1, 5):
@@ -102,7 +103,7 @@ def commands_beside_the_desk():
 
 
 def left():
-    """The temporary files of the office, which the office must remove."""
+    """Returns the temporary files that the office hasn't removed."""
     return [it for folder in (Path("/dev/shm"), HOME) for it in folder.glob(".office-*")]
 
 
@@ -117,7 +118,7 @@ def command_of(attempt):
 
 
 def hold_book(commands):
-    """The club has the credits and debits with status 0 in the book, and some of those with a question mark."""
+    """The club has all credits and debits that have status 0 in the book. It may have any of those that have a question mark."""
     book = [line.split() for line in done("log", "zoe").splitlines()]
     book = [(status, command, words) for _, _, status, command, *words in book if command in ("credit", "debit")]
     sums, counts = {0}, Counter(status for status, _, _ in book)
@@ -132,7 +133,7 @@ def hold_book(commands):
 
 
 def restores():
-    """A restore is killed at random. Then the club is completely the old club or completely the copy's club."""
+    """Kills restores at random moments. After each kill, the club is either the old club or the copy's club."""
     copies, night = HOME / "back-ups", "2026-04-19T030000Z"
     configure(BACK_UPS=copies)
     run_as("clubdesk", "mkdir", "-m", "700", copies, folder="/")
@@ -164,7 +165,8 @@ def restores():
 
 
 def season_points():
-    """Points for all are killed and given again. Each member gets the points once, no matter how often the command runs."""
+    """Kills the command that credits all members, and gives the command again. Each member gets the points once, no matter how often the command
+    runs."""
     for number in range(1, 21):
         done("add-member", f"player-{number}", "5")
     before = dict(rows("SELECT name, credited FROM members WHERE quota > 0"))
@@ -181,7 +183,8 @@ def season_points():
 
 
 def bookings_for_callers():
-    """A booking for a member who calls is made once, even if the command is killed and given again. The same holds for each of two hours."""
+    """Kills a command that books an hour for a member who calls, and gives the command again. The member gets one booking. A command for two hours
+    makes one booking for each hour."""
     done("add-member", "caller", "99")
     done("credit", "caller", "10000")
     server = Service()
@@ -199,7 +202,7 @@ def bookings_for_callers():
 
 
 def undos():
-    """An undo is killed. Then the club is the club after the correction or the club before it."""
+    """Kills an undo. Afterwards the club is either as it was after the correction, or as it was before the correction."""
     for attempt in range(min(given.kills, 10)):
         before = everything()
         done("close", f"2026-08-{attempt + 1:02d}", "10-12", "room-1", "--yes")
@@ -213,7 +216,8 @@ def undos():
 
 
 def copies_elsewhere():
-    """Copies to another disk are killed. Each named copy is complete and in the list of tested copies. Then the last change arrives."""
+    """Kills the job that copies the club to another disk. Each copy with a final name is complete, and in the list of tested copies. After the kills,
+    the next copy has the last change."""
     place = ROOM / "away"
     place.mkdir(exist_ok=True)
     subprocess.run(["mount", "-t", "tmpfs", "-o", "mode=777", "tmpfs", place], check=True)
@@ -253,7 +257,7 @@ def copies_elsewhere():
 
 
 def copy_rows(path):
-    """The rows of a copy that no program changes."""
+    """Returns the rows of a copy. No program may write to this copy meanwhile."""
     with contextlib.closing(sqlite3.connect(f"file:{path}?immutable=1", uri=True)) as db:
         return [it for it in db.iterdump() if "INSERT" in it]
 
@@ -274,7 +278,7 @@ def make_list(members, delimiter=","):
 
 
 STOPPER = f"""#!/bin/sh
-# A clubdesk that counts its commands. Before or after the Nth command, the test kills all processes of the office.
+# Replaces clubdesk, and counts the commands. Before or after the Nth command, this script waits, so that the test can kill the office's processes.
 case $1 in
     add-member | credit | add-key | rotate-key)
         number=$(($(cat {ROOM}/orders) + 1))
@@ -295,7 +299,7 @@ def fresh_club():
 
 
 def count_commands(stop="0 never"):
-    """Counts commands from now on, and stops before or after the Nth command."""
+    """Resets the counter of commands, and sets the command before or after which the script waits."""
     for file, text in (("orders", "0"), ("kill", stop)):
         (ROOM / file).write_text(f"{text}\n")
         (ROOM / file).chmod(0o666)
@@ -303,7 +307,7 @@ def count_commands(stop="0 never"):
 
 
 def import_stopped(*at):
-    """Runs an import that is killed before or after one of its commands. Returns the import's status."""
+    """Runs an import, and kills it before or after one of the import's commands. Returns the import's status."""
     count_commands(*at)
     command = begun("import", "members.csv", "--yes")
     while command.poll() is None and not (ROOM / "killed").exists():
@@ -313,7 +317,7 @@ def import_stopped(*at):
 
 
 def imported(what, members):
-    """Checks that each member exists once and got one credit. Each must have a key, and a pass that shows its account."""
+    """Checks that each member exists once and got one credit. Each member must have a key, and a pass that shows the member's account."""
     found = rows("SELECT name, credited, quota, used FROM members ORDER BY rowid")
     same(f"{what}: the members", sorted(found), sorted((name, points, quota, 0) for _, quota, points, name in members))
     keys = rows("SELECT member, name, hex(root) FROM keys ORDER BY rowid")

@@ -1,15 +1,17 @@
 #!/usr/bin/env -S /usr/bin/python3 -B
-"""Each change of a club is in a copy elsewhere within a minute, and the copy restores a lost club.
+"""Within a minute, each change of a club is in a copy on another machine, and a lost club can be restored from the copy.
 
-The copies go by ssh or into a mounted folder, and the place tests them. Needs root, for a machine of its own (tests/lib/office_room.sh).
+A service sends the copies by ssh, or writes them into a mounted folder. Each copy is tested at its destination. Needs root, for a machine of its own
+(tests/lib/office_room.sh).
 
-- The service sends nothing if nothing changed. The kept copies are those of the rule in Python. `copies` lists the copies at the place, and
-  `restore` can take one of them.
-- The test uses a host that is down, a cut transfer, a full disk at the place, and an unmounted folder. The service reports each fault and retries,
-  and the health check fails meanwhile.
-- deploy/check_health uses the public name, and checks how many days the certificate is still valid. deploy/metrics counts requests and orders.
-- `clubdesk-setup --from` restores the club, persons, a season's points, old years and clerks. The client books a lost booking again by repeating
-  the request.
+- The service sends nothing if the club hasn't changed. It keeps the copies that a rule in Python selects. `copies` lists the copies on the other
+  machine, and `restore` can restore each of them.
+- The test uses a host that is down, an interrupted transfer, a full disk on the other machine, and an unmounted folder. The service reports each
+  fault and retries, and the health check fails meanwhile.
+- deploy/check_health requests the club's public name, and checks how many days the certificate is still valid. deploy/metrics counts requests and
+  orders.
+- `clubdesk-setup --from` restores the club, the members' full names, a season's points, old years and clerks. If a booking was lost, the client's
+  repeated request makes it again.
 """
 # pytestmark = [mark.package, mark.faults, mark.root, mark.needs("clubdesk passtool"),
 #     mark.wants("sudo sqlite3 openssl util-linux bsdutils iproute2 systemd python3-psutil openssh-server openssh-client curl")]
@@ -36,7 +38,7 @@ from pathlib import Path
 
 import psutil
 
-# The room has a network of its own, so that no other program uses its ports.
+# The test runs in its own network namespace, so that no other program uses its ports.
 os.environ.setdefault("room_net", "yes")
 
 sys.path[:0] = [str(Path(__file__).resolve().parents[1] / it) for it in ("lib", "")]
@@ -101,7 +103,7 @@ def run(*line):
 
 
 def soon(seconds, holds):
-    """Calls `holds` until its value is true or some seconds have passed. Returns the last value."""
+    """Calls `holds` until it returns a true value, or until this many seconds have passed. Returns the last value."""
     end, found = time.monotonic() + seconds, None
     while time.monotonic() < end:
         with contextlib.suppress(OSError):
@@ -113,12 +115,12 @@ def soon(seconds, holds):
 
 
 def copies():
-    """Returns the names of the copies at the place, oldest first."""
+    """Returns the names of the copies on the other disk, oldest first."""
     return sorted(it.name for it in FOLDER.iterdir() if MINUTE.fullmatch(it.name)) if FOLDER.exists() else []
 
 
 def once():
-    """Runs copy_offsite once. Returns its status, output and errors."""
+    """Runs copy_offsite once. Returns the exit status, the output and the errors."""
     return run_as("clubdesk", "/usr/lib/clubdesk/copy_offsite", "club", "--once", folder="/")
 
 
@@ -132,7 +134,7 @@ def rows_now():
 
 
 class Keeper:
-    """Runs copy_offsite in the same way as its service."""
+    """Runs copy_offsite in the same way as systemd's service does."""
 
     def __init__(self):
         self.log = ROOM / "keeper"
@@ -162,7 +164,7 @@ def make_club():
 
 
 def within_a_minute(keeper):
-    """A booking is in a copy at the place within a minute. The service sends nothing if nothing changed."""
+    """Within a minute, a booking is in a copy on the other disk. The service sends nothing if the club hasn't changed."""
     soon(30, copies)
     for number in range(1, 4):
         before, begun = copies(), time.monotonic()
@@ -181,7 +183,7 @@ def within_a_minute(keeper):
 
 
 def beside():
-    """The archive next to the newest copy has exactly the configuration, persons, reasons, season points and clerks."""
+    """Next to the newest copy, an archive has exactly the configuration, the members' full names, the reasons, the season's points and the clerks."""
     given = '{"name": "Amy Möller", "mail": "amy@example.org", "telephone": "+49 1"}'
     line = "sudo -n -u clubdesk /usr/bin/office --desk club set-person amy".split()
     same("a person", run_as("anna", *line, given=given)[0], 0)
@@ -203,7 +205,8 @@ def beside():
 
 
 def listed():
-    """`copies` lists the copies on this machine and at the place. It shows their age, their size and whether they are tested, in both languages."""
+    """`copies` lists the copies on this machine and on the other disk. For each copy it shows the age, the size, and whether the copy was tested, in
+    both languages."""
     same("a copy of the night", run_as("clubdesk", "/usr/lib/clubdesk/keep_copies", CLUB, HOME / "back-ups", folder="/")[0], 0)
     found = [it.split(",") for it in done("copies", "--csv").splitlines()]
     same("the heads", found[0], ["copy", "is", "bytes", "minutes", "tested"])
@@ -217,7 +220,7 @@ def listed():
 
 
 def restored_from_there():
-    """Restores a copy that only the place has."""
+    """Restores a copy that is only on the other disk."""
     wanted, name = rows_of(FOLDER / copies()[-1]), copies()[-1]
     same("a booking after it", book(15, 15)[0], 200)
     done("debit", "amy", "7", "--yes")
@@ -236,8 +239,8 @@ def restored_from_there():
 
 
 def host_down(sshd, keeper):
-    """The service reports once that a host is down, and retries. The health check fails meanwhile. When the host is up again, the bookings made
-    meanwhile arrive."""
+    """If the host is down, the service reports it once and retries, and the health check fails. When the host is up again, the service sends the
+    bookings that were made meanwhile."""
     health(0)
     sshd.stop()
     book(20)
@@ -261,7 +264,7 @@ def host_down(sshd, keeper):
 
 
 def health(status, **more):
-    """Runs check_health with the place, and with the site if there is a site. Checks the status and returns the output."""
+    """Runs check_health for the copies, and for the site if one is configured. Checks the exit status and returns the output."""
     line = ["env", *(f"{key}={value}" for key, value in {"CURL_CA_BUNDLE": f"{ROOM}/site.pem", **more}.items()), "/usr/lib/clubdesk/check_health", CLUB,
             str(server.port), "", "", "elsewhere:clubs/club"]
     found, out, errors = run_as("clubdesk", *line, folder="/")
@@ -282,7 +285,7 @@ def nobody_looks(keeper):
 
 
 def kept_by_rule():
-    """Of copies made each minute, the place keeps those that the rule in Python keeps."""
+    """If a copy is made each minute, the service keeps exactly the copies that the rule in Python selects."""
     chance, now, made = random.Random(7), datetime.datetime.now(datetime.timezone.utc), set(copies())
     for back in range(0, 420):
         for _ in range(chance.choice((0, 1, 3)) if back < 20 else chance.choice((0, 0, 0, 1))):
@@ -328,7 +331,7 @@ def kept_by_rule():
 
 
 def torn():
-    """If a transfer is cut off or changed on its way, its file gets no final name."""
+    """If a transfer is interrupted, or if its bytes are changed on the way, the transferred file gets no final name."""
     ssh = Path("/usr/bin/ssh")
     whole_one = ROOM / "ssh-whole"
     shutil.copy2(ssh, whole_one)
@@ -347,7 +350,7 @@ def torn():
 
 
 def full_there():
-    """A full disk at the place takes no copy and keeps no incomplete copy. The service reports it."""
+    """If the other disk is full, the service reports this, and leaves no incomplete copy there."""
     before = copies()
     with open(AWAY / "fill", "wb", buffering=0) as fill, contextlib.suppress(OSError):
         while True:
@@ -363,8 +366,8 @@ def full_there():
 
 
 def mounted():
-    """A folder on another disk. The service refuses an unmounted folder, because the loss of the club's disk would also destroy the copies in
-    it."""
+    """Copies go into a folder on another disk. If that disk isn't mounted, the service refuses the folder, because the copies would be on the club's
+    own disk."""
     place = Path("/var/lib/nas")
     place.mkdir()
     configure(OFFSITE=place)
@@ -387,7 +390,7 @@ def mounted():
     same("the other place again", once()[0], 0)
 
 
-# ---- The public name, and the certificate of the public name.
+# ---- The public name and its certificate.
 
 
 class Site(http.server.BaseHTTPRequestHandler):
@@ -409,7 +412,7 @@ class Site(http.server.BaseHTTPRequestHandler):
 
 @contextlib.contextmanager
 def site_for(days):
-    """The site with a certificate that is valid for some more days."""
+    """Starts the site with a certificate that is valid for this many days."""
     key, certificate = ROOM / "site.key", ROOM / "site.pem"
     run("openssl", "req", "-x509", "-newkey", "ec", "-pkeyopt", "ec_paramgen_curve:P-256", "-nodes", "-days", str(days), "-subj", f"/CN={SITE}",
         "-addext", f"subjectAltName=DNS:{SITE}", "-keyout", key, "-out", certificate)
@@ -445,13 +448,13 @@ def public_name():
 
 
 def counted():
-    """deploy/metrics counts each line of the log and each command once, and writes the text format."""
+    """deploy/metrics counts each line of the log and each command once, and writes the counts in Prometheus' text format."""
     folder, journal = ROOM / "metrics", ROOM / "journalctl"
     folder.mkdir()
     shutil.chown(folder, "clubdesk")
     lines = ROOM / "journal"
     journal.write_text(f"""#!/bin/sh
-# The lines of a file as the journal of a service. A cursor is the number of lines that were already read.
+# A stub of journalctl. It prints the lines of a file, and its cursor is the number of lines read so far.
 case "$*" in *SYSLOG_IDENTIFIER*) echo '-- cursor: 0'; exit ;; esac
 from=$(wc -l <{lines})
 case "$*" in *--after-cursor=*) from=${{*##*--after-cursor=}}; from=${{from%% *}} ;; esac
@@ -497,7 +500,7 @@ echo "-- cursor: $(wc -l <{lines})"
 
 
 def brought_back():
-    """All data on the machine is lost. The club serves again. A client books a lost booking again by repeating the request."""
+    """Deletes all data on the machine, and restores the club. If a booking was lost, the client's repeated request makes it again."""
     same("an old year", run_as("clubdesk", "/usr/lib/clubdesk/back_up", CLUB, HOME / "club-until-2025-12-31", folder="/")[0], 0)
     (CONF / "club.health").write_text("pass")
     run("chown", "root:clubdesk", CONF / "club.health")
@@ -539,7 +542,7 @@ def brought_back():
 
 
 def hostile_archive():
-    """If an archive has names that no club has, the restore writes no file under these names."""
+    """If an archive contains files that don't belong to a club, the restore doesn't write these files."""
     newest = copies()[-1]
     kept = (FOLDER / f"{newest}.tar").read_bytes()
     made = io.BytesIO()

@@ -1,4 +1,4 @@
-"""A part of office_holds.py: the configuration, clubdesk's own commands, passes, lists, and the book."""
+"""A part of office_holds.py: the configuration, the commands that the office hands on to clubdesk, passes, lists, and the book."""
 
 import fcntl
 import os
@@ -50,7 +50,7 @@ def as_nobody_else():
 
 
 def commands_and_looks():
-    """clubdesk's own statuses, lines and output."""
+    """The office returns clubdesk's own statuses, lines and output."""
     for words in ("add-member amy 5", "credit amy 10000", "add-member bob 2", "credit bob 3000", "add-facility court-1 court 4 200 8 22",
                   "add-facility court-2 court 4 200 8 22", "add-facility boat-1 boat 2 50 6 20", f"close-slot court-1 {DAY} 09"):
         same(words, office(*words.split()), (0, "done\n", ""))
@@ -64,7 +64,7 @@ def commands_and_looks():
 
 
 def passes():
-    """A root is random, comes from standard input, or is an argument. A pass gets its own file, or no file."""
+    """The root of a new key is random, or comes from standard input, or is an argument. The office writes the pass into a new file, or prints it."""
     same("a pass in a file", done("add-key", "amy-1", "amy", "--to", "amy-1"), "")
     text = run_as("anna", "cat", "amy-1")[1]
     same("its mode", run_as("anna", "stat", "-c", "%a %U", "amy-1")[1], "600 anna\n")
@@ -124,7 +124,7 @@ def lists(server, amy, bob):
 
 
 def takes_turns():
-    """Only one command runs at a time. Another command waits, and runs after the first one."""
+    """Only one command runs at a time. A second command waits until the running command has ended."""
     def balance():
         return rows("SELECT credited - used FROM members WHERE name = 'amy'")[0][0]
 
@@ -163,7 +163,7 @@ def in_the_book():
 
 
 def in_the_journal():
-    """The book in systemd's journal, where only lines of the desk's user count."""
+    """The office reads the book from systemd's journal, and ignores lines that other users wrote."""
     journal = subprocess.Popen(["/lib/systemd/systemd-journald"], stdout=subprocess.DEVNULL, stderr=subprocess.DEVNULL)
     entry = Path("/run/systemd/journal/socket")
     for _ in range(100):

@@ -1,4 +1,4 @@
-"""A part of office_holds.py: a club's season, with lists, callers, persons, undo, letters, and files of old years."""
+"""A part of office_holds.py: a club's season, with lists of members, bookings by telephone, full names, undo, letters, and the files of old years."""
 
 import datetime
 import json
@@ -13,7 +13,7 @@ from office_room import CLUB, HOME, ROOM, Service, configure, desk, done, everyt
 
 
 def make_season_club():
-    """Another club on the machine, with members from a list, and a server with today's clock."""
+    """Makes another club on the machine, with members from a list, and starts a server with today's clock."""
     today = datetime.date.today()
     for file in HOME.glob("club*"):
         shutil.rmtree(file) if file.is_dir() else file.unlink()
@@ -39,7 +39,7 @@ def make_season_club():
 
 
 def lists_as_they_are_written():
-    """The office reads a list with tabs, with a byte-order mark, in UTF-16, or with other column names as intended. First it prints how it reads
+    """The office can read a list with tabs, with a byte-order mark, in UTF-16, or with other column names. Before the import it prints how it reads
     the list."""
     for called, data, words, read in (
         ("tabs.csv", "name\tquota\tpoints\nTab Ulator\t1\t5\n".encode(), [], "read as UTF-8 with tab between the columns: name = name, quota = quota, points = points"),
@@ -59,7 +59,7 @@ def lists_as_they_are_written():
 
 
 def for_callers(server, day):
-    """Bookings and cancellations for a member who calls are requests to the desk, under the desk's rules."""
+    """To book or cancel for a member who calls, the office sends a request to the desk, so the desk's rules apply."""
     shown = done("book", "moeller-kaethe", "court-1", str(day), "18", "1")
     same("a booking", shown, f"booked court-1 {day} 18:00 for moeller-kaethe, 2 persons, 400 points: moeller-kaethe-office 1\n")
     same("the key of the office", rows("SELECT member, revoked FROM keys WHERE name = 'moeller-kaethe-office'"), [("moeller-kaethe", 0)])
@@ -84,8 +84,8 @@ def for_callers(server, day):
 
 
 def for_hours(day):
-    """The office lists or books each of several hours by a separate command. It lists the commands first. At the end it prints the sum, and the
-    hours that are not done."""
+    """If a command names several hours, the office runs one command for each hour. It lists these commands first. At the end it prints the total, and
+    the hours that failed."""
     def closed():
         return [hour for hour, in rows("SELECT hour FROM slots WHERE facility = 'boat-1' AND closed = 1 ORDER BY hour")]
 
@@ -121,7 +121,8 @@ def for_hours(day):
 
 
 def in_use_of_persons(server, lines_of, day):
-    """Lists contain full names, and so do the persons to tell after a correction. The book, the log and the copies contain no full name."""
+    """Lists contain full names. After a correction, the office prints the full names of the members who must be told. The book, the log and the
+    copies contain no full name."""
     same("members", lines("members", "--csv")[1:], [
         'moeller-kaethe,800,5,1,2,"Möller, Käthe"', 'oez-ali,1000,5,0,2,"Öz, =Ali"', 'ray-bob,1000,5,0,1,"Ray, Bob"'])
     same("the file", mode(HOME / "club-people.csv"), "clubdesk 100600")
@@ -156,7 +157,7 @@ def in_use_of_persons(server, lines_of, day):
 
 
 def undone(server, day):
-    """Undo restores the rows of the last correction, if no other command has changed them since."""
+    """`undo` restores the rows that the last correction changed, if no other command has changed these rows since."""
     def as_it_is():
         return [line for line in everything() if "INSERT" in line]
 
@@ -176,7 +177,7 @@ def undone(server, day):
 
 
 def season(pages, day):
-    """Members get the points for all once under a name. Weekly hours are closed with a reason, and a lost pass is replaced."""
+    """Credits all members once under each name of a season, closes weekly hours with a reason, and replaces a lost pass."""
     count = len(rows("SELECT name FROM members WHERE quota > 0"))
     done("set-quota", "oez-ali", "9", "--yes")
     copy = [it for it in lines("copies", "--csv") if "-set-quota" in it][-1].split(",")[0]
@@ -252,7 +253,7 @@ def letters_and_records(day):
 
 
 def spare_passes(lines_of):
-    """A repeated import makes the spare passes of each member. These passes are the second half of the member's letter."""
+    """If the import of a list is repeated, it adds spare passes for each member. The second half of the member's letter contains these passes."""
     configure(**lines_of, SPARES=2)
     run_as("anna", "sh", "-c", "head -n 3 season.csv >spares.csv")
     done("import", "spares.csv", "--quota", "5", "--points", "1000", "--passes", "season", "--yes")
@@ -269,7 +270,7 @@ def spare_passes(lines_of):
 
 
 def old_years(server):
-    """The office only lists an old year's file. The board's page also reads such a file."""
+    """The office can only read an old year's file, not change it. The board's page also uses this file."""
     with_past = HOME / "club"
     year = datetime.date.today().year
     server.stop()

@@ -1,12 +1,12 @@
 #!/usr/bin/env -S /usr/bin/python3 -B
 """`office CLUB new-year` keeps balances, keys and future slots, and a kill leaves the old or the new club.
 
-The new year follows a year of 1,500 requests, and the server answers the same before and after it. Needs root, for a machine of its own
+The test first sends 1,500 requests of a year. The server gives the same replies before and after the new year. Needs root, for a machine of its own
 (tests/lib/office_room.sh).
 
-Some of the club's past and future bookings are cancelled. The old file stays unchanged, byte for byte. The test compares sums of balances, of the
-points that each key has spent, of keys, of facilities, and of future slots. The server answers the same requests with the same bytes. After the new
-year, each other command of a season works, and the service copies the old year to another place.
+Some of the club's past and future bookings are cancelled. The old file stays unchanged, byte for byte. The test compares checksums of the balances,
+the points that each key has spent, the keys, the facilities, and the future slots. After the new year, each other command of a season works, and the
+service copies the old year to another place.
 """
 # pytestmark = [mark.package, mark.root, mark.needs("clubdesk passtool"),
 #     mark.wants("sudo sqlite3 openssl util-linux bsdutils iproute2 systemd python3-psutil")]
@@ -32,7 +32,7 @@ FACILITIES = ("court-1", "boat-1", "room-1")
 
 
 def make_club():
-    """Four members with two keys each, a court, a boat and a room, and the texts of the passes."""
+    """Makes four members with two keys each, a court, a boat and a room. Returns the texts of the passes."""
     configure()
     done("new")
     for words in ("add-facility court-1 court 4 200 8 22", "add-facility boat-1 boat 2 50 6 20", "add-facility room-1 room 50 9999 0 24"):
@@ -47,7 +47,8 @@ def make_club():
 
 
 def days():
-    """Moments of the year, each with the days that members book then. Some of these days are still in the future at the end."""
+    """Returns moments of the year, each with the day that members book at this moment. Some of these days are still in the future when the year
+    ends."""
     return [(f"2025-{month:02d}-{day:02d}T07:30", f"2025-{month:02d}-{day + 3:02d}") for month in range(1, 13) for day in (2, 12, 22)] + [
         ("2025-12-31T10:00", "2025-12-31"), ("2025-12-31T10:00", "2026-01-04"), ("2025-12-31T10:01", "2026-02-20")
     ]
@@ -73,8 +74,7 @@ def live_a_year(texts):
 
 
 def requests(texts):
-    """Sends requests of every kind about future slots. They include repeats of bookings and of cancellations. The last request is under a narrowed
-    pass."""
+    """Sends requests of every kind about future slots. Some requests repeat a booking or a cancellation. The last request uses a narrowed pass."""
     asked = [(text, "GET", "/account") for text in texts.values()]
     for on in ("2025-12-31", "2026-01-04", "2026-02-20"):
         asked += [(texts["amy-1"], "GET", f"/slots/{facility}/{on}/{hour:02d}") for facility in FACILITIES for hour in range(24)]
@@ -119,7 +119,7 @@ def sum_of(path):
 
 
 def put_back():
-    """Restores the file from before the new year."""
+    """Restores the club's file from before the new year."""
     for it in (CLUB, HOME / "club-wal"):
         it.unlink(missing_ok=True)
     subprocess.run(["cp", "-p", original, CLUB], check=True)
@@ -130,7 +130,7 @@ def kept_files():
 
 
 def goes_on():
-    """A season's commands work after a new year, and nobody can undo a new year. The service copies its old file to another place."""
+    """After a new year, each command of a season works. Nobody can undo a new year. The service copies the old year's file to another disk."""
     place, pages = ROOM / "away", ROOM / "pages"
     for folder in (place, pages):
         subprocess.run(["install", "-d", "-o", "clubdesk", folder], check=True)
@@ -206,7 +206,7 @@ same_sums(", once more", "keys", "older roots", "facilities")
 
 goes_on()
 
-# After a kill, the club is the old club or the new club. Then the new year can be completed.
+# Kills `new-year`. Afterwards the club is either the old club or the new club, and the same command can complete the new year.
 outcomes = {"old": 0, "new": 0}
 for attempt in range(min(count // 60, 25)):
     put_back()

@@ -1,12 +1,12 @@
 #!/usr/bin/env bats
 # `bin/proved` builds only stale programs, and an interrupted build leaves no program that counts as built.
 #
-# bin/proved compares the checksums of the sources. Two calls at the same time build only once.
+# To find stale programs, bin/proved compares the checksums of the sources. If bin/proved runs twice at the same time, each program is built once.
 #
-# The test uses four small crates and a stub of rt. The stub records when it begins and ends. At most PROVED_AT_ONCE libraries are built at the same
-# time, each after its dependencies. An edit during a build causes another build. If a signal stops a build, the build ends each rt and leaves no
-# rooms. An incomplete program, or a program whose build was killed, doesn't count as built. After a failure, bin/proved shows it and ends with
-# status 125.
+# The test uses four small crates and a stub of rt. The stub of rt records when it begins and when it ends. At most PROVED_AT_ONCE libraries are built
+# at the same time, each after its dependencies. If a source changes during a build, bin/proved builds again. If a signal stops bin/proved, it ends
+# each rt and removes its temporary folders. A program doesn't count as built if it is incomplete, or if its build was killed. If a build fails,
+# bin/proved shows the failure and exits with status 125.
 # pytestmark = [mark.package, mark.wants("bats")]
 
 # A clone that was built.
@@ -44,7 +44,7 @@ RT
     [ "$(grep -c '^top: [a-z]* is proved ([0-9]* s), [0-3] left$' said)" = 4 ]
 }
 
-# built COUNT: checks that the program runs, and that it called rt for COUNT crates.
+# built COUNT: checks that the built program runs, and that bin/proved called rt for COUNT crates.
 built() {
     : >calls
     [ "$(clone/bin/proved top a 'b c' 2>said)" = 'runs a b c' ]
@@ -123,7 +123,7 @@ proved_behind() { clone/bin/proved top "$@" >out 2>said 3>&- & }
     built 4
 }
 
-# stopped SIGNAL: sends the signal, and checks that each rt ends, that no rooms are left, and that no program counts as built.
+# stopped SIGNAL: sends the signal, and checks that each rt ends, that no temporary folder is left, and that no program counts as built.
 stopped() {
     edit low
     # A background command ignores INT.

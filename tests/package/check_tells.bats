@@ -1,13 +1,13 @@
 #!/usr/bin/env bats
 # `bin/check` runs `rt ci` and `tests/run quick`, and names the parts that failed.
 #
-# So does .ci/run. It runs both parts even if `rt ci` fails, and sums their counts. It counts a part that crashes or never ends. It refuses
-# arguments and a path without rt.
+# .ci/run runs `tests/run` even if `rt ci` fails, and adds up the counts of both. A part that crashes or never ends counts as a failure. .ci/run
+# refuses arguments, and fails if rt isn't in PATH.
 #
 # The test uses stubs of rt and of tests/run.
 # pytestmark = [mark.quick, mark.wants("bats")]
 
-# A copy of bin/check and .ci/run, with stubs that record their arguments, print a line, and exit with a status.
+# Makes a copy of bin/check and .ci/run, with stubs of the programs that they call.
 setup() {
     bats_require_minimum_version 1.5.0
     mkdir -p "$BATS_TEST_TMPDIR/clone/bin" "$BATS_TEST_TMPDIR/clone/.ci" "$BATS_TEST_TMPDIR/clone/tests" "$BATS_TEST_TMPDIR/path"
@@ -21,7 +21,7 @@ setup() {
     PATH=$PWD/path:$PATH
 }
 
-# stub FILE NAME STATUS LINES: makes a program that writes its name, arguments and folder to `calls`. It prints the lines, and exits with the
+# stub FILE NAME STATUS LINES: makes a program that writes its name, arguments and folder to `calls`. The stub prints the lines, and exits with the
 # status.
 stub() {
     # shellcheck disable=SC2016 # the stub's shell reads it
@@ -29,7 +29,7 @@ stub() {
     chmod +x "$1"
 }
 both_ran() { printf 'gate ci, in clone\nscripts --built quick, in clone\n' | cmp - calls; }
-# fails COUNTS PARTS: checks that .ci/run calls both parts and prints the counts last. It must name the parts that failed, and exit with status 1.
+# fails COUNTS PARTS: checks that .ci/run calls both parts, names the parts that failed, prints the counts last, and exits with status 1.
 fails() {
     rm -f calls
     run -1 --separate-stderr clone/.ci/run

@@ -2,9 +2,9 @@
 """bash, zsh and fish complete exactly the commands, options and values of `--help`.
 
 The test compares bin/completions in real shells with the `--help` of both programs and of office.
-Each command offers its words with the typed prefix. It also offers its options, their values, and
-files for FILE. In office, a club comes before the command, and the shell offers the configured
-clubs.
+For each command, the shell offers the words that begin with the typed prefix. It also offers the command's
+options, the values of the options, and file names for FILE. The command line of office has a club before the
+command, so the shell also offers the configured clubs.
 """
 
 import os
@@ -26,14 +26,14 @@ CLUBS = {"rowing", "tennis"}
 
 
 class Shell:
-    """Returns the offers of a shell after some words. The shell reads the file of completions."""
+    """A shell that reads the file of completions. `offers` returns what the shell offers after these words."""
 
     def __init__(self, name, folder):
         self.name, self.folder = name, folder
 
 
 class Bash(Shell):
-    """Calls the function that the file defines, in the same way as readline."""
+    """Calls the file's completion function in the same way as readline does."""
 
     def offers(self, *words):
         script = (f'source "{self.folder}/{self.name}.bash"; COMP_WORDS=("$@"); COMP_CWORD=$(($# - 1)); '
@@ -49,7 +49,7 @@ class Fish(Shell):
 
 
 class Zsh(Shell):
-    """An interactive shell at a terminal of its own. A tab writes the offers to a file."""
+    """Runs an interactive shell at a pseudo-terminal. When the test sends a tab, the shell writes its offers to a file."""
 
     def __init__(self, name, folder):
         super().__init__(name, folder)
@@ -98,7 +98,7 @@ def names(found):
 
 
 def hold_command(shell, before, text, files):
-    """Compares the offers after these words with the help of the command."""
+    """Compares what the shell offers after these words with the command's help text."""
     options, words = options_of(text), words_of(text)
     assert longs(shell.offers(*before, "--")) == {f"--{it}" for it in options}, before
     for option, value in options.items():
@@ -118,8 +118,8 @@ def hold_command(shell, before, text, files):
 
 @pytest.fixture(params=["clubdesk", "passtool", "office"])
 def program(request, tmp_path, monkeypatch):
-    """A program, given by its name, with its completions, the files that it offers, and the
-    clubs."""
+    """Makes a folder with a program, its completions, files that the shells can offer, and configured clubs.
+    Returns the program's path."""
     monkeypatch.chdir(tmp_path)
     monkeypatch.setenv("OFFICE_CONF", str(tmp_path / "conf"))
     (tmp_path / "conf").mkdir()

@@ -1,13 +1,13 @@
 #!/bin/sh
-# The jobs of the timers work: copies, the sheet in four zones, health, mail and reports.
+# The jobs that systemd's timers start work: copies, the day sheet in four time zones, the health check, mail and reports of failures.
 #
-# The test copies a running club, and checks which copies the job keeps.
+# The job copies a club while its server runs, and the test checks which copies the job keeps.
 #
-# The test copies a running club, and also tries to copy a file that isn't a club. It kills a copy job during its work, and runs two copy jobs at
-# the same time. On each day of three years, the kept copies are those of the rule in Python. The test checks the health of a desk that works, and
-# of a desk with faults.
+# The job refuses to copy a file that isn't a club. The test kills a job that copies, and runs two such jobs at the same time. On each day of three
+# years, the job keeps exactly the copies that a rule in Python selects. The test runs the health check for a desk that works, and for desks with
+# faults.
 #
-# The test runs the jobs without systemd, with its own mailer. A killed job leaves nothing that disturbs the next job.
+# The test runs the jobs without systemd, and with a stub of the mailer. After a job is killed, the next job works.
 # pytestmark = [mark.package, mark.needs("clubdesk passtool"), mark.wants("curl sqlite3 openssl procps")]
 set -eu
 . "$(dirname -- "$0")/../lib/serving.sh"
@@ -56,7 +56,7 @@ chmod +x refuses
 ends 'a copy that clubdesk refuses' 1 env CLUBDESK="$work/refuses" "$deploy/keep_copies" club copies
 grep -q "clubdesk can't open the copy" said || fail "it doesn't say so: $(cat said)"
 same 'what is left of them' "$old $name" "$(find copies -mindepth 1 -printf '%f\n' | sort | xargs)"
-# The test kills the job during its work, and the next run cleans up. Two jobs at the same time take turns.
+# The test kills the job while it copies. The next run removes the incomplete copy. If two jobs run at the same time, the second waits for the first.
 printf '#!/bin/sh\ntouch waits\nexec sleep 30\n' >waits.sh
 chmod +x waits.sh
 CLUBDESK=$work/waits.sh "$deploy/keep_copies" club copies >told 2>said &
@@ -78,13 +78,13 @@ same 'the copies after all that' '3 0' "$(find copies -mindepth 1 ! -name '.*' |
 ends 'a day that is none' 2 "$deploy/old_copies" copies tomorrow
 ends 'no folder' 1 "$deploy/old_copies" nowhere 2026-05-01
 
-# Each day of three years adds no copy, one copy or two copies. Then the job removes the old copies. On each day, the remaining copies must match
-# the rule.
+# On each day of three years, the test creates at most two copies, and removes the copies that the job no longer keeps. The remaining copies must be
+# those that the rule selects.
 mkdir years
 /usr/bin/python3 "$here/jobs_hold.py" "$deploy/old_copies" years
 checks=$((checks + 1100))
 
-# ---- The day sheet: for the zone's day, once, from its hour on.
+# ---- The day sheet: the job writes one sheet for each day in the club's time zone, after the configured hour.
 for zone in UTC0 CET-1CEST,M3.5.0,M10.5.0/3 '<+13>-13' '<-11>11'; do
     there=$(TZ=$zone date +%F)
     ends "a sheet in $zone" 0 "$deploy/morning_sheet" club "$zone" 0 "sheets $zone"
@@ -95,7 +95,7 @@ No bookings." "$(cat "sheets $zone/$there")"
     ends "a second sheet in $zone" 0 "$deploy/morning_sheet" club "$zone" 00 "sheets $zone"
     same "the sheet in $zone, once" "mine" "$(cat "sheets $zone/$there")"
 done
-# A zone in which the time is now between 0 and 1 o'clock.
+# Finds a time zone in which it is now between 0 and 1 o'clock.
 now=$(date -u +%-H)
 midnight=$(printf '<-%02d>%d' "$now" "$now")
 ends 'a sheet at midnight' 0 "$deploy/morning_sheet" club "$midnight" 1 early
@@ -138,7 +138,7 @@ grep -q '^Day sheet' mailed || fail 'a sheet that could not be mailed is not tri
 
 # ---- Reports of failures.
 mkdir configured marks path
-# The journal gets the lines late.
+# The stub of journalctl prints the failure only from its second call on.
 printf '#!/bin/sh\necho "journal of $*"\n[ ! -e %s/asked ] || echo "Failed with result"\ntouch %s/asked\n' "$work" "$work" >path/journalctl
 chmod +x path/journalctl
 report() { PATH=$work/path:$PATH CONFIGURATION=$work/configured MARKS=$work/marks "$deploy/report_failure" "$@"; }

@@ -4,10 +4,10 @@
 # The club's desk serves within five minutes. The test destroys the machine with its disk. Within ten minutes, another machine serves the club
 # again. Needs root.
 #
-# debootstrap makes the Debian, and systemd-nspawn boots it with only a loopback network. The clerk uses only the menu. The test runs the lines of
-# docs/RUNNING.md under "Copies elsewhere" and "The machine is gone". The ssh server of a third Debian takes the copies while a client books. At
-# most the bookings of one minute are lost, and the client makes each lost booking again by its repeat. DEBIAN=FOLDER names an existing Debian, as
-# for package_lives.sh.
+# debootstrap makes the Debian, and systemd-nspawn boots it with only a loopback network. The clerk uses only the menu. The test runs the command
+# lines that docs/RUNNING.md has under "Copies elsewhere" and "The machine is gone". While a client books, copies go to the ssh server of a third
+# Debian. The club loses the bookings of at most one minute, and the client makes each lost booking again by a repeated request. With DEBIAN=FOLDER,
+# the test copies the Debian in this folder, as package_lives.sh does.
 # pytestmark = [mark.package, mark.root, mark.needs("clubdesk passtool"),
 #     mark.wants("debootstrap systemd-container dpkg-dev xz-utils util-linux python3-pexpect openssl")]
 # shellcheck disable=SC2016 # a shell of the fresh Debian reads what is quoted
@@ -17,7 +17,7 @@ holder=
 ssh_server=
 client=
 
-# ---- Machines. The machines share a network with only loopback, so each machine can reach the servers of the others.
+# ---- Machines. The machines share a network namespace with only loopback, so each machine can reach the servers of the other machines.
 boot() { start "$1" --network-namespace-path="/proc/$holder/ns/net"; }
 end_of() {
     [ -n "$1" ] || return 0
@@ -48,12 +48,12 @@ cp -a first second
 cp -a first elsewhere
 for name in first second elsewhere; do echo "$name" >"$name/etc/hostname"; done
 
-# The machine at the other place: a user with a folder, and a server of ssh.
+# The machine that keeps the copies. It has a user with a folder, and an ssh server.
 offline elsewhere sh -c 'apt-get install openssh-server sqlite3 && useradd --create-home --shell /bin/sh --password "*" backup-of-clubs' >apt.log 2>&1 </dev/null || fail "apt-get: $(tail apt.log)"
 there=$work/elsewhere/home/backup-of-clubs
 install -d -m 700 -o "$(stat -c %u "$there")" -g "$(stat -c %g "$there")" "$there/.ssh"
 mkdir -p elsewhere/run/sshd
-# trust FILE: makes the machine at the other place accept this ssh key.
+# trust FILE: makes the machine that keeps the copies accept this ssh key.
 trust() {
     cat "$1" >>"$there/.ssh/authorized_keys"
     chown "$(stat -c %u:%g "$there")" "$there/.ssh/authorized_keys"
@@ -64,13 +64,13 @@ serve_ssh() {
 }
 serve_ssh
 
-# The lines for root of RUNNING, as the package contains it, with this test's place.
+# The command lines for root from the package's RUNNING.md, with the name of this test's ssh server.
 dpkg-deb -x "packages/$deb" unpacked
 lines_for_root unpacked/usr/share/doc/clubdesk/docs/RUNNING.md
 sed -i 's/backup@elsewhere.example/backup-of-clubs@elsewhere.example/' running
 
-# ---- Three commands. The site's name leads only to this machine. So caddy uses its own certificate authority. The function by_name METHOD PATH
-# [BODY] sends a request to the public name, with the pass in the file `pass` of the machine's root.
+# ---- Three commands. The site's name is known only on this machine, so caddy uses its own certificate authority. by_name METHOD PATH [BODY]: sends a
+# request to the public name, with the pass in the machine's file /root/pass.
 by_name() {
     inside sh -c 'curl -sS --max-time 20 --cacert /root/ca.pem -X "$1" ${3:+-d "$3"} -H "Authorization: Bearer $(cat /root/pass)" -w " %{http_code}" "https://desk.example.org/$2"' sh "$@"
 }
@@ -95,7 +95,7 @@ gives 'the second command' <<LINES
 $set_up
 LINES
 holds 'nothing is left to do' sh -c '! grep -q "Left to do" told'
-# A clerk who reads only the menu gives the third command.
+# The third command is `office`, and the clerk uses only its menu.
 cat >menu.py <<'MENU'
 import sys
 import pexpect
@@ -123,7 +123,7 @@ took=$(($(date +%s) - began))
 checks=$((checks + 1))
 echo "the first booking, $took seconds after the first command"
 
-# Behind caddy: the pages with their policies, and requests that don't reach the desk. As behind nginx.
+# caddy serves the pages with their policies, and keeps some requests from the desk. nginx does the same.
 head_of() { inside curl -sS --max-time 20 --cacert /root/ca.pem -o /dev/null -D - "$@" | tr -d '\r' | tr "[:upper:]" "[:lower:]"; }
 for page in book.html pass.html demo.html worker.js app.webmanifest; do
     same "the page $page" "$(sha256sum <"$top/web/$page")" "$(inside curl -sS --cacert /root/ca.pem "https://desk.example.org/$page" | sha256sum)"
@@ -151,7 +151,7 @@ same 'without TLS' 000 "$(inside curl -s -o /dev/null -w '%{http_code}' --max-ti
 same 'no pass' '{"fault":4,"text":"no pass"} 401' "$(inside curl -sS --cacert /root/ca.pem -w ' %{http_code}' https://desk.example.org/account)"
 same 'a pass of 8,192 bytes' 'too long or unknown 40' "$(inside sh -c 'curl -sS --cacert /root/ca.pem -o /dev/null -w "too long or unknown %{http_code}" -H "Authorization: Bearer $(head -c 8192 /dev/zero | tr "\0" A)" https://desk.example.org/account' | cut -c 1-22)"
 
-# The setup runs again, and changes nothing.
+# A second run of the setup changes nothing.
 sums() { inside sh -c 'for folder in /etc/clubdesk /etc/caddy /var/www /etc/passwd /etc/group; do find $folder -type f -exec stat -c "%n %Y %a %U" {} + -exec sha256sum {} +; done; systemctl show --value -p MainPID clubdesk@club caddy' | sort; }
 sums >before
 gives 'the setup, again' <<LINES
@@ -162,7 +162,8 @@ if grep -q '^made' told; then fail "the setup, again: $(cat told)"; fi
 sums | diff before - >told || fail "the setup, again: $(cat told)"
 checks=$((checks + 1))
 
-# ---- Copies to another place, with the lines of the page. The keeper of the other machine adds the key that these lines print.
+# ---- Copies to the other machine, by the command lines of RUNNING.md. These lines print an ssh key, and the other machine's administrator adds this
+# key.
 blocks 'Copies elsewhere' >lines
 sed '/known_hosts\|accept-new/,$d' lines | gives 'Copies elsewhere'
 grep '^ssh-ed25519' told >key || fail "no key was printed: $(cat told)"
@@ -171,7 +172,7 @@ sed -n '/accept-new/,$p' lines | gives 'Copies elsewhere'
 copies() { find "$there/clubs/club" -maxdepth 1 -name '2*Z' -printf '%f\n' 2>/dev/null | sort; }
 has_copy() { [ -n "$(copies)" ]; }
 soon 60 'no copy elsewhere' has_copy
-# By the public name. caddy's own authority gives certificates that are valid for twelve hours.
+# Requests by the public name. caddy's own certificate authority gives certificates that are valid for twelve hours.
 if inside systemctl start clubdesk-health@club 2>told; then fail 'health of a certificate of twelve hours'; fi
 is_asked() { inside journalctl -q -o cat -u clubdesk-health@club | grep -q 'the certificate of desk.example.org is good until .*: it is to be renewed'; }
 soon 10 'health by the public name' is_asked
@@ -217,7 +218,7 @@ rm -rf "$work/first/var" "$work/first/etc"
 acknowledged=$(wc -l <acknowledged)
 [ "$acknowledged" -gt 30 ] || fail "the client booked little: $acknowledged"
 
-# ---- Another machine. The place accepts root's own key.
+# ---- Another machine. The machine with the copies accepts the ssh key of the new machine's root.
 boot second
 began=$(date +%s)
 inside sh -c 'mkdir -p -m 700 /root/.ssh'
@@ -240,7 +241,8 @@ took=$(($(date +%s) - began))
 [ "$took" -lt 600 ] || fail "the club was back after $took seconds"
 checks=$((checks + 1))
 
-# The restored club has all bookings from more than a minute before the loss. The client makes each other booking again by its repeat.
+# The restored club has each booking that was made more than a minute before the loss. The client repeats the requests of all later bookings, and so
+# makes these bookings again.
 inside sh -c 'rm -f /root/looked; /usr/lib/clubdesk/back_up /var/lib/clubdesk/club /root/looked' >told
 inside sqlite3 /root/looked 'SELECT number FROM bookings WHERE cancelled = 0' | sort >numbers
 lost=0
@@ -259,7 +261,7 @@ same 'the health pass' '640 root clubdesk' "$(inside stat -c '%a %U %G' /etc/clu
 same 'the timers' 'clubdesk-back-up@club.timer clubdesk-health@club.timer clubdesk-sheet@club.timer' \
     "$(inside systemctl list-units --plain --no-legend --state=active 'clubdesk-*.timer' | cut -d ' ' -f 1 | sort | xargs)"
 
-# The place takes copies from the new machine after it knows the machine's key. Until then the health check fails.
+# Until the machine with the copies has the new machine's ssh key, it refuses copies, and the health check fails.
 blocks 'Copies elsewhere' | grep -v OFFSITE= >lines
 sed '/accept-new/,$d' lines | gives 'Copies elsewhere, on the new machine'
 grep '^ssh-ed25519' told >key
@@ -268,7 +270,7 @@ before=$(copies | tail -n 1)
 sed -n '/accept-new/,$p' lines | gives 'Copies elsewhere, on the new machine'
 has_newer() { [ "$(copies | tail -n 1)" != "$before" ]; }
 soon 60 'no copy of the new machine' has_newer
-# A host that is down, and then up again.
+# The ssh server's machine is down, and then up again.
 failures() { inside journalctl -q -o cat -u clubdesk-offsite@club | grep -c 'it is tried again' || :; }
 failed=$(failures)
 end_of "$ssh_server"

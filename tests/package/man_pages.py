@@ -1,8 +1,8 @@
 #!/usr/bin/env -S /usr/bin/python3 -B -m pytest -q -p no:cacheprovider
 """`mandoc` finds no fault in the manual pages, and they have the commands, options and statuses of `--help`.
 
-They have no others. The test checks the page of office only with `mandoc`. tests/office/office_holds.py compares that page with the `--help` of
-office. The page of office refers to sudo's pages, so sudo must be installed.
+The manual pages have no other commands, options and statuses. The test checks office's page only with `mandoc`. tests/office/office_holds.py compares
+office's page with the `--help` of office. office's page refers to the manual pages of sudo, so sudo must be installed.
 """
 
 import re
@@ -19,7 +19,7 @@ MAN = desk.ROOT / "man"
 
 
 def by_help(program):
-    """Returns each command with its words, options and values, and each status."""
+    """Reads the help text. Returns each command with its words, options and values, and each exit status."""
     top, found = printed(program, "--help"), {"help command"}
     for command in names_of(top):
         text = printed(program, "help", command) if command != "help" else ""
@@ -29,7 +29,7 @@ def by_help(program):
 
 
 def listed(page, heading, item):
-    """Returns the text of the items in a list of the page. Leaves out the first words of each item."""
+    """Returns the items of a list in the page, each without its first words."""
     return re.findall(rf"^\.It {item}(.*)", re.search(rf"^{heading}\n(.*?)^\.El", page, re.MULTILINE | re.DOTALL)[1], re.MULTILINE)
 
 
@@ -52,7 +52,7 @@ def test_page_has_what_the_help_shows(name):
 
 
 def test_mandoc_has_nothing_to_say():
-    """mandoc runs in the folder of the pages, where they find one another. If the machine's index of pages is out of date, this isn't a fault of
-    these pages."""
+    """mandoc runs in the folder of the manual pages, so that it finds the pages that they refer to. A warning about the machine's outdated index of
+    pages isn't a fault."""
     said = subprocess.run(["mandoc", "-T", "lint", "clubdesk.1", "passtool.1", "office.1"], cwd=MAN, capture_output=True, text=True, check=False)
     assert not [it for it in (said.stdout + said.stderr).splitlines() if "outdated mandoc.db" not in it]

@@ -1,5 +1,5 @@
-"""A client in the fresh Debian: client DAY. It books and cancels until /root/enough exists, and retries while no desk
-answers. The file /root/field has the field of its pass. package_lives.sh runs this program."""
+"""A client in the fresh Debian, called as client DAY. The client books and cancels until the file /root/enough exists, and retries while no desk
+answers. The file /root/field has the header field with the client's pass. package_lives.sh runs this program."""
 import json
 import os
 import sys

@@ -1,13 +1,13 @@
 #!/bin/sh
 # `bin/package` makes the same bytes twice, lintian has no complaint, and the package works in a fresh Debian.
 #
-# debootstrap makes the Debian, and systemd-nspawn boots it with its own systemd and only a loopback network. The test runs docs/RUNNING.md's lines
-# for root in this Debian, from the installation to the restore. They cover the desk behind nginx with TLS, the timers and their jobs, and a second
-# club in another zone. They also cover mail, and a machine that boots again. A clerk without root has her first week: import, who booked, sheet,
-# wrong credit, price, tournament, rain, lost pass, leaving member, restore. The test upgrades the package while a client books. It also upgrades to
-# a package whose program opens no club. The test removes the package, installs it again, and purges it. No acknowledged booking is lost, and the
-# clubs' files stay. At the end the test checks the archive for other systems, whose files are below /usr/local. Needs root, and Debian's mirror for
-# the fresh Debian. DEBIAN=FOLDER names an existing Debian, made by
+# debootstrap makes the Debian, and systemd-nspawn boots it with its own systemd and only a loopback network. In this Debian, the test runs
+# docs/RUNNING.md's command lines for root, from the installation to the restore. These lines set up the desk behind nginx with TLS, the timers and
+# their jobs, mail, and a second club in another time zone. The machine also boots again. A clerk without root does the work of her first week, from
+# the import of members to a restore. The test upgrades the package while a client books. The test also upgrades to a faulty package whose clubdesk
+# can't open a club. The test removes the package, installs it again, and purges it. No acknowledged booking is lost, and the clubs' files stay. At
+# the end the test checks the archive for other systems, whose files are below /usr/local. Needs root, and Debian's mirror for the fresh Debian.
+# DEBIAN=FOLDER names an existing Debian, made by
 # `debootstrap --variant=minbase --include=systemd,systemd-sysv bookworm FOLDER`. The test copies it.
 # pytestmark = [mark.package, mark.root, mark.needs("clubdesk passtool"),
 #     mark.wants("debootstrap systemd-container lintian dpkg-dev xz-utils util-linux")]
