@@ -1,8 +1,8 @@
 #!/bin/sh
 # Three commands set up a club on a fresh Debian behind caddy, and another machine can replace a lost machine.
 #
-# The club's desk serves within five minutes. The test destroys the machine with its disk. Within ten minutes, another machine serves the club
-# again. Needs root.
+# The club's desk answers within five minutes. Then the test destroys the machine and its disk. Within ten minutes, another machine serves the club.
+# Needs root.
 #
 # debootstrap makes the Debian, and systemd-nspawn boots it with only a loopback network. The clerk uses only the menu. The test runs the command
 # lines that docs/RUNNING.md has under "Copies elsewhere" and "The machine is gone". While a client books, copies go to the ssh server of a third

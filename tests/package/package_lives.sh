@@ -22,7 +22,7 @@ boot() {
     start debian --private-network
     same 'units that failed at boot' '' "$(inside systemctl --failed --plain --no-legend)"
 }
-# A shell that was entered from outside must end first, because it would keep the machine from shutting down.
+# Each shell that nsenter started must end first, because it would keep the machine from shutting down.
 halt() {
     [ -n "$machine" ] || return 0
     if [ -n "$client" ]; then { inside touch /root/enough && wait "$client"; } || :; fi
@@ -37,7 +37,7 @@ leave_all() {
 }
 trap leave_all EXIT
 
-# ---- The package has the same bytes, no matter who makes it, when, and how.
+# ---- The package has the same bytes even with another umask, folder, locale, time zone and home folder.
 holds 'bin/package' "$top/bin/package" first
 (umask 077 && cd / && LC_ALL=C.UTF-8 TZ=Asia/Tokyo HOME=/nonexistent "$top/bin/package" "$work/second" >"$work/told")
 for file in first/*; do same "$file, again" "$(sha256sum <"$file")" "$(sha256sum <"second/${file##*/}")"; done
@@ -52,8 +52,8 @@ same 'its completions' 'clubdesk office passtool _clubdesk _office _passtool clu
     "$(cd unpacked/usr/share && for folder in bash-completion/completions zsh/vendor-completions fish/vendor_completions.d; do ls $folder; done | xargs)"
 holds 'the packed clubdesk' cmp "$desk" unpacked/usr/bin/clubdesk
 holds 'the packed passtool' cmp "$tool" unpacked/usr/bin/passtool
-# The test makes a newer version, a version whose program opens no club, and a still newer version. For other VERSION [COMMAND], it makes the
-# package with another version, after COMMAND has changed its tree.
+# Three newer versions of the package. The clubdesk of the second version can't open a club. other VERSION [COMMAND]: makes the package with this
+# version, after COMMAND has changed the package's tree.
 other() {
     rm -rf other
     dpkg-deb -R "first/$deb" other
@@ -73,11 +73,11 @@ debian "$root"
 echo desk >"$root/etc/hostname"
 echo '127.0.0.1 localhost desk' >"$root/etc/hosts"
 cp "first/$deb" ./*.deb first/*.tar.xz "$root/root/"
-# The test downloads the packages that it needs before it cuts off the machine.
+# The test downloads the necessary packages before it cuts the machine off from the network.
 offline "$root" sh -c "apt-get update && apt-get install --download-only /root/$deb qrencode xz-utils" >apt.log 2>&1 </dev/null || fail "apt-get: $(tail apt.log)"
 boot
 
-# The lines for root of RUNNING, as the package contains it.
+# The command lines for root from the package's RUNNING.md.
 lines_for_root unpacked/usr/share/doc/clubdesk/docs/RUNNING.md
 
 # answers PORT: checks that the desk listens at this port within ten seconds, and that it refuses a request without a pass.
@@ -86,7 +86,7 @@ answers() {
     same "the desk at port $1" '{"fault":4,"text":"no pass"}' "$(cat told)"
 }
 
-# ---- RUNNING, from the installation on.
+# ---- The command lines of RUNNING.md, from the installation on.
 installed=$(date +%s)
 blocks Install | grep '^apt install ' | head -n 1 >install
 same 'the line that installs' "apt install ./$deb" "$(cat install)"
@@ -129,7 +129,7 @@ desk add-facility $c court-1 court 50 1 0 24
 openssl rand -hex 32 | desk add-key $c amy-1 amy --root-stdin >/root/amy-1
 LINES
 
-# ---- TLS. The certificate and the name of the site are the test's own.
+# ---- TLS. The test makes its own certificate, and its own name for the site.
 gives 'a certificate' <<'LINES'
 mkdir -p /etc/ssl/clubdesk
 openssl req -x509 -newkey rsa:2048 -nodes -days 2 -subj /CN=desk.example.org -addext subjectAltName=DNS:desk.example.org \
@@ -138,13 +138,13 @@ LINES
 blocks TLS | gives TLS
 blocks 'The pages' | gives 'The pages'
 inside sh -c 'printf "Authorization: Bearer %s\n" "$(cat /root/amy-1)" >/root/field'
-# by_tls METHOD PATH [BODY]: sends a request to the desk when the desk listens.
+# by_tls METHOD PATH [BODY]: waits until the desk listens, and sends a request through nginx with TLS.
 by_tls() {
     answers 8080
     inside curl -sS --max-time 20 --cacert /etc/ssl/clubdesk/certificate.pem --resolve desk.example.org:443:127.0.0.1 -w ' %{http_code}' \
         -H @/root/field -X "$1" ${3:+-d "$3"} "https://desk.example.org/$2"
 }
-# books WHAT: sends the booking behind TLS, and repeats it.
+# books WHAT: sends a booking through nginx with TLS. Later calls repeat this booking, and get the same reply.
 books() { same "$1" '{"booking":"amy-1/7","charge":3,"left":47} 200' "$(by_tls PUT "slots/court-1/$day/18/bookings/7" '{"guests":2}')"; }
 day=$(TZ=CET-1CEST,M3.5.0,M10.5.0/3 date -d '+2 days' +%F)
 books 'a booking behind TLS'
@@ -167,7 +167,7 @@ blocks 'Is it well?' | gives 'Is it well?'
 soon 10 'what the check says' health_says ', and reads its file'
 same 'the pass of the check' '640 root clubdesk' "$(inside stat -c '%a %U %G' /etc/clubdesk/club.health)"
 
-# ---- A second club, half a day away. Its mail goes to a file. The first club's configuration has no mail address.
+# ---- A second club, whose time zone is half a day away. The second club's mail goes to a file. The first club has no mail address.
 mkdir -p "$root/usr/sbin"
 printf '#!/bin/sh\n{ echo "== $*"; cat; } >>/var/mail/sent\n' >"$root/usr/sbin/sendmail"
 chmod 755 "$root/usr/sbin/sendmail"
@@ -200,7 +200,8 @@ same 'the mailed sheet' "== -i -t
 To: cox@example.org
 Subject: rowing: day sheet $today
 Day sheet $today" "$(inside grep -E '^(==|To|Subject|Day|Total)' /var/mail/sent)"
-# The script mails a failure once. The failure is a back-up of a file that isn't a club any more. The service sends no mail without a configuration.
+# The back-up of a file that isn't a club fails. The desk's service mails one report of this failure, and none if the club's configuration has no mail
+# address.
 gives 'a club that is broken' <<'LINES'
 : >/var/mail/sent
 echo broken >/var/lib/clubdesk/broken
@@ -222,13 +223,13 @@ systemctl reset-failed
 rm -r /etc/clubdesk/broken.conf /etc/clubdesk/silent.conf /var/lib/clubdesk/broken /var/backups/clubdesk/broken /var/backups/clubdesk/silent
 LINES
 
-# ---- A clerk without root, by sudo. A correction doesn't stop the server, and a restore stops it. systemd then starts it again.
+# ---- A clerk without root uses sudo. A correction doesn't stop the server. A restore stops the server, and systemd starts it again.
 blocks 'The clerks' | gives 'The clerks'
 gives 'a club of hers' <<'LINES'
 useradd --create-home carl
 printf 'FILE=/var/lib/clubdesk/tennis\nZONE=UTC0\nPORT=8083\n' >/etc/clubdesk/tennis.conf
 LINES
-# office USER WORD..: runs office as that user, in the user's home folder.
+# office USER WORD..: runs office as USER, in the home folder of USER.
 office() {
     user=$1
     shift
@@ -242,7 +243,7 @@ for words in 'add-member eve 5' 'credit eve 1000' 'add-facility court-1 court 4 
     # shellcheck disable=SC2086 # a command's words
     holds "$words" office anna $words
 done
-# When a request under a pass has its reply, the server has the file open.
+# Requests the account. After a reply to a request with a pass, the server has surely opened its file.
 account() { inside sh -c 'curl -sS -H "Authorization: Bearer $(cat /home/anna/eve-1)" http://127.0.0.1:8083/account'; }
 same 'the account before it' '{"member":"eve","balance":1000,"quota":5,"open":0,"spent":0}' "$(account)"
 pid_of() { inside systemctl show --value -p MainPID "$1"; }
@@ -255,9 +256,9 @@ office anna log >told
 [ "$(grep -c anna told)" -ge 6 ] || fail "the book: $(cat told)"
 if office carl credit eve 1000 >told 2>&1; then fail 'a credit by somebody who is no clerk'; fi
 
-# In her first week, the clerk does all the work of a club's office.
+# A new clerk's first week.
 week=$(date -u -d '+3 days' +%F)
-# asks PASS METHOD PATH [BODY]: sends a request to her desk when the desk runs again. The pass is in one of her files.
+# asks PASS METHOD PATH [BODY]: waits until the desk runs again, and sends a request with the pass in the clerk's file PASS.
 asks() {
     answers 8083
     inside sh -c 'curl -sS --max-time 20 -X "$2" ${4:+-d "$4"} -H "Authorization: Bearer $(cat "/home/anna/$1")" "http://127.0.0.1:8083/$3"' sh "$@"
@@ -306,7 +307,7 @@ same 'the totals of her club' 'the totals are the sums of the bookings' "$(offic
 same 'what a clerk reads of the clubs' '' "$(inside runuser -u anna -- sh -c 'cat /var/lib/clubdesk/* /var/backups/clubdesk/* 2>/dev/null' || :)"
 same 'what a clerk reads of the sheets' "$today" "$(inside runuser -u anna -- ls /var/spool/clubdesk/rowing)"
 
-# ---- Back-ups while the desk runs. Old back-ups are removed.
+# ---- Back-ups while the desk runs, and the removal of old back-ups.
 gives 'old copies' <<'LINES'
 mkdir -p /var/backups/clubdesk/club
 for days in 20 21 22 23 24 25 26 500; do touch "/var/backups/clubdesk/club/$(date -u -d "-$days days" +%FT031007Z)"; done
@@ -321,14 +322,14 @@ grep -qx keep-me told || fail 'a file of another name is gone'
 copy=$(grep "^$(date -u +%Y)" told | sort | tail -n 1)
 same 'the copy' "600 clubdesk" "$(inside stat -c '%a %U' "/var/backups/clubdesk/club/$copy")"
 
-# ---- Only one program at a time has the file. The restore removes the bookings made after the copy.
+# ---- Only one program at a time can open the club's file. A restore removes the bookings made after the copy.
 blocks 'One program at a time' | gives 'One program at a time'
 same 'a booking after the copy' '{"booking":"amy-1/8","charge":1,"left":49} 200' "$(by_tls PUT "slots/court-1/$day/19/bookings/8" '{"guests":0}')"
 blocks Restore | sed "s/2026-05-01T031007Z/$copy/" | gives Restore
 books 'what was before it'
 same 'what came after it' '{"fault":15,"text":"no such booking"} 404' "$(by_tls DELETE "slots/court-1/$day/19/bookings/8")"
 
-# ---- A machine boots again, also after a power failure.
+# ---- The machine boots again, after a shutdown and after a power failure.
 halt
 boot
 books 'the desk after a boot'
@@ -337,7 +338,7 @@ wait "$machine" || :
 boot
 books 'the desk after a power cut'
 
-# ---- An upgrade while a client books. The file has each acknowledged booking, and the program runs in another process.
+# ---- An upgrade while a client books. Afterwards the club has each acknowledged booking, and the desk runs as a new process.
 inside sh -c 'runuser -u clubdesk -- clubdesk credit /var/lib/clubdesk/club amy 100000 >/dev/null; cat >/root/client' <"$here/package_lives.py"
 inside sh -c "rm -f /root/enough; exec python3 /root/client $day" >booked 2>client.log &
 client=$!
@@ -367,7 +368,7 @@ same 'what was acknowledged' "$acknowledged" "$(inside sqlite3 /root/looked 'SEL
 same 'the totals' '' "$(unsound "$root/root/looked")"
 grep -q '^tries [1-9]' client.log || fail 'the upgrades interrupted nobody: they restarted nothing'
 
-# ---- Removal: the desks end, and their configuration and files stay. After a new installation the desks continue.
+# ---- Removal of the package: the desks end, and their configuration and files stay. When the package is installed again, the desks run again.
 holds 'the removal' inside apt-get remove clubdesk
 same 'desks after it' '' "$(inside systemctl list-units --plain --no-legend --state=active 'clubdesk*')"
 same 'programs after it' '' "$(inside sh -c 'ls -d /usr/bin/clubdesk /usr/bin/passtool /usr/lib/clubdesk /usr/share/clubdesk 2>/dev/null || :')"
@@ -377,7 +378,7 @@ holds 'the installation after it' inside apt-get install "/root/$deb"
 holds 'a start after it' inside systemctl start clubdesk@club
 books 'the desk after it'
 
-# ---- Purge: only the clubs, their back-ups and their user stay.
+# ---- Purge of the package: only the clubs, the back-ups and the system user stay.
 inside apt-get purge clubdesk >told 2>&1 || fail "purge: $(tail told)"
 grep -q '/var/lib/clubdesk stays' told || fail "purge doesn't say what stays: $(tail told)"
 same 'what is left of it' '/var/backups/clubdesk
@@ -387,7 +388,7 @@ same 'the clubs' 'clubdesk clubdesk' "$(inside stat -c %U /var/lib/clubdesk/club
 inside sh -c 'cp /var/lib/clubdesk/club /root/purged; cp /var/lib/clubdesk/club-wal /root/purged-wal 2>/dev/null || :'
 same 'bookings after the purge' $((acknowledged + 1)) "$(inside sqlite3 /root/purged 'SELECT count(*) FROM bookings')"
 
-# ---- The archive for other systems, with the club that stayed.
+# ---- The archive for systems without dpkg, with the club that the purge left.
 holds 'what unpacks it' inside apt-get install xz-utils
 blocks Install | grep -vE '^(bin/package|cd packages|apt install)' | sed 's,packages/,/root/,' | gives 'the archive'
 same 'the programs of the archive' "$(cd unpacked/usr/bin && sha256sum clubdesk passtool)" "$(inside sh -c 'cd /usr/local/bin && sha256sum clubdesk passtool')"

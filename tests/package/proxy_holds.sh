@@ -1,12 +1,12 @@
 #!/bin/sh
-# docs/RUNNING.md's lines for root about pages, certificates, TLS and several clubs work behind nginx.
+# docs/RUNNING.md's command lines for root about pages, certificates, TLS and several clubs work with nginx.
 #
-# The lines run on a machine of the test's own (tests/lib/office_room.sh). Needs root.
+# The test runs the lines on a machine of its own (tests/lib/office_room.sh). Needs root.
 #
-# They are the lines of the sections "A club", "The pages", "A certificate", "TLS" and "Several clubs". Certbot gets a certificate by the challenges
-# of nginx's site. The certificate authority is the test's own (Let's Encrypt's pebble). Certbot renews the certificate, and the site then uses the
-# new certificate. The test then checks the desk's replies and the pages behind nginx with TLS, a slow client, and two clubs at one proxy. The port
-# of the challenges answers no other request. The limit of requests works, with its message.
+# The lines are in the sections "A club", "The pages", "A certificate", "TLS" and "Several clubs". Certbot gets a certificate from the test's own
+# certificate authority (Let's Encrypt's pebble), and nginx answers the challenges of this authority. Certbot renews the certificate, and the site
+# then uses the new certificate. The test checks the desk's replies and the pages behind nginx with TLS, a slow client, and two clubs at one proxy.
+# nginx answers nothing but challenges at their port. A client that exceeds the limit of requests gets a message.
 # pytestmark = [mark.package, mark.root, mark.needs("clubdesk passtool"),
 #     mark.wants("sudo sqlite3 openssl util-linux bsdutils iproute2 systemd curl nginx-light certbot pebble qrencode tzdata")]
 set -eu
@@ -22,7 +22,7 @@ leave_all() {
 }
 trap leave_all EXIT
 
-# is_heard URL: checks that a server listens at this address.
+# is_heard URL: succeeds if a server listens at this address.
 is_heard() {
     code=0
     curl -s -o heard --max-time 1 -k "$1" || code=$?
@@ -34,11 +34,11 @@ for folder in /var/log /var/www /run; do
     if [ "$folder" = /run ]; then mount -t tmpfs tmpfs "$folder"; else over "$folder"; fi
 done
 mkdir -p /var/log/nginx /run/sudo
-# The room resolves no name outside.
+# The test's machine resolves only the names in /etc/hosts.
 sed -i 's/^hosts:.*/hosts: files/' /etc/nsswitch.conf
 echo '127.0.0.1 localhost desk.example.org rowing.example.org' >/etc/hosts
 
-# A stub of systemctl for the page's commands. It reloads nginx, and runs the desk of an enabled club with the club's configuration.
+# A stub of systemctl for the commands in RUNNING.md. The stub can reload nginx. It can also enable a club, and then runs the club's desk.
 cat >"$room/systemctl" <<SYSTEMCTL
 #!/bin/sh
 case "\$*" in
@@ -63,9 +63,9 @@ by_page() {
     echo "$1: $(wc -l <"$room/lines") lines run"
 }
 
-# ---- The first club, made as on the page, with a member.
+# ---- The first club, made by the command lines of RUNNING.md, with a member.
 by_page 'A club'
-# Each club has its own folder, because both have an amy, and the office writes her spare passes there.
+# Each club has its own folder for passes, because both clubs have a member amy.
 member_of() (
     mkdir "$1-clerk"
     cd "$1-clerk"
@@ -98,7 +98,7 @@ if club_json Europe/Berlin >told 2>&1; then fail "a zone that isn't the server's
 same 'why it is refused' 1 "$(grep -c 'one of them is another zone' told)"
 cp configured /etc/clubdesk/club.conf
 
-# ---- A certificate, and the site that uses the certificate.
+# ---- A certificate, and a site with this certificate.
 nginx
 mkdir "$room/authority"
 mkdir -p /etc/letsencrypt
@@ -108,7 +108,7 @@ cd "$room/authority"
 openssl req -x509 -newkey rsa:2048 -nodes -days 2 -subj /CN=pebble -addext subjectAltName=IP:127.0.0.1 -keyout key.pem -out own.pem 2>/dev/null
 echo '{"pebble": {"listenAddress": "127.0.0.1:14000", "managementListenAddress": "127.0.0.1:15000", "certificate": "own.pem",
     "privateKey": "key.pem", "httpPort": 80, "tlsPort": 443}}' >pebble.json
-# The authority asks for a challenge for each order, and accepts each nonce.
+# The certificate authority demands a challenge for each order, and accepts each nonce.
 PEBBLE_AUTHZREUSE=0 PEBBLE_WFE_NONCEREJECT=0 PEBBLE_VA_NOSLEEP=1 pebble -config pebble.json >log 2>&1 &
 started="$started $!"
 cd "$work"
@@ -135,7 +135,7 @@ sleep 1
 same 'the site has the new one' "$(openssl x509 -noout -serial -in "$live/cert.pem")" "$(served)"
 same 'no challenge is left' '' "$(find /var/www/challenge -type f)"
 
-# ---- A second club. Each club has its own name.
+# ---- A second club, with its own public name.
 holds certbot certbot certonly --webroot --webroot-path /var/www/challenge --domain rowing.example.org --deploy-hook 'systemctl reload nginx'
 by_page 'Several clubs'
 member_of rowing boat-1 >told
@@ -161,7 +161,7 @@ done
 same '/' "302 $site/book.html" "$(curl -o told -w '%{http_code} %{redirect_url}' $site/)"
 same "a pass of the other club" '{"fault":9,"text":"not verified"}' "$(seen rowing desk account)"
 
-# ---- For requests that change nothing, the proxy returns the desk's own reply.
+# ---- The proxy passes the desk's replies on unchanged. The test compares the replies to requests that change nothing.
 same 'a booking behind TLS' '{"booking":"amy-1/8","charge":3,"left":1} 200' "$(asks $site PUT $slot/bookings/8 "$pass" '{"guests":2}')"
 by_both() { same "$1 $2 through the proxy" "$(asks $direct "$@")" "$(asks $site "$@")"; }
 for guests in 2 1; do by_both PUT $slot/bookings/8 "$pass" "{\"guests\":$guests}"; done
@@ -174,7 +174,7 @@ same 'the health check' '{"member":"amy","balance":1000,"quota":99,"open":0,"spe
 same 'a health pass books nothing' '{"fault":12,"text":"caveat denies","caveat":1} 403' "$(asks $site PUT $slot/bookings/9 "$health" '{"guests":0}')"
 same 'no TLS' 400 "$(curl -o told -w '%{http_code}' http://127.0.0.1:443/account)"
 
-# A client that sends half a request delays no other client, because the proxy waits for it and the desk doesn't.
+# If a client sends only half a request, the proxy waits for the rest, and the desk serves other clients.
 {
     printf 'PUT /%s/bookings/9 HTTP/1.1\r\nHost: desk.example.org\r\nContent-Length: 12\r\n' $slot
     sleep 6
@@ -186,11 +186,12 @@ by_both GET account "$pass"
 [ $((($(date +%s%N) - begun) / 1000000)) -lt 3000 ] || fail 'a slow client holds up the others'
 wait "$slow" || :
 
-# ---- The limits. The proxy accepts 1,000 requests at once under one pass. Later requests get the message. Another pass still gets replies, and the
-# first pass gets replies again a second later. One address may send twice as many requests as one pass.
+# ---- The limits. The proxy accepts a burst of 1,000 requests with one pass. The proxy refuses the rest of the burst, but still answers requests with
+# another pass. A second later, the proxy answers requests with the first pass again. One address may send twice as many requests as one pass.
 #
-# The function `flood NAME COUNT [WORD..]` sends COUNT requests at once, with words for curl. The requests ask for a file, because a file comes
-# sooner than a reply of the desk. The function prints the number of accepted requests and the number of limited requests. Their sum must be COUNT.
+# The function `flood NAME COUNT [WORD..]` sends a burst of COUNT requests, with the options WORD.. for curl. The requests ask for a file, because
+# nginx sends a file faster than the desk replies. The function counts the accepted requests in `passed`, and the refused requests in `limited`. The
+# sum of both must be COUNT.
 flood() {
     name=$1 count=$2
     shift 2

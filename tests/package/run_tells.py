@@ -1,7 +1,8 @@
 #!/usr/bin/env -S /usr/bin/python3 -B -m pytest -q -p no:cacheprovider
 """`tests/run` passes, fails, skips and ends tests, and reports each result.
 
-The test runs tests/run over a small tree of its own, with pytest and without it. The runner must end a test that takes too long, or whose run is ended, with all its processes.
+The test runs tests/run over a small tree of tests, with and without pytest. If a test takes too long, or if the run is ended, tests/run must end all
+processes of the test.
 """
 
 import os
@@ -31,7 +32,7 @@ SUM = {"passes": "passed", "fails": "failed: no", "skips": "skipped: not here", 
 
 @pytest.fixture
 def tree(tmp_path):
-    """Makes a runner with these tests."""
+    """Makes a folder with a copy of tests/run and some small tests."""
     lib = tmp_path / "tests" / "lib"
     lib.mkdir(parents=True)
     (tmp_path / "tests" / "desk").mkdir()
@@ -49,7 +50,7 @@ def tree(tmp_path):
 
 
 def run(tree, *words, **variables):
-    """Returns the status of tests/run, and each test's result with the reason. No package is installed."""
+    """Returns the exit status of tests/run, and each test's result with the reason. tests/run must install no package here."""
     without = {name: value for name, value in os.environ.items() if name not in ("CLUBDESK", "PASSTOOL")}
     path = tree / "path"
     path.mkdir(exist_ok=True)
@@ -67,7 +68,7 @@ def run(tree, *words, **variables):
 
 
 def without_pytest(tree):
-    """Hides pytest from the runner."""
+    """Hides pytest from tests/run."""
     (tree / "python3").write_text('#!/bin/sh\ncase "$*" in *"import pytest"*) exit 1 ;; esac\nexec /usr/bin/python3 "$@"\n')
     (tree / "python3").chmod(0o755)
     scripts = tree / "tests" / "lib" / "scripts.py"
@@ -78,7 +79,7 @@ def without_pytest(tree):
 
 
 def all_are_gone(numbers):
-    """Returns whether the processes with these numbers end within some seconds."""
+    """Returns whether all processes with these ids end within some seconds."""
     for _ in range(100):
         if not any(Path(f"/proc/{it}/stat").exists() and " Z " not in Path(f"/proc/{it}/stat").read_text() for it in numbers):
             return True

@@ -1,5 +1,4 @@
-"""Checks that a unit allows each call that strace saw: running_holds.py UNIT TRACE. running_holds.sh runs this
-program."""
+"""Checks that a systemd unit allows each system call that strace recorded: running_holds.py UNIT TRACE. running_holds.sh runs this program."""
 import re
 import subprocess
 import sys

@@ -1,9 +1,9 @@
 #!/bin/sh
-# The claims of docs/RUNNING.md about installations, units, copies and a full disk hold.
+# What docs/RUNNING.md says about installations, systemd units, copies and a full disk is true.
 #
-# An installation is complete or undone, and the units forbid no call that the desk needs.
+# If an installation fails, it changes nothing. The systemd units allow each system call that the desk needs.
 #
-# The test tries the units with systemd's own tools. Needs root.
+# The test checks the units with systemd's own tools. Needs root.
 # pytestmark = [mark.pages, mark.package, mark.root, mark.needs("clubdesk passtool"),
 #     mark.wants("curl sqlite3 openssl strace systemd util-linux tzdata")]
 set -eu
@@ -25,12 +25,12 @@ leave_all() {
 }
 trap leave_all EXIT
 
-# asks METHOD PATH [BODY]: prints the reply to a request at $port, then the reply's status. The file `pass` has the pass of the request.
+# asks METHOD PATH [BODY]: sends a request to $port with the pass in the file `pass`, and prints the reply and its status.
 asks() {
     curl -sS --max-time 20 --noproxy '*' -w ' %{http_code}\n' -X "$1" -H "Authorization: Bearer $(cat pass)" ${3:+-d "$3"} "http://127.0.0.1:$port/$2"
 }
 
-# Makes a club of this name, with a member of 10,000 points and a court with 50 places. The file `pass` has the pass.
+# Makes a club with this name, a member with 10,000 points, and a court with 50 places. Writes the member's pass into the file `pass`.
 make_club() {
     for words in "add-member $1 amy 99" "credit $1 amy 10000" "add-facility $1 court-1 court 50 1 0 24"; do
         # shellcheck disable=SC2086 # a command's words
@@ -51,7 +51,7 @@ done
 version=$("$top/bin/version")
 same 'the installed programs' "clubdesk $version passtool $version" "$(local/bin/clubdesk --version) $(local/bin/passtool --version)"
 
-# refused WHAT WORDS..: checks that the installation is refused with a line on standard error. The folder `local` and its files must stay.
+# refused WHAT WORDS..: checks that the installation fails with a line on standard error, and leaves the folder `local` unchanged.
 refused() {
     what=$1
     shift
@@ -63,7 +63,7 @@ refused() {
 }
 echo old >local/bin/clubdesk
 chmod 755 "$work" local
-# Another user may be unable to read the repository, so the test copies the script. The script checks the folder first.
+# The user nobody may be unable to read the repository, so the test copies the script bin/install.
 cp "$top/bin/install" installing
 refused 'no leave to write' runuser -u nobody -- sh "$work/installing" "$work/local"
 refused 'no folder to make' runuser -u nobody -- sh "$work/installing" "$work/other"
@@ -76,7 +76,7 @@ if sh -c "ulimit -f 1000; '$top/bin/install' local" >told 2>&1; then fail 'it in
 [ ! -e local ] || fail 'a refused installation left its folders'
 "$top/bin/install" local >told
 
-# ---- The units: those that start a program are complete and confined, and name existing files.
+# ---- The units. Each unit that starts a program is complete, restricts the program, and names existing files.
 mkdir units
 for file in "$top"/deploy/*.service "$top"/deploy/*.timer; do
     sed "s,/usr/bin/clubdesk,$PWD/local/bin/clubdesk,; s,/usr/lib/clubdesk/,$top/deploy/,; s,/etc/clubdesk/,$PWD/," "$file" >"units/${file##*/}"
@@ -94,8 +94,8 @@ for file in units/*; do
     checks=$((checks + 1))
 done
 
-# Runs the unit's command under strace, as another user and with the unit's mask. The variables are those of the example except the port. The desk
-# creates a missing club and answers a request, and the unit allows each call. Before the unit runs its command, it checks that the club exists.
+# Runs the unit's command under strace, as the user nobody and with the unit's umask. The values come from the example configuration, except the port.
+# The desk creates a missing club and answers requests. The unit must allow each system call in the trace.
 # shellcheck source=/dev/null disable=SC2034 # its line has the variables of the configuration
 command=$(. ./club.conf; PORT=0; eval "echo $(sed -n 's/^ExecStart=//p' "$unit")" | sed 's/--count 1000000/--count 2/')
 mkdir -m 700 state
@@ -114,7 +114,7 @@ holds 'its calls' /usr/bin/python3 "$here/running_holds.py" "$unit" state/calls
 same "a zone's rule" CET-1CEST,M3.5.0,M10.5.0/3 "$(tail -n 1 /usr/share/zoneinfo/Europe/Berlin)"
 grep -qxF "ZONE=$(tail -n 1 /usr/share/zoneinfo/Europe/Berlin)" club.conf || fail 'the example has another zone'
 
-# ---- Copies during writes: 900 bookings, each cancelled. The desk copies its log into its file meanwhile.
+# ---- Copies while a client makes and cancels 900 bookings. During this time, the desk also copies its write-ahead log into its file.
 make_club club
 serve club 100000 2026-04-20T12:00
 awk -v pass="$(cat pass)" -v port="$port" 'BEGIN { for (i = 1; i <= 900; i++) for (put = 1; put >= 0; put--) {
@@ -129,7 +129,7 @@ while [ ! -e answered.all ] && [ "$copies" -lt 500 ]; do
     copies=$((copies + 1))
     holds "copy $copies" "$top/deploy/back_up" club "copy.$copies"
     [ ! -e "copy.$copies-wal" ] || fail "copy $copies has a log"
-    # The copy has the first bookings, all but the last are cancelled, and the totals match.
+    # The copy has all bookings up to the last one it contains. At most one of them isn't cancelled.
     same "the bookings of copy $copies" 1 \
         "$(sqlite3 "copy.$copies" 'SELECT count(*) = coalesce(max(number), 0) AND total(cancelled = 0) <= 1 FROM bookings')"
     same "the totals of copy $copies" '' "$(unsound "copy.$copies")"
@@ -141,7 +141,7 @@ wait "$client" || { kill -0 "$server" || echo 'the server is gone' >&2; cat faul
 same 'a sheet meanwhile' 'Day sheet 2026-05-01' "$("$desk" sheet club 2026-05-01 2>&1 | head -n 1)"
 rm copy.*
 
-# ---- A restore gives the same bytes, without the changes after the copy.
+# ---- After a restore, the desk's replies have the same bytes as before the copy, without the changes after the copy.
 first=slots/court-1/2026-06-01/10 second=slots/court-1/2026-06-01/11
 asks PUT $first/bookings/1001 '{"guests":4}' >told
 shown() { for path in account $first $second slots/court-1/2026-05-02/01; do asks GET "$path"; done; }
@@ -150,7 +150,7 @@ shown >wanted
 same 'a copy' 'backed up, with 901 bookings' "$(cat told)"
 asks PUT $second/bookings/1002 '{"guests":4}' >told
 stop
-# A restore gives the same bytes even if the desk copies its log into its file between the two copies.
+# back_up makes a complete copy even if the desk copies its write-ahead log into its file while back_up runs.
 copy club racing
 mkdir path
 cat >path/cp <<CP
@@ -181,7 +181,7 @@ printf broken >bad
 if "$top/deploy/back_up" bad copy.bad >told 2>said; then fail 'a broken file is copied'; fi
 [ ! -e copy.bad ] || fail 'a copy of a broken file is left'
 
-# ---- A full disk: the desk books nothing, but answers requests that change nothing. When the disk has space, all requests work again.
+# ---- A full disk. The desk refuses bookings, and answers requests that change nothing. When the disk has space again, all requests work.
 disk=$work/disk
 mkdir "$disk"
 mount -t tmpfs -o size=700k tmpfs "$disk" || { disk=; fail 'no small disk could be made'; }
@@ -198,7 +198,7 @@ same 'a full disk' '{"fault":22,"text":"unavailable"} 503' "$(cat told)"
 same 'the account' "{\"member\":\"amy\",\"balance\":$((10001 - number)),\"quota\":99,\"open\":$((number - 1)),\"spent\":$((number - 1))} 200" \
     "$(asks GET account)"
 same 'a booking' '{"fault":22,"text":"unavailable"} 503' "$(asks PUT slots/court-1/2026-05-04/10/bookings/99 '{"guests":0}')"
-# The script doesn't retry a copy on a full disk, and prints a line.
+# On a full disk, the script back_up prints one line and doesn't retry.
 begun=$(date +%s)
 if "$top/deploy/back_up" "$disk/club" "$disk/copy" >told 2>said; then fail 'a full disk takes a copy'; fi
 same 'the lines of a refused copy' 1 "$(wc -l <said)"

@@ -1,10 +1,10 @@
 #!/usr/bin/env -S /usr/bin/python3 -B
-"""The questions of `deploy/clubdesk-setup` set up a club, with repeats, stops and refusals.
+"""`deploy/clubdesk-setup` sets up a club from the answers to its questions, even if it is stopped and runs again.
 
-The test checks modes and owners, repeats and stops at each step, and the steps to a first booking. Wants root (tests/lib/office_room.sh).
+The test checks the modes and owners of files, and the setup's refusals. Needs root (tests/lib/office_room.sh).
 
-There are five questions. When the setup runs again, also after a stop at any step, it changes no existing file. After the setup, the new clerk
-continues until a member has a first booking. If nginx is installed, the booking goes through nginx's site.
+There are five questions. The test stops the setup at each step and runs it again. No run changes an existing file. After the setup, the new clerk
+adds a member, and the member makes a first booking. If nginx is installed, the booking goes through nginx's site.
 """
 # pytestmark = [mark.package, mark.root, mark.needs("clubdesk passtool"),
 #     mark.wants("sudo sqlite3 openssl util-linux bsdutils iproute2 systemd python3-psutil python3-pexpect nginx-light")]
@@ -80,7 +80,7 @@ def made():
 
 
 def again_and_again():
-    """Existing files stay unchanged. A run after a stop makes the missing files."""
+    """No run changes an existing file. A run after a stop makes the missing files."""
     before = everything()
     status, out, _ = set_up()
     same("again", (status, "made" in out, everything() == before), (0, False, True))
