@@ -1,4 +1,4 @@
-"""A part of page_books.py: days, bookings and cancellations, the limits of a pass, refusals, and the ways to a slot."""
+"""A part of page_books.py: days, bookings and cancellations, the limits of a pass, refusals, the keyboard, and the search for a free time."""
 
 import json
 import pathlib
@@ -39,7 +39,7 @@ def books_and_cancels(page, passes):
     has(card, "a booking in the list", "Court 1", "Booked", "3 persons", "600 points", "cancelling gives back all 600 points")
     page.cancelled_in_the_list("a cancellation", asked="Cancelling now gives back 600 points", words="600 points came back")
     page.when("byName('to-come').innerText.includes('Cancelled, 600 points came back')", "what is cancelled")
-    # For a cancellation less than a day ahead, the member gets back half.
+    # If a member cancels less than a day before the slot, she gets back half of the points.
     page.view("day")
     page.go(day(0))
     hour = now().hour + 2
@@ -50,7 +50,7 @@ def books_and_cancels(page, passes):
     page.view("account")
     page.when("byName('account-facts').innerText.includes('999,698')", "the account")
     check("0 of 99" in page.run("return byName('account-facts').innerText"), "the account")
-    # The browser keeps the pass, so another visit needs no link. The member can forget the pass.
+    # The browser stores the pass, so another visit needs no link. The member can remove the pass.
     page.visit("", "isShown('day') && dayIsThere()", "another visit")
     page.view("account")
     check("The pass is kept in this browser." in page.run("return shownText('account')"), "where the pass is")
@@ -72,7 +72,7 @@ def books_and_cancels(page, passes):
 
 
 def day_says_what_is(page, passes):
-    """Shows each state of a slot, and the days that the member can choose."""
+    """The page shows each state of a slot, and the days that the member can choose."""
     office("close-slot", "court-2", day(3), "10")
     page.enter(passes["bob-1"], 3)
     words = {place: page.run("return cellAt(...arguments).button.innerText.replace(/\\s+/g, ' ')", *place) for place in [("court-2", 10), ("court-2", 11)]}
@@ -85,7 +85,7 @@ def day_says_what_is(page, passes):
     page.run("look()")
     page.when("cellAt('court-2', 12).button.innerText === 'Full'", "a full slot")
     curl(page, "DELETE", f"/slots/court-2/{day(3)}/12/bookings/{number}", other)
-    # Today's slots that have begun by the club's clock are over. The page doesn't request them.
+    # The page doesn't request slots that have already begun by the club's clock. It shows them as over.
     page.requests()
     page.go(day(0))
     hour = now().hour
@@ -113,8 +113,9 @@ def day_says_what_is(page, passes):
 
 
 def says_why_it_is_closed(page, passes, server):
-    """The page shows the reason for a closed slot in the day, in the slot's detail, and next to a booking that the closure cancelled. It also shows
-    the reason when a booking meets a closed slot. Only the desk knows whether the slot is closed."""
+    """The page shows the reason for a closed slot in the day, in the slot's detail, and next to a booking that the closure cancelled. The page also
+    shows the reason if the desk refuses a booking because the slot is closed. The reasons come from the club's list, but only the desk tells whether
+    a slot is closed."""
     good, wanted = pathlib.Path("www/club.json").read_text(), day(25)
     number = (datetime.strptime(wanted, "%Y-%m-%d") - datetime(1970, 1, 1)).days
     page.enter(passes["lists-1"], 25)
@@ -155,7 +156,8 @@ def says_why_it_is_closed(page, passes, server):
 
 
 def looks_six_at_a_time(page, passes, between):
-    """The page sends at most six requests of a day at once. It begins with the facility on a narrow screen, and shows the progress."""
+    """The page sends at most six requests of a day at once. On a narrow screen, it first requests the slots of the facility that it shows. Meanwhile
+    it shows its progress."""
     page.sees(360, "light", 740)
     page.enter(passes["bob-2"], 4)
     page.run("pressIn(byName('facility-choice'), 'Double scull')")
@@ -175,7 +177,7 @@ def looks_six_at_a_time(page, passes, between):
 
 
 def swipes(page, passes):
-    """A narrow screen shows one facility. The member chooses it by its name or by a swipe."""
+    """A narrow screen shows one facility. The member chooses the facility by its name or by a swipe."""
     page.sees(360, "light", 740)
     page.command("Emulation.setTouchEmulationEnabled", enabled=True)
     page.enter(passes["bob-2"], 4)
@@ -220,7 +222,7 @@ def swipes(page, passes):
 
 
 def looks_again(page, passes):
-    """A page that is shown again after a while requests its day again. After only a moment it doesn't request the day."""
+    """If the page was hidden for a while, it requests its day again when it is shown. If it was hidden only for a moment, it doesn't."""
     page.enter(passes["bob-2"], 4)
     own = page.driver.current_window_handle
 
@@ -243,7 +245,7 @@ def looks_again(page, passes):
     page.when("seen.length === 4 && dayIsThere() && cellAt('court-3', 14).button.innerText === 'Full'", "what changed while it was away")
     asked = Counter(address for _, address in page.requests() if "/slots/" in address)
     check(len(asked) == CELLS and set(asked.values()) == {1}, "each slot once", len(asked), Counter(asked.values()))
-    # The page also requests its day again if the member used another view in the meantime.
+    # The page also requests its day again if the member returns to the day from another view.
     curl(page, "DELETE", f"/slots/court-3/{day(4)}/14/bookings/{number}", passes["other"])
     page.view("bookings")
     page.run("lookedAt -= 16000")
@@ -303,7 +305,8 @@ def leaves_out_what_the_pass_denies(page, passes):
     page.enter(narrowed(whole, "actions = book,cancel"), 5)
     check(page.run("return cellAt('court-1', 15).button.innerText") == "Book", "a pass that doesn't look books")
     page.booked("court-1", 15)
-    # The page has no button for a request that the pass would refuse. If the page doesn't know, the desk decides.
+    # The page has no button for a request that the pass doesn't allow. If the page can't know whether the pass allows a request, it offers the
+    # button, and the desk decides.
     page.enter(narrowed(whole, "spend <= 0"), 5)
     check(page.run("return cellAt('court-1', 16).button.disabled && cellAt('court-1', 16).button.innerText.includes('Too many points for your pass')"),
           "no points, and no button", page.run("return cellAt('court-1', 16).button.innerText"))
@@ -323,7 +326,8 @@ def leaves_out_what_the_pass_denies(page, passes):
 
 
 def refusals_say_what_to_do(page, passes, between):
-    """The desk sends the refusals that a member can meet, and a proxy sends the other refusals. The page shows each in both languages."""
+    """The page explains each refusal in both languages. The desk sends those refusals that a member can cause, and the test's proxy sends the
+    others."""
     page.enter(passes["bob-1"], 6)
     page.booked("court-1", 9)
     page.booked("court-1", 10)
@@ -334,7 +338,7 @@ def refusals_say_what_to_do(page, passes, between):
     page.comes("came back", "a cancellation")
     page.book("room-1", 11)
     page.comes("enough points", "fault 20")
-    # A slot becomes full or closed between the look and the press.
+    # A slot becomes full or closed after the page has loaded the slot, and before the member presses the button.
     curl(page, "PUT", f"/slots/court-3/{day(6)}/12/bookings/77", passes["other"], '{"guests":1}')
     page.book("court-3", 12)
     page.comes("Not enough places are free any more", "fault 18")
@@ -343,7 +347,7 @@ def refusals_say_what_to_do(page, passes, between):
     page.book("court-3", 13)
     page.comes("The office closed this slot", "fault 17")
     page.when("cellAt('court-3', 13).button.innerText === 'Closed'", "a slot that was looked at again")
-    # If the key already used a number, the page picks another number.
+    # If the key already has a booking with the number that the page picks, the page picks another number.
     used = 123456789
     curl(page, "PUT", f"/slots/court-2/{day(6)}/12/bookings/{used}", passes["amy-1"], '{"guests":1}')
     curl(page, "DELETE", f"/slots/court-2/{day(6)}/12/bookings/{used}", passes["amy-1"])
@@ -363,13 +367,13 @@ def refusals_say_what_to_do(page, passes, between):
                 sentences.setdefault(text, []).append((language, fault))
         page.run("useWords(WORDS, 'en')")
     check(all(len({fault for _, fault in of}) == 1 for of in sentences.values()), "two faults with one sentence", sentences)
-    # The day shows a refusal of the pass only once.
+    # If the desk refuses the pass, the day shows this refusal only once, and not for each slot.
     for fault, status, words in [(9, 401, "doesn't know this pass"), (10, 403, "revoked this pass"), (4, 401, "didn't arrive")]:
         between.fates["GET"] = [f'answer {status} {{"fault":{fault},"text":"x"}}'] * 200
         page.run("showDay()")
         page.when(f"shownText('day-fault').includes(\"{words}\")", "a refused pass", fault)
         between.fates.clear()
-    # The page shows a message if the desk is away, busy or slow.
+    # The page shows a message if the desk is down, busy or slow.
     page.enter(passes["amy-1"])
     for hour, status, body, words in [(15, 502, "<html>", "isn't available just now (502)"), (16, 504, "<html>", "is taking too long to answer (504)"),
                                       (17, 503, '{"fault":22,"text":"unavailable"}', "is busy just now (503)")]:
@@ -444,7 +448,8 @@ def goes_by_keyboard(page, passes):
 
 
 def finds_a_time(page, passes):
-    """Finds the slots of a kind over a week at some hours, and the next free time. The page remembers the last facility and hides past hours."""
+    """The search finds slots of a kind of facility at given hours of a week, and the next free time. The page remembers the last facility, and hides
+    past hours."""
     page.sees(360, "light", 740)
     page.enter(passes["amy-phone"], 36)
     for name, _, kind, places, *_ in FACILITIES:

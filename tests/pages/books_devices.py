@@ -1,4 +1,4 @@
-"""A part of page_books.py: several devices, new keys, the office's corrections, letters and records."""
+"""A part of page_books.py: several devices, new keys, corrections by the office, letters, and the record of bookings."""
 
 import base64
 import json
@@ -26,7 +26,7 @@ def rotations(passes, front, between):
         check("The page doesn't know whether this slot is booked" in page.run("return byName('to-come').innerText"), "a booking in an unknown state")
         page.visit(f"#{new}", "isShown('day') && state.entries.every((each) => unfinished(each) === null && each.stopped === undefined)", "the new pass")
         check(same_record(page, "amy-son") == 1, "one booking")
-        # A booking of another key waits until the member uses the pass of that key.
+        # A booking that another key began waits until the member uses the pass of that key.
         between.fates["PUT"] = ["silent"] * 100
         page.go(day(12))
         page.book("court-1", 10)
@@ -42,7 +42,7 @@ def rotations(passes, front, between):
 
 
 def devices(passes, front, server):
-    """Transfers the record to another browser by text, by QR code and from the office. Adds a booking by its known number and slot."""
+    """Transfers the list of bookings to another browser by text, by QR code and from the office. Adds a booking whose number and slot are known."""
     with BookingPage(front) as page:
         page.enter(passes["amy-phone"], 13)
         for hour in (9, 10, 11):
@@ -111,7 +111,8 @@ def cancelled_by_the_office(passes, front, server):
 
 
 def at_hand(passes, server):
-    """The page opens without a network, with the list, and continues when the network returns. A missing or old worker causes no harm."""
+    """The page opens without a network and shows the list of bookings. It works again when the network returns. It also works with an old service
+    worker, or with none."""
     front = start_proxy(server.port)
     with BookingPage(front) as page:
         page.enter(passes["hand-1"], 34, "Keep it")
@@ -126,7 +127,7 @@ def at_hand(passes, server):
         base = page.address.rsplit("/", 1)[0]
         manifest = page.command("Page.getAppManifest")
         check(manifest["url"].endswith("/app.webmanifest") and not manifest["errors"] and json.loads(manifest["data"])["display"] == "standalone", "the manifest", manifest)
-        # A browser that accepts this test's certificate reports only that the page is insecure.
+        # A browser that accepts the test's own certificate may report only one fault of the page: its origin isn't secure.
         wrong = [each["errorId"] for each in page.command("Page.getInstallabilityErrors")["installabilityErrors"]]
         check(set(wrong) <= {"not-from-secure-origin"}, "a page for the home screen", wrong)
         check(kept == sorted(f"{base}/{name}" for name in ("book.html", "pass.html", "club.json", "app.webmanifest")), "what the worker keeps", kept)
@@ -143,7 +144,8 @@ def at_hand(passes, server):
         run_proxy(front)
         page.command("Network.emulateNetworkConditions", offline=False, latency=0, downloadThroughput=-1, uploadThroughput=-1)
         page.visit("", "isShown('day') && dayIsThere()", "online again")
-        # The browser shows a new page at once, even if the old worker still runs. Then a new worker keeps only the new page.
+        # The browser immediately shows a new version of the page, even if the old service worker still runs. Then the new service worker caches only
+        # the new version.
         whole = pathlib.Path("www/book.html").read_text()
         pathlib.Path("www/book.html").write_text(whole.replace("</body>", "<p id='newer'></p></body>"))
         page.visit("", "isShown('day') && byName('newer') !== null", "a new page beside an old worker")
@@ -178,8 +180,8 @@ def at_hand(passes, server):
 
 
 def tells_what_is_missing(passes, front):
-    """The desk's count next to the list shows that a booking was cancelled elsewhere, or that a booking isn't listed. The page reminds the member
-    to save the list."""
+    """The page compares its list with the number of bookings that the desk counts. So it shows that a booking was cancelled elsewhere, or isn't in
+    the list. The page reminds the member to save the list."""
     key = "counts-1"
     asks = "globalThis.persistAsked = 0; navigator.storage.persist = async () => { persistAsked += 1; return true; }; navigator.storage.persisted = async () => false;"
     with BookingPage(front, before=asks) as page:
@@ -201,7 +203,7 @@ def tells_what_is_missing(passes, front):
         check(not page.run("return isShown('list-remind')"), "no reminder after the list was taken along")
         gone = first[1]
         curl(page, "DELETE", f"/slots/court-2/{day(35)}/10/bookings/{gone['number']}", passes[key])
-        # The slot of the booking is as full as before, so only the count shows the change.
+        # The slot has as many free places as before, so only the desk's number of bookings shows the change.
         curl(page, "PUT", f"/slots/court-2/{day(35)}/10/bookings/5", passes["other"], '{"guests":1}')
         page.view("day")
         page.view("bookings")
@@ -227,7 +229,7 @@ def tells_what_is_missing(passes, front):
 
 
 def does_more_with_bookings(page, passes, between):
-    """Puts a booking into the calendar, invites somebody, repeats the booking a week later, and changes its hour or its guests."""
+    """Adds a booking to the calendar, invites a friend, books the same hour a week later, and changes the booking's hour or guests."""
     page.enter(passes["more-1"], 20)
     entry = page.booked("court-2", 10)
     page.view("bookings")
@@ -256,7 +258,7 @@ def does_more_with_bookings(page, passes, between):
     page.press("Book for 200 points")
     page.comes("Booked.", "a week later")
     later = page.entries()[-1]
-    # Changes a booking to another hour or more guests. The page books the new slot first, and then cancels the old booking.
+    # Changes a booking to another hour, or to more guests. The page makes the new booking first, and then cancels the old booking.
     more("Change")
     page.run("byName('change-hour').value = '12'; byName('change-guests').value = '1'")
     page.press("Look up")
@@ -303,7 +305,7 @@ def does_more_with_bookings(page, passes, between):
 
 
 def letters(passes):
-    """The link and the QR code in the office's letter contain the pass. The letter program accepts only a pass."""
+    """The link and the QR code in the office's letter contain the pass. deploy/letter refuses a text that isn't a pass."""
     address, letter = "https://desk.example.org", f"{TOP}/deploy/letter"
     link = f"{address}/book.html#{passes['amy-1']}"
     for words in ("en", "de"):

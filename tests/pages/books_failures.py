@@ -1,4 +1,5 @@
-"""A part of page_books.py: lost requests, kills, a page that ends at any point, storage that fails, no network, limits and times."""
+"""A part of page_books.py: lost requests, killed servers and browsers, a page that is closed at any point, failing storage, a missing network, the
+proxy's limits, and measured times."""
 
 import contextlib
 import os
@@ -19,7 +20,7 @@ from page_browser import check
 
 
 def survives_failures(page, passes, between):
-    """The desk carries out a booking and a cancellation once each, no matter how their requests get lost."""
+    """The desk makes each booking once and each cancellation once, no matter how a request or a reply gets lost."""
     page.enter(passes["fails-1"], 7)
     for place, failure in enumerate(FAILURES):
         between.fates["PUT"] = [failure]
@@ -29,14 +30,14 @@ def survives_failures(page, passes, between):
         page.cancelled(entry["number"], failure)
     between.fates["PUT"] = list(FAILURES)
     page.booked("boat-1", 20)
-    # The page shows after a second that it waits, and explains the delay after ten seconds.
+    # After a second, the page shows that it waits for the desk. After ten seconds, it explains the delay.
     between.fates["PUT"] = ["silent"] * 12
     page.book("boat-1", 21)
     page.when("dialogText().includes('The page sends again, attempt')", "sending again")
     page.when("dialogText().includes('nothing is booked twice')", "a long wait")
     between.fates["PUT"] = []
     page.comes("Booked.", "a booking at last")
-    # A slot without an answer shows this, and doesn't affect other slots. A press requests the slot again.
+    # If the desk doesn't reply for a slot, only this slot shows that. A press on the slot requests it again.
     between.fates["GET"] = ["silent"] * 200  # the page may be looking at others still
     page.run("lookAt(cellAt('boat-2', 10), round)")
     page.when("cellAt('boat-2', 10).button.innerText.includes('No answer')", "a slot without an answer")
@@ -50,7 +51,7 @@ def survives_failures(page, passes, between):
 
 
 def pages_end(page, passes, between, server):
-    """A page may end before it sends a request, during the request, or before the reply. The next visit then finishes the request."""
+    """A page may be closed before it sends a request, during the request, or before the reply arrives. The next visit then completes the request."""
     page.enter(passes["ends-1"], 8, "Keep it")
     before = len(amounts("ends-1"))
     for place, fate in enumerate(["slow 3", "late 3", "silent"]):
@@ -61,7 +62,7 @@ def pages_end(page, passes, between, server):
         time.sleep(0.3)
         page.visit("", "allAnswered(1)", "a booking that the next visit finishes")
     check(len(amounts("ends-1")) == before + 3, "bookings of pages that ended")
-    # The page ends between recording and sending a request.
+    # The page is closed after it has recorded a request, and before it sends the request.
     page.go(day(8))
     page.run("""state.sender.run = async () => {}; return state.sender.book({ facility: "court-2", day: arguments[0], hour: 14 }, 0, false)""", day(8))
     check(len(amounts("ends-1")) == before + 3, "nothing was sent")
@@ -75,7 +76,7 @@ def pages_end(page, passes, between, server):
     time.sleep(0.3)
     page.visit("", "allAnswered(1)", "a cancellation that the next visit finishes")
     check(amounts("ends-1")[number][-2] == 1, "it is cancelled")
-    # The desk is away for a while.
+    # The desk is down for a while.
     page.go(day(8))
     server.kill()
     page.book("court-2", 16)
@@ -155,7 +156,7 @@ def tabs_send_nothing_twice(page, passes, between, server):
     page.driver.switch_to.window(second)
     page.comes("Booked.", "the first tab's booking")
     page.when("cellAt('court-1', 10).button.innerText.includes('Yours')", "what the other tab booked")
-    # Both tabs have a request to send, and the browser allows only one writer.
+    # Two tabs try to send the same three requests, and only one tab at a time may send.
     between.fates["PUT"] = ["silent"] * 6
     page.run("return Promise.all([11, 12, 13].map((hour) => state.sender.book({ facility: 'court-1', day: arguments[0], hour }, 0, false)))", day(9))
     page.run("state.sender.run()")
@@ -165,7 +166,7 @@ def tabs_send_nothing_twice(page, passes, between, server):
     puts = {path: count - asked[method, path] for (method, path), count in server.asked().items() if method == "PUT" and day(9) in path}
     puts = {path: count for path, count in puts.items() if count}
     check(len(puts) == 5 and set(puts.values()) == {1}, "a request that was sent twice", puts)
-    # Books a slot a second time, if the member intends a second booking.
+    # A member can book the same slot twice on purpose.
     page.offer("court-1", 10)
     page.press("Book a second time")
     page.run("byName('dialog').querySelector('.main').click()")
@@ -226,7 +227,7 @@ def survives_kills(passes, front, server):
 
 
 def browser_ends(passes, front, between):
-    """If a browser is killed while its booking has no reply, it continues the booking when it runs again."""
+    """If a browser is killed while it waits for the reply to a booking, it completes the booking when it runs again."""
     folder = os.path.abspath("profile")
     with BookingPage(front, words=[f"user-data-dir={folder}"]) as page:
         page.enter(passes["browser-1"], 10, "Keep it")
@@ -276,7 +277,8 @@ def broken_browsers(passes, front, server):
         page.book("court-1", 9)
         page.comes("Nothing was sent.", "a full storage")
         check(all(method == "GET" for method, _ in (server.asked() - looked)), "nothing was sent", server.asked() - looked, asked)
-    # If the storage is full when the reply comes, the page shows the reply. It requests the reply again at the next visit.
+    # If the browser's storage is full when the reply comes, the page shows the reply but can't store it. At the next visit, the page sends the
+    # request again.
     later = """const put = IDBObjectStore.prototype.put;
         IDBObjectStore.prototype.put = function (entry) { if (entry.book) throw new DOMException('full', 'QuotaExceededError'); return put.call(this, entry); };"""
     with BookingPage(front) as page:
@@ -289,7 +291,7 @@ def broken_browsers(passes, front, server):
         page.when("isShown('day') && state.entries.length === 1 && allAnswered()", "the reply again")
         number = page.entries()[0]["number"]
         check(amounts("full-1")[number][0:3] == ("court-1", day(11), 10), "the booking in the file")
-    # If the browser refuses to store passes, the pass lasts as long as the page.
+    # If the browser refuses to store passes, the page knows the pass until it is closed.
     refused = "for (const name of ['localStorage', 'sessionStorage']) Object.defineProperty(globalThis, name, { get() { throw new DOMException('no', 'SecurityError'); } });"
     with BookingPage(front, before=refused) as page:
         page.enter(passes["full-1"])
@@ -324,7 +326,7 @@ def offline(page, passes):
     print("offline it says so, and shows the record")
 
 
-# Measures the milliseconds of a day's requests, and of a whole day.
+# REQUESTS_ALONE measures the milliseconds for the requests of a day. A_DAY measures the milliseconds until the page shows a day.
 REQUESTS_ALONE = HELPERS + """
 const [wanted, done] = arguments;
 const begun = performance.now();
@@ -343,8 +345,8 @@ MOST_SECONDS = 0.7  # that a day may take
 
 
 def days_at_once(passes, server):
-    """The repository's limits of requests apply. The test loads ten days at four a second, and uses ten members behind one address. It also sends a
-    flood under one pass during another member's day."""
+    """The limits of requests are those of the repository's nginx configuration. A member may load ten days at a rate of four a second, and ten
+    members may share an address. A flood of requests under one pass doesn't disturb another member."""
     front = start_proxy(server.port, rate=None)
     log = pathlib.Path("error.log")
 
@@ -355,7 +357,7 @@ def days_at_once(passes, server):
     paths = [f"/slots/{name}/{day(9)}/{hour:02}" for name, *_, opens, shuts in FACILITIES for hour in range(opens, shuts)]
 
     def asks_for_a_day(text, place):
-        """Requests a day of slots in the same way as a page, six at once over one connection. Returns the statuses and the seconds."""
+        """Requests the slots of a day as the page does: at most six at the same time, over one connection. Returns the statuses and the seconds."""
         pathlib.Path(f"day-{place}").write_text("".join(f'url = "https://desk.example.org:{front}{path}"\noutput = "/dev/null"\n' for path in paths))
         begun = time.monotonic()
         statuses = printed("curl", "-sS", "--noproxy", "*", "--cacert", "certificate.pem", "--resolve", f"desk.example.org:{front}:127.0.0.1", "-Z", "--parallel-max", "6",
@@ -371,14 +373,14 @@ def days_at_once(passes, server):
         page.when(f"shownDay() === '{day(10)}' && dayIsThere()", "the tenth day")
         check(page.run("return [...cells.values()].every((cell) => cell.view !== null)"), "a whole day")
         check(limited() == before, "ten days at four a second are limited", limited() - before)
-        # Takes the best of several runs, because other work on the machine changes the times.
+        # The test counts the best of several runs, because other work on the machine can slow down a run.
         for ahead in range(11, 31):
             time.sleep(1)
             bare.append(page.driver.execute_async_script(REQUESTS_ALONE, day(ahead)) / 1000)
             took.append(page.driver.execute_async_script(A_DAY, day(ahead)) / 1000)
             if len(took) >= 5 and min(took) < MOST_SECONDS:
                 break
-    # If the requests take long even without a page, other work keeps the machine busy. The line below then tells so.
+    # If the requests are slow even without a page, other work keeps the machine busy, and the line below says so.
     most = max(MOST_SECONDS, 2.5 * min(bare))
     check(min(took) < most, "a day", took, bare, os.getloadavg())
     time.sleep(3)
@@ -392,7 +394,7 @@ def days_at_once(passes, server):
         rounds.append(max(seconds for _, seconds in together))
         time.sleep(3)
     slowest = min(rounds)
-    # The desk serves one request after the other. So the last of ten members who ask at the same time waits for all the others.
+    # The desk serves one request at a time. If ten members load a day at the same time, the last member waits for the other nine.
     check(slowest < max(most, 12 * alone), "a day of ten members", rounds, alone, os.getloadavg())
     time.sleep(6)
     flood = subprocess.Popen(["curl", "-sS", "--noproxy", "*", "--cacert", "certificate.pem", "--resolve", f"desk.example.org:{front}:127.0.0.1", "-Z", "--parallel-max", "50",
@@ -412,7 +414,7 @@ def days_at_once(passes, server):
 
 
 def is_quick_and_small(passes, front):
-    """Measures a day over loopback with TLS, and the size of the pages that nginx sends."""
+    """Measures how long the page takes to show a day over loopback with TLS, and the size of the pages that nginx sends."""
     zipped, sizes = ("-H", "Accept-Encoding: gzip"), {}
     for name in ("book.html", "pass.html", "demo.html"):
         size, version = fetched(front, f"/{name}", "-o", name, "-D", "head", *zipped, "-w", "%{size_download} %{http_version}").split()
@@ -446,14 +448,15 @@ def is_quick_and_small(passes, front):
     check(all(paint < last for paint, last in paints) and min(paint for paint, _ in paints) < 500, "the first paint doesn't wait for the day", paints)
     took.sort()
     bare.sort()
-    # On a machine with other work, the requests alone take longer than they should.
+    # If other work keeps the machine busy, even the requests alone are too slow.
     check(took[2] < max(500, 2.5 * bare[2]), "a day of six facilities", took, bare)
     print(f"a day of {CELLS} slots in {took[0]:.0f} to {took[-1]:.0f} ms, of which the requests alone take {bare[0]:.0f} to {bare[-1]:.0f}; first paint after {min(each for each, _ in paints):.0f} ms; as they are "
           f"sent book.html has {sizes['book.html']:,} bytes, pass.html {sizes['pass.html']:,}")
 
 
 def waits_as_the_proxy_wants(passes, front):
-    """Sends more requests at once than the proxy allows. In the end the page has loaded every slot, and has made every booking."""
+    """The page sends more requests than the proxy allows, and repeats the refused requests. In the end it has loaded each slot and made each
+    booking."""
     with BookingPage(front) as page:
         page.enter(passes["other"])
         for ahead in range(20, 24):

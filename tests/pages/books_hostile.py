@@ -1,4 +1,4 @@
-"""A part of page_books.py: links, lists, stored values and replies that anybody may have made, and odd passes and clubs."""
+"""A part of page_books.py: hostile links, lists, stored values and replies, and odd passes and clubs."""
 
 import json
 import pathlib
@@ -9,8 +9,8 @@ from page_browser import check
 
 
 def lists_send_nothing(page, passes, server):
-    """A list from a link or a paste sends no booking by itself. The page looks up the list's bookings, and sends one only after a press on a button
-    that names slot and points."""
+    """If the member opens a link with a list of bookings, or pastes such a list, the page only looks up these bookings. It sends a booking only after
+    a press on a button with the slot and the points."""
     key, ahead = "lists-1", 30
     page.enter(passes[key], ahead, "Keep it")
     own = page.booked("court-1", 9)
@@ -44,7 +44,7 @@ def lists_send_nothing(page, passes, server):
     page.view("day")
     check("Yours, 1 person" in page.run("return cellAt('court-1', 9).button.innerText"), "its slot is hers")
     check("4 of 4 free" in page.run("return cellAt('court-1', 10).button.innerText"), "a slot that only a list names")
-    # A press on the button that names slot and points sends the listed booking once.
+    # A press on this button sends the booking once.
     page.view("bookings")
     page.run("""[...byName('to-come').children].find((each) => /Number 10(?![0-9])/.test(each.innerText)).querySelector('button').click()""")
     page.when("dialogText().includes('Book for 300 points')", "the press")
@@ -73,7 +73,7 @@ request.onsuccess = () => {
 
 
 def odd_fragments(passes, own):
-    """More than 100 handmade fragments of an address: passes, lists and screens that are cut, doubled, escaped, or empty."""
+    """Returns more than 100 URL fragments. They contain passes, lists and screens that are cut off, doubled, escaped or empty."""
     amy, other = passes["amy-1"], passes["other"]
     line = f"{own['number']}+court-1+{own['day']}+{own['hour']:02}"
     ends = ["record=", "record", "record=;", "record=lists-1", "record=Lists", f"record=lists-1;{line}", f"record=lists-1;{line}+cancel", f"record=lists-1;{line}+guests+0",
@@ -96,7 +96,8 @@ def odd_fragments(passes, own):
 
 
 def nothing_by_itself(page, passes, between, server):
-    """Without a press, no fragment, message, stored value or foreign reply causes a PUT or a DELETE, or changes stored data."""
+    """Unless the member presses a button, no URL fragment, message, stored value or forged reply makes the page send a PUT or a DELETE, or change
+    stored data."""
     page.enter(passes["lists-1"], 31, "Keep it")
     own = page.booked("court-1", 9)
     page.visit("", "isShown('day') && dayIsThere() && allAnswered(1)", "a member's page")
@@ -132,7 +133,7 @@ def nothing_by_itself(page, passes, between, server):
         for (const name of ["online", "offline", "focus", "visibilitychange", "pageshow"]) { window.dispatchEvent(new Event(name)); document.dispatchEvent(new Event(name)); }""")
     time.sleep(1)
     unchanged("a message")
-    # Foreign replies to requests that only look.
+    # Forged replies to GET requests.
     for place, reply in enumerate(['200 {"booking":"lists-1/8","charge":0,"left":0}', '200 [{"key":"lists-1","number":8,"book":null}]', "200 <html>", "200 null", '409 {"fault":13,"text":"x"}',
                                    '404 {"fault":15,"text":"x"}', '401 {"fault":9,"text":"x"}', '403 {"fault":10,"text":"x"}', '200 {"fault":9}', "302 x", "204 ", "500 {}", '503 {"fault":22}',
                                    '200 {"member":"amy","balance":-1,"quota":0,"open":0,"spent":0}', '200 {"member":"<b>","balance":5,"quota":5,"open":0,"spent":0}']):
@@ -150,7 +151,7 @@ def nothing_by_itself(page, passes, between, server):
         time.sleep(0.3)
         unchanged("a club's list", text)
     pathlib.Path("www/club.json").write_text(good)
-    # The page neither sends nor deletes stored values that no page wrote.
+    # The browser's storage has values that the page can't have written. The page neither sends nor deletes these values.
     odd_values = ["", "null", "7", "[]", "{}", "x", "[null]", '[{"text":7,"name":"x"}]', '[{"text":"x","name":"x"}]', '[{"text":"x","name":""}]', json.dumps([{"text": passes["amy-1"], "name": "a  b"}])]
     names = ["passes", "pass", "screen", "language", "loans", "spares", "search", "last", "taken lists-1"]
     for value in odd_values:
@@ -177,7 +178,8 @@ def nothing_by_itself(page, passes, between, server):
 
 
 def keeps_each_pass(page, passes):
-    """A link never replaces a stored pass, and a screen keeps its own pass. Passes have names, and the member can choose one."""
+    """A pass from a link is stored only after a press on a button, and replaces no stored pass. The hall's screen stores a separate pass. The member
+    can name the passes and choose one."""
     texts = "JSON.parse(localStorage.passes ?? '[]').map((each) => each.text)"
     page.enter(passes["amy-1"], keeps="Keep it")
     page.enter(narrowed(passes["bob-1"], "kind = court"))
@@ -206,7 +208,7 @@ def keeps_each_pass(page, passes):
     page.visit("#screen", "document.querySelectorAll('#screen td.free').length > 50", "the screen again")
     check(page.run("return shownText('notices')") == "", "it asks once", page.run("return shownText('notices')"))
     page.visit("", "isShown('day') && state.key === 'amy-1'", "her own pass is still there")
-    # If the desk refuses a pass, the page changes to another pass.
+    # If the desk refuses a pass, the page uses another stored pass.
     page.visit(f"#{printed(TOOL, 'mint', '--root', ROOT, '--id', 'key:amy-1').strip()}", "shownText('day-fault').includes(\"doesn't know this pass\")", "a refused pass")
     page.press("Enter another pass", "day-fault")
     page.when("isShown('welcome') && document.activeElement === byName('given')", "another one is entered")
@@ -236,13 +238,13 @@ def odd_passes(page, passes):
         check(page.run("return document.activeElement === byName('given') && byName('given').getAttribute('aria-invalid') === 'true'"), "where it is")
         page.visit(f"#{text}", f"shownText('given-fault').includes(\"{words}\")", "an odd pass in a link", text)
         check("#" not in page.driver.current_url, "its address is cleaned")
-    # The page accepts a pass in each form.
+    # The page accepts passes in V1, V2 and JSON.
     for form in ("v1", "v2", "json"):
         text = printed(TOOL, "convert", "--form", form, given=whole)
         page.run("byName('given').value = arguments[0]; byName('use').click()", f"  {text}")
         page.when("isShown('day') && dayIsThere()", "a pass in", form)
         page.run("forgetPass()")
-    # Passes that the desk doesn't know, with an unknown limit, or without a key's name.
+    # Passes that the desk refuses, that have an unknown limit, or that name no key.
     for identifier in ("key:amy-1", "amy"):
         text = printed(TOOL, "mint", "--root", ROOT, "--id", identifier).strip()
         page.visit(f"#{text}", "shownText('day-fault').includes(\"doesn't know this pass\")", "a pass that the desk refuses", text)

@@ -1,4 +1,4 @@
-"""A part of page_books.py: a lent part of a pass, its link and code, and the trial club."""
+"""A part of page_books.py: lending a part of a pass by a link or a QR code, and the trial club."""
 
 import base64
 import json
@@ -14,7 +14,8 @@ from page_browser import Browser, check, policy_holds
 
 
 def lends(passes, front, between):
-    """A member lends a part of a spare pass, which counts separately, or otherwise of her own pass. The receiver can only book with it."""
+    """A member lends a part of a spare pass, whose points the desk counts separately. If she has no spare pass, she lends a part of her own pass. The
+    receiver can only book with the lent part."""
     def choose(page, group, value):
         page.run("const it = [...byName(arguments[0]).querySelectorAll('input')].find((each) => each.value === arguments[1]);"
                  "it.checked = true; it.dispatchEvent(new Event('input', { bubbles: true }));", group, value)
@@ -135,9 +136,7 @@ def lends(passes, front, between):
 
 
 def tries_the_club(address):
-    """Tries the trial club from a folder, in each browser. The member changes a booking, repeats it and shares it, and the day marks it. The page
-    compares the list with the desk's count, receives a list by a link, and reminds the member. A loan has a QR code, and its holder sees what the
-    loan allows."""
+    """Uses the trial club in each browser, from a file. The member changes, repeats and shares a booking, and lends a part of a pass by a QR code."""
     import page_engines
     for engine_of in (page_engines.Chromium, page_engines.Firefox, page_engines.WebKit):
         with engine_of() as engine:
@@ -205,7 +204,7 @@ def tries_the_club(address):
             print(f"{engine.name} {engine.version} tries the club from a folder: changes, books again, invites, compares and adds a list, lends, and books what was lent")
 
 
-# Returns a loan's spare pass, its key, its lines and its sentence, and the number of stored loans.
+# Returns the spare pass of a loan, the key, the caveats, the page's sentence about the loan, and the number of stored loans.
 MADE = """
 const { text } = splitGiven(byName("lend-address").value.split("#")[1]);
 const pass = readPass(text);
@@ -214,7 +213,7 @@ return [keyName(pass), pass.caveats.map(characters), byName("lend-made-says").te
 
 
 def made(page):
-    """Presses twice to lend. Returns the loan, or the page's message."""
+    """Presses the button for lending twice. Returns the loan, or the page's message."""
     page.run("byName('lend-made').hidden = true; byName('lend-make').click(); byName('lend-make').click()")
     page.driver.execute_async_script(HELPERS + "settled(() => !isMaking).then(arguments[0])")
     return page.run(MADE) if page.run("return isShown('lend-made')") else page.run("return shownText('lend-news')")
@@ -232,9 +231,9 @@ def text_of(page, script):
 
 
 def lends_what_the_pass_opens(address):
-    """Lends a part of a pass in the trial club. A loan uses a spare pass of the member that the desk accepts. If there is no such pass, the page
-    first tells the member so. A pass with limits offers no more than it allows. A second press makes no second loan. Without the club's list, a
-    booking still offers its possible actions."""
+    """Lends a part of a pass in the trial club. A loan uses a spare pass of the same member that the desk accepts. If there is none, the page tells
+    the member so before it makes a loan. Under a pass with limits, the page offers only what the pass allows. A second press makes no second loan.
+    Without the club's list, the page still offers the actions for a booking."""
     def opens(page, end=""):
         opens_lend(page, address + end)
 
@@ -243,7 +242,7 @@ def lends_what_the_pass_opens(address):
         opens(page)
         key, _, says, count = made(page)
         check(key == "anna-lend-1" and "limits of your own pass" not in says and count == 1, "one loan of two presses", key, says, count)
-        # A spare pass that the office replaced, and a spare pass of another member.
+        # Stores a spare pass that the office has replaced, and a spare pass of another member.
         renewed = text_of(page, "return writePass({ ...readPass(await passToTry('anna-lend-1')), signature: new Uint8Array(32) })")
         theirs = text_of(page, "return passToTry('others')")
         for spares, wanted in [([renewed, theirs], None), ([renewed], None), ([renewed, theirs, text_of(page, "return passToTry('anna-lend-2')")], "anna-lend-2")]:
@@ -252,7 +251,7 @@ def lends_what_the_pass_opens(address):
             which = page.run("return shownText('lend-which')")
             check((wanted is None) == ("None of your spare passes can be used." in which and "can cancel your bookings" in which), "which spare pass is taken", wanted, which)
             check(made(page)[0] == (wanted or "anna-1"), "the pass that is lent", wanted)
-        # Uses such spare passes again, but the page notices the fault only after the press.
+        # Stores the same two spare passes, but now the page learns only after the press that the desk refuses them.
         page.run("localStorage.removeItem('demo loans'); localStorage['demo spares'] = JSON.stringify([arguments[0]])", renewed)
         opens(page)
         page.run("unfit.clear(); showChosen()")
@@ -269,7 +268,7 @@ def lends_what_the_pass_opens(address):
             check(values[0] == how and (points is None or len(values[1]) == 2 and values[2] == points), "what it offers", lines, values)
             key, found, says, _ = made(page)
             check(key == "anna-1" and found[:len(lines)] == lines and says.endswith("The limits of your own pass apply too."), "a part of that pass", key, found, says)
-        # Shows the week under three passes. One pass only looks, one has too few points, and one has a limit that excludes a day.
+        # Shows the week under three passes: a pass that allows only views, a pass with too few points, and a pass with a limit that excludes a day.
         for line, words, count in (("actions = view", "Free: Court", 0), ("spend <= 100", "Too many points for your pass", 0), ("spend <= 300", "Free: Court", 14)):
             opens(page, "#" + text_of(page, f"return writePass(await narrowed(readPass(await passToTry('anna-1')), ['kind = court', '{line}']))"))
             page.run("byName('to-day').click(); byName('to-find').click(); changeSearch({ kind: 'court', from: 19, to: 21 }); showFind(daysLater(clubMoment().slice(0, 10), 11))")
@@ -304,8 +303,8 @@ FULL = "Storage.prototype.setItem = () => { throw new DOMException('full', 'Quot
 
 
 def says_what_it_keeps(address):
-    """If the storage is full, the page knows a loan until the member leaves the page. A holder sees the desk's number of points, if the pass shows
-    the account. A search under an ended pass shows that the pass has ended."""
+    """If the browser's storage is full, the page knows a loan until the member leaves the page. If a lent pass allows its holder to see the account,
+    the page shows the points that the desk counts. A search under an expired pass shows that the pass has expired."""
     with Browser() as page:
         page.helpers = HELPERS
         opens_lend(page, address)
@@ -317,7 +316,7 @@ def says_what_it_keeps(address):
         check(page.run("return byName('loans').children.length") == 3, "three loans are listed", page.run("return shownText('loans')"))
         opens_lend(page, address)
         check(made(page)[0] == "anna-lend-1" and page.run("return byName('loans').children.length") == 1, "after a reload, as it said")
-        # The points that the desk counted, and the points of this browser.
+        # The page shows the points that the desk counts, and those that were spent in this browser.
         page.run("byName('to-day').click(); showDay(daysLater(clubMoment().slice(0, 10), 20))")
         time.sleep(1)
         page.run("cellAt('court-1', 20).button.click(); byName('dialog').querySelector('.main').click()")
@@ -339,13 +338,13 @@ def says_what_it_keeps(address):
     print("a full store, so many passes, and whose number the holder's points are: the page says it")
 
 
-# Passes of the trial club that differ in one limit.
+# Passes of the trial club that differ only in one limit.
 MANY = "return Promise.all(Array.from({ length: 22 }, async (_, count) => writePass(await narrowed(readPass(await passToTry('anna-1')), [`spend <= ${9000 + count}`]))))"
 
 
 def keeps_so_many(address):
-    """The browser doesn't store the 21st pass or the 21st spare pass. The page states the limit, and the new pass can replace a pass that the
-    member removes."""
+    """The page stores at most 20 passes and 20 spare passes. It says so when the member adds another pass. After the member has removed a pass, the
+    page stores the new one."""
     with Browser() as page:
         page.helpers = HELPERS
         opens_lend(page, address)
@@ -390,7 +389,8 @@ def keeps_so_many(address):
 
 
 def club_to_try():
-    """web/demo.html, opened from a folder, books, cancels and lends with a desk in the page. It loads and sends nothing."""
+    """If web/demo.html is opened from a folder, the member can book, cancel and lend with the desk that is part of the page. The page loads and sends
+    nothing."""
     shutil.copy(f"{TOP}/web/demo.html", "demo.html")
     policy_holds(pathlib.Path("demo.html"), {"trusted-types": "'none'"}, "new Function|sendBeacon", "pass.html")
     address = pathlib.Path("demo.html").absolute().as_uri()
@@ -415,7 +415,7 @@ def club_to_try():
     lends_what_the_pass_opens(address)
     says_what_it_keeps(address)
     tries_the_club(address)
-    # If a club's page is opened from a folder, it explains this and links to the demo.
+    # If web/book.html is opened from a folder, it explains that it needs a desk, and links to web/demo.html.
     shutil.copy(f"{TOP}/web/book.html", "book.html")
     with Browser() as page:
         page.open(pathlib.Path("book.html").absolute().as_uri())
@@ -428,9 +428,8 @@ def club_to_try():
 
 
 def lends_in_a_minute(passes, server):
-    """A member with a letter lends her son 600 points for courts until Friday. He books on another telephone with the link that she sent. Each
-    press comes a second after the previous press. All presses together take less than a minute. The test runs this scene in each pair of
-    browsers."""
+    """A member with a letter lends her son 600 points for courts until Friday. Her son opens the link on another telephone and books. The test waits
+    a second before each press, and both need less than a minute together. The test runs with each pair of browsers."""
     import page_engines
     kinds = [page_engines.Chromium, page_engines.Firefox, page_engines.WebKit]
     for place, (hers, his) in enumerate(zip(kinds, kinds[1:] + kinds[:1])):

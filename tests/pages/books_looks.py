@@ -1,4 +1,4 @@
-"""A part of page_books.py: how the page looks, on phones, in the hall and in other browsers."""
+"""A part of page_books.py: how the page looks on phones, on the hall's screen and in other browsers."""
 
 import base64
 import json
@@ -13,8 +13,8 @@ from page_browser import check
 
 
 def looks_right(passes, front):
-    """Takes pictures. Checks for sideways scrolling from 320 pixels to a wall screen. Checks contrasts, targets and names in each view, language
-    and colour scheme."""
+    """Takes pictures. At widths from 320 pixels up to a wall screen, no view scrolls sideways. Checks the contrasts, the sizes of buttons, and the
+    names for screen readers in each view, language and colour scheme."""
     texts = 0
     for language in ("en-US", "de-DE"):
         with BookingPage(front, language=language) as page:
@@ -66,7 +66,7 @@ LOGO = ('<svg xmlns="http://www.w3.org/2000/svg" viewBox="0 0 20 20"><circle cx=
 
 
 def on_three_phones(passes, front):
-    """Takes pictures of a day, a booking and my bookings for README, next to each other. Also takes pictures of a day in three widths for
+    """Takes a picture for README that shows a day, a booking and the list of bookings next to each other. Takes pictures of a day in three widths for
     docs/BOOKING.md."""
     good = pathlib.Path("www/club.json").read_text()
     club = {**json.loads(good), "contact": "Tel. 030 1234", "closures": [{"facility": "court-1", "day": day(27), "from": 13, "until": 15, "why": "Youth training"}],
@@ -147,8 +147,8 @@ def hall_screen(passes, front, server):
 
 
 def shows_the_club(page, passes):
-    """The page shows contact, imprint, privacy page, a logo, and a sentence for a facility. Invalid values count as missing. With an ended pass,
-    the page shows the contact."""
+    """The page shows the club's contact, imprint, privacy page and logo, and the sentences about facilities. It treats invalid values as missing.
+    With an expired pass, the page shows the contact."""
     good = pathlib.Path("www/club.json").read_text()
     more = {"contact": "Tel. 030 1234", "imprint": "https://club.example/imprint", "privacy": "javascript:alert(1)", "logo": "data:image/svg+xml;base64,PHN2ZyB4bWxucz0iaHR0cDovL3d3dy53My5vcmcvMjAwMC9zdmciLz4="}
     club = {**json.loads(good), **more}
@@ -195,7 +195,7 @@ def shows_the_club(page, passes):
 
 
 def large_letters(passes, front):
-    """Checks double letter size at 360 pixels, and an accessibility audit, in each view."""
+    """Checks each view with doubled letter size at 360 pixels. Runs an accessibility audit of each view."""
     for language in ("en-US", "de-DE"):
         with BookingPage(front, language=language, letters=32) as page:
             page.sees(360, "light", 740)
@@ -216,7 +216,7 @@ def large_letters(passes, front):
     print("with twice the letters at 360 pixels nothing is cut off and no word is broken; an audit finds nothing")
 
 
-# The week of a search may scroll sideways in its own area.
+# Finds elements that are too wide. Only the table of a search's week may scroll sideways.
 TOO_WIDE = """
 return [...document.querySelectorAll("button.slot, .slot span, .slot small")].filter((each) => each.offsetParent !== null
   && (each.scrollWidth > each.clientWidth + 1 && each.tagName === "BUTTON" || each.getBoundingClientRect().right > each.closest(".slot").getBoundingClientRect().right + 1
@@ -225,8 +225,7 @@ return [...document.querySelectorAll("button.slot, .slot span, .slot small")].fi
 
 
 def other_engines(passes, server):
-    """The main tasks in Firefox and WebKitGTK. They are looking, booking, cancelling, lending, finding, several passes, a pass's limits, no
-    network, and another visit."""
+    """Runs the main tasks in Firefox and WebKitGTK."""
     for place, engine in engines():
         front, key, wanted = start_proxy(server.port), f"engine-{place}", day(50)
         address = f"https://{engine.host}:{front}/book.html"
@@ -244,7 +243,7 @@ def other_engines(passes, server):
         check([rest[:4] for rest in amounts(key).values()] == [("court-1", wanted, 10, 1)], engine.name, "the file", amounts(key))
         others = engine.run("return performance.getEntriesByType('resource').map((each) => each.name).filter((each) => !each.startsWith(location.origin) && !each.startsWith('data:'))")
         check(not others, engine.name, "the page asks for", others)
-        # Finds a time for a kind, over a week.
+        # Searches a week for a free time of a kind of facility.
         engine.tap("//button[@id='to-find']")
         engine.when("shown('find-looked').includes(':')", "a week")
         engine.press("Boats", "find-kinds")
@@ -279,7 +278,7 @@ def other_engines(passes, server):
         engine.when("shown('dialog').includes('400 points came back')", "a cancellation")
         keep(f"{engine.name}-cancelled.png", base64.b64encode(engine.picture()))
         engine.press("Close", "dialog")
-        # The lent part, next to the member's own pass.
+        # The holder has the lent part and also a pass of his own.
         engine.open(lent)
         engine.when(f"{DAY_THERE} && shown('pass-says').includes('0 of 600 points')", "what was lent")
         engine.press("Keep it", "notices")
@@ -288,7 +287,7 @@ def other_engines(passes, server):
         check(engine.run("return [...document.querySelectorAll('#facility-choice button')].every((each) => each.textContent.startsWith('Court'))"), engine.name, "courts alone")
         engine.run("const who = document.getElementById('who'); who.value = arguments[0]; who.dispatchEvent(new Event('change'))", passes[key])
         engine.when("document.querySelectorAll('#facility-choice button').length === 6", "her own pass again")
-        # A pass that only looks, and a pass that has ended.
+        # A pass that allows only views, and an expired pass.
         engine.open(f"{address}#{narrowed(passes[key], 'actions = view')}")
         engine.when(f"{DAY_THERE} && [...document.querySelectorAll('#slots button')].every((each) => each.disabled)", "a pass that looks")
         engine.open(f"{address}#{narrowed(passes[key], f'until < {day(0)}T00:00')}")

@@ -1,7 +1,7 @@
 #!/bin/sh
 # `bin/pages` makes the pages from web/src, and their modules pass their tests.
 #
-# The modules' tests are in web/tests, and Node's test runner runs them.
+# Node's test runner runs the modules' tests, which are in web/tests.
 #
 # pytestmark = [mark.browser, mark.quick, mark.wants("nodejs")]
 set -eu

@@ -57,8 +57,8 @@ SHORT = '"i":"keyid",' + S64 + "}"
 
 
 def faulty_texts():
-    """Texts that aren't passes for the desk. Each has the fault's number, and words of the page's
-    explanation."""
+    """Returns texts that aren't passes for the desk, each with its fault number and with words from the
+    page's explanation."""
     v1, v2, known = passes.v1_bytes(README_PASS), passes.v2_bytes(KEYID), written("v2", KEYID)
     third_v1 = v1.replace(packet(b"cid", b"test = caveat"), packet(b"cid", b"a") + packet(b"vid", b"b") + packet(b"cl", b""))
     third_v2 = field(2, b"a") + field(4, b"") + b"\0"
@@ -112,7 +112,7 @@ def faulty_texts():
         (with_member('"l":"a","l64":"YQ"'), 2, "l and field l64 are both there"), (with_member('"l64":"_"'), 2, "Field l64 breaks off"),
         (with_member('"s":"0123456789abcdef0123456789abcdef"'), 2, "s and field s64 are both there"),
         (with_member('"c":[{"i":"a","v64":"_w","x":1}]'), 2, "Caveat 1 has a field “x”"), (with_member('"__proto__":1'), 2, "“__proto__”"),
-        # third-party caveats, too many caveats, too long texts
+        # third-party caveats, too many caveats, and texts that are too long
         (unpadded(third_v1), 3, "Caveat 1 needs"), (many(0, third_v2), 3, "Caveat 1 needs"),
         (unpadded(b"\2" + field(2, b"a") + b"\0" + field(1, b"") + third_v2 + b"\0" + field(6, KEYID.signature)), 3, "Caveat 1 needs"),
         (with_member('"c":[{"i":"a"},{"i":"a","v":"b"}]'), 3, "Caveat 2 needs"), (with_member('"c":[{"i":"a","v64":"_w"}]'), 3, "Caveat 1 needs"),
@@ -126,7 +126,7 @@ def faulty_texts():
 
 
 def readable_texts():
-    """Texts at the limits of the reader."""
+    """Returns unusual texts that passtool accepts, such as a pass with 64 caveats."""
     v2, known = passes.v2_bytes(KEYID), written("v2", KEYID)
     return [
         *(it["text"] for it in VECTORS["also read as the third pass"]), known, f" \n{known}\n ", written("v1", KEYID), written("json", KEYID),
@@ -141,9 +141,9 @@ def readable_texts():
 
 
 def compare_reading(text, answer):
-    """Checks that the page reads a text in the same way as passtool. Returns the number of the fault, or 0
-    without a fault."""
-    # The page differs from passtool only in dropping spaces around a text, except for the length.
+    """Checks that the page and passtool read a text in the same way. Returns the fault number, or 0 if the
+    text has no fault."""
+    # Unlike passtool, the page ignores spaces around a text, except when it checks the text's length.
     cut = text.removesuffix("\n")
     wanted = 1 if len(cut.encode()) > 8192 else reading_by_tool(cut)
     if isinstance(wanted, int):
@@ -162,7 +162,7 @@ def answers_faulty_texts(page):
     for (text, fault, words), answer in zip(rows, answers):
         check(compare_reading(text, answer) == fault, "another fault", text, fault, answer)
         check(words in answer["fault"][1], "the page doesn't say what is wrong", text, words, answer)
-    # Cuts off a known text at any place. An empty text isn't a fault.
+    # Cuts off a valid text after each number of letters. For an empty text, the page shows no fault.
     for form, it in [("v1", README_PASS), ("v2", KEYID), ("json", README_PASS)]:
         whole = written(form, it)
         cuts = [whole[:length] for length in range(1, len(whole))]
@@ -177,8 +177,7 @@ def answers_faulty_texts(page):
 
 
 def changed(text, what, letters):
-    """Returns the text without a letter, with one letter more, with a letter twice, or with a different
-    letter."""
+    """Returns the text with one change: a letter is removed, inserted, doubled or replaced."""
     place = draw.randrange(len(text))
     rest = text[place + 1:]
     return text[:place] + [rest, draw.choice(letters) + text[place] + rest, text[place] * 2 + rest, draw.choice(letters) + rest][what]
@@ -201,8 +200,7 @@ def bytes_of(text):
 
 
 def with_third_party(text):
-    """Adds a third-party field at a possible place. The field turns an existing caveat into a third-party
-    caveat."""
+    """Adds a field that only third-party caveats have, at a random place."""
     if text.startswith("{"):
         return re.sub(r'\{"i', draw.choice(['{"v":"","i', '{"l64":"_w","i']), text, count=1)
     data = bytes_of(text)
@@ -233,7 +231,7 @@ def reads_spoiled_texts(page):
           f"{counts[3]} have third-party caveats")
 
 
-# Adds cases to the vectors: texts that are almost caveats, and values at their limits.
+# Caveat texts in addition to docs/vectors.json: almost valid texts, and values at their limits.
 NEAR_MISSES = [
     " ", "kind", "kind =", "kind = ", "kind=court", "kind  = court", "kind = court ", " kind = court", "kind = courts", "kind = court\n", "kind = court,boat",
     "kınd = court", "facility = ,", "facility = a,", "facility = ,a", "facility = a, b", "facility = a,,b", "facility = A", "facility = a_b", "facility = é",

@@ -1,24 +1,24 @@
 #!/usr/bin/env -S /usr/bin/python3 -B
 """`web/book.html` books, cancels and lends behind nginx in three browsers, with lost requests, kills and hostile input.
 
-The test uses the desk over a file, behind nginx with TLS and the repository's configuration. It runs in Debian's chromium, and a shorter part in
-Firefox and WebKitGTK. It covers:
-- the day, a booking, a cancellation and the account, in English and German
-- the limits of a pass, the keyboard alone, swipes, six requests at once, and a page that the member opens again
-- requests that get lost in each way, and kills of the desk
-- pages, tabs and browsers that end at each point
-- 200 bookings and cancellations while the test kills the server 30 times; the record must match the table of bookings, and the totals their sums
+The desk uses a file, and runs behind nginx with TLS and the repository's configuration. The test runs in Debian's chromium. A shorter part also runs
+in Firefox and WebKitGTK. It covers:
+- the views of a day, a booking, a cancellation and the account, in English and German
+- the limits of a pass, use without a mouse, swipes, six requests at the same time, and a page that the member opens again
+- requests that get lost in each possible way, and a desk that is killed
+- pages, tabs and browsers that are closed at each point
+- 200 bookings and cancellations while the test kills the server 30 times; afterwards the page's list must match the desk's table
 - odd passes, an odd or missing list of the club, a browser that stores nothing, a wrong clock, and replies that aren't the desk's
-- links, lists, messages, stored values and replies that anybody may have made; without a press, the page sends and replaces nothing
-- a lent part of a pass: its sentence, its link and QR code, its holder's page, and the time that it takes
-- several passes, and the page without a network
-- the transfer of the record to another device, and the record next to the desk's count
+- hostile links, lists, messages, stored values and replies; the page changes nothing unless the member presses a button
+- lending a part of a pass: the page's sentence, the link, the QR code, the receiver's page, and the time that lending takes
+- several passes in one browser, and the page without a network
+- the transfer of the list of bookings to another device, and the comparison of this list with the desk's count
 - the output of deploy/record, deploy/club_json and deploy/letter
-- a search for a time over a week, and a booking that the member changes, repeats, or puts into a calendar
-- days at the same time, under the repository's limits of requests
+- a search of a week for a free time, and a booking that the member changes, repeats, or adds to a calendar
+- members who load days at the same time, under the repository's limits of requests
 - the hall's screen, names for screen readers, contrasts, widths, and reduced motion
-- the page's policy: no request goes to another origin, and no other script runs
-- the time that a day takes, and the size of the pages that nginx sends
+- the page's content security policy: no request goes to another origin, and no foreign script runs
+- the time until the page shows a day, and the size of the pages that nginx sends
 
   tests/pages/page_books.py                  all of it
   tests/pages/page_books.py FOLDER [STEP ..]     and pictures of the page into this folder; these functions alone

@@ -5,11 +5,11 @@ The test runs in Debian's chromium. Its main parts also run in Firefox and WebKi
 bytes as `passtool narrow`. It reads 2,000 spoiled passes and 2,000 texts of caveats in the same way as `passtool`, and explains each fault. The
 page works by keyboard alone, fits a phone, and sends nothing. The page loads only the club's list, if the server has one.
 
-tests/reference has the formats. The test covers:
-- texts that are not passes: the formats' examples and the spoiled texts; the page's answer to each must be passtool's answer
-- each choice with its sentence and its line, addresses, copying and sharing, and a browser that doesn't sign
-- names for a screen reader, contrasts, and the page's policy, under which no other script runs
-- in each browser: a pass that the page reads, narrows and hands on by link and QR code, the page's texts, and its facts about the club
+The test covers:
+- texts that aren't passes: the page must report the same fault as passtool
+- each choice with its sentence and its caveat, addresses, copying and sharing, and a browser that can't sign
+- names for screen readers, contrasts, and the page's content security policy, under which no foreign script runs
+- in each browser: how the page reads a pass, narrows it and shows it as a link and a QR code, the page's texts, and the data of the club
 
   tests/pages/page_narrows.py            all of it
   tests/pages/page_narrows.py FOLDER     and pictures of the page into this folder
@@ -70,7 +70,7 @@ SENTENCES = {
     "actions = view,cancel,account": "The holder may only look at slots, cancel bookings or look at the account.",
     "shoe = red": "The desk doesn't understand this limit, so it refuses the pass.",
 }
-# The lines that fields make, also from other spellings.
+# The caveat that each choice adds for an input, also for inputs in other spellings.
 CHOSEN = [
     ("facility = court-1,court-2,room-1", [("facility", " court-1 , court-2;room-1 ")]), ("weekday = sat,sun", [("weekday", ["sun", "sat"])]),
     ("actions = view,book,account", [("actions", ["account", "view", "book"])]), ("guests <= 49", [("guests", " 49 ")]),
@@ -79,7 +79,7 @@ CHOSEN = [
         "days = 2026-05-01..2026-05-01", "weekday = mon,tue,wed,thu,fri,sat,sun", "hours = 18-20", "hours = 00-24", "until < 2026-05-01T18:00",
         "guests <= 0", "spend <= 600", "spend <= 999999999")),
 ]
-# For these inputs the page explains the required form, and adds no line.
+# For these inputs the page explains the required form, and adds no caveat.
 WRONG = {
     "facility": ["Court-1", "court 1 -", "a b c d e f g h i", "é"], "until": ["1999-12-31T23:59", "2026-05-01T18:00:30"],
     "guests": ["50", "-1", "two", "01", "1.5"], "spend": ["1000000000", "1,000", "1e3", "-5"], "days-first": ["2026-05-01"], "days-last": ["2026-05-01"],
@@ -117,7 +117,7 @@ def choices_say_what_they_add(page):
 
 
 def half_a_date_is_no_date(page):
-    """A half-entered date has no value, but the page doesn't treat it as empty."""
+    """The value of an incomplete date field is empty, but the page doesn't treat the field as empty."""
     page.visit(AMY)
     page.run("byId('days-first').focus()")
     page.press("05", Keys.TAB)
@@ -154,7 +154,7 @@ NINE_LINES = ["kind = court", "facility = court-1,court-2", "actions = view,book
 
 
 def goes_by_keyboard(page):
-    """Goes from an empty page to a pass on the clipboard without a mouse. Each stop shows that it has the focus."""
+    """Narrows a pass and copies it to the clipboard without a mouse. Each element with the focus shows this."""
     page.visit()
 
     def tab(*keys):
@@ -163,7 +163,7 @@ def goes_by_keyboard(page):
         page.press(*keys)
 
     def enter(stop, *keys):
-        """The user enters a date part by part, and the last stop of the date is its picker."""
+        """Enters keys, after as many tabs as the field needs. A date field has several parts, and the button for the calendar is its last part."""
         check(page.focused() == stop, "a stop", stop, page.focused())
         page.press(*keys, Keys.TAB)
         while page.focused() == stop:
@@ -215,7 +215,8 @@ def hands_on(page):
         wanted = narrowed_by_tool(text, ["guests <= 1"])
         address = answer["address"]
         check(address.startswith(PAGE.as_uri() + "#"), "an address", address)
-        # A click copies the address. The address opens the page with the pass, and the user can also enter it as a pass.
+        # A click copies the address. If the user opens this address, the page has the pass. The page also accepts the address in the field for the
+        # pass.
         page.click("copy-address")
         page.pause()
         pasted(page, address)
@@ -223,11 +224,11 @@ def hands_on(page):
         page.open(address)
         check(page.run("return byId('given').value") == wanted, "an address that is opened", address)
         check(len(page.run("return limitsOf(byId('given-pass'))")) == 3, "limits of an address", address)
-    # The same page changes to another pass.
+    # If the fragment of the address changes, the page reads the new pass.
     page.run("location.hash = '#' + arguments[0]", AMY)
     page.pause()
     check(page.run("return byId('given').value") == AMY, "another pass behind #")
-    # A later choice or entry removes a result.
+    # If the user changes a choice or the pass, the page removes the old result.
     for then, word in (("choose('guests', arguments[0])", "2"), ("enter(arguments[0])", AMY[:-1])):
         page.narrow(AMY, ("guests", "1"))
         page.run(then, word)
@@ -239,7 +240,7 @@ def hands_on(page):
 
 
 def shares():
-    """Copying works even if the browser refuses access to the clipboard."""
+    """The page can share a pass, and can copy it even if the browser refuses access to the clipboard."""
     with NarrowingPage(before="""navigator.share = async (what) => { globalThis.shared = what; };
             navigator.clipboard.writeText = async () => { throw new Error(); };""") as page:
         page.visit()
@@ -281,7 +282,7 @@ CLUB = {
 
 
 def of_a_club(engine, address):
-    """Shows the logo, contact, links, and facilities with their sentences. A press chooses a facility."""
+    """The page shows the club's logo, contact and links, and its facilities with their sentences. A press chooses a facility."""
     engine.open(f"{address}#{AMY}")
     engine.when("byId('club-contact').innerText !== ''", "the club")
     text = engine.run("return document.body.innerText")
@@ -311,7 +312,7 @@ def narrows_and_hands_on(engine, address):
         engine.when("!byId('result').hidden || byId('narrow-fault').textContent !== ''", "a result", text, lines)
         found = engine.get("return byId('narrowed').value")
         check(found == narrowed_by_tool(text, lines), engine.name, "it narrows otherwise", text, lines, found)
-    # Works by hand: enters a pass, makes one choice, and presses the button.
+    # Enters a pass, makes one choice, and presses the button.
     engine.open(f"{address}#{AMY}")
     engine.tap("//button[@id='narrow']")
     engine.when("byId('narrow-fault').textContent === 'Choose at least one limit.'", "no choice")
@@ -333,7 +334,7 @@ def narrows_and_hands_on(engine, address):
 
 
 def other_engines():
-    """The main tasks in each browser, with a club's list next to the page. The page requests only the club's list from the server."""
+    """Runs the main tasks in each browser, with a club's list next to the page. The page requests only this list from the server."""
     folder = pathlib.Path(ROOM.name, "club")
     folder.mkdir()
     shutil.copy(PAGE, folder)
@@ -350,7 +351,8 @@ def other_engines():
 
 
 def only_shows_where_it_cannot_sign():
-    """Browsers don't sign over http if the page's name isn't the name of this machine. The browser requests only the page from the server."""
+    """Over http, browsers allow signatures only on localhost. On another host, the page only shows passes, and requests nothing else from the
+    server."""
     with served(PAGE.parent) as port, NarrowingPage(rules="MAP club.example 127.0.0.1, MAP * ~NOTFOUND") as page:
         address = f"http://club.example:{port}/pass.html"
         page.open(f"{address}#{AMY}")
@@ -374,7 +376,7 @@ def named_for_screen_readers(page):
 
 
 def looks_right(page):
-    """Takes pictures of the full page. Checks for sideways scrolling on a phone, and checks contrasts and names."""
+    """Takes pictures of the full page. On a phone, the page doesn't scroll sideways. Checks contrasts, and names for screen readers."""
     everything = Pass(b"club-desk", b"key:amy-1", [b"shoe = red" + b"x" * 300, b"facility = " + b",".join([b"a" * 24] * 8)], bytes(range(32)))
     page.visit()
     choices = fields_of("kind = court", "facility = " + ",".join(["b" * 24] * 8), *NINE_LINES[2:])
@@ -394,7 +396,7 @@ def looks_right(page):
     for width, scheme in itertools.product((390, 1200), ("light", "dark")):
         page.sees(width, scheme)
         keep(f"pass-{width}-{scheme}.png", page.picture())
-    # Shows choices and a result next to each other, as in README.
+    # Takes the picture for README, which shows the choices and the result next to each other.
     page.sees(390, "light")
     page.run("document.activeElement.blur()")
     tops = page.run("return ['kind', 'result'].map((id) => byId(id).getBoundingClientRect().top + scrollY - 12)")
@@ -403,7 +405,7 @@ def looks_right(page):
 
 
 def large_letters():
-    """Checks double letter size at 360 pixels, with all parts that the page can show, in both languages."""
+    """Checks the page with doubled letter size at 360 pixels, in both languages, when it shows all its parts."""
     for language in ("en-US", "de-DE"):
         with NarrowingPage(letters=32, language=language) as page:
             page.sees(360, "light", 740)

@@ -1,9 +1,9 @@
 #!/usr/bin/env -S /usr/bin/python3 -B -m pytest -q -p no:cacheprovider
-"""The small desk of web/demo.html answers 8,000 random requests by the rules in Python.
+"""The small desk in web/demo.html replies to 8,000 random requests as the rules in Python demand.
 
-The small desk is written in JavaScript, and serves four clubs in this test.
+This small desk is written in JavaScript. In the test it serves four clubs.
 
-The requests are bookings, repeats and cancellations, under narrowed and odd passes, at moments of two days.
+The requests are bookings, repeats and cancellations with narrowed and odd passes, at moments of two days.
 """
 
 import json
@@ -45,7 +45,7 @@ def club_of():
 
 
 def as_given():
-    """Makes the same club for the small desk."""
+    """Returns the same club in the form that the small desk reads."""
     return {"members": {member: {"credited": points, "quota": quota} for member, (quota, points) in MEMBERS.items()},
             "facilities": {name.lower(): dict(zip(("kind", "places", "price", "opens", "shuts"), rest)) for name, *rest in FACILITIES},
             "keys": {key: {"member": OWNERS[key], "root": root.hex(), "revoked": False} for key, root in ROOTS.items()},
@@ -57,8 +57,8 @@ def key_drawn(draw):
 
 
 def text_drawn(draw, key):
-    """Draws a key's pass in one of the forms. Most passes are full or narrowed. Some have no key or another
-    root, or are cut off."""
+    """Draws a key's pass in one of the forms. Most passes are full or narrowed. Some passes name no key, have
+    another root, or are cut off."""
     caveats = [line.encode() for line in draw.choices(LINES, k=draw.choice([0] * 9 + [1, 1, 2]))]
     root = ROOTS.get(key, b"x" * 16) if draw.random() < 0.97 else b"y" * 16
     text = passes.text_of(passes.minted(root, f"key:{key}".encode(), b"", caveats), draw.choice(["v1", "v2", "v2", "json"]))
