@@ -2,7 +2,7 @@
 """`web/book.html` books, cancels and lends behind nginx in three browsers, with lost requests, kills and hostile input.
 
 The desk uses a file, and runs behind nginx with TLS and the repository's configuration. The test runs in Debian's chromium. A shorter part also runs
-in Firefox and WebKitGTK. It covers:
+in Firefox and WebKitGTK. The test covers:
 - the views of a day, a booking, a cancellation and the account, in English and German
 - the limits of a pass, use without a mouse, swipes, six requests at the same time, and a page that the member opens again
 - requests that get lost in each possible way, and a desk that is killed

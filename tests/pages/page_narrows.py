@@ -154,7 +154,7 @@ NINE_LINES = ["kind = court", "facility = court-1,court-2", "actions = view,book
 
 
 def goes_by_keyboard(page):
-    """Narrows a pass and copies it to the clipboard without a mouse. Each element with the focus shows this."""
+    """Narrows a pass and copies it to the clipboard without a mouse. At each step the user can see which element has the focus."""
     page.visit()
 
     def tab(*keys):
@@ -163,7 +163,7 @@ def goes_by_keyboard(page):
         page.press(*keys)
 
     def enter(stop, *keys):
-        """Enters keys, after as many tabs as the field needs. A date field has several parts, and the button for the calendar is its last part."""
+        """Checks that this field has the focus, and types the keys. Then presses Tab until the focus leaves the field."""
         check(page.focused() == stop, "a stop", stop, page.focused())
         page.press(*keys, Keys.TAB)
         while page.focused() == stop:

@@ -1,19 +1,22 @@
 #!/usr/bin/env -S /usr/bin/python3 -B
-"""Desks in C, Go and Python over SQLite's library give the server's replies, and their times are measured.
+"""Desks in C, Go and Python with SQLite's library give the same replies as clubdesk, and the test compares the times of all four.
 
-The test measures over 100 and 100,000 bookings, for a member with 10,000 of these bookings and for a member without any. The desks are
-beside_c/desk.c, which is its own server, and beside_go, with net/http and database/sql. The third is beside_flask.py, with Flask under gunicorn and
-one worker. The desks use the same file, transactions and pragmas, and the statements of crates/club_tables. They read the same rows for an answer.
-The replies of the desk in C have the same bytes. The replies of Go and Flask have the same status line, body and fields, but in another order.
-gunicorn adds Date and Server. The test also measures a plain server in C, which reads once and writes 133 bytes.
+The test measures with 100 and with 100,000 bookings in the file. It uses a member with 10,000 of these bookings, and a member without bookings. The
+desk beside_c/desk.c has its own server. The desk beside_go uses net/http and database/sql. The desk beside_flask.py uses Flask under gunicorn with
+one worker. All desks use the same file, the same transactions and pragmas, and the SQL statements of crates/club_tables. For each reply, all desks
+read the same rows. The desk in C replies with the same bytes as clubdesk. The replies of Go and Flask have the same status line and body, and the
+same header fields in another order. gunicorn adds the fields Date and Server. The test also measures a minimal server in C, which reads once and
+writes 133 bytes.
 
-Prints the medians in microseconds for a booking, its repeat, an account, a slot, a refused pass and a forged pass. Prints the ratios to clubdesk's
-medians. The time of a request runs from before the client connects until the end of the reply. Then the test prints the ratios that have goals. The
-system calls of a request are those of 101 requests less those of one request, divided by 100. strace counts them. One client sends requests to the
-servers in turn. If the machine has two processors, the client has one and the servers have the other.
+The test prints the median times in microseconds for a booking, a repeated booking, an account, a slot, a refused pass and a forged pass. It also
+prints the ratio of clubdesk's median to each other median. The time of a request runs from before the client connects until the end of the reply.
+Then the test prints the ratios that have an upper limit. strace counts the system calls for 101 requests and for one request. A hundredth of the
+difference is the number for each request. One client sends requests to the servers in turn. If the machine has two processors, the client runs on one
+and the servers run on the other.
 
-The test runs each desk as DESK FILE MOMENT < STATEMENTS. The moment is in minutes since 1970, and each line has one statement. A desk prints the
-same line as clubdesk, and serves until it is stopped. Like clubdesk, it reads a key's older root only if the key's own root didn't sign the pass.
+The test runs each desk as DESK FILE MOMENT < STATEMENTS. MOMENT is in minutes since 1970. Each line of STATEMENTS has one SQL statement. A desk
+prints the same first line as clubdesk, and serves until the test stops it. Like clubdesk, a desk reads a key's older root only if the key's current
+root didn't sign the pass.
 
   tests/peers/beside.py [--desks c,go,flask] [COUNT [ROUNDS [ROWS ..]]]      COUNT requests of each kind in a round; without: 500 7 100 100000
 """
@@ -52,13 +55,13 @@ def day_text(offset):
 
 
 def slot_path(number):
-    """Each number has its own slot: 48 courts, 9 days of April from the 21st on, 24 hours."""
+    """Returns the path of the slot with this number. The slots are the hours of nine days from April 21 on, at 48 courts."""
     court, rest = divmod(number, 9 * 24)
     return f"/slots/court-{3 + court}/{day_text(rest // 24)}/{rest % 24:02}"
 
 
 class Asker:
-    """The requests under some keys, which take turns. Numbers and slots increase from round to round."""
+    """Makes the requests of one member, whose keys take turns. In each round, the booking numbers and slots are new."""
 
     def __init__(self, keys, first_number, first_slot):
         self.keys, self.first_number, self.slot, self.asked = keys, first_number, first_slot, 0
@@ -68,7 +71,7 @@ class Asker:
         self.forged = {key: it[:-2] + ("A" if it[-2] != "A" else "B") + it[-1] for key, it in self.passes.items()}
 
     def refused(self):
-        """The requests after the rounds. The desk refuses each for a different reason."""
+        """Returns requests that the desk refuses, each for a different reason. The test sends them after the rounds."""
         key, slot = self.keys[0], slot_path(self.slot)
         whole, passed, book = key_pass(key, ROOT.hex()), self.passes[key], f"/bookings/{self.first_number + 900_000}"
         return [it.data for it in (
@@ -92,7 +95,7 @@ class Asker:
 
 
 def make_file(clubdesk, path, rows, has_big):
-    """Makes a club with 50 courts and a number of past bookings. Then adds a member with 10,000 bookings and a member without bookings."""
+    """Makes a club with 50 courts and as many past bookings as `rows` says. Then adds a member with 10,000 bookings and a member without bookings."""
     subprocess.run([clubdesk, "add-member", path, "x", "1"], check=True, stdout=subprocess.DEVNULL)
     numbers = "WITH n(i) AS (SELECT 1 UNION ALL SELECT i + 1 FROM n WHERE i < {})".format
     statements = [f"{numbers(50)} INSERT INTO facilities SELECT 'court-' || i, 'court', 50, 1, 0, 24 FROM n"]
@@ -122,7 +125,7 @@ def built_in_go():
     return os.path.abspath("desk_in_go")
 
 
-# The other desks, each with its build and its command line.
+# For each other desk, a function that builds it and returns its command line.
 DESKS = {
     "c": lambda: [built("desk", "-lsqlite3", "-lnettle")],
     "go": lambda: [built_in_go()],
@@ -131,14 +134,14 @@ DESKS = {
 
 
 def write_statements():
-    """Returns clubdesk's SQL texts that the desks prepare, one per line."""
+    """Writes the SQL statements that the desks prepare into a file, one per line. They are clubdesk's own statements."""
     source = (desk.ROOT / "crates" / "club_tables" / "src" / "texts.rt").read_text(encoding="utf-8")
     texts = dict(re.findall(r'const (\w+): &str = "(.*?)";', source, re.DOTALL))
     Path("statements").write_text("".join(re.sub(r"\\\n *", "", texts[name]) + "\n" for name in STATEMENTS), encoding="utf-8")
 
 
 class Beside(desk.Server):
-    """Another server, with a command of its own."""
+    """Runs the server of another desk."""
 
     killed_by = signal.SIGTERM
 
@@ -148,7 +151,7 @@ class Beside(desk.Server):
 
 
 def ask(server, requests):
-    """Returns the time of each request, and the replies."""
+    """Sends the requests one after the other. Returns the time of each request, and the bytes of all replies."""
     Path("requests").write_bytes(b"".join(b"%d\n%b" % (len(it), it) for it in requests))
     words = [*on(PROCESSORS[-1]), "./client", str(server.port), "requests", "replies"]
     told = subprocess.run(words, check=True, capture_output=True, text=True).stdout
@@ -156,13 +159,13 @@ def ask(server, requests):
 
 
 def in_order(replies):
-    """Returns the replies with sorted head lines. Leaves out the lines that only this server adds."""
+    """Returns the replies with sorted header lines, without the lines that only this server adds."""
     parts = [it.partition(b"\r\n\r\n") for it in re.split(rb"(?=HTTP/1\.1 \d{3} )", replies)[1:]]
     return [(sorted(it for it in head.split(b"\r\n") if not it.startswith((b"Date: ", b"Server: "))), body) for head, _, body in parts]
 
 
 def compare(kind, replies):
-    """Compares the replies of each desk with clubdesk's replies. Returns the number of replies."""
+    """Checks that each desk's replies match clubdesk's. Returns the number of compared replies."""
     ours, others = replies[OURS], {name: its for name, its in replies.items() if name not in (OURS, PLAIN)}
     for name, its in others.items():
         if its != ours and (name == "c" or in_order(its) != in_order(ours)):
@@ -171,7 +174,7 @@ def compare(kind, replies):
 
 
 def measure(clubdesk, path, askers, count, rounds, desks):
-    """Returns the medians of each round by asker, kind and server, and the number of compared replies."""
+    """Returns the median time of each round by asker, kind of request and server, and also the number of compared replies."""
     for name in (OURS, *desks):
         desk.copy(path, name)
     found = {title: {kind: defaultdict(list) for kind in KINDS} for title in askers}
@@ -196,7 +199,7 @@ def measure(clubdesk, path, askers, count, rounds, desks):
 
 
 def ratio(times, others):
-    """Returns the median ratio of neighbouring rounds."""
+    """Divides the times of one server by those of another, round by round, and returns the median of these ratios."""
     return statistics.median(ours / its for ours, its in zip(times, others, strict=True))
 
 
@@ -208,7 +211,7 @@ def show(title, found):
 
 
 def show_ratios(size, found, big, new):
-    """Prints the ratios that have goals, for the last file."""
+    """Prints the ratios that have an upper limit, for the file that was measured last."""
     rows = [(f"booking under a slack limit, {BIG_ROWS} own over none", big["booking"][OURS], new["booking"][OURS], 1.2)]
     if "c" in found["repeat"]:
         rows.append(("repeat, clubdesk over C", found["repeat"][OURS], found["repeat"]["c"], 1.0))
@@ -218,7 +221,7 @@ def show_ratios(size, found, big, new):
 
 
 def calls(clubdesk, requests):
-    """Counts a server's system calls for these requests."""
+    """Returns how often clubdesk made each system call while it served these requests."""
     with desk.Server(clubdesk, "traced", len(requests), "--at", NOON, by=["strace", "-c", "-o", "counts"]) as server:
         ask(server, requests)
     lines = map(str.split, Path("counts").read_text(encoding="utf-8").splitlines())

@@ -1,6 +1,7 @@
 #!/usr/bin/python3 -B
-"""A desk with Flask and Python's sqlite3 under gunicorn with one worker, for comparing its times with clubdesk's. The desk has the same file,
-statements and replies as beside_c/desk.c. The package tests/reference reads and verifies passes, and has the values of caveats and the refusals.
+"""A desk with Flask and Python's sqlite3 under gunicorn with one worker. tests/peers/beside.py compares the times of this desk with those of
+clubdesk. The desk has the same file, statements and replies as beside_c/desk.c. It uses the package tests/reference to read and verify passes, to
+read caveats, and to write refusals.
 
   beside_flask.py FILE MOMENT < STATEMENTS      as beside.py says of each desk
 """
@@ -44,7 +45,7 @@ def row_of(statement, *values):
 
 
 def verified():
-    """Returns the caveats of a request's pass, and the name and member of the pass's key."""
+    """Reads and verifies the request's pass. Returns the caveats, the name of the key, and the key's member."""
     scheme, _, text = request.headers.get("Authorization", "").partition(" ")
     if scheme.lower() != "bearer":
         refuse(4)
@@ -70,7 +71,7 @@ def spent_by(key):
 
 
 def has_spent_above(key, member, most):
-    """It sums the key's costs only if the points that the member has used don't decide."""
+    """Adds up the costs of the key's bookings only if the member has used more points than `most`."""
     return most < 0 or (row_of(MEMBER, member)[3] > most and spent_by(key) > most)
 
 
@@ -79,7 +80,7 @@ def open_of(member):
 
 
 def test_caveats(caveats, key, member, action, guests=0, owed=0):
-    """The desk knows only the caveats that beside.py writes: guests, until, spend, actions."""
+    """Understands only the caveats that beside.py writes: guests, until, spend, actions."""
     for number, caveat in enumerate(caveats, 1):
         match caveat.decode("ascii", "replace").split(" ", 2):
             case "guests", "<=", text if (most := number_of(text, 49)) is not None:
@@ -145,7 +146,7 @@ def book(name, day, hour, number):
 
 
 def book_anew(facility, slot, key, member, number, guests, charge):
-    """Writes a booking, and adds to the sums. Returns the places left."""
+    """Writes a booking, and updates the sums of the slot and of the member. Returns how many places are left."""
     _, _, places, _, opens, shuts = facility
     _, day, hour = slot
     if not opens <= hour < shuts or not 0 < day * DAY + hour * 60 - app.moment <= WINDOW:

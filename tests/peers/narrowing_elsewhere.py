@@ -1,11 +1,11 @@
 #!/usr/bin/env -S /usr/bin/python3 -B
-"""The standard library of Python, pymacaroons, Go's macaroon.v2 and Node.js narrow 1,000 passes as `passtool` does.
+"""Python's standard library, pymacaroons, Go's macaroon.v2 and Node.js narrow 1,000 passes with the same result as `passtool`.
 
-A fixed seed determines the passes, and the programs of examples/ narrow them. Python's standard library and Node.js do so in V2, pymacaroons and
-Go's macaroon.v2 in V1, V2 and JSON. The test compares V1 and V2 byte for byte. JSON has several spellings. In V2, pymacaroons writes an empty
-location, which passtool omits. For these texts, passtool rewrites the text before the comparison. In V1, pymacaroons counts the letters of a
-location and an identifier instead of their bytes. So pymacaroons gets only passes with ASCII in both fields, as in the desk's passes. Each narrowed
-pass is signed under its root.
+A fixed seed determines the passes, and the programs in examples/ narrow them. The programs with Python's standard library and with Node.js narrow
+passes in V2. The programs with pymacaroons and with Go's macaroon.v2 narrow passes in V1, V2 and JSON. The test compares the bytes of passes in V1
+and V2. JSON allows several spellings, and in V2 pymacaroons writes an empty location, which passtool omits. In these two cases, passtool first
+converts the pass. In V1, pymacaroons counts the characters of a location and of an identifier instead of their bytes. Therefore pymacaroons gets only
+passes with ASCII in both fields, like the desk's own passes. Each narrowed pass is signed under its root.
 """
 # pytestmark = [mark.programs, mark.needs("passtool"), mark.wants("python3-pymacaroons nodejs golang-go golang-gopkg-macaroon.v2-dev")]
 
@@ -40,12 +40,12 @@ draw = random.Random(20260501)
 
 
 def line_of(words, given=""):
-    """Returns the output of a program, which has one or more lines."""
+    """Returns the output of a program."""
     return subprocess.run(words, input=given, capture_output=True, check=True, text=True).stdout.removesuffix("\n")
 
 
 def any_text(least, most):
-    """Characters of one to four bytes in UTF-8, with line feeds, quotes and backslashes."""
+    """Draws a text of characters with one to four bytes in UTF-8, also line feeds, quotes and backslashes."""
     odd = lambda: draw.choice('\n"\\/<>&äß€�\U0001f3be') if draw.random() < 0.5 else chr(draw.randint(0xa0, 0xd7ff))
     return "".join(odd() if draw.random() < 0.2 else chr(draw.randint(1, 127)) for _ in range(draw.randint(least, most)))
 

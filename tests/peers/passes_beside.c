@@ -1,4 +1,5 @@
-/* Measures the times to read and verify a pass of three caveats, for tests/peers/passes_beside.py: passes_beside ROUNDS. Prints a line for each
+/* Measures how long C libraries take to read and verify a pass with three caveats: passes_beside ROUNDS. tests/peers/passes_beside.py runs this
+ * program. Prints a line for each
    kind, with its name and the nanoseconds of a round. The kinds are the library over V1, V2 and JSON, and Debian's libmacaroons over V1. Each
    measurement begins with the pass's text. */
 #include <clubpass.h>

@@ -1,13 +1,12 @@
 #!/usr/bin/env -S /usr/bin/python3 -B
-"""The times of the library of passes, libmacaroons and pymacaroons to read and verify a pass.
+"""Measures how long our library of passes, libmacaroons and pymacaroons take to read and verify a pass.
 
-The pass has three caveats, and each measurement begins with the pass's text.
+The pass has three caveats, and is given as a text.
 
-In C, the library reads each form, and Debian's libmacaroons reads only V1. In Python, the module and pymacaroons both read each form. The other two
-libraries get the three caveats as arguments. A separate line has the times of the module that tests the caveats against a request. Prints the
-medians of the processor's microseconds over rounds of all libraries. Also prints the ratios.
+In C, our library reads V1, V2 and JSON, and Debian's libmacaroons reads only V1. In Python, our module and pymacaroons read all three forms.
+libmacaroons and pymacaroons get the three caveats as arguments for their verification. A separate line shows how long our module takes to test the
+caveats against a request. The test prints the median processor time in microseconds, and the ratios of these times.
 
-The loader chooses the library for this processor.
 
   tests/peers/passes_beside.py [ROUNDS [COUNT]]      COUNT passes of each kind in a round; without: 11 2000
 """
@@ -50,7 +49,7 @@ def by_pymacaroons(text):
 
 
 def measure(room, rounds, count):
-    """Prints the times and the ratios, with the library that the loader finds in the room."""
+    """Prints the times and the ratios for the library in this folder."""
     sys.path.insert(0, f"{room}/lib/python3")
     import clubpass
     texts = {form: clubpass.Pass.mint(ROOT, "key:amy-1", "club-desk").narrow(*CAVEATS).to(form) for form in FORMS}
@@ -82,7 +81,7 @@ def main():
         subprocess.run([desk.ROOT / "bin" / "library", room], check=True, stdout=subprocess.DEVNULL)
         subprocess.run(["gcc", "-O2", "-D_GNU_SOURCE", "-std=c11", "-o", f"{room}/beside", desk.TESTS / "peers" / "passes_beside.c", f"-I{room}/include",
                         f"-L{room}/lib", "-lclubpass", "-lmacaroons"], check=True)
-        # The loader reads the variable when a program starts, and chooses the library for this processor.
+        # The dynamic loader reads the variable LD_LIBRARY_PATH only when a program starts. It chooses the library for this processor.
         found = dict(os.environ, LD_LIBRARY_PATH=f"{room}/lib")
         return subprocess.run([sys.executable, "-B", __file__, rounds, count, room], check=False, env=found).returncode
 

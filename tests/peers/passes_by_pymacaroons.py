@@ -1,10 +1,10 @@
 #!/usr/bin/env -S /usr/bin/python3 -B
-"""1,500 requests, half of them under passes narrowed by pymacaroons, get the replies of the rules in Python.
+"""The desk replies to 1,500 requests as the rules in Python demand. pymacaroons narrowed the passes of half of these requests.
 
 The passes are in V1, V2 and JSON.
 
-The rules are those of tests/reference. The test draws the club, requests and caveats as in tests/desk/hostile.py, by a fixed seed. passtool narrows
-the other passes. pymacaroons also reads and writes these passes.
+The rules are in tests/reference. As in tests/desk/hostile.py, a fixed seed determines the club, the requests and the caveats. passtool narrows the
+passes of the other requests, and pymacaroons reads and writes these passes.
 """
 # pytestmark = [mark.programs, mark.needs("clubdesk passtool"), mark.wants("python3-pymacaroons")]
 
@@ -25,7 +25,7 @@ from reference import caveats, passes, wire
 
 DESK, TOOL = programs.program("clubdesk"), programs.program("passtool")
 REQUESTS = 1500
-# Servers one after the other, each at a moment of its own.
+# The test runs a server at each of these moments, one after the other.
 MOMENTS = ["2026-04-20T12:00", "2026-04-30T18:01", "2026-05-01T17:59", "2026-05-01T18:00", "2026-05-02T10:30"]
 FORMS = ["v1", "v2", "json"]
 NOT_UNDERSTOOD = ["kind = Court", "days = now", "actions = cancel,book", "weekday = sun,sat", " guests <= 1"]
@@ -50,7 +50,7 @@ def add_caveats(macaroon, *texts):
 
 
 class World(hostile.World):
-    """Both clubs, whose keys have passes in each form, and random draws from a seed."""
+    """A club in clubdesk and in Python, with passes in each form for its keys, and random draws from a seed."""
 
     def __init__(self, folder):
         super().__init__("pymacaroons", DESK, folder)
@@ -59,7 +59,7 @@ class World(hostile.World):
         self.give(("close-slot", *CLOSED))
         self.texts = {(key, form): self.text_of(key, form) for key in hostile.KEYS for form in FORMS}
 
-    # The first key's pass is printed in V1, the second in V2, the third in JSON, and so on.
+    # clubdesk prints the first key's pass in V1, the second key's pass in V2, the third key's pass in JSON, and so on.
 
     def words_of(self, command):
         return [*super().words_of(command), *(["--form", self.form_of(command[1])] if command[0] == "add-key" else [])]
@@ -74,7 +74,7 @@ class World(hostile.World):
         return FORMS[hostile.KEYS.index(key) % 3]
 
     def text_of(self, key, form):
-        """Returns a key's pass in a form, which passtool makes. pymacaroons makes the same pass from the root."""
+        """Returns a key's pass that passtool has converted into this form. pymacaroons must make the same pass from the root."""
         root, = self.roots[key]
         minted = passes.minted(root, f"key:{key}".encode())
         text = passtool("convert", "--form", form, given=passes.text_of(minted, self.form_of(key)).decode())
@@ -91,7 +91,7 @@ class World(hostile.World):
         return [self.draw.choice(NOT_UNDERSTOOD) if self.draw.random() < 0.02 else self.caveat().decode() for _ in range(count)]
 
     def narrowed(self, text, form, by_pymacaroons):
-        """Returns the pass with more caveats. If the pass was also spoiled, returns its expected refusal."""
+        """Returns the pass with random caveats. If the pass was also spoiled, returns the expected refusal, too."""
         more = self.caveats()
         if not by_pymacaroons:
             return passtool("narrow", "--any", "--", *more, given=text) if more else text, None
@@ -118,7 +118,7 @@ class World(hostile.World):
         return write(macaroon, form)[:-1], 6
 
     def ask_under(self, server, form, by_pymacaroons):
-        """Returns the number of a refusal, or 0 if the request is served. The desk refuses a malformed request before it reads the pass."""
+        """Sends a request. Returns the fault number of the refusal, or 0 if the desk carries out the request."""
         key, method, path, body = self.target()
         text, spoil = self.narrowed(self.texts[key, form], form, by_pymacaroons)
         data = b"%s %s HTTP/1.1\r\nHost: club\r\nAuthorization: Bearer %s\r\nContent-Length: %d\r\n\r\n%s" % (

@@ -1,7 +1,8 @@
 /*
- * Calls each function of clubpass.h in its normal case, at its limits and into each fault. With the word `threads`, it narrows in eight threads at
- * once. Each thread has its own passes, and all threads read a shared pass. tests/peers/passes_from_c.sh runs this program plainly, under valgrind
- * and with AddressSanitizer. The texts and signatures are those of docs/vectors.json and of libmacaroons' README.
+ * Calls each function of clubpass.h with normal values, with values at its limits, and with values that cause each fault. With the argument
+ * `threads`, the program narrows passes in eight threads at the same time. Each thread has its own passes, and all threads read a shared pass.
+ * tests/peers/passes_from_c.sh runs this program without tools, under valgrind and with AddressSanitizer. The texts and signatures come from
+ * docs/vectors.json and from libmacaroons' README.
  *
  * Each input is at the end of a page, before an inaccessible page. A call that reads a byte beyond the input ends the program. Some inputs begin at
  * the start of a page. A call that reads a byte before such an input also ends the program.
@@ -245,7 +246,7 @@ static void knows_caveats(void) {
         HOLDS(!clubpass_is_caveat((const uint8_t *)others[i], strlen(others[i])));
 }
 
-/* An object of any bytes counts as a pass, and no call reads beyond the object. */
+/* If an object contains random bytes, each call treats the object as a pass, and doesn't read beyond it. */
 static void bears_any_object(void) {
     clubpass pass;
     uint8_t out[CLUBPASS_MAX_TEXT];

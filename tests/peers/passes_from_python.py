@@ -1,13 +1,13 @@
 #!/usr/bin/env -S /usr/bin/python3 -B
 """The library of passes, called from Python, agrees with `passtool` on 100,000 random or damaged texts.
 
-The texts come from a seed. They are passes of any bytes in each form, with up to 64 caveats. Some texts
-are spoiled. Bytes of the text, or of the bytes that it encodes, are changed, inserted, removed or
-doubled. Other texts are cut off, use another alphabet of base64, or have odd names in JSON. Each
-text goes to one command of passtool and to the same calls of the library: `show` and every part,
-`convert`, `narrow`, `verify`. The test compares the output, the fault's number, and whether the
-pass is signed. The caveats are lines of the caveat language, or almost such lines. The library
-knows the caveats that `narrow` accepts without `--any`.
+A seed determines the texts. They are passes with random bytes in V1, V2 or JSON, with up to 64 caveats. The
+test spoils some of the texts. It changes, inserts, removes or doubles bytes of the text, or of the bytes that
+the text encodes. It cuts off other texts, writes them in another alphabet of base64, or changes names in
+JSON. For each text, the test runs one command of passtool (`show`, `convert`, `narrow` or `verify`), and
+makes the corresponding calls of the library. The test compares the output, the fault number, and whether the
+pass is signed. The caveats are valid or almost valid lines of the caveat language. The library must
+understand exactly the caveats that `narrow` accepts without `--any`.
 
   tests/peers/passes_from_python.py [--count N] [--seed N]
 """
@@ -35,7 +35,7 @@ NUMBERS = {"TooLong": 1, "Malformed": 2, "ThirdParty": 3, "TooMany": 4}
 
 
 class Draws:
-    """Draws a text, its root, and the command for the text."""
+    """Draws texts, the root of each text, and a command of passtool for it."""
 
     def __init__(self, clubpass, seed):
         self.clubpass, self.draw = clubpass, random.Random(seed)
@@ -147,7 +147,7 @@ def line(name, data):
 
 
 def by_library(clubpass, text, words):
-    """Returns passtool's status, standard output and fault line."""
+    """Calls the library, and returns the exit status, standard output and fault line that passtool must have."""
     command = words[0]
     if command == "narrow" and "--any" not in words:
         for number, caveat in enumerate(words[2:], 1):

@@ -1,8 +1,9 @@
 #!/bin/sh
-# libFuzzer finds no input that makes a call of clubpass.h break the promises of the header.
+# libFuzzer finds no input with which a function of clubpass.h doesn't do what the header says.
 #
-# It runs for ten minutes, or for the seconds in the first word. Each processor runs a process with AddressSanitizer and the target tests/peers/passes_from_c/fuzz.c. The fuzzer begins with the texts of docs/vectors.json, plain and without their base64, and with the caveats of
-# that file.
+# libFuzzer runs for ten minutes, or for as many seconds as the first argument says. It runs tests/peers/passes_from_c/fuzz.c with AddressSanitizer,
+# in a process for each processor. It begins with the texts of docs/vectors.json, with the bytes that these texts encode in base64, and with the
+# caveats of that file.
 # pytestmark = [mark.faults, mark.needs("pass_c"), mark.wants("clang libclang-rt-dev python3")]
 set -eu
 here=$(CDPATH='' cd -P -- "$(dirname -- "$0")" && pwd)
@@ -43,7 +44,7 @@ printf '"%s"\n' '\"i\":\"' '\"i64\":\"' '\"c\":[' '{\"i\":\"' '\"s64\":\"' '\"v\
 clang -g -O1 -fsanitize=fuzzer,address -o fuzz "$here/passes_from_c/fuzz.c" -I "$here/../../include" library/lib/libclubpass.a
 seconds=${1-600}
 status=0
-# Runs each seed once, because a fuzzer that forks leaves out the seeds at which the target ends.
+# Runs each input of the corpus once, because in its fork mode libFuzzer skips inputs at which the program ends.
 ./fuzz seeds/* >log 2>&1 || { tail -n 40 log >&2; exit 1; }
 ./fuzz -max_total_time="$seconds" -max_len=20000 -len_control=20 -dict=words -fork="${FUZZERS-$(nproc)}" -ignore_crashes=0 -print_final_stats=1 seeds >log 2>&1 || status=$?
 if [ "$status" != 0 ] || grep -q 'ERROR: \|not so, line' log; then

@@ -1,9 +1,11 @@
 #!/usr/bin/env -S /usr/bin/python3 -B -m pytest -q -p no:cacheprovider
-"""The library of passes agrees with docs/vectors.json from C, Python, Go and Node.js, and both ways with libmacaroons and pymacaroons.
+"""From C, Python, Go and Node.js, the library of passes gives the results in docs/vectors.json, and it can exchange passes with libmacaroons and
+pymacaroons.
 
-The vectors have each pass in each form, other texts of the same pass, and texts that are not passes. They also have the verdict of each caveat on
-each request. The test also mints and narrows each pass again. The libraries libmacaroons and pymacaroons narrow and verify passes that our library
-mints. Our library does the same with their passes. The examples of bindings/ narrow the pass of README.
+docs/vectors.json has each pass in V1, V2 and JSON, other texts of the same passes, and texts that aren't passes. The file also says for each caveat
+and each request whether the caveat allows the request. The test also mints and narrows each pass again. libmacaroons and pymacaroons narrow and
+verify passes that our library mints. Our library narrows and verifies passes that these two libraries mint. The examples in bindings/ narrow the pass
+of README.
 """
 
 import copy
@@ -50,7 +52,7 @@ def spelled(data):
 
 
 def told(vector, form):
-    """Returns the line that each program must print for a pass."""
+    """Returns the line that the program in each language must print for a pass."""
     parts = [spelled(bytes_of(vector, "location")), spelled(bytes_of(vector, "identifier")), ",".join(map(spelled, caveats_of(vector))) or "-"]
     texts = [vector[it].encode().hex() for it in FORMS]
     again = passes.chain(bytes.fromhex(vector.get("root", "00")), bytes_of(vector, "identifier"), caveats_of(vector))
@@ -58,7 +60,7 @@ def told(vector, form):
 
 
 def lines():
-    """Yields each input line of a program, with the line that the program must print."""
+    """Yields each line of the programs' input, with the line that the programs must print for it."""
     for vector in VECTORS["passes"]:
         for form in FORMS:
             if form in vector:
@@ -85,7 +87,7 @@ def words_of(request):
 
 
 def narrowed(*caveats):
-    """Returns a text with these caveats, which the reference makes."""
+    """Returns the text of a pass with these caveats, made by tests/reference."""
     made = passes.minted(b"root", b"key:a-1")
     for caveat in caveats:
         made = made.narrowed(caveat.encode())
@@ -111,7 +113,7 @@ def verdicts():
 
 @pytest.fixture(scope="session")
 def library(tmp_path_factory):
-    """The folder of the library, with the variables that each language needs."""
+    """Builds the library in a folder, and sets the environment variables that each language needs. Returns the folder."""
     room = tmp_path_factory.mktemp("clubpass")
     subprocess.run([desk.ROOT / "bin" / "library", room], check=True, stdout=subprocess.DEVNULL)
     os.environ.update(PKG_CONFIG_PATH=f"{room}/lib/pkgconfig", LD_LIBRARY_PATH=f"{room}/lib", PYTHONPATH=f"{room}/lib/python3",
@@ -224,13 +226,13 @@ def test_faults_from_python(clubpass):
 
 
 def test_types_of_the_module():
-    """The module has type annotations for type checkers."""
+    """The Python module has type annotations for type checkers."""
     checked = subprocess.run(["/usr/bin/mypy", "--strict", "--cache-dir=/dev/null", BINDINGS / "python" / "clubpass"], capture_output=True, text=True)
     assert checked.returncode == 0, checked.stdout
 
 
 def test_objects_of_dropped_passes(clubpass):
-    """A live pass doesn't change when other passes are dropped and made, even in eight threads."""
+    """A pass doesn't change while eight threads make and drop other passes."""
     with pytest.raises(TypeError):
         clubpass.Pass()
 
@@ -254,7 +256,7 @@ draw = random.Random(20260501)
 
 
 def drawn():
-    """Draws a root, an identifier, a location and caveats in ASCII, which all these libraries accept."""
+    """Draws a root, an identifier, a location and caveats. All are in ASCII, because some of the libraries accept nothing else."""
     line = lambda least: "".join(chr(draw.randint(33, 126)) for _ in range(draw.randint(least, 40)))
     return draw.randbytes(draw.randint(1, 64)), line(1), line(1), [line(1) for _ in range(draw.randint(0, 8))]
 
@@ -283,7 +285,7 @@ def test_pymacaroons_both_ways(clubpass):
 
 
 class Libmacaroons:
-    """The necessary calls of Debian's libmacaroons, through ctypes. This library reads and writes only V1."""
+    """Calls functions of Debian's libmacaroons through ctypes. This library reads and writes only V1."""
 
     def __init__(self):
         self.c = ctypes.CDLL("libmacaroons.so.0")
@@ -293,7 +295,7 @@ class Libmacaroons:
         self.fault = ctypes.c_int()
 
     def call(self, name, *arguments):
-        """Calls a function with bytes and their lengths, and with addresses."""
+        """Calls a function. Passes bytes as two arguments, their address and their length, and other values as addresses."""
         passed = []
         for it in arguments:
             passed += [it, ctypes.c_size_t(len(it))] if isinstance(it, bytes) else [ctypes.c_void_p(it)]

@@ -1,11 +1,11 @@
 #!/usr/bin/env -S /usr/bin/python3 -B
-"""The desks in C and Go of `tests/peers/beside.py` give the stated answers to the scenarios' lines that they know.
+"""The desks in C and Go of `tests/peers/beside.py` reply to the requests that they know as the scenarios demand.
 
-The desks know views, bookings and accounts, under passes in V2 with four kinds of caveats.
+The desks know views, bookings and accounts, with passes in V2 and four kinds of caveats.
 
-The test runs a scenario up to the first line that the desks don't know, such as a cancellation. `clubdesk` carries out commands and listings, over
-the same file. The desk in C writes the same bytes as clubdesk. The desk in Go writes the lines of a head in another order. The test skips it if Go
-is missing.
+The test runs each scenario up to the first line that the desks don't know, such as a cancellation. `clubdesk` carries out the scenario's commands and
+listings on the same file. The desk in C replies with the same bytes as clubdesk. The desk in Go writes the header lines in another order. If Go is
+missing, the test skips the desk in Go.
 
     tests/peers/scenarios_beside.py [FILE ..]
 """
@@ -36,7 +36,7 @@ STATEMENTS = "KEY OLDER_ROOT MEMBER FACILITY SLOT BOOKING COSTS_UNDER_KEY OPEN A
 
 
 def knows(event):
-    """Returns whether the desks know the request of a line."""
+    """Returns whether the desks know the request in this line of a scenario."""
     if not isinstance(event, Request):
         return not isinstance(event, Crash) and not (isinstance(event, Reopen) and event.version)
     try:
@@ -59,7 +59,7 @@ def known(scenario):
 
 
 class Server(programs.Server):
-    """Another server, with a command line of its own."""
+    """Runs the server of another desk."""
 
     killed_by = signal.SIGTERM
 
@@ -86,13 +86,13 @@ class Beside(Programs):
 
 
 def in_order(reply):
-    """Sorts the lines of a reply's head, and drops the lines that only the other server adds."""
+    """Sorts a reply's header lines, and drops the lines that only the other server adds."""
     head, _, body = reply.partition(b"\r\n\r\n")
     return b"\r\n".join([*sorted(it for it in head.split(b"\r\n") if not it.startswith((b"Date: ", b"Server: "))), body])
 
 
 def statements(folder):
-    """Writes clubdesk's SQL statements that the desks prepare into a file, one per line."""
+    """Writes the SQL statements that the desks prepare into a file, one per line. They are clubdesk's own statements."""
     source = (programs.ROOT / "crates" / "club_tables" / "src" / "texts.rt").read_text(encoding="utf-8")
     texts = dict(re.findall(r'const (\w+): &str = "(.*?)";', source, re.DOTALL))
     path = Path(folder, "statements")
@@ -101,7 +101,7 @@ def statements(folder):
 
 
 def desks(folder):
-    """Builds the desks. Yields the name of each desk, its command line, and whether its heads have clubdesk's order."""
+    """Builds the desks. For each desk, yields the name, the command line, and whether the header lines have clubdesk's order."""
     in_c, in_go = Path(folder, "desk_in_c"), Path(folder, "desk_in_go")
     subprocess.run(["cc", "-O2", "-o", in_c, programs.TESTS / "peers" / "beside_c" / "desk.c", "-lsqlite3", "-lnettle"], check=True)
     yield "C", [str(in_c)], True

@@ -1,5 +1,5 @@
-// Sends requests to a desk one after the other, each over its own connection. Prints the microseconds of each, from before it connects until the
-// end of the reply. The replies go to a file, one after the other.
+// Sends requests to a desk one after the other, each over its own connection. For each request, prints the microseconds from before the client
+// connects until the end of the reply. Writes the replies to a file.
 //   client PORT REQUESTS REPLIES      REQUESTS: for each its length in a line, then its bytes
 #include <arpa/inet.h>
 #include <stdio.h>

@@ -1,6 +1,6 @@
-// A desk over SQLite's C library, for comparing its times with clubdesk's. It has the same file, statements and replies, and serves one connection
-// after the other. The desk reads only what an answer needs: the key, then the signature, and only then other rows. The desk knows only the caveats
-// that beside.py writes: guests, until, spend, actions.
+// A desk in C with SQLite's library. tests/peers/beside.py compares the times of this desk with those of clubdesk. The desk has the same file,
+// statements and replies as clubdesk, and serves one connection after the other. It reads the row of the key, then checks the signature, and reads
+// other rows only if the pass is signed. The desk understands only the caveats that beside.py writes: guests, until, spend, actions.
 //   desk FILE MOMENT < STATEMENTS      as beside.py says of each desk
 //   desk                               for each connection it reads once, writes 133 bytes and closes
 #include <arpa/inet.h>
@@ -55,7 +55,7 @@ static void copy_root(enum statement s, int column, struct root *to) {
     memcpy(to->at, sqlite3_column_blob(statements[s], column), to->len = (size_t)sqlite3_column_bytes(statements[s], column));
 }
 
-// The values of a statement, by their kinds: t is a text, n is a number.
+// Binds the values of a statement. `kinds` has a letter for each value: t for a text, n for a number.
 static void set(enum statement s, const char *kinds, ...) {
     va_list values;
     va_start(values, kinds);
@@ -65,7 +65,8 @@ static void set(enum statement s, const char *kinds, ...) {
     va_end(values);
 }
 
-// Returns whether a statement has another row. Reads columns of the row by their kinds: t is a text, n is a number, r is a root.
+// Returns whether a statement has another row, and reads the row's columns. `kinds` has a letter for each column: t for a text, n for a number, r for
+// a root.
 static bool next_row(enum statement s, const char *kinds, ...) {
     int status = sqlite3_step(statements[s]);
     if (status == SQLITE_DONE) return sqlite3_reset(statements[s]), false;
@@ -96,7 +97,7 @@ struct pass {
     uint8_t signature[SIGNATURE];
 };
 
-// Takes a field of a given type from the rest. The end of a section has type 0 and no bytes.
+// Reads a field of this type from the rest of the pass. The end of a section is a field of type 0 without bytes.
 static bool take(struct bytes *rest, uint8_t type, struct bytes *field) {
     const uint8_t *at = rest->at, *end = at + rest->len;
     size_t length = 0;
@@ -135,7 +136,7 @@ static void sign(const uint8_t *key, size_t key_len, struct bytes text, uint8_t 
     hmac_sha256_digest(&hmac, SIGNATURE, to);
 }
 
-// Derived keys, kept as in clubdesk: the last 64 by name, each with its root.
+// Like clubdesk, the desk stores the 64 keys that it derived last, each with its name and its root.
 struct kept { char key[NAME]; struct root root; uint8_t derived[SIGNATURE]; uint64_t used; };
 static struct kept kept[64];
 
@@ -179,7 +180,7 @@ struct request {
 static char reply[MAX_REPLY];
 static int reply_len;
 
-// Writes the body with a format and its values.
+// Formats the values as the reply's body.
 static void respond(const char *status, const char *more, const char *format, ...) {
     char body[256];
     va_list values;
@@ -208,7 +209,7 @@ static int day_number(int year, int month, int day) {
     return (int)(timegm(&(struct tm){.tm_year = year - 1900, .tm_mon = month - 1, .tm_mday = day}) / 86400);
 }
 
-// Reads the head and the body. It produces only the refusals that the test requests.
+// Reads the head and the body of a request. It knows only those refusals of a malformed request that the test provokes.
 static bool read_request(char *bytes, struct request *it) {
     char method[8], path[96];
     int year, month, date;
@@ -236,7 +237,7 @@ static int moment;
 
 struct row { char key[NAME], member[NAME]; int revoked; };
 
-// Returns the key that a pass names, if a good root of the key signed the pass.
+// Returns the key that a pass names, if one of the key's valid roots signed the pass.
 static bool verify(const struct pass *pass, struct row *row) {
     char name[NAME];
     struct root root;
@@ -275,7 +276,8 @@ static struct member member_of(const char *name) {
     return it;
 }
 
-// Returns whether a key has spent more than a number of points. It sums the key's costs only if the points that the member has used don't decide.
+// Returns whether a key has spent more than `most` points. Adds up the costs of the key's bookings only if the member has used more than `most`
+// points.
 static bool has_spent_above(const struct row *row, int most) {
     return most < 0 || (member_of(row->member).used > most && spent_by(row->key) > most);
 }

@@ -1,5 +1,5 @@
-// A desk with net/http and SQLite's C library, for comparing its times with clubdesk's. It has the
-// same file, statements and replies as beside_c/desk.c.
+// A desk with net/http and SQLite's C library. tests/peers/beside.py compares the times of this desk with
+// those of clubdesk. The desk has the same file, statements and replies as beside_c/desk.c.
 //
 //	desk FILE MOMENT < STATEMENTS      as beside.py says of each desk
 package main
@@ -60,7 +60,7 @@ func newDesk(path string, moment int) *desk {
 	return d
 }
 
-// isFound scans the row of a query, if there is a row.
+// isFound returns whether a query has a row, and scans this row.
 func isFound(row *sql.Row, to ...any) bool {
 	err := row.Scan(to...)
 	if !errors.Is(err, sql.ErrNoRows) {
@@ -69,7 +69,7 @@ func isFound(row *sql.Row, to ...any) bool {
 	return err == nil
 }
 
-// each scans every row of a query.
+// each scans every row of a query, and calls `then` after each row.
 func each(rows *sql.Rows, err error, then func(), to ...any) {
 	check(err)
 	defer rows.Close()
@@ -92,7 +92,7 @@ func (d *desk) spentBy(key string) (spent int) {
 	return spent
 }
 
-// hasSpentAbove sums a key's costs only if the points that the member has used don't decide.
+// hasSpentAbove adds up the costs of the key's bookings only if the member has used more points than `most`.
 func (d *desk) hasSpentAbove(key key, most int) bool {
 	_, _, used := d.memberOf(key.member)
 	return used > most && d.spentBy(key.name) > most
@@ -144,7 +144,7 @@ func refuse(fault int, more string) reply {
 	return reply{faults[fault].status, fmt.Sprintf(`{"fault":%d,"text":%q%s}`, fault, faults[fault].body, more)}
 }
 
-// readRequest reads the path and the body. The fault 0 means no fault.
+// readRequest reads the path and the body. It returns fault 0 if the request has no fault.
 func readRequest(r *http.Request) (it request, fault int) {
 	if r.URL.Path == "/account" {
 		return request{action: "account"}, 0
@@ -175,7 +175,7 @@ func readRequest(r *http.Request) (it request, fault int) {
 	return it, 0
 }
 
-// readPass reads a pass in V2, in base64, URL-safe and unpadded.
+// readPass reads a pass in V2, in URL-safe base64 without padding.
 func readPass(text string) (it macaroon.Macaroon, isPass bool) {
 	raw, err := base64.RawURLEncoding.DecodeString(text)
 	isPass = err == nil && len(text) <= 8192 && it.UnmarshalBinary(raw) == nil
@@ -188,7 +188,7 @@ type key struct {
 	revoked      bool
 }
 
-// signer returns the key that a pass names, if a good root of the key signed the pass.
+// signer returns the key that a pass names, if one of the key's valid roots signed the pass.
 func (d *desk) signer(p *macaroon.Macaroon) (it key, isSigned bool) {
 	name := strings.TrimPrefix(string(p.Id()), "key:")
 	if name == string(p.Id()) || !isFound(d.key.QueryRow(name), &it.name, &it.member, &it.root, &it.revoked) {
@@ -206,7 +206,7 @@ func (d *desk) signer(p *macaroon.Macaroon) (it key, isSigned bool) {
 	return it, err == nil
 }
 
-// firstFault returns the fault and number of the first caveat that isn't understood or denies.
+// firstFault returns the fault and the number of the first caveat that denies the request or isn't understood.
 func (d *desk) firstFault(p *macaroon.Macaroon, key key, it request, owed int) (fault, number int) {
 	for n, caveat := range p.Caveats() {
 		if allows, isUnderstood := d.allows(string(caveat.Id), key, it, owed); !isUnderstood {
@@ -218,7 +218,7 @@ func (d *desk) firstFault(p *macaroon.Macaroon, key key, it request, owed int) (
 	return 0, 0
 }
 
-// allows knows only the caveats that beside.py writes: guests, until, spend, actions.
+// allows understands only the caveats that beside.py writes: guests, until, spend, actions.
 func (d *desk) allows(text string, key key, it request, owed int) (allows, isUnderstood bool) {
 	words := append(strings.SplitN(text, " ", 3), "", "")
 	limit, err := strconv.Atoi(words[2])
@@ -322,7 +322,7 @@ func (d *desk) book(key key, it request, place facility, charge int) reply {
 	return serve(`{"booking":"%s/%d","charge":%d,"left":%d}`, key.name, it.number, charge, left)
 }
 
-// add writes a booking, and adds to the sums.
+// add writes a booking, and updates the sums of the slot and of the member.
 func (d *desk) add(key key, it request, charge, left int) {
 	tx, err := d.database.Begin()
 	check(err)

@@ -1,11 +1,11 @@
 /*
- * A target of libFuzzer over the library of passes, for tests/peers/passes_fuzzed.sh. The first byte of an input names the kind of the other bytes.
- * They are a text, bytes to encode in base64, a caveat, or an object. The target aborts if a call doesn't do what the header describes. If a call
- * reads a text, the target writes the pass and reads it again. The result must be the same pass. A narrowed pass must be signed under the root with
- * which it was minted. After a fault, the state must be the state that the header describes.
+ * Tests the library of passes with libFuzzer. tests/peers/passes_fuzzed.sh runs this program. The first byte of an input tells what the other bytes
+ * are: a text, bytes to encode in base64, a caveat, or an object. The program aborts if a call doesn't do what clubpass.h describes. If the library
+ * can read a text as a pass, the program writes this pass and reads it again. The result must be the same pass. A narrowed pass must be signed under
+ * the root with which it was minted. After a fault, each object must be as clubpass.h describes.
  *
- * The library's code counts no branches. So the branches of this file guide the fuzzer, by faults, forms, counts and lengths. Each text is at the
- * end of a page, before an inaccessible page.
+ * The library isn't compiled with libFuzzer's counters of branches. So this file has a branch for each fault, form, number of caveats and length, and
+ * these branches guide libFuzzer. Each text is at the end of a page of memory, before an inaccessible page.
  */
 #include <clubpass.h>
 #include <stdio.h>
@@ -26,7 +26,7 @@ static uint8_t *end_of_page;
 static const uint8_t root[32] = "0123456789abcdef0123456789abcde";
 static volatile unsigned seen;
 
-/* Returns the text at a place where a read beyond the text ends the program. */
+/* Copies the text before an inaccessible page, so that a read beyond the text ends the program. */
 static const uint8_t *at_the_edge(const uint8_t *text, size_t len) {
     if (!end_of_page) {
         size_t page = (size_t)sysconf(_SC_PAGESIZE), whole = 16 * page;
@@ -37,7 +37,7 @@ static const uint8_t *at_the_edge(const uint8_t *text, size_t len) {
     return memcpy(end_of_page - len, text, len);
 }
 
-/* Gives each value of a number its own branch. */
+/* Has a branch for each value of this number. */
 static void tell(unsigned number) {
     switch (number) {
 #define CASE(n) case n: seen += n; break;

@@ -1,11 +1,11 @@
 /*
- * Prints what the library returns for each line of standard input. The words of a line have bytes in hexadecimal, and `-` for no bytes:
+ * Calls the library for each line of standard input, and prints the results. A line's words have bytes in hexadecimal. The word `-` has no bytes.
  *
  *     pass ROOT TEXT         fault N, or form, location, identifier, caveats with commas, signature, its three texts, the signature of a
  *                            pass that is minted under the root and narrowed by the same caveats, and `signed` or `not signed`
  *     caveat TEXT            yes, or no
  *     ask TEXT ACTION KIND MOMENT FACILITY DAY HOUR GUESTS OWED SPENT
- *                            `allows`, `denies N`, `not understood N`, or `no ask`. These words are plain.
+ *                            `allows`, `denies N`, `not understood N`, or `no ask`. The words after TEXT aren't in hexadecimal.
  */
 #define _GNU_SOURCE
 #include <clubpass.h>
@@ -33,7 +33,7 @@ static size_t from_hex(const char *text, uint8_t *bytes) {
     return len;
 }
 
-/* If a call fails to fill an object, the object contains no pass. */
+/* After a failed call, the object must contain no pass. */
 static bool is_empty(const clubpass *pass) {
     static const uint8_t zeros[CLUBPASS_SIGNATURE];
     uint8_t signature[CLUBPASS_SIGNATURE], byte[1];
@@ -43,7 +43,7 @@ static bool is_empty(const clubpass *pass) {
            clubpass_location(pass, byte, 0, &len) == CLUBPASS_OK && clubpass_identifier(pass, byte, 0, &len) == CLUBPASS_OK && len == 0;
 }
 
-/* Mints the same pass under a root and narrows it. */
+/* Mints a pass with the same fields under this root, and narrows it by the same caveats. */
 static clubpass minted_again(const clubpass *pass, const uint8_t *root, size_t root_len) {
     static uint8_t identifier[CLUBPASS_ROOM];
     clubpass made = CLUBPASS_INIT;
