@@ -4,8 +4,8 @@
 The test runs the office at a terminal, and checks what each task changes. Needs root, for a machine of its own (tests/lib/office_room.sh).
 
 The menu and the commands accept names, days and hours as people write them. The office asks again if two members match a name, or if an input is
-unusual. It prints its refusals, lists and usage text in German, too. Ctrl-C at any question changes nothing. Commands without a terminal accept only
-whole names.
+unusual. The office can also print its refusals, lists and usage text in German. Ctrl-C at any question changes nothing. Commands without a terminal
+accept only whole names.
 """
 # pytestmark = [mark.package, mark.root, mark.needs("clubdesk passtool"),
 #     mark.wants("sudo sqlite3 openssl util-linux bsdutils iproute2 systemd qrencode python3-psutil python3-pexpect")]
@@ -36,7 +36,8 @@ class Terminal:
         self.shown = ""
 
     def answers(self, *pairs):
-        """Waits for each question and sends its answer. A pair has a pattern of the question, and the answer. The answer None sends Ctrl-C."""
+        """Waits for each question and sends its answer. Each pair consists of a pattern for the question and of the answer. The answer None sends
+        Ctrl-C."""
         for question, answer in pairs:
             try:
                 self.it.expect(question)
@@ -61,7 +62,7 @@ class Terminal:
 
 
 def task(called, *pairs, language="C.UTF-8", begin="Task: ", end="Enter for"):
-    """Runs a task of the menu, given by its name, and then leaves the menu."""
+    """Chooses a task in the menu by its name, runs this task, and then leaves the menu."""
     terminal = Terminal("club", language=language)
     terminal.answers((begin, called), *pairs, (end, ENTER), (begin, ENTER))
     same(f"{called}: the status of the menu", terminal.ends(), 0)

@@ -1,9 +1,9 @@
 #!/usr/bin/env -S /usr/bin/python3 -B
-"""Corrections by commands don't stop the server, and take effect once even if the test kills them and gives them again.
+"""Commands for corrections don't stop the server. Each correction takes effect once, even if the test kills its command and gives it again.
 
-The test kills each correction before and after each program that the correction runs. It also kills a correction whose output no program reads. Then
-the test gives the same command again. The club must be the same as after one command. If a correction is killed but its clubdesk command still runs,
-the next correction waits for that command. The test also checks the copy that the office makes before a correction, and the rows that `undo`
+The test kills each correction before and after each program that the correction runs. The test also kills a correction whose output no program reads.
+Then the test gives the same command again. The club must be the same as after one command. If a correction is killed but its clubdesk command still
+runs, the next correction waits for that command. The test also checks the copy that the office makes before a correction, and the rows that `undo`
 restores. Needs root, for a machine of its own (tests/lib/office_room.sh).
 
   tests/office/office_by_commands.py [debit|times]    debit: debits alone; times: how long a tournament takes, and a client beside it waits
@@ -34,7 +34,8 @@ TODAY = datetime.date.today()
 PASSES = {}
 PROGRAMS = {"clubdesk": Path("/usr/bin/clubdesk"), "back_up": Path("/usr/lib/clubdesk/back_up"), "systemctl": Path("/usr/bin/systemctl")}
 STOPPER = f"""#!/bin/sh
-# Replaces a program that the office calls. At the Nth call, the script waits before or after the real program, so that the test can kill the office.
+# This script replaces a program that the office calls. At the Nth call, the script waits before or after the real program, so that the test can kill
+# the office.
 number=$(($(cat {ROOM}/calls) + 1))
 [ "$1" != serve ] || exec {ROOM}/NAME "$@"
 echo $number >{ROOM}/calls
@@ -198,7 +199,7 @@ class Raining(OfBookings):
 
 
 class Closing(OfBookings):
-    """Closes zoe's two hours and a free hour. The office writes the reason only once."""
+    """Closes the two hours that zoe has booked, and a free hour. The office writes the reason only once."""
 
     court, booked = "court-4", 3000
 
@@ -255,15 +256,15 @@ def killed_and_given_again(correction, programs):
 
 
 def rows_of_copy(command, sql):
-    """Returns the rows that a statement finds in the newest copy that the office made before such a command."""
+    """Returns the rows that an SQL statement finds in the newest copy from before a command of this kind."""
     newest = max((HOME / "club-before").glob(f"*-{command}*"), key=lambda it: it.stat().st_mtime_ns)
     with contextlib.closing(sqlite3.connect(f"file:{newest}?immutable=1", uri=True)) as db:
         return db.execute(sql).fetchall()
 
 
 def outlives_its_order(correction, programs):
-    """If the test kills only the correction, its clubdesk command continues. The next correction waits until this command ends, and finds its
-    result."""
+    """If the test kills a correction, but not the clubdesk process that the correction started, this process continues. The next correction waits
+    until that process ends."""
     words, wanted = correction.next()
     order = stopped(f"{programs} late", [*words, "--yes"])
     for it in psutil.Process(order.pid).children(recursive=True):
@@ -279,7 +280,8 @@ def outlives_its_order(correction, programs):
 
 
 def credited_meanwhile(correction):
-    """If the member's credit has changed meanwhile, the office doesn't continue an interrupted debit. The same command then starts a new debit."""
+    """If the member's credit has changed since an interrupted debit, the office refuses to continue the debit. When the clerk gives the command
+    again, the office starts a new debit."""
     words, _ = correction.next()
     killed("3 before", [*words, "--yes"])
     done("credit", "zoe", "7")
@@ -317,7 +319,7 @@ def booked_meanwhile(closing):
 
 
 def booked_out_of_hours(prices):
-    """A member books an hour just before the office removes the hour from the opening hours. The booking stays, and the office names it."""
+    """A member books an hour just before the office removes the hour from the opening hours. The booking stays, and the office names this booking."""
     words, wanted = prices.next()
     words[-1] = "--hours=10-20"
     day = str(TODAY + datetime.timedelta(50))

@@ -100,7 +100,8 @@ def member_leaves(server, bob):
 
 
 def breaks_no_total(server):
-    """After a change of the file by hand, a booking has more places than its slot has taken. The office refuses to cancel this booking."""
+    """The test changes the number of guests in the club's file by hand, so that a booking takes more places than its slot counts as taken. The office
+    refuses to cancel this booking."""
     text = done("add-key", "amy-4", "amy").strip()
     book(server, text, "court-2", 20, 5, 1)
     by_hand("UPDATE bookings SET guests = 3 WHERE pass_key = 'amy-4'")
@@ -163,7 +164,7 @@ def keep_copy():
 
 
 def restores(server):
-    """Restores a copy. The office shows what the restore changes. It keeps a copy of the old club, or the damaged file."""
+    """Restores a copy. The office shows what the restore changes. The office keeps a copy of the old club, or the damaged file itself."""
     configure(BACK_UPS=COPIES)
     same("no copy of a night", [line for line in lines("copies", "--csv") if "back-up" in line], [])
     text = done("add-key", "amy-6", "amy").strip()

@@ -118,7 +118,7 @@ def command_of(attempt):
 
 
 def hold_book(commands):
-    """The club has all credits and debits that have status 0 in the book. It may have any of those that have a question mark."""
+    """The club has all credits and debits that have status 0 in the book. Credits and debits with a question mark may be missing."""
     book = [line.split() for line in done("log", "zoe").splitlines()]
     book = [(status, command, words) for _, _, status, command, *words in book if command in ("credit", "debit")]
     sums, counts = {0}, Counter(status for status, _, _ in book)
@@ -278,7 +278,8 @@ def make_list(members, delimiter=","):
 
 
 STOPPER = f"""#!/bin/sh
-# Replaces clubdesk, and counts the commands. Before or after the Nth command, this script waits, so that the test can kill the office's processes.
+# This script replaces clubdesk, and counts the commands that the office gives. Before or after the Nth command, the script waits, so that the test
+# can kill the office's processes.
 case $1 in
     add-member | credit | add-key | rotate-key)
         number=$(($(cat {ROOM}/orders) + 1))

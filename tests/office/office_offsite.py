@@ -4,14 +4,14 @@
 A service sends the copies by ssh, or writes them into a mounted folder. Each copy is tested at its destination. Needs root, for a machine of its own
 (tests/lib/office_room.sh).
 
-- The service sends nothing if the club hasn't changed. It keeps the copies that a rule in Python selects. `copies` lists the copies on the other
-  machine, and `restore` can restore each of them.
+- The service sends nothing if the club hasn't changed. The service keeps the copies that a rule in Python selects. `copies` lists the copies on the
+  other machine, and `restore` can restore each of them.
 - The test uses a host that is down, an interrupted transfer, a full disk on the other machine, and an unmounted folder. The service reports each
   fault and retries, and the health check fails meanwhile.
 - deploy/check_health requests the club's public name, and checks how many days the certificate is still valid. deploy/metrics counts requests and
   orders.
-- `clubdesk-setup --from` restores the club, the members' full names, a season's points, old years and clerks. If a booking was lost, the client's
-  repeated request makes it again.
+- `clubdesk-setup --from` restores the club, the members' full names, a season's points, old years and clerks. If a booking was lost, the client
+  repeats the request and so makes the booking again.
 """
 # pytestmark = [mark.package, mark.faults, mark.root, mark.needs("clubdesk passtool"),
 #     mark.wants("sudo sqlite3 openssl util-linux bsdutils iproute2 systemd python3-psutil openssh-server openssh-client curl")]
@@ -205,8 +205,8 @@ def beside():
 
 
 def listed():
-    """`copies` lists the copies on this machine and on the other disk. For each copy it shows the age, the size, and whether the copy was tested, in
-    both languages."""
+    """`copies` lists the copies on this machine and on the other disk. In both languages, the list shows the age and the size of each copy, and
+    whether the copy was tested."""
     same("a copy of the night", run_as("clubdesk", "/usr/lib/clubdesk/keep_copies", CLUB, HOME / "back-ups", folder="/")[0], 0)
     found = [it.split(",") for it in done("copies", "--csv").splitlines()]
     same("the heads", found[0], ["copy", "is", "bytes", "minutes", "tested"])
@@ -239,8 +239,8 @@ def restored_from_there():
 
 
 def host_down(sshd, keeper):
-    """If the host is down, the service reports it once and retries, and the health check fails. When the host is up again, the service sends the
-    bookings that were made meanwhile."""
+    """If the host is down, the service reports this fault once and retries, and the health check fails. When the host is up again, the service sends
+    the bookings that were made meanwhile."""
     health(0)
     sshd.stop()
     book(20)
@@ -454,7 +454,7 @@ def counted():
     shutil.chown(folder, "clubdesk")
     lines = ROOM / "journal"
     journal.write_text(f"""#!/bin/sh
-# A stub of journalctl. It prints the lines of a file, and its cursor is the number of lines read so far.
+# A stub of journalctl. The stub prints the lines of a file. Its cursor is the number of lines that were read so far.
 case "$*" in *SYSLOG_IDENTIFIER*) echo '-- cursor: 0'; exit ;; esac
 from=$(wc -l <{lines})
 case "$*" in *--after-cursor=*) from=${{*##*--after-cursor=}}; from=${{from%% *}} ;; esac
@@ -500,7 +500,8 @@ echo "-- cursor: $(wc -l <{lines})"
 
 
 def brought_back():
-    """Deletes all data on the machine, and restores the club. If a booking was lost, the client's repeated request makes it again."""
+    """Deletes all data on the machine, and restores the club. If a booking was lost, the client repeats the request and so makes the booking
+    again."""
     same("an old year", run_as("clubdesk", "/usr/lib/clubdesk/back_up", CLUB, HOME / "club-until-2025-12-31", folder="/")[0], 0)
     (CONF / "club.health").write_text("pass")
     run("chown", "root:clubdesk", CONF / "club.health")

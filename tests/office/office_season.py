@@ -39,8 +39,8 @@ def make_season_club():
 
 
 def lists_as_they_are_written():
-    """The office can read a list with tabs, with a byte-order mark, in UTF-16, or with other column names. Before the import it prints how it reads
-    the list."""
+    """The office can read a list with tabs, with a byte-order mark, in UTF-16, or with other column names. Before the import, the office prints how
+    it reads the list."""
     for called, data, words, read in (
         ("tabs.csv", "name\tquota\tpoints\nTab Ulator\t1\t5\n".encode(), [], "read as UTF-8 with tab between the columns: name = name, quota = quota, points = points"),
         ("mark.csv", "\ufeffname,quota,points\nBörte Mark,1,5\n".encode(), [], "read as UTF-8 with , between the columns: name = name, quota = quota, points = points"),
@@ -84,8 +84,8 @@ def for_callers(server, day):
 
 
 def for_hours(day):
-    """If a command names several hours, the office runs one command for each hour. It lists these commands first. At the end it prints the total, and
-    the hours that failed."""
+    """If a command names several hours, the office runs one command for each hour. First the office lists these commands. At the end, the office
+    prints the total, and the hours that failed."""
     def closed():
         return [hour for hour, in rows("SELECT hour FROM slots WHERE facility = 'boat-1' AND closed = 1 ORDER BY hour")]
 
@@ -253,7 +253,7 @@ def letters_and_records(day):
 
 
 def spare_passes(lines_of):
-    """If the import of a list is repeated, it adds spare passes for each member. The second half of the member's letter contains these passes."""
+    """A second import of the same list makes spare passes for each member. The second half of the member's letter contains these passes."""
     configure(**lines_of, SPARES=2)
     run_as("anna", "sh", "-c", "head -n 3 season.csv >spares.csv")
     done("import", "spares.csv", "--quota", "5", "--points", "1000", "--passes", "season", "--yes")

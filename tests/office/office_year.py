@@ -1,12 +1,12 @@
 #!/usr/bin/env -S /usr/bin/python3 -B
 """`office CLUB new-year` keeps balances, keys and future slots, and a kill leaves the old or the new club.
 
-The test first sends 1,500 requests of a year. The server gives the same replies before and after the new year. Needs root, for a machine of its own
-(tests/lib/office_room.sh).
+Before the command `new-year`, the test fills a year with 1,500 requests. The server gives the same replies before and after this command. Needs root,
+for a machine of its own (tests/lib/office_room.sh).
 
 Some of the club's past and future bookings are cancelled. The old file stays unchanged, byte for byte. The test compares checksums of the balances,
 the points that each key has spent, the keys, the facilities, and the future slots. After the new year, each other command of a season works, and the
-service copies the old year to another place.
+service copies the old year's file to another disk.
 """
 # pytestmark = [mark.package, mark.root, mark.needs("clubdesk passtool"),
 #     mark.wants("sudo sqlite3 openssl util-linux bsdutils iproute2 systemd python3-psutil")]

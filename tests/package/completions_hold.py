@@ -2,9 +2,9 @@
 """bash, zsh and fish complete exactly the commands, options and values of `--help`.
 
 The test compares bin/completions in real shells with the `--help` of both programs and of office.
-For each command, the shell offers the words that begin with the typed prefix. It also offers the command's
-options, the values of the options, and file names for FILE. The command line of office has a club before the
-command, so the shell also offers the configured clubs.
+For each command, the shell offers the words that begin with the typed prefix. The shell also offers the
+command's options, the values of the options, and file names for FILE. The command line of office has a club
+before the command, so the shell also offers the configured clubs.
 """
 
 import os

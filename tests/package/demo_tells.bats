@@ -7,7 +7,7 @@
 # If bin/demo can't continue, it prints the reason and exits, for root and for another user.
 # pytestmark = [mark.pages, mark.needs("clubdesk passtool"), mark.wants("bats curl sqlite3")]
 
-# Makes a folder with this machine's commands. Leaves out the commands that may be missing.
+# Makes a folder with this machine's commands, but without those that the tests take away or replace.
 setup() {
     bats_require_minimum_version 1.5.0
     load ../lib/serving.sh
@@ -21,13 +21,14 @@ setup() {
     export CLUBDESK PASSTOOL
 }
 
-# put NAME: adds a command from standard input to that folder. is_user NUMBER: sets the user's id.
+# put NAME: adds a command with this name to the folder `some`. Standard input is the command's script. is_user NUMBER: sets the user's id.
 put() { cat >"some/$1" && chmod +x "some/$1"; }
 is_user() { echo "echo $1" | put id; }
 demo() { "$here/../../bin/demo"; }
 demo_of_some() { PATH=$some demo; }
 
-# says_what_is_missing: checks that the demo prints nothing on standard output. It must name the missing commands and the line to type.
+# says_what_is_missing: checks that the demo prints nothing on standard output, and names the missing commands and the command line that installs
+# them.
 says_what_is_missing() {
     run -1 --separate-stderr demo_of_some
     [ -z "$output" ]

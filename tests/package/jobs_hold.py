@@ -1,7 +1,7 @@
 """Compares the copies that OLD_COPIES keeps with a rule in Python, on each day of three years: jobs_hold.py OLD_COPIES FOLDER. jobs_hold.sh runs this
 program.
 
-Each day, the program creates at most two empty files with the names of copies. Then it removes the files that OLD_COPIES prints."""
+Each day, the program creates at most two empty files with the names of copies. Then the program removes the files that OLD_COPIES prints."""
 
 import datetime
 import os

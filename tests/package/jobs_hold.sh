@@ -17,7 +17,7 @@ SENDMAIL=$work/mailer
 export CLUBDESK SENDMAIL
 . "$here/../lib/checks.sh"
 
-# ends WHAT STATUS COMMAND..: checks the command's status. The outputs are in `told` and `said`.
+# ends WHAT STATUS COMMAND..: runs the command and checks its exit status. Standard output and standard error go to the files `told` and `said`.
 ends() {
     what=$1
     wanted=$2

@@ -48,7 +48,7 @@ cp -a first second
 cp -a first elsewhere
 for name in first second elsewhere; do echo "$name" >"$name/etc/hostname"; done
 
-# The machine that keeps the copies. It has a user with a folder, and an ssh server.
+# The machine that keeps the copies. This machine has a user with a folder, and an ssh server.
 offline elsewhere sh -c 'apt-get install openssh-server sqlite3 && useradd --create-home --shell /bin/sh --password "*" backup-of-clubs' >apt.log 2>&1 </dev/null || fail "apt-get: $(tail apt.log)"
 there=$work/elsewhere/home/backup-of-clubs
 install -d -m 700 -o "$(stat -c %u "$there")" -g "$(stat -c %g "$there")" "$there/.ssh"
@@ -123,7 +123,7 @@ took=$(($(date +%s) - began))
 checks=$((checks + 1))
 echo "the first booking, $took seconds after the first command"
 
-# caddy serves the pages with their policies, and keeps some requests from the desk. nginx does the same.
+# Like nginx, caddy serves the pages with their security policies, and refuses some requests itself.
 head_of() { inside curl -sS --max-time 20 --cacert /root/ca.pem -o /dev/null -D - "$@" | tr -d '\r' | tr "[:upper:]" "[:lower:]"; }
 for page in book.html pass.html demo.html worker.js app.webmanifest; do
     same "the page $page" "$(sha256sum <"$top/web/$page")" "$(inside curl -sS --cacert /root/ca.pem "https://desk.example.org/$page" | sha256sum)"
@@ -242,7 +242,7 @@ took=$(($(date +%s) - began))
 checks=$((checks + 1))
 
 # The restored club has each booking that was made more than a minute before the loss. The client repeats the requests of all later bookings, and so
-# makes these bookings again.
+# books again what was lost.
 inside sh -c 'rm -f /root/looked; /usr/lib/clubdesk/back_up /var/lib/clubdesk/club /root/looked' >told
 inside sqlite3 /root/looked 'SELECT number FROM bookings WHERE cancelled = 0' | sort >numbers
 lost=0

@@ -1,14 +1,14 @@
 #!/bin/sh
-# `bin/package` makes the same bytes twice, lintian has no complaint, and the package works in a fresh Debian.
+# `bin/package` makes the same package twice, byte for byte. lintian finds no fault, and the package works in a fresh Debian.
 #
 # debootstrap makes the Debian, and systemd-nspawn boots it with its own systemd and only a loopback network. In this Debian, the test runs
 # docs/RUNNING.md's command lines for root, from the installation to the restore. These lines set up the desk behind nginx with TLS, the timers and
-# their jobs, mail, and a second club in another time zone. The machine also boots again. A clerk without root does the work of her first week, from
-# the import of members to a restore. The test upgrades the package while a client books. The test also upgrades to a faulty package whose clubdesk
-# can't open a club. The test removes the package, installs it again, and purges it. No acknowledged booking is lost, and the clubs' files stay. At
-# the end the test checks the archive for other systems, whose files are below /usr/local. Needs root, and Debian's mirror for the fresh Debian.
-# DEBIAN=FOLDER names an existing Debian, made by
-# `debootstrap --variant=minbase --include=systemd,systemd-sysv bookworm FOLDER`. The test copies it.
+# their jobs, mail, and a second club in another time zone. The test also boots the machine again. A clerk without root does the work of her first
+# week, from the import of members to a restore. The test upgrades the package while a client books. The test also upgrades to a faulty package whose
+# clubdesk can't open a club. The test removes the package, installs it again, and purges it. No acknowledged booking is lost, and the clubs' files
+# stay. At the end the test checks the archive for other systems, whose files are below /usr/local. Needs root and a Debian mirror. DEBIAN=FOLDER
+# names an existing Debian, made by
+# `debootstrap --variant=minbase --include=systemd,systemd-sysv bookworm FOLDER`. The test copies this Debian.
 # pytestmark = [mark.package, mark.root, mark.needs("clubdesk passtool"),
 #     mark.wants("debootstrap systemd-container lintian dpkg-dev xz-utils util-linux")]
 # shellcheck disable=SC2016 # a shell of the fresh Debian reads what is quoted
@@ -243,7 +243,7 @@ for words in 'add-member eve 5' 'credit eve 1000' 'add-facility court-1 court 4 
     # shellcheck disable=SC2086 # a command's words
     holds "$words" office anna $words
 done
-# Requests the account. After a reply to a request with a pass, the server has surely opened its file.
+# Requests the account. When the server has replied to a request with a pass, it has certainly opened the club's file.
 account() { inside sh -c 'curl -sS -H "Authorization: Bearer $(cat /home/anna/eve-1)" http://127.0.0.1:8083/account'; }
 same 'the account before it' '{"member":"eve","balance":1000,"quota":5,"open":0,"spent":0}' "$(account)"
 pid_of() { inside systemctl show --value -p MainPID "$1"; }

@@ -38,7 +38,7 @@ mkdir -p /var/log/nginx /run/sudo
 sed -i 's/^hosts:.*/hosts: files/' /etc/nsswitch.conf
 echo '127.0.0.1 localhost desk.example.org rowing.example.org' >/etc/hosts
 
-# A stub of systemctl for the commands in RUNNING.md. The stub can reload nginx. It can also enable a club, and then runs the club's desk.
+# A stub of systemctl for the commands in RUNNING.md. The stub can reload nginx. If a command enables a club, the stub runs the club's desk.
 cat >"$room/systemctl" <<SYSTEMCTL
 #!/bin/sh
 case "\$*" in
@@ -187,7 +187,8 @@ by_both GET account "$pass"
 wait "$slow" || :
 
 # ---- The limits. The proxy accepts a burst of 1,000 requests with one pass. The proxy refuses the rest of the burst, but still answers requests with
-# another pass. A second later, the proxy answers requests with the first pass again. One address may send twice as many requests as one pass.
+# another pass. A second after the burst, the proxy also answers requests with the limited pass again. One address may send twice as many requests as
+# one pass.
 #
 # The function `flood NAME COUNT [WORD..]` sends a burst of COUNT requests, with the options WORD.. for curl. The requests ask for a file, because
 # nginx sends a file faster than the desk replies. The function counts the accepted requests in `passed`, and the refused requests in `limited`. The

@@ -129,7 +129,7 @@ while [ ! -e answered.all ] && [ "$copies" -lt 500 ]; do
     copies=$((copies + 1))
     holds "copy $copies" "$top/deploy/back_up" club "copy.$copies"
     [ ! -e "copy.$copies-wal" ] || fail "copy $copies has a log"
-    # The copy has all bookings up to the last one it contains. At most one of them isn't cancelled.
+    # The copy has the bookings 1 to N without a gap. All these bookings are cancelled, except perhaps one.
     same "the bookings of copy $copies" 1 \
         "$(sqlite3 "copy.$copies" 'SELECT count(*) = coalesce(max(number), 0) AND total(cancelled = 0) <= 1 FROM bookings')"
     same "the totals of copy $copies" '' "$(unsound "copy.$copies")"
@@ -141,7 +141,7 @@ wait "$client" || { kill -0 "$server" || echo 'the server is gone' >&2; cat faul
 same 'a sheet meanwhile' 'Day sheet 2026-05-01' "$("$desk" sheet club 2026-05-01 2>&1 | head -n 1)"
 rm copy.*
 
-# ---- After a restore, the desk's replies have the same bytes as before the copy, without the changes after the copy.
+# ---- After a restore, the desk replies with the same bytes as when the copy was made. Changes made after the copy are gone.
 first=slots/court-1/2026-06-01/10 second=slots/court-1/2026-06-01/11
 asks PUT $first/bookings/1001 '{"guests":4}' >told
 shown() { for path in account $first $second slots/court-1/2026-05-02/01; do asks GET "$path"; done; }

@@ -1,5 +1,5 @@
 #!/usr/bin/env -S /usr/bin/python3 -B
-"""`deploy/clubdesk-setup` sets up a club from the answers to its questions, even if it is stopped and runs again.
+"""`deploy/clubdesk-setup` sets up a club from the answers to its questions, even if the program is stopped and runs again.
 
 The test checks the modes and owners of files, and the setup's refusals. Needs root (tests/lib/office_room.sh).
 

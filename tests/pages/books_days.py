@@ -59,7 +59,7 @@ def books_and_cancels(page, passes):
     page.when("isShown('welcome')", "a forgotten pass")
     page.visit("", "isShown('welcome')", "a forgotten pass, at the next visit")
     check("Cancelled" in page.run("return byName('other-part').hidden ? '' : byName('others').textContent"), "its record stays")
-    # Pastes a pass that only this tab keeps.
+    # Pastes a pass, which only this tab stores.
     page.run("byName('given').value = `https://desk.example.org/book.html#${arguments[0]}\\n`; byName('use').click()", passes["amy-1"])
     page.when("isShown('day') && dayIsThere()", "a pasted pass")
     page.driver.refresh()
@@ -85,7 +85,7 @@ def day_says_what_is(page, passes):
     page.run("look()")
     page.when("cellAt('court-2', 12).button.innerText === 'Full'", "a full slot")
     curl(page, "DELETE", f"/slots/court-2/{day(3)}/12/bookings/{number}", other)
-    # The page doesn't request slots that have already begun by the club's clock. It shows them as over.
+    # The page doesn't request slots that have already begun by the club's clock. The page shows these slots as over.
     page.requests()
     page.go(day(0))
     hour = now().hour
@@ -156,8 +156,8 @@ def says_why_it_is_closed(page, passes, server):
 
 
 def looks_six_at_a_time(page, passes, between):
-    """The page sends at most six requests of a day at once. On a narrow screen, it first requests the slots of the facility that it shows. Meanwhile
-    it shows its progress."""
+    """For a day, the page sends at most six requests at the same time. On a narrow screen, the page first requests the slots of the facility that it
+    shows. While the page loads a day, it shows its progress."""
     page.sees(360, "light", 740)
     page.enter(passes["bob-2"], 4)
     page.run("pressIn(byName('facility-choice'), 'Double scull')")
@@ -222,7 +222,7 @@ def swipes(page, passes):
 
 
 def looks_again(page, passes):
-    """If the page was hidden for a while, it requests its day again when it is shown. If it was hidden only for a moment, it doesn't."""
+    """When the member returns to the page after a while, the page requests its day again. After only a moment, the page requests nothing."""
     page.enter(passes["bob-2"], 4)
     own = page.driver.current_window_handle
 

@@ -111,8 +111,8 @@ def cancelled_by_the_office(passes, front, server):
 
 
 def at_hand(passes, server):
-    """The page opens without a network and shows the list of bookings. It works again when the network returns. It also works with an old service
-    worker, or with none."""
+    """The page opens without a network and shows the list of bookings. When the network returns, the page works again. The page also works with an
+    old service worker, or without a service worker."""
     front = start_proxy(server.port)
     with BookingPage(front) as page:
         page.enter(passes["hand-1"], 34, "Keep it")
@@ -180,8 +180,8 @@ def at_hand(passes, server):
 
 
 def tells_what_is_missing(passes, front):
-    """The page compares its list with the number of bookings that the desk counts. So it shows that a booking was cancelled elsewhere, or isn't in
-    the list. The page reminds the member to save the list."""
+    """The page compares its list with the number of bookings that the desk counts. So the page shows that a booking was cancelled elsewhere, or that
+    a booking isn't in the list. The page reminds the member to save the list."""
     key = "counts-1"
     asks = "globalThis.persistAsked = 0; navigator.storage.persist = async () => { persistAsked += 1; return true; }; navigator.storage.persisted = async () => false;"
     with BookingPage(front, before=asks) as page:

@@ -30,14 +30,14 @@ def survives_failures(page, passes, between):
         page.cancelled(entry["number"], failure)
     between.fates["PUT"] = list(FAILURES)
     page.booked("boat-1", 20)
-    # After a second, the page shows that it waits for the desk. After ten seconds, it explains the delay.
+    # After a second, the page shows that it waits for the desk. After ten seconds, the page explains the delay.
     between.fates["PUT"] = ["silent"] * 12
     page.book("boat-1", 21)
     page.when("dialogText().includes('The page sends again, attempt')", "sending again")
     page.when("dialogText().includes('nothing is booked twice')", "a long wait")
     between.fates["PUT"] = []
     page.comes("Booked.", "a booking at last")
-    # If the desk doesn't reply for a slot, only this slot shows that. A press on the slot requests it again.
+    # If the desk doesn't reply to the request for a slot, only this slot shows that the reply is missing. A press on the slot requests it again.
     between.fates["GET"] = ["silent"] * 200  # the page may be looking at others still
     page.run("lookAt(cellAt('boat-2', 10), round)")
     page.when("cellAt('boat-2', 10).button.innerText.includes('No answer')", "a slot without an answer")
@@ -89,7 +89,7 @@ def pages_end(page, passes, between, server):
 
 
 def writes_before_it_sends(passes, front):
-    """The page writes a request to the disk before sending it. It writes a reply to the disk before using it."""
+    """The page writes a request to the disk before sending it. The page writes a reply to the disk before using the reply."""
     watch = """{
         globalThis.order = [];
         const begin = IDBDatabase.prototype.transaction;
@@ -116,7 +116,7 @@ def writes_before_it_sends(passes, front):
 
 
 def lists_what_is_past(passes, front):
-    """The page lists past bookings separately, newest first. The member can only remove them from the list."""
+    """The page lists past bookings separately, newest first. The member can only remove past bookings from the list."""
     with BookingPage(front) as page:
         page.enter(passes["amy-phone"])
         page.view("account")
@@ -184,7 +184,7 @@ def tabs_send_nothing_twice(page, passes, between, server):
 
 
 def survives_kills(passes, front, server):
-    """The test kills the server during bookings and cancellations. The record must match the table of bookings."""
+    """The test kills the server during bookings and cancellations. Afterwards the page's list must match the desk's table of bookings."""
     with BookingPage(front) as page:
         page.enter(passes["kill-1"])
         page.when("state.sender !== null", "the record")
@@ -455,7 +455,7 @@ def is_quick_and_small(passes, front):
 
 
 def waits_as_the_proxy_wants(passes, front):
-    """The page sends more requests than the proxy allows, and repeats the refused requests. In the end it has loaded each slot and made each
+    """The page sends more requests than the proxy allows, and repeats the refused requests. In the end, the page has loaded each slot and made each
     booking."""
     with BookingPage(front) as page:
         page.enter(passes["other"])

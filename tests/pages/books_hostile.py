@@ -9,8 +9,8 @@ from page_browser import check
 
 
 def lists_send_nothing(page, passes, server):
-    """If the member opens a link with a list of bookings, or pastes such a list, the page only looks up these bookings. It sends a booking only after
-    a press on a button with the slot and the points."""
+    """If the member opens a link with a list of bookings, or pastes such a list, the page only looks up these bookings. The page sends such a booking
+    only after a press on a button that shows the slot and the points."""
     key, ahead = "lists-1", 30
     page.enter(passes[key], ahead, "Keep it")
     own = page.booked("court-1", 9)
@@ -44,7 +44,7 @@ def lists_send_nothing(page, passes, server):
     page.view("day")
     check("Yours, 1 person" in page.run("return cellAt('court-1', 9).button.innerText"), "its slot is hers")
     check("4 of 4 free" in page.run("return cellAt('court-1', 10).button.innerText"), "a slot that only a list names")
-    # A press on this button sends the booking once.
+    # A press on the button sends the listed booking once.
     page.view("bookings")
     page.run("""[...byName('to-come').children].find((each) => /Number 10(?![0-9])/.test(each.innerText)).querySelector('button').click()""")
     page.when("dialogText().includes('Book for 300 points')", "the press")
@@ -73,7 +73,7 @@ request.onsuccess = () => {
 
 
 def odd_fragments(passes, own):
-    """Returns more than 100 URL fragments. They contain passes, lists and screens that are cut off, doubled, escaped or empty."""
+    """Returns more than 100 URL fragments. The fragments contain passes, lists and screens that are cut off, doubled, escaped or empty."""
     amy, other = passes["amy-1"], passes["other"]
     line = f"{own['number']}+court-1+{own['day']}+{own['hour']:02}"
     ends = ["record=", "record", "record=;", "record=lists-1", "record=Lists", f"record=lists-1;{line}", f"record=lists-1;{line}+cancel", f"record=lists-1;{line}+guests+0",
@@ -151,7 +151,7 @@ def nothing_by_itself(page, passes, between, server):
         time.sleep(0.3)
         unchanged("a club's list", text)
     pathlib.Path("www/club.json").write_text(good)
-    # The browser's storage has values that the page can't have written. The page neither sends nor deletes these values.
+    # If the browser's storage has values that the page can't have written, the page neither sends nor deletes these values.
     odd_values = ["", "null", "7", "[]", "{}", "x", "[null]", '[{"text":7,"name":"x"}]', '[{"text":"x","name":"x"}]', '[{"text":"x","name":""}]', json.dumps([{"text": passes["amy-1"], "name": "a  b"}])]
     names = ["passes", "pass", "screen", "language", "loans", "spares", "search", "last", "taken lists-1"]
     for value in odd_values:

@@ -231,9 +231,9 @@ def text_of(page, script):
 
 
 def lends_what_the_pass_opens(address):
-    """Lends a part of a pass in the trial club. A loan uses a spare pass of the same member that the desk accepts. If there is none, the page tells
-    the member so before it makes a loan. Under a pass with limits, the page offers only what the pass allows. A second press makes no second loan.
-    Without the club's list, the page still offers the actions for a booking."""
+    """Lends a part of a pass in the trial club. A loan uses a spare pass of the same member that the desk accepts. If the desk accepts no spare pass,
+    the page tells the member so before it makes a loan. Under a pass with limits, the page offers only what the pass allows. A second press makes no
+    second loan. Without the club's list, the page still offers the actions for a booking."""
     def opens(page, end=""):
         opens_lend(page, address + end)
 
@@ -316,7 +316,7 @@ def says_what_it_keeps(address):
         check(page.run("return byName('loans').children.length") == 3, "three loans are listed", page.run("return shownText('loans')"))
         opens_lend(page, address)
         check(made(page)[0] == "anna-lend-1" and page.run("return byName('loans').children.length") == 1, "after a reload, as it said")
-        # The page shows the points that the desk counts, and those that were spent in this browser.
+        # The page shows the points that the desk counts, and also the points that were spent in this browser.
         page.run("byName('to-day').click(); showDay(daysLater(clubMoment().slice(0, 10), 20))")
         time.sleep(1)
         page.run("cellAt('court-1', 20).button.click(); byName('dialog').querySelector('.main').click()")
@@ -343,8 +343,8 @@ MANY = "return Promise.all(Array.from({ length: 22 }, async (_, count) => writeP
 
 
 def keeps_so_many(address):
-    """The page stores at most 20 passes and 20 spare passes. It says so when the member adds another pass. After the member has removed a pass, the
-    page stores the new one."""
+    """The page stores at most 20 passes and 20 spare passes. When the member adds another pass, the page states this limit. After the member has
+    removed a pass, the page stores the new pass."""
     with Browser() as page:
         page.helpers = HELPERS
         opens_lend(page, address)
@@ -429,7 +429,7 @@ def club_to_try():
 
 def lends_in_a_minute(passes, server):
     """A member with a letter lends her son 600 points for courts until Friday. Her son opens the link on another telephone and books. The test waits
-    a second before each press, and both need less than a minute together. The test runs with each pair of browsers."""
+    a second before each press. All presses together take less than a minute. The test runs with each pair of browsers."""
     import page_engines
     kinds = [page_engines.Chromium, page_engines.Firefox, page_engines.WebKit]
     for place, (hers, his) in enumerate(zip(kinds, kinds[1:] + kinds[:1])):

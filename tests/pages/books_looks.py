@@ -147,8 +147,8 @@ def hall_screen(passes, front, server):
 
 
 def shows_the_club(page, passes):
-    """The page shows the club's contact, imprint, privacy page and logo, and the sentences about facilities. It treats invalid values as missing.
-    With an expired pass, the page shows the contact."""
+    """The page shows the club's contact, imprint, privacy page and logo, and the sentences about facilities. The page treats invalid values as
+    missing. With an expired pass, the page shows the contact."""
     good = pathlib.Path("www/club.json").read_text()
     more = {"contact": "Tel. 030 1234", "imprint": "https://club.example/imprint", "privacy": "javascript:alert(1)", "logo": "data:image/svg+xml;base64,PHN2ZyB4bWxucz0iaHR0cDovL3d3dy53My5vcmcvMjAwMC9zdmciLz4="}
     club = {**json.loads(good), **more}

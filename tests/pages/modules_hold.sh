@@ -1,5 +1,5 @@
 #!/bin/sh
-# `bin/pages` makes the pages from web/src, and their modules pass their tests.
+# `bin/pages` makes the pages from web/src, and the modules in web/src pass their tests.
 #
 # Node's test runner runs the modules' tests, which are in web/tests.
 #

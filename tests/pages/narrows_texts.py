@@ -162,7 +162,7 @@ def answers_faulty_texts(page):
     for (text, fault, words), answer in zip(rows, answers):
         check(compare_reading(text, answer) == fault, "another fault", text, fault, answer)
         check(words in answer["fault"][1], "the page doesn't say what is wrong", text, words, answer)
-    # Cuts off a valid text after each number of letters. For an empty text, the page shows no fault.
+    # Cuts off a valid text after each number of letters. If the text is empty, the page shows no fault.
     for form, it in [("v1", README_PASS), ("v2", KEYID), ("json", README_PASS)]:
         whole = written(form, it)
         cuts = [whole[:length] for length in range(1, len(whole))]
@@ -184,7 +184,7 @@ def changed(text, what, letters):
 
 
 def spoiled(text):
-    """Returns the text with a change, mostly at a single place."""
+    """Returns the text with a random change."""
     what = draw.randrange(9)
     if what == 4 and not text.startswith("{"):
         return spoiled_bytes(text)

@@ -8,7 +8,7 @@ in Firefox and WebKitGTK. The test covers:
 - requests that get lost in each possible way, and a desk that is killed
 - pages, tabs and browsers that are closed at each point
 - 200 bookings and cancellations while the test kills the server 30 times; afterwards the page's list must match the desk's table
-- odd passes, an odd or missing list of the club, a browser that stores nothing, a wrong clock, and replies that aren't the desk's
+- odd passes, an odd or missing club.json, a browser that stores nothing, a wrong clock, and replies that another server sends
 - hostile links, lists, messages, stored values and replies; the page changes nothing unless the member presses a button
 - lending a part of a pass: the page's sentence, the link, the QR code, the receiver's page, and the time that lending takes
 - several passes in one browser, and the page without a network

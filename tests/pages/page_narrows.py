@@ -2,7 +2,7 @@
 """`web/pass.html` narrows 1,000 passes and reads 4,000 texts in a browser in the same way as `passtool`, and sends nothing.
 
 The test runs in Debian's chromium. Its main parts also run in Firefox and WebKitGTK. The page narrows 1,000 passes in three forms with the same
-bytes as `passtool narrow`. It reads 2,000 spoiled passes and 2,000 texts of caveats in the same way as `passtool`, and explains each fault. The
+bytes as `passtool narrow`. The page reads 2,000 spoiled passes and 2,000 texts of caveats in the same way as `passtool`, and explains each fault. The
 page works by keyboard alone, fits a phone, and sends nothing. The page loads only the club's list, if the server has one.
 
 The test covers:
@@ -215,8 +215,8 @@ def hands_on(page):
         wanted = narrowed_by_tool(text, ["guests <= 1"])
         address = answer["address"]
         check(address.startswith(PAGE.as_uri() + "#"), "an address", address)
-        # A click copies the address. If the user opens this address, the page has the pass. The page also accepts the address in the field for the
-        # pass.
+        # A click copies the address. If the user opens this address, the page has the pass. The user can also paste the address into the field for
+        # the pass.
         page.click("copy-address")
         page.pause()
         pasted(page, address)

@@ -1,18 +1,18 @@
 #!/usr/bin/env -S /usr/bin/python3 -B
 """Desks in C, Go and Python with SQLite's library give the same replies as clubdesk, and the test compares the times of all four.
 
-The test measures with 100 and with 100,000 bookings in the file. It uses a member with 10,000 of these bookings, and a member without bookings. The
-desk beside_c/desk.c has its own server. The desk beside_go uses net/http and database/sql. The desk beside_flask.py uses Flask under gunicorn with
-one worker. All desks use the same file, the same transactions and pragmas, and the SQL statements of crates/club_tables. For each reply, all desks
-read the same rows. The desk in C replies with the same bytes as clubdesk. The replies of Go and Flask have the same status line and body, and the
-same header fields in another order. gunicorn adds the fields Date and Server. The test also measures a minimal server in C, which reads once and
-writes 133 bytes.
+The test measures with 100 and with 100,000 bookings in the file. In both cases, the test measures requests of a member with 10,000 bookings, and of a
+member without bookings. The desk beside_c/desk.c has its own server. The desk beside_go uses net/http and database/sql. The desk beside_flask.py uses
+Flask under gunicorn with one worker. All desks use the same file, the same transactions and pragmas, and the SQL statements of crates/club_tables.
+For each reply, all desks read the same rows. The desk in C replies with the same bytes as clubdesk. The replies of Go and Flask have the same status
+line and body, and the same header fields in another order. gunicorn adds the fields Date and Server. The test also measures a minimal server in C,
+which reads once and writes 133 bytes.
 
-The test prints the median times in microseconds for a booking, a repeated booking, an account, a slot, a refused pass and a forged pass. It also
-prints the ratio of clubdesk's median to each other median. The time of a request runs from before the client connects until the end of the reply.
-Then the test prints the ratios that have an upper limit. strace counts the system calls for 101 requests and for one request. A hundredth of the
-difference is the number for each request. One client sends requests to the servers in turn. If the machine has two processors, the client runs on one
-and the servers run on the other.
+The test prints the median times in microseconds for a booking, a repeated booking, an account, a slot, a refused pass and a forged pass. The test
+also prints the ratio of clubdesk's median to each other desk's median. The time of a request runs from before the client connects until the end of
+the reply. Then the test prints the ratios that have an upper limit. To find the system calls of a request, strace counts the calls for 101 requests
+and for one request, and the test divides the difference by 100. One client sends requests to the servers in turn. If the machine has two processors,
+the client runs on one and the servers run on the other.
 
 The test runs each desk as DESK FILE MOMENT < STATEMENTS. MOMENT is in minutes since 1970. Each line of STATEMENTS has one SQL statement. A desk
 prints the same first line as clubdesk, and serves until the test stops it. Like clubdesk, a desk reads a key's older root only if the key's current
@@ -134,7 +134,7 @@ DESKS = {
 
 
 def write_statements():
-    """Writes the SQL statements that the desks prepare into a file, one per line. They are clubdesk's own statements."""
+    """Writes the SQL statements that the desks prepare into a file, one per line. These statements are clubdesk's own."""
     source = (desk.ROOT / "crates" / "club_tables" / "src" / "texts.rt").read_text(encoding="utf-8")
     texts = dict(re.findall(r'const (\w+): &str = "(.*?)";', source, re.DOTALL))
     Path("statements").write_text("".join(re.sub(r"\\\n *", "", texts[name]) + "\n" for name in STATEMENTS), encoding="utf-8")

@@ -1,7 +1,7 @@
 #!/usr/bin/python3 -B
 """A desk with Flask and Python's sqlite3 under gunicorn with one worker. tests/peers/beside.py compares the times of this desk with those of
-clubdesk. The desk has the same file, statements and replies as beside_c/desk.c. It uses the package tests/reference to read and verify passes, to
-read caveats, and to write refusals.
+clubdesk. The desk has the same file, statements and replies as beside_c/desk.c. The desk uses the package tests/reference to read and verify passes,
+to read caveats, and to write refusals.
 
   beside_flask.py FILE MOMENT < STATEMENTS      as beside.py says of each desk
 """

@@ -81,7 +81,7 @@ def main():
         subprocess.run([desk.ROOT / "bin" / "library", room], check=True, stdout=subprocess.DEVNULL)
         subprocess.run(["gcc", "-O2", "-D_GNU_SOURCE", "-std=c11", "-o", f"{room}/beside", desk.TESTS / "peers" / "passes_beside.c", f"-I{room}/include",
                         f"-L{room}/lib", "-lclubpass", "-lmacaroons"], check=True)
-        # The dynamic loader reads the variable LD_LIBRARY_PATH only when a program starts. It chooses the library for this processor.
+        # The dynamic loader reads the variable LD_LIBRARY_PATH only when a program starts. The loader chooses the library's copy for this processor.
         found = dict(os.environ, LD_LIBRARY_PATH=f"{room}/lib")
         return subprocess.run([sys.executable, "-B", __file__, rounds, count, room], check=False, env=found).returncode
 

@@ -50,7 +50,7 @@ def add_caveats(macaroon, *texts):
 
 
 class World(hostile.World):
-    """A club in clubdesk and in Python, with passes in each form for its keys, and random draws from a seed."""
+    """Keeps a club in clubdesk and in Python, and draws random requests from a seed. The club's keys have passes in V1, V2 and JSON."""
 
     def __init__(self, folder):
         super().__init__("pymacaroons", DESK, folder)

@@ -4,8 +4,8 @@
  * tests/peers/passes_from_c.sh runs this program without tools, under valgrind and with AddressSanitizer. The texts and signatures come from
  * docs/vectors.json and from libmacaroons' README.
  *
- * Each input is at the end of a page, before an inaccessible page. A call that reads a byte beyond the input ends the program. Some inputs begin at
- * the start of a page. A call that reads a byte before such an input also ends the program.
+ * Each input is at the end of a page of memory, before an inaccessible page. A call that reads a byte beyond the input ends the program. Some inputs
+ * begin at the start of a page of memory, after an inaccessible page. A call that reads a byte before one of these inputs also ends the program.
  */
 #define _GNU_SOURCE
 #include <clubpass.h>

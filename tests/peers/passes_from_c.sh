@@ -4,9 +4,9 @@
 # The test calls each function with normal values, with values at its limits, and with values that cause each fault.
 #
 # gcc and clang build tests/peers/passes_from_c.c with the shared library and with the static library. The test also compiles the header as C99 and
-# as C++. The program runs without tools, under valgrind, and with AddressSanitizer and UndefinedBehaviorSanitizer. It also runs with eight threads,
-# without tools and under helgrind. Each input ends before an inaccessible page of memory. In further runs, one allocation fails. Then the call must
-# return "out of memory", and the object must be empty.
+# as C++. The program runs without tools, under valgrind, and with AddressSanitizer and UndefinedBehaviorSanitizer. The program also runs with eight
+# threads, without tools and under helgrind. Each input ends before an inaccessible page of memory. In further runs, one allocation fails. Then the
+# call must return "out of memory", and the object must be empty.
 # pytestmark = [mark.programs, mark.needs("pass_c"), mark.wants("gcc g++ clang libc6-dev pkg-config valgrind")]
 set -eu
 here=$(CDPATH='' cd -P -- "$(dirname -- "$0")" && pwd)

@@ -1,13 +1,13 @@
 #!/usr/bin/env -S /usr/bin/python3 -B
 """The library of passes, called from Python, agrees with `passtool` on 100,000 random or damaged texts.
 
-A seed determines the texts. They are passes with random bytes in V1, V2 or JSON, with up to 64 caveats. The
-test spoils some of the texts. It changes, inserts, removes or doubles bytes of the text, or of the bytes that
-the text encodes. It cuts off other texts, writes them in another alphabet of base64, or changes names in
-JSON. For each text, the test runs one command of passtool (`show`, `convert`, `narrow` or `verify`), and
-makes the corresponding calls of the library. The test compares the output, the fault number, and whether the
-pass is signed. The caveats are valid or almost valid lines of the caveat language. The library must
-understand exactly the caveats that `narrow` accepts without `--any`.
+A seed determines the texts. The texts are passes with random bytes in V1, V2 or JSON, with up to 64 caveats.
+The test spoils some of the texts. The test changes, inserts, removes or doubles bytes of the text, or of the
+bytes that the text encodes. The test cuts off other texts, writes them in another alphabet of base64, or
+changes names in JSON. For each text, the test runs one command of passtool (`show`, `convert`, `narrow` or
+`verify`), and makes the corresponding calls of the library. The test compares the output, the fault number,
+and whether the pass is signed. The caveats are valid or almost valid lines of the caveat language. The
+library must understand exactly the caveats that `narrow` accepts without `--any`.
 
   tests/peers/passes_from_python.py [--count N] [--seed N]
 """
@@ -35,7 +35,7 @@ NUMBERS = {"TooLong": 1, "Malformed": 2, "ThirdParty": 3, "TooMany": 4}
 
 
 class Draws:
-    """Draws texts, the root of each text, and a command of passtool for it."""
+    """Draws texts, the root of each text, and a command of passtool for each text."""
 
     def __init__(self, clubpass, seed):
         self.clubpass, self.draw = clubpass, random.Random(seed)

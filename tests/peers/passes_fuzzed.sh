@@ -1,9 +1,9 @@
 #!/bin/sh
 # libFuzzer finds no input with which a function of clubpass.h doesn't do what the header says.
 #
-# libFuzzer runs for ten minutes, or for as many seconds as the first argument says. It runs tests/peers/passes_from_c/fuzz.c with AddressSanitizer,
-# in a process for each processor. It begins with the texts of docs/vectors.json, with the bytes that these texts encode in base64, and with the
-# caveats of that file.
+# libFuzzer runs for ten minutes, or for as many seconds as the first argument says. The test runs tests/peers/passes_from_c/fuzz.c with
+# AddressSanitizer, in a process for each processor. The fuzzer begins with the texts of docs/vectors.json, with the bytes that these texts encode in
+# base64, and with the caveats of that file.
 # pytestmark = [mark.faults, mark.needs("pass_c"), mark.wants("clang libclang-rt-dev python3")]
 set -eu
 here=$(CDPATH='' cd -P -- "$(dirname -- "$0")" && pwd)

@@ -256,7 +256,7 @@ draw = random.Random(20260501)
 
 
 def drawn():
-    """Draws a root, an identifier, a location and caveats. All are in ASCII, because some of the libraries accept nothing else."""
+    """Draws a root, an identifier, a location and caveats in ASCII, because some of the libraries accept only ASCII."""
     line = lambda least: "".join(chr(draw.randint(33, 126)) for _ in range(draw.randint(least, 40)))
     return draw.randbytes(draw.randint(1, 64)), line(1), line(1), [line(1) for _ in range(draw.randint(0, 8))]
 

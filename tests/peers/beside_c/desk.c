@@ -1,6 +1,6 @@
 // A desk in C with SQLite's library. tests/peers/beside.py compares the times of this desk with those of clubdesk. The desk has the same file,
-// statements and replies as clubdesk, and serves one connection after the other. It reads the row of the key, then checks the signature, and reads
-// other rows only if the pass is signed. The desk understands only the caveats that beside.py writes: guests, until, spend, actions.
+// statements and replies as clubdesk, and serves one connection after the other. The desk reads the row of the key, then checks the signature, and
+// reads other rows only if the pass is signed. The desk understands only the caveats that beside.py writes: guests, until, spend, actions.
 //   desk FILE MOMENT < STATEMENTS      as beside.py says of each desk
 //   desk                               for each connection it reads once, writes 133 bytes and closes
 #include <arpa/inet.h>
@@ -209,7 +209,7 @@ static int day_number(int year, int month, int day) {
     return (int)(timegm(&(struct tm){.tm_year = year - 1900, .tm_mon = month - 1, .tm_mday = day}) / 86400);
 }
 
-// Reads the head and the body of a request. It knows only those refusals of a malformed request that the test provokes.
+// Reads the head and the body of a request. The desk refuses only those malformed requests that the test sends.
 static bool read_request(char *bytes, struct request *it) {
     char method[8], path[96];
     int year, month, date;

@@ -1,5 +1,6 @@
 /*
- * Calls the library for each line of standard input, and prints the results. A line's words have bytes in hexadecimal. The word `-` has no bytes.
+ * Calls the library for each line of standard input, and prints the results. Each word of a line is a string of bytes in hexadecimal. The word `-`
+ * has no bytes.
  *
  *     pass ROOT TEXT         fault N, or form, location, identifier, caveats with commas, signature, its three texts, the signature of a
  *                            pass that is minted under the root and narrowed by the same caveats, and `signed` or `not signed`
