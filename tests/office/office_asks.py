@@ -1,7 +1,8 @@
 #!/usr/bin/env -S /usr/bin/python3 -B
-"""With the office's menu, in English and German, a clerk can do each task of a week and of a season's start.
+"""The office's menu, in English and German, has each task of a week and of a season's start.
 
-The test runs the office at a terminal, and checks what each task changes. Needs root, for a machine of its own (tests/lib/office_room.sh).
+The test runs the office at a terminal, and checks what each task changes. Needs root, because the test makes a temporary machine
+(tests/lib/office_room.sh).
 
 The menu and the commands accept names, days and hours as people write them. The office asks again if two members match a name, or if an input is
 unusual. The office can also print its refusals, lists and usage text in German. Ctrl-C at any question changes nothing. Commands without a terminal

@@ -1,10 +1,10 @@
 #!/usr/bin/env -S /usr/bin/python3 -B
-"""Commands for corrections don't stop the server. Each correction takes effect once, even if the test kills its command and gives it again.
+"""Corrections by commands don't stop the server. A correction that is killed and repeated takes effect once.
 
 The test kills each correction before and after each program that the correction runs. The test also kills a correction whose output no program reads.
 Then the test gives the same command again. The club must be the same as after one command. If a correction is killed but its clubdesk command still
 runs, the next correction waits for that command. The test also checks the copy that the office makes before a correction, and the rows that `undo`
-restores. Needs root, for a machine of its own (tests/lib/office_room.sh).
+restores. Needs root, because the test makes a temporary machine (tests/lib/office_room.sh).
 
   tests/office/office_by_commands.py [debit|times]    debit: debits alone; times: how long a tournament takes, and a client beside it waits
 """

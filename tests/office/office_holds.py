@@ -1,8 +1,8 @@
 #!/usr/bin/env -S /usr/bin/python3 -B
 """`office` carries out the clerks' commands, lists, corrections and restores, and resists a hostile clerk.
 
-The test compares each result with the desk's data, and checks refusals, passes and the book. Needs root, for
-a machine of its own (tests/lib/office_room.sh).
+The test compares each result with the desk's data, and checks refusals, passes and the book. Needs root,
+because the test makes a temporary machine (tests/lib/office_room.sh).
 
 The test runs deploy/office as a clerk without root, under the rules of deploy/office.sudoers. A small service
 manager of the test runs the server. The test has these parts:
@@ -10,7 +10,7 @@ manager of the test runs the server. The test has these parts:
 - office_corrections.py: corrections, compared with show-account, the day sheet and the totals; restores, even over a damaged file
 - office_season.py: a season's points, closures and letters, members' full names, undo, and the files of old years
 - office_findings.py: forged lines, a clerk's own programs, a stopped terminal, a journal that reads nothing, and a full memory or disk
-Needs root, for a machine of its own (tests/lib/office_room.sh).
+
   tests/office/office_holds.py [findings|season]    findings: what others may do, alone; season: a season's club, alone
 """
 # pytestmark = [mark.package, mark.root, mark.needs("clubdesk passtool"),

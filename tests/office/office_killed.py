@@ -1,7 +1,8 @@
 #!/usr/bin/env -S /usr/bin/python3 -B
 """The office's commands, corrections, imports and restores, killed at random moments, are done once or not at all.
 
-A desk runs while the test kills the commands, and no total is wrong afterwards. Needs root, for a machine of its own (tests/lib/office_room.sh).
+A desk runs while the test kills the commands, and no total is wrong afterwards. Needs root, because the test makes a temporary machine
+(tests/lib/office_room.sh).
 
 - The test kills 100 commands and corrections while four clients use the desk. Each reply is right, and the desk keeps running.
 - The test kills an import of twelve members before and after each command of the import, and at 40 random moments. No member gets a credit twice, and

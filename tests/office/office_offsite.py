@@ -1,8 +1,8 @@
 #!/usr/bin/env -S /usr/bin/python3 -B
-"""Within a minute, each change of a club is in a copy on another machine, and a lost club can be restored from the copy.
+"""Each change of a club is copied to another machine within a minute, and a lost club can be restored.
 
-A service sends the copies by ssh, or writes them into a mounted folder. Each copy is tested at its destination. Needs root, for a machine of its own
-(tests/lib/office_room.sh).
+A service sends the copies by ssh, or writes them into a mounted folder. Each copy is tested at its destination. Needs root, because the test makes a
+temporary machine (tests/lib/office_room.sh).
 
 - The service sends nothing if the club hasn't changed. The service keeps the copies that a rule in Python selects. `copies` lists the copies on the
   other machine, and `restore` can restore each of them.

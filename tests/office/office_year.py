@@ -2,7 +2,7 @@
 """`office CLUB new-year` keeps balances, keys and future slots, and a kill leaves the old or the new club.
 
 Before the command `new-year`, the test fills a year with 1,500 requests. The server gives the same replies before and after this command. Needs root,
-for a machine of its own (tests/lib/office_room.sh).
+because the test makes a temporary machine (tests/lib/office_room.sh).
 
 Some of the club's past and future bookings are cancelled. The old file stays unchanged, byte for byte. The test compares checksums of the balances,
 the points that each key has spent, the keys, the facilities, and the future slots. After the new year, each other command of a season works, and the

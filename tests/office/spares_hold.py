@@ -3,7 +3,7 @@
 
 An import, `add-member` and the menu's task for a new member make the spare keys, with the names from the configuration. The second half of a member's
 letter has the passes of the spare keys. Bookings under a spare key cost the member's points. For each key, the desk counts the points that this key
-has spent. A spare key can't cancel the bookings of other keys. Needs root, for a machine of its own (tests/lib/office_room.sh).
+has spent. A spare key can't cancel the bookings of other keys. Needs root, because the test makes a temporary machine (tests/lib/office_room.sh).
 """
 # pytestmark = [mark.package, mark.root, mark.needs("clubdesk passtool"),
 #     mark.wants("sudo sqlite3 openssl util-linux bsdutils iproute2 systemd qrencode python3-psutil python3-pexpect")]

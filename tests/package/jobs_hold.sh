@@ -1,5 +1,5 @@
 #!/bin/sh
-# The jobs that systemd's timers start work: copies, the day sheet in four time zones, the health check, mail and reports of failures.
+# The timers' jobs work: copies, the day sheet in four time zones, the health check, mail and reports.
 #
 # The job copies a club while its server runs, and the test checks which copies the job keeps.
 #

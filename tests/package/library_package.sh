@@ -1,5 +1,5 @@
 #!/bin/sh
-# `bin/package_library` makes the same packages twice, byte for byte. Programs in C and Python can use these packages in a fresh Debian.
+# `bin/package_library` makes the same bytes in two runs. Programs in C and Python can use the packages in a fresh Debian.
 #
 # Programs in C and in Python read, narrow and verify the pass of README.
 #

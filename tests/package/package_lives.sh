@@ -1,5 +1,5 @@
 #!/bin/sh
-# `bin/package` makes the same package twice, byte for byte. lintian finds no fault, and the package works in a fresh Debian.
+# `bin/package` makes the same bytes in two runs, lintian finds no fault, and the package works in a fresh Debian.
 #
 # debootstrap makes the Debian, and systemd-nspawn boots it with its own systemd and only a loopback network. In this Debian, the test runs
 # docs/RUNNING.md's command lines for root, from the installation to the restore. These lines set up the desk behind nginx with TLS, the timers and

@@ -1,7 +1,7 @@
 #!/bin/sh
 # docs/RUNNING.md's command lines for root about pages, certificates, TLS and several clubs work with nginx.
 #
-# The test runs the lines on a machine of its own (tests/lib/office_room.sh). Needs root.
+# The test runs the lines on a temporary machine (tests/lib/office_room.sh). Needs root.
 #
 # The lines are in the sections "A club", "The pages", "A certificate", "TLS" and "Several clubs". Certbot gets a certificate from the test's own
 # certificate authority (Let's Encrypt's pebble), and nginx answers the challenges of this authority. Certbot renews the certificate, and the site

@@ -1,5 +1,5 @@
 #!/usr/bin/env -S /usr/bin/python3 -B -m pytest -q -p no:cacheprovider
-"""`tests/run` runs tests, and reports which tests passed, failed, were skipped or took too long.
+"""`tests/run` reports which tests passed, failed, were skipped or were ended.
 
 The test runs tests/run over a small tree of tests, with and without pytest. If a test takes too long, or if the run is ended, tests/run must end all
 processes of the test.

@@ -1,7 +1,8 @@
 #!/usr/bin/env -S /usr/bin/python3 -B
-"""`deploy/clubdesk-setup` sets up a club from the answers to its questions, even if the program is stopped and runs again.
+"""`deploy/clubdesk-setup` asks questions and sets up a club. Stops, repeats and wrong answers do no harm.
 
-The test checks the modes and owners of files, and the setup's refusals. Needs root (tests/lib/office_room.sh).
+The test checks the modes and owners of files, and the setup's refusals. Needs root, because the test makes a temporary machine
+(tests/lib/office_room.sh).
 
 There are five questions. The test stops the setup at each step and runs it again. No run changes an existing file. After the setup, the new clerk
 adds a member, and the member makes a first booking. If nginx is installed, the booking goes through nginx's site.

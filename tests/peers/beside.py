@@ -1,5 +1,5 @@
 #!/usr/bin/env -S /usr/bin/python3 -B
-"""Desks in C, Go and Python with SQLite's library give the same replies as clubdesk, and the test compares the times of all four.
+"""Desks in C, Go and Python with SQLite's library reply as clubdesk does. The test compares the times.
 
 The test measures with 100 and with 100,000 bookings in the file. In both cases, the test measures requests of a member with 10,000 bookings, and of a
 member without bookings. The desk beside_c/desk.c has its own server. The desk beside_go uses net/http and database/sql. The desk beside_flask.py uses

@@ -1,5 +1,5 @@
 #!/usr/bin/env -S /usr/bin/python3 -B
-"""The desk replies to 1,500 requests as the rules in Python demand. pymacaroons narrowed the passes of half of these requests.
+"""The desk replies to 1,500 requests by the rules in Python. pymacaroons narrowed half of the passes.
 
 The passes are in V1, V2 and JSON.
 
