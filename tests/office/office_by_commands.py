@@ -319,7 +319,7 @@ def booked_meanwhile(closing):
 
 
 def booked_out_of_hours(prices):
-    """A member books an hour just before the office removes the hour from the opening hours. The booking stays, and the office names this booking."""
+    """A member books an hour just before the office removes the hour from the opening hours. The booking stays, and the office shows the booking."""
     words, wanted = prices.next()
     words[-1] = "--hours=10-20"
     day = str(TODAY + datetime.timedelta(50))

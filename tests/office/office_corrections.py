@@ -101,7 +101,7 @@ def member_leaves(server, bob):
 
 def breaks_no_total(server):
     """The test changes the number of guests in the club's file by hand, so that a booking takes more places than its slot counts as taken. The office
-    refuses to cancel this booking."""
+    refuses to cancel the booking."""
     text = done("add-key", "amy-4", "amy").strip()
     book(server, text, "court-2", 20, 5, 1)
     by_hand("UPDATE bookings SET guests = 3 WHERE pass_key = 'amy-4'")

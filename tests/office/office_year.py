@@ -1,5 +1,5 @@
 #!/usr/bin/env -S /usr/bin/python3 -B
-"""`office CLUB new-year` keeps balances, keys and future slots, and a kill leaves the old or the new club.
+"""`office CLUB new-year` keeps balances, keys and future slots. If it is killed, the club is the old or the new club.
 
 Before the command `new-year`, the test fills a year with 1,500 requests. The server gives the same replies before and after this command. Needs root,
 because the test makes a temporary machine (tests/lib/office_room.sh).

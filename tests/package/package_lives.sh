@@ -119,7 +119,7 @@ same 'the timers' 'clubdesk-back-up@club.timer clubdesk-health@club.timer clubde
     "$(inside systemctl list-units --plain --no-legend --state=active 'clubdesk-*.timer' | cut -d ' ' -f 1 | sort | xargs)"
 same "the files' modes" '600 600' "$(inside stat -c %a /var/lib/clubdesk/club /var/lib/clubdesk/club-wal | xargs)"
 
-# The desk's club: amy with a key, and a court.
+# Makes the desk's club, with the member amy, a key and a court.
 gives 'orders' <<'LINES'
 c=/var/lib/clubdesk/club
 desk() { runuser -u clubdesk -- clubdesk "$@"; }

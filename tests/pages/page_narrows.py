@@ -70,7 +70,7 @@ SENTENCES = {
     "actions = view,cancel,account": "The holder may only look at slots, cancel bookings or look at the account.",
     "shoe = red": "The desk doesn't understand this limit, so it refuses the pass.",
 }
-# The caveat that each choice adds for an input, also for inputs in other spellings.
+# Each row has a caveat, and the inputs that must give this caveat.
 CHOSEN = [
     ("facility = court-1,court-2,room-1", [("facility", " court-1 , court-2;room-1 ")]), ("weekday = sat,sun", [("weekday", ["sun", "sat"])]),
     ("actions = view,book,account", [("actions", ["account", "view", "book"])]), ("guests <= 49", [("guests", " 49 ")]),

@@ -45,7 +45,7 @@ def club_of():
 
 
 def as_given():
-    """Returns the same club in the form that the small desk reads."""
+    """Returns the club in the form that the small desk reads."""
     return {"members": {member: {"credited": points, "quota": quota} for member, (quota, points) in MEMBERS.items()},
             "facilities": {name.lower(): dict(zip(("kind", "places", "price", "opens", "shuts"), rest)) for name, *rest in FACILITIES},
             "keys": {key: {"member": OWNERS[key], "root": root.hex(), "revoked": False} for key, root in ROOTS.items()},

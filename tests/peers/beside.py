@@ -159,7 +159,7 @@ def ask(server, requests):
 
 
 def in_order(replies):
-    """Returns the replies with sorted header lines, without the lines that only this server adds."""
+    """Returns the replies with sorted header lines, without the lines Date and Server."""
     parts = [it.partition(b"\r\n\r\n") for it in re.split(rb"(?=HTTP/1\.1 \d{3} )", replies)[1:]]
     return [(sorted(it for it in head.split(b"\r\n") if not it.startswith((b"Date: ", b"Server: "))), body) for head, _, body in parts]
 

@@ -86,7 +86,7 @@ static void run(enum statement s) {
     if (next_row(s, "")) fail(texts[s]);
 }
 
-// ---- Passes: V2 in base64, URL-safe and unpadded ----
+// ---- Passes in V2, in URL-safe base64 without padding ----
 
 struct bytes { const uint8_t *at; size_t len; };
 

@@ -30,7 +30,7 @@ const (
 	window  = 86400
 )
 
-// desk answers one request after the other.
+// desk answers one request at a time.
 type desk struct {
 	sync.Mutex
 	moment   int
