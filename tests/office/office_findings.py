@@ -217,8 +217,8 @@ def folder_of_a_clerk():
 
 
 def file_that_came_since():
-    """While the office makes a key, another program may create a file with the name of the pass. This file stays, and the office gives the pass
-    another name."""
+    """While the office makes a key, another program may create a file with the name of the pass. The office doesn't overwrite the other program's
+    file, and gives the pass another name."""
     with slow_clubdesk():
         command = begun("add-key", "amy-8", "amy", "--to", "amy-8")
         desk_side(command)
@@ -243,8 +243,8 @@ def file_that_came_since():
 
 
 def page_that_came_since():
-    """While a browser prints the board's page, another program may create a file with the page's name. This file stays, and the office doesn't report
-    it as the page."""
+    """While a browser prints the board's page, another program may create a file with the page's name. The office doesn't overwrite the other
+    program's file, and doesn't report it as the page."""
     browser, kept = Path("/usr/bin/chromium"), Path("/usr/bin/chromium-kept")
     if browser.exists():
         browser.rename(kept)

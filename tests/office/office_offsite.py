@@ -454,7 +454,7 @@ def counted():
     shutil.chown(folder, "clubdesk")
     lines = ROOM / "journal"
     journal.write_text(f"""#!/bin/sh
-# A stub of journalctl. The stub prints the lines of a file. Its cursor is the number of lines that were read so far.
+# A stub of journalctl. The stub prints the lines of a file. The stub's cursor is the number of lines that were read so far.
 case "$*" in *SYSLOG_IDENTIFIER*) echo '-- cursor: 0'; exit ;; esac
 from=$(wc -l <{lines})
 case "$*" in *--after-cursor=*) from=${{*##*--after-cursor=}}; from=${{from%% *}} ;; esac

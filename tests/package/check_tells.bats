@@ -1,8 +1,8 @@
 #!/usr/bin/env bats
 # `bin/check` runs `rt ci` and `tests/run quick`, and names the parts that failed.
 #
-# .ci/run runs the same two parts, and adds up their counts. It runs the second part even if `rt ci` fails. A part that crashes or never ends counts
-# as a failure. bin/check refuses arguments, and fails if rt isn't in PATH.
+# .ci/run runs the same two parts, and adds up their counts. If `rt ci` fails, .ci/run still runs the second part. A part that crashes or never ends
+# counts as a failure. bin/check refuses arguments, and fails if rt isn't in PATH.
 #
 # The test uses stubs of rt and of tests/run.
 # pytestmark = [mark.quick, mark.wants("bats")]

@@ -48,7 +48,7 @@ cp -a first second
 cp -a first elsewhere
 for name in first second elsewhere; do echo "$name" >"$name/etc/hostname"; done
 
-# The machine that keeps the copies. This machine has a user with a folder, and an ssh server.
+# The machine that keeps the copies. The machine has a user with a folder, and an ssh server.
 offline elsewhere sh -c 'apt-get install openssh-server sqlite3 && useradd --create-home --shell /bin/sh --password "*" backup-of-clubs' >apt.log 2>&1 </dev/null || fail "apt-get: $(tail apt.log)"
 there=$work/elsewhere/home/backup-of-clubs
 install -d -m 700 -o "$(stat -c %u "$there")" -g "$(stat -c %g "$there")" "$there/.ssh"
@@ -162,8 +162,8 @@ if grep -q '^made' told; then fail "the setup, again: $(cat told)"; fi
 sums | diff before - >told || fail "the setup, again: $(cat told)"
 checks=$((checks + 1))
 
-# ---- Copies to the other machine, by the command lines of RUNNING.md. These lines print an ssh key, and the other machine's administrator adds this
-# key.
+# ---- Copies to the other machine, by the command lines of RUNNING.md. The command lines print an ssh key, and the other machine's administrator adds
+# this key.
 blocks 'Copies elsewhere' >lines
 sed '/known_hosts\|accept-new/,$d' lines | gives 'Copies elsewhere'
 grep '^ssh-ed25519' told >key || fail "no key was printed: $(cat told)"

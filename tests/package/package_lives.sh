@@ -2,8 +2,8 @@
 # `bin/package` makes the same bytes in two runs, lintian finds no fault, and the package works in a fresh Debian.
 #
 # debootstrap makes the Debian, and systemd-nspawn boots it with its own systemd and only a loopback network. In this Debian, the test runs
-# docs/RUNNING.md's command lines for root, from the installation to the restore. These lines set up the desk behind nginx with TLS, the timers and
-# their jobs, mail, and a second club in another time zone. The test also boots the machine again. A clerk without root does the work of her first
+# docs/RUNNING.md's command lines for root, from the installation to the restore. The command lines set up the desk behind nginx with TLS, the timers
+# and their jobs, mail, and a second club in another time zone. The test also boots the machine again. A clerk without root does the work of her first
 # week, from the import of members to a restore. The test upgrades the package while a client books. The test also upgrades to a faulty package whose
 # clubdesk can't open a club. The test removes the package, installs it again, and purges it. No acknowledged booking is lost, and the clubs' files
 # stay. At the end the test checks the archive for other systems, whose files are below /usr/local. Needs root and a Debian mirror. DEBIAN=FOLDER

@@ -1,9 +1,9 @@
 #!/usr/bin/env -S /usr/bin/python3 -B
 """`web/pass.html` narrows 1,000 passes and reads 4,000 texts in a browser in the same way as `passtool`, and sends nothing.
 
-The test runs in Debian's chromium. Its main parts also run in Firefox and WebKitGTK. The page narrows 1,000 passes in three forms with the same
-bytes as `passtool narrow`. The page reads 2,000 spoiled passes and 2,000 texts of caveats in the same way as `passtool`, and explains each fault. The
-page works by keyboard alone, fits a phone, and sends nothing. The page loads only the club's list, if the server has one.
+The test runs in Debian's chromium. The test's main parts also run in Firefox and WebKitGTK. The page narrows 1,000 passes in three forms with the
+same bytes as `passtool narrow`. The page reads 2,000 spoiled passes and 2,000 texts of caveats in the same way as `passtool`, and explains each
+fault. The page works by keyboard alone, fits a phone, and sends nothing. The page loads only the club's list, if the server has one.
 
 The test covers:
 - texts that aren't passes: the page must report the same fault as passtool

@@ -1,7 +1,7 @@
 #!/usr/bin/env -S /usr/bin/python3 -B -m pytest -q -p no:cacheprovider
 """The small desk in web/demo.html replies to 8,000 random requests as the rules in Python demand.
 
-This small desk is written in JavaScript. In the test it serves four clubs.
+The small desk is written in JavaScript. In the test it serves four clubs.
 
 The requests are bookings, repeats and cancellations with narrowed and odd passes, at moments of two days.
 """

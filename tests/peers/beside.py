@@ -134,7 +134,7 @@ DESKS = {
 
 
 def write_statements():
-    """Writes the SQL statements that the desks prepare into a file, one per line. These statements are clubdesk's own."""
+    """Writes clubdesk's SQL statements into a file, one per line. The file has only those statements that the desks need."""
     source = (desk.ROOT / "crates" / "club_tables" / "src" / "texts.rt").read_text(encoding="utf-8")
     texts = dict(re.findall(r'const (\w+): &str = "(.*?)";', source, re.DOTALL))
     Path("statements").write_text("".join(re.sub(r"\\\n *", "", texts[name]) + "\n" for name in STATEMENTS), encoding="utf-8")

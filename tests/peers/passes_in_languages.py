@@ -1,5 +1,5 @@
 #!/usr/bin/env -S /usr/bin/python3 -B -m pytest -q -p no:cacheprovider
-"""The library of passes agrees with docs/vectors.json from C, Python, Go and Node.js. It exchanges passes with libmacaroons and pymacaroons.
+"""The library of passes agrees with docs/vectors.json from C, Python, Go and Node.js. The library exchanges passes with libmacaroons and pymacaroons.
 
 docs/vectors.json has each pass in V1, V2 and JSON, other texts of the same passes, and texts that aren't passes. The file also says for each caveat
 and each request whether the caveat allows the request. The test also mints and narrows each pass again. libmacaroons and pymacaroons narrow and
@@ -284,7 +284,7 @@ def test_pymacaroons_both_ways(clubpass):
 
 
 class Libmacaroons:
-    """Calls functions of Debian's libmacaroons through ctypes. This library reads and writes only V1."""
+    """Calls functions of Debian's libmacaroons, which reads and writes only V1, through ctypes."""
 
     def __init__(self):
         self.c = ctypes.CDLL("libmacaroons.so.0")

@@ -92,7 +92,7 @@ def in_order(reply):
 
 
 def statements(folder):
-    """Writes the SQL statements that the desks prepare into a file, one per line. These statements are clubdesk's own."""
+    """Writes clubdesk's SQL statements into a file, one per line. The file has only those statements that the desks need."""
     source = (programs.ROOT / "crates" / "club_tables" / "src" / "texts.rt").read_text(encoding="utf-8")
     texts = dict(re.findall(r'const (\w+): &str = "(.*?)";', source, re.DOTALL))
     path = Path(folder, "statements")

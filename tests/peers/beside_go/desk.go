@@ -144,7 +144,7 @@ func refuse(fault int, more string) reply {
 	return reply{faults[fault].status, fmt.Sprintf(`{"fault":%d,"text":%q%s}`, fault, faults[fault].body, more)}
 }
 
-// readRequest reads the path and the body. It returns fault 0 if the request has no fault.
+// readRequest reads the path and the body. If the request has no fault, readRequest returns fault 0.
 func readRequest(r *http.Request) (it request, fault int) {
 	if r.URL.Path == "/account" {
 		return request{action: "account"}, 0
