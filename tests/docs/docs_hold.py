@@ -209,12 +209,11 @@ def test_audit_is_made_of_the_sources():
     subprocess.run(["tests/audit.py", "--strict"], check=True, stdout=subprocess.DEVNULL)
 
 
-def test_table_of_scripts():
-    """The table of docs/TRUST.md has the text of `tests/run --list` for each script, with links for pages of docs/."""
-    listed = subprocess.run(["tests/run", "--list"], check=True, capture_output=True, text=True).stdout
-    listed = re.sub(r"docs/([A-Z_]+)\.md", r"[\1](\1.md)", re.sub(r"docs/(vectors\.json|openapi\.yaml)", r"[\1](\1)", listed))
-    rows = [f"| `{name}` | {shown} |" for name, shown in re.findall(r"^(\S+) \([^)]*\): (.*)$", listed, re.MULTILINE)]
-    assert sorted(re.findall(r"^\| `tests/[a-z_0-9/]+\.(?:sh|py|bats)` \| [^|\n]* \|$", TEXTS["docs/TRUST.md"], re.MULTILINE)) == sorted(rows)
+def test_table_of_groups():
+    """The table of docs/TRUST.md has each group of tests/pytest.ini, with the group's description."""
+    groups = re.findall(r"^ +(\w+): group: (.*)$", Path("tests/pytest.ini").read_text(encoding="utf-8"), re.MULTILINE)
+    assert groups
+    assert re.findall(r"^\| `(\w+)` \| ([^|\n]*) \|$", TEXTS["docs/TRUST.md"].partition("## Scripts beside the gate")[2], re.MULTILINE) == groups
 
 
 def test_trust_names_each_crate():
