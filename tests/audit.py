@@ -1,12 +1,14 @@
 #!/usr/bin/env python3
 """docs/AUDIT.md, docs/COMPUTED.md, the paths of docs/TOUR.md, and the contracts that docs/PROMISES.md cites are up to date.
 
-The test checks that the cited contracts exist, and that they depend on only three computing definitions. It also checks the marks of the vectors.
+The test checks that the cited contracts exist, and that they depend on only three computing definitions. It also checks that the rules in Python
+agree with docs/vectors.json.
 
-AUDIT lists the definitions that a reader must trust for each promise. The test checks that each contract that PROMISES cites exists. Such a
-contract may depend on no computing definition except the three that the page names. The value of a ghost may depend on none either. Each contract
-in COMPUTED must depend on a computing definition. The vectors must hold for the rules in Python (`tests/reference`), which mark the definitions
-that the vectors show. Each step of a path in TOUR must cite the next step. Without an option, the program writes docs/AUDIT.md.
+AUDIT lists the definitions that a reader must trust for each promise. The test checks that each contract that PROMISES cites exists. A cited
+contract may depend on no computing definition except the three that PROMISES names. The value of a ghost may depend on no other computing
+definition either. Each contract in COMPUTED must depend on a computing definition. The rules in Python (`tests/reference`) must agree with
+docs/vectors.json. AUDIT marks the definitions that these vectors show. Each step of a path in TOUR must cite the next step. Without an option, the
+program writes docs/AUDIT.md.
 
 The program reads the promises in docs/PROMISES.md, the clauses that carry them, and the definitions that the clauses cite. tests/lib/definitions.py
 reads the definitions.
@@ -43,7 +45,7 @@ PROMISES = ROOT / "docs" / "PROMISES.md"
 TOUR = ROOT / "docs" / "TOUR.md"
 # The words with which a comment names the source of a definition.
 SOURCES = (r"RFC \d+", r"FIPS [\d-]+", r"NDSS \d+", r"libmacaroons")
-# Methods that types of std also have. The name of such a method doesn't determine the type.
+# Methods that types of std also have, so that the name of a method doesn't determine its type.
 OF_STD = set("len is_empty push iter next clone as_slice as_bytes as_str into_iter map unwrap unwrap_or ok_or expect write read remove".split())
 
 
@@ -83,7 +85,7 @@ def below_all(book, function):
 
 
 class Promise:
-    """A promise of docs/PROMISES.md, with its title and the clauses that carry it. It also has the record fields that count."""
+    """A promise of docs/PROMISES.md, with its title and the clauses that carry it. `fields` has the record fields that the promise names."""
 
     def __init__(self, book, number, line):
         self.book, self.number = book, number
@@ -108,7 +110,7 @@ class Promise:
         self.below += [it for it in heads if it not in self.below]
 
     def read(self):
-        """Returns the words that the clauses cite. For a record with named fields, returns only the record and the words of these fields."""
+        """Returns the words that the clauses cite. If a promise names fields of a record, the other fields of this record don't count."""
         cited, heads, used = [], [], set()
         for file, _, _, text, start in self.clauses:
             found, unknown = file.cited_by(start, text)
@@ -152,7 +154,7 @@ def source_of(comments):
 
 
 def in_reading_order(book, files):
-    """Sorts files, beginning with the standards. Crates have the order of crates.txt, and a file comes after the files that it imports."""
+    """Sorts files by their crates, in the order of crates.txt. A file comes after the files that it imports."""
     done = []
 
     def visit(file):
@@ -224,8 +226,8 @@ class Audit:
         return list(dict.fromkeys(function for promise in self.promises for function, _ in promise.carriers))
 
     def beside(self):
-        """Returns the computing definitions that the other clauses of these functions cite, and those that the values of ghosts in any clause
-        cite."""
+        """Returns the computing definitions that no clause of a promise needs, but another clause of these functions or the value of a cited ghost
+        needs."""
         found = {id(it): it for function in self.functions() for it in below_all(self.book, function)}
         for ghost in [it for it in found.values() if it.kind == "ghost"]:
             found.update((id(it), it) for *_, below in self.book.standing_for(ghost) for it in below)
@@ -236,7 +238,7 @@ class Audit:
         return sorted((it for it in self.every.values() if it.is_computed and it.kind in OF_SPECS), key=lambda it: (it.module, it.line))
 
     def first_computed(self):
-        """Returns the computing definitions that a clause or another definition cites, each with what cites it."""
+        """Returns the computing definitions that a clause or a definition of another kind cites, each with the names of all that cite it."""
         found = defaultdict(set)
         for it in self.every.values():
             if not it.is_computed:
@@ -265,8 +267,8 @@ class Audit:
         return "; ".join(f"{', '.join(names)} in `{file}`" for file, names in by_file.items())
 
     def definitions_of(self, crate):
-        """Returns a crate's definitions by file. Neighbouring files with the same promises and mark share an item. A single definition comes after
-        its file."""
+        """Returns a crate's definitions by file. Neighbouring definitions with the same promises and the same mark share an item. If a file has
+        only one item, the item is on the line of the file."""
         listed = [it for it in self.every.values() if it.crate == crate and it.kind in OF_SPECS and not it.is_computed]
         for file in in_reading_order(self.book, [self.book.specs[module] for module in {it.module for it in listed}]):
             own = sorted((it for it in listed if it.module == file.module), key=lambda it: it.line)
@@ -314,7 +316,7 @@ class Audit:
         return own | crates_below(own)
 
     def calls(self):
-        """Returns the calls of each library in our crates, by name, with the promises that depend on them."""
+        """Returns the names of the calls that our crates make to each library, with the promises that depend on these calls."""
         page = subprocess.run(["rt", "doc"], capture_output=True, text=True, check=False).stdout if shutil.which("rt") else ""
         kit = Path(page.strip() or "/none").parent / "rattle"
         if not kit.is_dir():
@@ -343,7 +345,7 @@ class Audit:
         return found, promises
 
     def words_of(self):
-        """Returns the words in each library's specs that the definitions cite, each with its promises."""
+        """Returns, for each library, the words of its specs that our definitions cite, and the promises that depend on these words."""
         found, promises = defaultdict(set), defaultdict(set)
         for promise in self.promises:
             for it in promise.of("library"):
@@ -432,14 +434,14 @@ class Audit:
     # ---- what pages cite
 
     def named(self):
-        """Returns the computing definitions that docs/PROMISES.md names, and the definitions that only these cite."""
+        """Returns the names of the computing definitions in docs/PROMISES.md, and of the computing definitions that these depend on."""
         first = named_as_computing()
         return first | {it.name for it in closure([it for it in self.computed() if it.name in first]) if it.is_computed and it.kind in OF_SPECS}
 
     def citing(self):
-        """Returns the faults in the tables of the pages. In docs/PROMISES.md, one kind of fault is a citation that can't be read. Another is a
-        contract that depends on a computing definition that the page doesn't name. In docs/COMPUTED.md, a fault is a contract that depends on no
-        computing definition."""
+        """Returns the faults in the tables of the pages. A citation that can't be read is a fault. In docs/PROMISES.md, a contract is a fault if it
+        depends on a computing definition that the page doesn't name. In docs/COMPUTED.md, a contract is a fault if it depends on no computing
+        definition."""
         contracts, named = Contracts(self.book), self.named()
         for page in (PROMISES, COMPUTED):
             for citation in citations(page.read_text(encoding="utf-8")):

@@ -113,7 +113,7 @@ class Club:
         self.program, self.file = program, file
 
     def command(self, *words):
-        """Runs a command of `clubdesk` with the club as its file. Returns the command's status, and what it prints on both outputs."""
+        """Runs a command of `clubdesk` with the club as its file. Returns the command's status, its output and its standard error."""
         command, *rest = words
         return desk.command(self.program, command, self.file, *rest)
 
@@ -138,7 +138,7 @@ class Club:
         return desk.Server(self.program, self.file, count, "--at", at, *words, **more)
 
     def ask(self, data, at=kinds.NOON, **more):
-        """Sends the bytes of a request to a separate server, and returns the server's answer."""
+        """Sends the bytes of a request to a new server, and returns the server's reply."""
         with self.served(count=1, at=at, **more) as it:
             return Reply(it.exchange(data))
 
@@ -168,7 +168,7 @@ def clubdesk():
 
 @pytest.fixture(scope="session")
 def passtool():
-    """Runs passtool. Returns its status and both outputs."""
+    """Runs passtool. Returns its status, and its output followed by its standard error."""
     program = desk.program("passtool")
 
     def run(*words, given=""):

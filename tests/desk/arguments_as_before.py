@@ -1,15 +1,14 @@
 #!/usr/bin/env python3
-"""An old and a new program, `passtool` or `clubdesk`, answer the same arguments in the same way.
+"""An old and a new build of `passtool` or `clubdesk` answer the same arguments in the same way.
 
     tests/desk/arguments_as_before.py BEFORE NOW
 
 Run this test after a change to the code that reads arguments, if the change must not affect the programs'
-behaviour. The last part of both paths is the name of the program. The test runs some 400 command lines. They
-have help, versions, and arguments that are correct, wrong, repeated or missing. They also have several faults
-at once, words after `--`, and bytes that aren't text. Each command line of `clubdesk` gets a folder of its
-own. A `serve` line names a folder as its database, so that the server ends at once. The test compares status,
-standard output and standard error byte for byte. It prints each line that differs, and finally the counts.
-The status is 1 if a line differs. `tests/run` doesn't run this test, because it has no old program."""
+behaviour. Both paths end in the name of the program. The test runs about 400 command lines. Some lines ask for help or the version. Other lines
+have arguments that are correct, wrong, repeated or missing, several faults at once, words after `--`, or bytes that aren't text. Each command line
+of `clubdesk` gets a folder of its own. A `serve` line names a folder as its database, so that the server ends at once. The test compares status,
+standard output and standard error byte for byte. It prints each line that differs, and finally the counts. The status is 1 if a line differs.
+`tests/run` doesn't run this test, because the repository contains no old program."""
 
 import subprocess
 import sys
@@ -52,7 +51,7 @@ PATIENCES = [["--patience", "1"], ["--patience=0"], ["--patience", "3601"], ["--
 
 
 def texts(commands):
-    """Arguments that ask for a text, and arguments that name no command."""
+    """Arguments that ask for help or the version, and arguments that name no command."""
     first, second = commands[:2]
     yield from ([], [""], ["--help"], ["-h"], ["--version"], ["-V"], ["-hV"], ["-Vh"], ["help"], ["help", "help"], ["help", "none"],
                 ["help", first, second], ["none"], [first.title()], [first[:3]], ["--"], ["--", second], ["-"], ["-x"], ["--root", ROOT],
@@ -92,7 +91,7 @@ def readers():
 
 
 def orders():
-    """The commands of clubdesk by their words, and the commands with a root by their options."""
+    """Each command of clubdesk with good and bad arguments, and each command that takes a root with its options."""
     for command, (good, bad) in WORDS.items():
         options = ["--port=0", "--count=1"] if command == "serve" else []
         yield from ([command, *options, *good[:n]] for n in range(len(good) + 1))
@@ -107,7 +106,7 @@ def orders():
 
 
 def clocks():
-    """The commands of clubdesk that have a clock."""
+    """The commands of clubdesk that need a clock."""
     yield from (["serve", FOLDER, *port, *count] for port, count in product(PORTS, COUNTS))
     for clock in CLOCKS:
         yield from (["show-account", FOLDER, "amy-1", *clock], ["show-account", "club.db", "Amy", *clock], ["show-slot", FOLDER, *clock])

@@ -33,8 +33,7 @@ GETS = [Row("GET", path, passed=KEYS[0]).data for path in SLOTS] + [ACCOUNT.unde
 
 
 class Desk(Both):
-    """Four members with a key each, and a court with 4 places for 7 points. 10,000 points are enough for
-    a member."""
+    """Four members with a key each, and a court with 4 places for 7 points. Each member has 10,000 points, which are enough for all bookings."""
 
     def __init__(self, program, file):
         super().__init__(program, file)
@@ -60,8 +59,7 @@ class Desk(Both):
         self.asks(GETS)
 
     def killed_after(self, seconds):
-        """Returns the replies of a server. The test kills the server this long after the first request
-        began."""
+        """Returns the replies of a server. The test kills the server the given number of seconds after the first request began."""
         replies = []
         with self.server() as it:
             client = threading.Thread(target=lambda: replies.extend(it.exchange(data) for data in PUTS))
@@ -74,7 +72,7 @@ class Desk(Both):
 
 @pytest.fixture(scope="module")
 def seconds(clubdesk, tmp_path_factory):
-    """Returns the time that the bookings take without a kill."""
+    """Returns the number of seconds that all bookings take if nobody kills the server."""
     club = Desk(clubdesk, tmp_path_factory.mktemp("whole") / "club")
     start = time.monotonic()
     club.asks(PUTS)

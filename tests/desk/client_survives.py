@@ -4,9 +4,9 @@
 The test kills the server and starts it again 100 times. No acknowledged booking or cancellation is lost.
 
 Every fifth time, the test also kills the client. The client requests each slot once, and cancels most of its bookings. At the end the file has
-exactly the bookings on the client's record, each once. They have the charges, places and refunds that the server acknowledged. The totals are the
-sums of the bookings. Then the test runs each command of client.py and compares its output. The proxy fails in several ways meanwhile. KILLS=N kills
-N servers.
+exactly the bookings on the client's record, each once. The bookings have the charges, places and refunds that the server acknowledged. The totals
+are the sums of the bookings. Then the test runs each command of client.py and compares its output, while a proxy between client and server fails in
+several ways. KILLS=N kills N servers.
 """
 
 import multiprocessing
@@ -51,7 +51,7 @@ class Counting(Client):
 
 
 def work(folder, port):
-    """Books each slot that isn't on record yet, and cancels ten of eleven bookings. So no member reaches the quota of 99."""
+    """Books each slot that isn't on record yet. Cancels ten of eleven bookings, so that no member reaches the quota of 99."""
     with open(folder / "acknowledged", "a", encoding="utf-8") as file:
         clients = [Counting(folder, port, key, file) for key in KEYS]
         for client in clients:
@@ -71,7 +71,7 @@ def work(folder, port):
 
 
 def killed_and_killed(club, folder):
-    """Kills servers. Every fifth time, also kills the worker. All servers listen at the same port."""
+    """Starts servers one after the other at the same port, and kills each of them. Every fifth time, also kills the client's process."""
     draw, worker, port = random.Random(20260501), None, 0
     for kill in range(1, KILLS + 1):
         with club.served(port=port) as server:
@@ -158,7 +158,7 @@ def test_commands(own):
             assert prints(it.port, words)[:2] == (wanted, text)
         for _ in range(2):
             prints(it.port, "account")
-    # If no server listens, the request stays on record. The client finishes it when a server runs again.
+    # If no server listens, the request stays on record. The client finishes the request when a server runs again.
     assert prints(it.port, "book court-1 2026-05-02 18 0")[:2] == (3, "")
     with club.served(count=1) as it:
         assert prints(it.port, "repeat")[:2] == (0, '{"booking":"amy-1/N","charge":200,"left":3}\n')
@@ -166,7 +166,7 @@ def test_commands(own):
 
 
 def test_proxy_that_fails(own):
-    """The proxy fails in another way at each request."""
+    """The proxy fails in a different way at each request."""
     club, prints = own
     number = ""
     for method, words, reply in (("PUT", "book court-1 2026-05-03 18 0", '{"booking":"amy-1/N","charge":200,"left":3}\n'),

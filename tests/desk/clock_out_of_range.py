@@ -1,13 +1,11 @@
 #!/usr/bin/env -S /usr/bin/python3 -B -m pytest -q -p no:cacheprovider
 """Under clocks around the first and last minutes of 2000 to 2099, the server answers, or ends with status 6.
 
-The server serves at moments of the club. At other moments it ends with status 6 and leaves the club
-unchanged.
+The server serves clients while its clock shows a moment of these years. At any other moment it ends with status 6 and leaves the club unchanged.
 
-The test also sets the clock to moments outside these years, in three zones. If the clock shows a
-moment of the club, each client gets its reply. If the clock shows another moment or can't be read,
-the first client gets no byte. The server then waits for no second client. The server then prints
-its line and ends, and the club is unchanged.
+The test also sets the clock to moments outside these years, in three zones. If the clock shows a moment within these years, each client gets its
+reply. If the clock shows another moment or can't be read, the first client gets no byte. The server then prints a line on standard error and ends
+without waiting for a second client. The club is unchanged.
 """
 
 from datetime import datetime, timezone
@@ -24,7 +22,7 @@ CENTRAL, WESTERN = "CET-1CEST,M3.5.0,M10.5.0/3", "EST5"
 
 @pytest.fixture
 def clock(library, club):
-    """A server for two connections. Its clock stops at a UTC time, or can't be read."""
+    """A server for two connections. The server's clock always shows the same UTC time, or can't be read."""
 
     def server_at(zone, time, status=0):
         second = "unreadable" if time is None else str(int(datetime.fromisoformat(time).replace(tzinfo=timezone.utc).timestamp()))

@@ -1,13 +1,14 @@
 #!/usr/bin/env -S /usr/bin/python3 -B -m pytest -q -p no:cacheprovider
-"""Under refused memory, little storage and kills, each command of `clubdesk` is done or leaves the club unchanged.
+"""Even if memory is refused, storage is full or a kill comes, each command of `clubdesk` is done or leaves the club unchanged.
 
-The test refuses each allocation in turn, also while a command prints passes. After a fault the command has written nothing, and the club is
+The test refuses each allocation in turn, also while a command prints passes. After a fault the command has printed nothing, and the club is
 unchanged. After a kill the club is unchanged or the command is done.
 
-Then sqlite3 finds no damage in the file, and clubdesk can read it.
-- The test refuses each allocation in turn. The command ends with status 4, or with status 2 if clap met the refusal. Otherwise it ends as with
-  ample memory.
-- The test limits the size of the file to a number of blocks. The command ends with status 5, or as with ample storage.
+After each of these cases, sqlite3 finds no damage in the file, and clubdesk can read the file.
+- The test refuses each allocation in turn. The command ends with status 4, or with status 2 if clap met the refusal. If the command didn't need the
+  refused allocation, it ends as with ample memory.
+- The test limits the size of the file to a number of blocks. The command ends with status 5 if it needs more blocks. Otherwise it ends as with
+  ample storage.
 - The test kills the command after a number of milliseconds.
 STEP=N refuses only each Nth allocation, which is faster.
 """
@@ -31,7 +32,7 @@ pytestmark = [pytest.mark.faults, pytest.mark.needs("clubdesk"), pytest.mark.wan
 
 STEP = int(os.environ.get("STEP", "1"))
 ROOT, OTHER = "30313233343536373839616263646566", "ffeeddccbbaa99887766554433221100"
-# Each command, with its effect as sqlite3 sees it.
+# Each command, with the SQL that makes the same change.
 COMMANDS = {
     "add-member amy 5": "INSERT INTO members VALUES ('amy', 0, 5, 0)",
     "credit amy 10000": "UPDATE members SET credited = credited + 10000",
@@ -49,13 +50,13 @@ COMMANDS = {
     "cancel-booking amy-1 7":
         "UPDATE bookings SET cancelled = 1, refund = charge; UPDATE slots SET taken = 0; UPDATE members SET used = 0",
 }
-# The request that a member sends before a command.
+# The request that a member sends before the test gives the command.
 BOOKED_BEFORE = {"cancel-booking amy-1 7": kinds.book(7, kinds.TWO, passed=kinds.text(kinds.key_pass("amy-1", OTHER)))}
 TABLES = ("desk", "members", "facilities", "keys", "old_roots", "slots", "bookings")
 
 
 def rows(club):
-    """Returns all rows, or none if a kill interrupted the creation of the tables. clubdesk then completes the tables later."""
+    """Returns all rows. Returns no rows if a kill interrupted the creation of the tables, because clubdesk completes the tables later."""
     try:
         assert club.sql("PRAGMA integrity_check") == [("ok",)] and not club.sql("PRAGMA foreign_key_check")
         return [sorted(club.sql(f"SELECT * FROM {table}")) for table in TABLES]
@@ -65,7 +66,7 @@ def rows(club):
 
 
 class Command:
-    """A command, with the states that it may leave. The test gives it repeatedly, each time to a copy of a club."""
+    """A command, with the states in which it may leave a club. The test gives the command repeatedly, each time to a new copy of the club."""
 
     def __init__(self, before, words):
         self.before, self.words, self.found = before, words.split(), {}
@@ -79,13 +80,13 @@ class Command:
 
     @contextlib.contextmanager
     def copy(self):
-        """A copy of the club, and the words that give the command to the copy."""
+        """Yields a copy of the club, and the words that give the command to the copy."""
         with tempfile.TemporaryDirectory(dir=self.before.file.parent) as folder:
             club = self.before.copied_to(Path(folder, "club"))
             yield club, [club.program, self.words[0], club.file, *self.words[1:]]
 
     def keeps_a_club(self, club, *wanted):
-        """Checks that the file and its log represent one of these states, and that clubdesk can read it. Checks the same bytes only once."""
+        """Checks that the file and its log represent one of these states, and that clubdesk can read the file. Checks the same bytes only once."""
         state = hashlib.sha256(b" log ".join(it.read_bytes() for it in (club.file, Path(f"{club.file}-wal")) if it.exists())).digest()
         if state not in self.found:
             self.found[state] = rows(club.copied_to(club.file.with_name("copied")))
@@ -95,14 +96,15 @@ class Command:
         assert found in wanted
 
     def given(self, limits=None, **variables):
-        """Returns how the command ended. After a fault the command must have written nothing."""
+        """Gives the command to a copy of the club, and returns how the command ended. After a fault the club must be unchanged."""
         with self.copy() as (club, words):
             ended = desk.command(*words, env={**os.environ, **variables}, preexec_fn=limits, restore_signals=False)
             self.keeps_a_club(club, self.rows if ended[0] else self.after)
         return ended
 
     def fails(self, ended, fault, *statuses):
-        """Returns whether the command ended with one of these statuses and no output. Otherwise it must end as if no memory were refused."""
+        """Returns whether the command failed. A failed command must end with one of these statuses and no output. Any other command must end as
+        with ample memory and storage."""
         assert ended == self.whole or ended[0] in statuses and ended[1] == "" and (ended[0] == 2 or ended[2] == fault), ended
         return ended != self.whole
 

@@ -1,15 +1,14 @@
 #!/usr/bin/env python3
-"""Random requests, most of them wrong, and commands get the replies of the rules in Python.
+"""`clubdesk` answers random requests, most of them wrong, and random commands as the rules in Python do.
 
-The rules are those of `tests/reference`. The test also compares each row and total. With `--self-test`, the test
-checks that it finds faults planted in the rules.
+The rules are those of `tests/reference`. The test also compares all rows and totals. With `--self-test`, the test checks that it finds faults
+planted in the rules.
 
-The test compares replies byte for byte. It compares rows and totals after each server. The rules in Python come
-only from the pages on the desk, passes and caveats, and not from the desk's code. A seed determines the requests.
-The passes have three forms, and are under current, older and other roots. Some passes are narrowed by caveats at
-their limits, cut, or changed in a byte. Some have a third-party caveat. Heads and bodies vary in letters, line
-ends, lengths, fields and paths. One server follows another, each at a moment of its own. The office gives its
-commands between two servers.
+The test compares replies byte for byte. It compares rows and totals each time a server has ended. The rules in Python come only from the pages on
+the desk, passes and caveats, and not from the desk's code. A seed determines the requests. The passes have three forms, and are signed under
+current, older and unknown roots. Some passes are truncated, or changed in a byte. Other passes have caveats with values at a limit. Some passes
+have a third-party caveat. Heads and bodies vary in letters, line ends, lengths, fields and paths. The test runs many servers one after the other,
+each at a different moment. The office gives its commands before each server starts.
 
     tests/desk/hostile.py [--seed N] [--count M] [--plant FAULT | --self-test]
 """
@@ -38,7 +37,7 @@ ENDS = (b"\r\n",) * 30 + (b"\n",)
 
 
 class World(Both):
-    """The club in a file and the same club in the reference, with random draws from a seed."""
+    """The club in a file and the same club in the reference. A seed determines the random requests and commands."""
 
     def __init__(self, seed, desk, folder, plant=None):
         super().__init__(desk, Path(folder) / f"club-{seed}", plant)
@@ -51,15 +50,14 @@ class World(Both):
         return self.draw.randbytes(self.draw.choice((16, 16, 32, 63, 64)))
 
     def slot(self):
-        """Draws a slot, mostly one that can be booked."""
+        """Draws a slot. Members can book most of the drawn slots."""
         draw = self.draw
         ahead = draw.choice((0, 1, 2, 2, 11)) if draw.random() < 0.9 else draw.choice((-1, 59, 60, 61))
         hour = draw.choice((8, 9, 18, 19, 20, 21)) if draw.random() < 0.9 else draw.choice((0, 7, 22, 23))
         return draw.choice(FACILITIES), min(max(self.moment // 1440 + ahead, caveats.FIRST_DAY), caveats.LAST_DAY), hour
 
     def booked(self):
-        """Draws a key and the number of one of its bookings, perhaps a cancelled one. Returns None if there is no
-        booking."""
+        """Draws a key and the number of one of its bookings, which may be cancelled. Returns None if the key has no booking."""
         key = self.draw.choice(KEYS)
         rows = self.club.bookings.get(key)
         if not rows:
@@ -105,7 +103,7 @@ class World(Both):
     # ---- passes
 
     def caveat(self):
-        """Draws a caveat with a value at a limit. One caveat in eight isn't understood."""
+        """Draws a caveat, often with a value at a limit. The desk doesn't understand one caveat in eight."""
         draw = self.draw
         day = self.moment // 1440
         first, last = (spelled_day(day + it) for it in sorted(draw.choices((0, 1, 11, 60, 1000), k=2)))
@@ -124,7 +122,7 @@ class World(Both):
         return draw.choice(odd if draw.random() < 0.12 else lines).encode()
 
     def given_pass(self, key):
-        """Draws the bytes of the text of a key's pass, mostly of a valid pass."""
+        """Draws a text of the key's pass. Most of the drawn texts are valid."""
         draw = self.draw
         roots = self.roots.get(key) or [b"no root of the club"]
         root = roots[-1] if draw.random() < 0.8 else draw.choice([*roots, b"another root...."])
@@ -166,7 +164,7 @@ class World(Both):
     # ---- requests
 
     def request(self):
-        """Draws the bytes of a request, mostly of a complete request."""
+        """Draws the bytes of a request. Most of the drawn requests are complete."""
         draw = self.draw
         key, method, path, body = self.target()
         fields = [b"Authorization: Bearer " + self.given_pass(key), b"Host: club.example"]
@@ -184,7 +182,7 @@ class World(Both):
         return self.spoiled(data) if draw.random() < 0.05 else data
 
     def target(self):
-        """Draws a request's key, method, path and body. The request is new, or is about an existing booking."""
+        """Draws a request's key, method, path and body. The request may repeat or cancel an existing booking."""
         draw = self.draw
         kind = draw.choice(("view", "book", "book", "book", "cancel", "cancel", "account"))
         key, (facility, day, hour), guests = draw.choice(KEYS), self.slot(), draw.choice((0, 0, 1, 2, 3, 49))
@@ -256,7 +254,7 @@ class World(Both):
     # ---- rounds
 
     def round(self, count):
-        """Gives commands, then sends requests to a server at a moment of its own, and compares the file."""
+        """Gives commands, sends requests to a server at a random moment, and compares the rows of the file."""
         self.moment = NOON + self.draw.choice((0, 0, 1, 360, 361, 1440, 11 * 1440, 30_000)) + self.draw.randrange(3)
         for _ in range(COMMANDS_BETWEEN):
             self.give(self.words_of_command())
@@ -267,7 +265,7 @@ class World(Both):
 
 
 def begin(world):
-    """The rows that a club has at first."""
+    """Adds the first members, facilities and keys of a club."""
     for member in MEMBERS[:5]:
         world.give(("add-member", member, 99 if member == "amy" else 3))
         world.give(("credit", member, 1_000_000 if member == "amy" else 4_000))

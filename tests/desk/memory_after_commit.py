@@ -3,7 +3,7 @@
 
 The server makes six bookings and three cancellations in a file, under passes in V1, V2 and JSON.
 
-An unnecessary allocation changes no byte of a reply, so tests that compare bytes can't notice it.
+Tests that compare the bytes of replies can't notice an unnecessary allocation, because it changes no byte.
 The commit is the last call that syncs the file before the server sends the reply.
 """
 

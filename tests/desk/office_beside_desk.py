@@ -1,12 +1,14 @@
 #!/usr/bin/env -S /usr/bin/python3 -B -m pytest -q -x -s -p no:cacheprovider
-"""500 commands of two offices and 5,000 requests of four clients get right answers and totals.
+"""500 commands of two offices and 5,000 simultaneous requests of four clients get the right answers and leave the right totals.
 
-The answers and totals stay right with kills, slow clients, stale doors and moved files. The test prints how long commands and requests took.
+The answers and totals are also right after kills, with slow clients, stale doors and moved files. The test prints how long commands and requests
+took.
 
-The test uses real processes. When the server has stopped, sqlite3 finds that the totals are the sums. Then the test kills servers and commands 20
-times. One client is silent while another client sends a byte a second. The test also tries a stale door, a taken door, and a second server. It
-tries links to the file and its folder, and a file that is moved, replaced or removed. The test also checks another user, the modes of the files,
-and the lines of commands. The times come from one run, also with 300,000 bookings. The test compares them with a server that gets no commands.
+The test uses real processes. When the server has stopped, sqlite3 finds that each total is the sum of its rows. Then the test kills 20 servers or
+commands. One client is silent while another client sends a byte a second. The test also tries a stale door, a door that another program has, and a
+second server. It tries links to the file and its folder, and a file that is moved, replaced or removed. The test also gives commands as another
+user, and checks the modes of the files and the lines of the log. The test measures the times with and without commands, and with 300,000 more
+bookings.
 """
 
 import contextlib
@@ -39,7 +41,8 @@ DRIP = lambda client: desk.drip(client, b"GET /a")
 
 @pytest.fixture(scope="module")
 def made(clubdesk):
-    """Each client has a court, a member with 10,000 points, and a key. Each office has a room and a key that it can revoke. The club is on a disk."""
+    """A club on a disk. Each client has a court, a member with 10,000 points, and a key. Each office has a room, and a key that the office can
+    revoke."""
     with tempfile.TemporaryDirectory() as folder:
         club = Club(clubdesk, Path(folder, "made"))
         for n in PASSES:
@@ -69,8 +72,8 @@ class Times(list):
 
 
 def asked_by(place):
-    """Runs ninety rounds. A round has a booking, its repeat, the slot and the account. Every third round also cancels its booking. The account
-    follows at the end, so that a client sends 1,250 requests in all."""
+    """Yields a client's 1,250 requests, with their replies. In each of ninety rounds the client makes a booking, repeats it, and gets the slot and
+    the account. In every third round the client also cancels the booking. The remaining requests get the account."""
     spent = opened = 0
     for number in range(1, 91):
         day, hour, is_cancelled = f"{1 + number // 14:02}", 8 + number % 14, number % 3 == 0
@@ -89,7 +92,7 @@ def asked_by(place):
 
 
 def given_by(place):
-    """Gives 250 commands, about members, credits, closed slots, revoked keys and listed slots."""
+    """Yields 250 commands with their answers. The commands add members, credit points, close slots, revoke keys and show slots."""
     for n in range(1, 51):
         day = f"2026-{6 + n // 29:02}-{1 + n % 28:02}"
         for words in (f"add-member o{place}-{n} 5", f"credit o{place}-{n} {100 * n}", f"close-slot room-{place} {day} 10", f"revoke-key old-{place}"):
@@ -124,15 +127,15 @@ def beside(club, server, count):
 
 
 def test_door_has_a_mode_and_commands_have_lines(club):
-    """500 commands beside 5,000 requests. Then gives three commands with a root. The server refuses one of the three, and one reads the root from
-    input. The log contains no root."""
+    """Gives 500 commands while clients send 5,000 requests. Then gives three commands with a root. The server refuses one of the three commands.
+    Another of the three reads the root from standard input. The log contains no root."""
     with club.served("--log") as server:
         assert stat.filemode(os.stat(f"{club.file}-office").st_mode) == "srw-------"
         beside(club, server, 500)
         assert club.command("add-key", "given", "m1", ROOT) == (0, text(key_pass("given")) + "\n", "")
         assert club.command("rotate-key", "nobody", ROOT, "2030-01-01T00:00") == (1, "", "refused: unknown\n")
         assert desk.command(club.program, "add-key", club.file, "read", "m1", "--root-stdin", text=ROOT) == (0, text(key_pass("read")) + "\n", "")
-        # When a client has its reply, the server has written the previous line of the log.
+        # The server writes a command's line to the log before it answers the next client.
         assert server.exchange(b"GET /account HTTP/1.1\r\n\r\n")
         log = server.log.read_text()
     names = ("add-member", "credit", "close-slot", "revoke-key", "show-slot")
@@ -141,15 +144,15 @@ def test_door_has_a_mode_and_commands_have_lines(club):
 
 
 def ends(wanted, most, *words):
-    """Runs a command that must end with this status and output within some seconds."""
+    """Runs a command, which must end with the expected status and output within `most` seconds."""
     begun = time.monotonic()
     assert desk.command(*words) == wanted
     assert time.monotonic() - begun < most
 
 
 def test_what_others_meet_beside_a_server(club):
-    """Tries a second server, and commands through a link to the file and to its folder. Tries commands at a moved file, and commands of another
-    user whom the file's mode admits."""
+    """Starts a second server on the file, and gives commands through links to the file and to its folder. Gives a command at the old name of a
+    moved file. Gives a command as another user who may read the file."""
     folder, moved = club.file.parent, club.file.with_name("moved")
     with club.served():
         ends(FAILED, 15, club.program, "serve", club.file, "--port", "0", "--count", "1")
@@ -169,7 +172,8 @@ def test_what_others_meet_beside_a_server(club):
 
 @pytest.mark.parametrize("is_replaced", [True, False], ids=["replaced", "removed"])
 def test_file_that_is_gone(made, is_replaced):
-    """When its file has no name any more, the server acknowledges no change. It leaves a new file of that name unchanged."""
+    """After someone removes the file of a running server, the server acknowledges no change. If someone puts a new file at the old file's path, the
+    server leaves the new file unchanged."""
     club = made.copied_to(made.file.with_name("gone"))
     with club.served() as server:
         assert server.exchange(ACCOUNT.under(PASSES[1]).data).startswith(b"HTTP/1.1 200 ")
@@ -184,7 +188,7 @@ def test_file_that_is_gone(made, is_replaced):
 
 
 def test_server_whose_file_was_replaced_leaves_the_door_of_the_next(made):
-    """The next server serves the file that now has the name."""
+    """The next server serves the new file. The old server doesn't remove the door of the next server."""
     club = made.copied_to(made.file.with_name("twice"))
     with club.served(count=1) as first:
         made.copied_to(club.file)
@@ -195,7 +199,7 @@ def test_server_whose_file_was_replaced_leaves_the_door_of_the_next(made):
 
 
 def test_door_in_a_folder_of_a_long_name(made):
-    """The path of the door is longer than the address of a socket can be."""
+    """The door's path is too long for the address of a Unix socket."""
     folder = made.file.with_name("f" * 120)
     folder.mkdir()
     club = made.copied_to(folder / "club")
@@ -224,8 +228,8 @@ def test_something_else_than_a_door_stays(club):
 
 
 def test_commands_beside_four_clients_of_which_two_dawdle(club):
-    """One client is silent, and another client sends a byte a second. The server carries out each command within a fraction of a second, and two
-    other clients get their replies."""
+    """One client is silent, and another client sends a byte a second. The server carries out each command within 0.9 seconds, and two other clients
+    get their replies."""
     commands = Times()
 
     def dawdles(server, act):
@@ -249,8 +253,8 @@ def test_commands_beside_four_clients_of_which_two_dawdle(club):
 
 @pytest.mark.parametrize("dawdle", [lambda _: None, DRIP], ids=["silent", "a byte a second"])
 def test_client_that_dawdles_keeps_no_command(club, dawdle):
-    """The server carries out each command within a fraction of a second, while it still waits for the slow client. The server cuts off the client
-    after its patience of four seconds."""
+    """The server carries out each command within 0.9 seconds, while it still waits for the slow client. The server cuts off the slow client after
+    four seconds, its patience."""
     commands = Times()
     with club.served("--patience", "4") as server, socket.create_connection(("127.0.0.1", server.port), 60) as client:
         begun, dawdling = time.monotonic(), threading.Thread(target=dawdle, args=[client])
@@ -268,7 +272,7 @@ def test_client_that_dawdles_keeps_no_command(club, dawdle):
 
 @pytest.mark.parametrize("number", range(1, 21))
 def test_killed_command_or_server(club, number):
-    """The status of a command tells whether the server carried it out, or that this is unknown. The totals agree with the status."""
+    """The status of a command tells whether the server has carried out the command, or that nobody knows. The totals agree with the status."""
     with club.served() as server:
         before = club.balance("k1")
         command = subprocess.Popen([club.program, "credit", club.file, "m1", "1"], stdout=subprocess.DEVNULL, stderr=subprocess.DEVNULL)
@@ -280,7 +284,7 @@ def test_killed_command_or_server(club, number):
 
 
 def test_server_that_ends_takes_its_door_along(club):
-    """The server removes no other file next to its file, because such a file may be another club."""
+    """The server removes only its door. Any other file in the folder may be another club."""
     others = [Path(f"{club.file}-{ending}") for ending in ("wanted", "serving", "paused")]
     for it in others:
         it.write_text("another's\n")
@@ -292,7 +296,7 @@ def test_server_that_ends_takes_its_door_along(club):
 
 @pytest.mark.parametrize("bookings, count", [(0, 0), (300_000, 0), (300_000, 500)])
 def test_times(made, bookings, count):
-    """Measures without commands at 360 bookings. Then adds 300,000 bookings of 1,000 other members, and measures with and without commands."""
+    """Measures a small club without commands. Then measures a club with 300,000 bookings of 1,000 other members, without and with commands."""
     club = made.copied_to(made.file.with_name(f"at {bookings}"))
     if bookings:
         desk.add_past_bookings(club.file, bookings, ROOT)

@@ -1,14 +1,13 @@
 #!/usr/bin/env -S /usr/bin/python3 -B -m pytest -q -p no:cacheprovider
-"""A running desk carries out only complete commands, and each of them once, whatever else reaches its door.
+"""A running desk carries out each complete command once, and nothing else that reaches its door.
 
-The test sends truncated, slow and foreign commands. It also runs senders and servers that misbehave, while the real server keeps running. Some
-parts of the test need root.
+The test sends truncated, slow and foreign commands. It also runs senders and servers that misbehave. The real server must go on serving.
 
-Some commands are cut off at each byte, have 70,000 bytes, or have a wrong count. Some have arguments that aren't UTF-8, name no command, or name
-`serve`. Some senders close the connection before the greeting, are silent, or never read the answer. Some servers don't greet or answer, are
-stopped for longer than a timeout, or end before they greet. Then the test gives 50 commands at once, and a command of root at another user's desk.
-Some doors are stale, belong to root or to a stranger, or are behind a link. Others are in a folder that a server can't write to, or on a full disk.
-Tests with other users and disks need root.
+The test sends each prefix of a command, commands of 70,000 bytes, and commands that state a wrong number of words. Some commands have arguments
+that aren't UTF-8, have an unknown name, or have the name `serve`. Some senders close the connection before the greeting, are silent, or never read
+the answer. Some servers don't greet or answer, are stopped for longer than a timeout, or end before they greet. Then the test gives 50 simultaneous
+commands, and root gives a command to another user's desk. Some doors are stale, belong to root or to a stranger, or are behind a link. Other doors
+are in a folder that a server can't write to, or on a full disk. The parts with other users and disks need root.
 """
 
 import contextlib
@@ -30,7 +29,7 @@ pytestmark = [pytest.mark.faults, pytest.mark.needs("clubdesk"), pytest.mark.wan
 
 
 def command_bytes(*words, root="", count=None):
-    """Returns the bytes of a command: its number of words, its root, and its words. A zero byte follows each of them."""
+    """Returns the bytes of a command: its number of words, its root, and its words. Each of these parts ends in a zero byte."""
     pieces = [str(len(words) if count is None else count), root, *words]
     return b"".join(it.encode() + b"\0" for it in pieces)
 
@@ -44,7 +43,7 @@ needs_root = pytest.mark.skipif(os.geteuid() != 0, reason="wants root")
 
 @pytest.fixture
 def serving(club):
-    """Yields a server over the club, which runs until the end of the test."""
+    """Yields a server of the club, which runs until the end of the test."""
     with club.served() as it:
         yield it
 
@@ -58,7 +57,7 @@ def visitor(club, is_greeted=True):
 
 
 def answer(club, data):
-    """Returns the status and the text of the door's answer to these bytes."""
+    """Sends these bytes to the door, and returns the status and the text of the answer."""
     with visitor(club) as it:
         it.sendall(data)
         it.shutdown(socket.SHUT_WR)
@@ -72,7 +71,7 @@ def parts(data):
 
 
 def credited(club):
-    """Returns the credits that Amy got since the first club, as the door shows them."""
+    """Returns the points that Amy has got since the test began, according to the desk."""
     return club.balance("amy-1") - 10_000
 
 
@@ -125,7 +124,7 @@ def test_a_sender_that_goes(club, serving):
 
 @pytest.mark.parametrize("length", [0, len(WHOLE) // 2, len(WHOLE)])
 def test_a_silent_sender(club, serving, length):
-    """The server cuts off this sender after 200 milliseconds. Other clients wait meanwhile."""
+    """The server cuts off a silent sender after 200 milliseconds. Other clients wait until then."""
     with visitor(club) as it:
         began = time.monotonic()
         it.sendall(WHOLE[:length])
@@ -136,8 +135,8 @@ def test_a_silent_sender(club, serving, length):
 
 
 def test_a_sender_that_takes_no_answer(club):
-    """The server cuts off a sheet that is too large for any socket buffer after 200 milliseconds, even with a longer patience. Such a sheet has no
-    end mark."""
+    """The day sheet is too large for the socket's buffer, and the sender doesn't read it. The server cuts off the sender after 200 milliseconds,
+    even if the server's patience is longer. The part that was sent has no zero byte at its end."""
     club.sql("""WITH n(i) AS (SELECT 1 UNION ALL SELECT i + 1 FROM n WHERE i < 10000)
         INSERT INTO bookings SELECT 'amy-1', 1000 + i, 'court-1', 10957, 8, 0, 0, 0, 0, 0 FROM n""")
     with club.served("--patience", "10") as server, visitor(club) as it:
@@ -153,7 +152,7 @@ def test_a_sender_that_takes_no_answer(club):
 
 
 def test_a_server_that_does_not_greet(club, serving):
-    """The test stops the server until the command's timeout. When the server continues, it doesn't carry out the command."""
+    """The test stops the server until the command's timeout is over. When the server continues, it doesn't carry out the command."""
     os.kill(serving.process.pid, signal.SIGSTOP)
     began = time.monotonic()
     assert club.command("credit", "amy", "1") == FAILED
@@ -173,7 +172,7 @@ def stopped(server):
 
 @pytest.mark.parametrize("length, wanted", [(len(WHOLE), (0, "done\n")), (len(WHOLE) - 1, (2, ""))])
 def test_a_server_that_is_stopped_while_a_command_comes(club, serving, length, wanted):
-    """When the server continues after the command's timeout, it reads a command that arrived completely in the meantime."""
+    """A command arrives while the server is stopped. When the server continues, it carries out the command if the command is complete."""
     with visitor(club) as it:
         with stopped(serving):
             it.sendall(WHOLE[:length])
@@ -184,7 +183,8 @@ def test_a_server_that_is_stopped_while_a_command_comes(club, serving, length, w
 
 
 def test_a_server_that_is_stopped_while_a_client_sends(club):
-    """The server serves a request that arrived completely while it was stopped, even long after the patience. It cuts off an incomplete request."""
+    """A request arrives while the server is stopped for longer than its patience. When the server continues, it replies to a complete request and
+    cuts off an incomplete one."""
     whole = kinds.account().data
     with club.served("--patience", "1") as server:
         for data, begins in ((whole, b"HTTP/1.1 200 "), (whole[:-1], b"")):
@@ -199,7 +199,7 @@ def test_a_server_that_is_stopped_while_a_client_sends(club):
 
 @pytest.mark.parametrize("is_followed", [False, True], ids=["by nobody", "by another server"])
 def test_a_server_that_ends_before_it_greets(club, clubdesk, is_followed):
-    """The command has sent no byte, so it tries again at the file or at the next server's door."""
+    """The client has sent no byte of the command, so it opens the file itself or connects to the next server."""
     with club.served() as server:
         os.kill(server.process.pid, signal.SIGSTOP)
         with subprocess.Popen([clubdesk, "credit", club.file, "amy", "1"], stdout=subprocess.PIPE, stderr=subprocess.PIPE, text=True) as command:
@@ -235,7 +235,7 @@ def test_what_a_server_may_send(club, greeting, reply, wanted):
 
 
 def test_a_server_that_closes_after_it_greeted(club):
-    """The server has read nothing or only a part of the command, so it can't carry it out. The next server carries out the command."""
+    """The server closes the connection when it has read at most a part of the command, so it can't carry out the command. The next server does."""
     with socket.socket(socket.AF_UNIX) as door:
         door.bind(f"{club.file}-office")
         door.listen()
@@ -257,8 +257,8 @@ def test_a_server_that_closes_after_it_greeted(club):
 
 
 def test_fifty_at_once(club, serving, clubdesk):
-    """The server carries out each command once. On a busy machine, a command may get no processor time before its timeout for sending. Then the
-    command tries again."""
+    """The server carries out each command once. If the machine is busy, a client may get no processor time before its time for sending is over.
+    Then the client tries again."""
     commands = [subprocess.Popen([clubdesk, "credit", club.file, "amy", "1"], stdout=subprocess.PIPE, stderr=subprocess.PIPE) for _ in range(50)]
     ended = [(*it.communicate(), it.returncode) for it in commands]
     assert ended == [(b"done\n", b"", 0)] * 50
@@ -267,7 +267,7 @@ def test_fifty_at_once(club, serving, clubdesk):
 
 @pytest.fixture
 def of_another(club):
-    """The club in a folder that belongs to another user."""
+    """A club in a folder that belongs to another user."""
     for parent in club.file.parents:
         if parent.stat().st_mode & 0o5 != 0o5:
             parent.chmod(0o755)
@@ -287,7 +287,7 @@ def test_a_command_of_root(of_another):
 
 @needs_root
 def test_a_stale_door_of_root(of_another, clubdesk):
-    """After a kill of root's server, the club's owner can still give commands and start a server."""
+    """After someone kills a server of root, the club's owner can still give commands and start a server."""
     with of_another.served() as server:
         server.kill()
     door = of_another.file.with_name("club-office")
@@ -319,8 +319,8 @@ with socket.socket(socket.AF_UNIX) as door:
 
 @needs_root
 def test_a_door_of_a_stranger(club, clubdesk):
-    """In a folder that others can write to, a stranger's program listens under the door's name. The stranger's program gets no command and no root,
-    and no server replaces its socket."""
+    """A stranger's program listens at the door's path, in a folder that everybody can write to. This program gets no command and no root, and no
+    server replaces its socket."""
     for parent in club.file.parents:
         if parent.stat().st_mode & 0o5 != 0o5:
             parent.chmod(0o755)

@@ -1,14 +1,13 @@
 #!/usr/bin/env -S /usr/bin/python3 -B
-"""Each call in the tests with a refused allocation is right, or reports out of memory without a change.
+"""If an allocation is refused, each call in the tests still returns the right result, or reports out of memory and changes nothing.
 
-The chosen tests read and write the known passes in each form, and open a store in each way. They also give each command of the office. The tests
-make the known booking by `Desk::ask`, `Desk::run` and `answer`.
+The chosen tests read and write the known passes in each form, and open new and existing stores. They also give each command of the office, and make
+the known booking by `Desk::ask`, `Desk::run` and `answer`.
 
 The program fails if a test is missing, fails with ample memory, or makes no allocation. The program first proves and builds tests that are missing
 or older than their sources.
 
-Name only tests that return each fault, or that accept out of memory as well as the right answer. A test that expects another fault fails when
-memory is refused.
+Name only tests that accept out of memory in place of the right result. A test that expects another fault fails when memory is refused.
   tests/desk/refused_memory_tests.py                                              the tests of the list below
   tests/desk/refused_memory_tests.py club_gate_tests                                         those of one crate
   tests/desk/refused_memory_tests.py club_gate_tests store::shown::shows_what_a_key_sees ..  any tests of a crate
@@ -28,7 +27,7 @@ import desk
 from more_edits import crates_below
 
 OPENINGS = "store_in_memory databases_in_memory new_file files_of_each_version"
-# The tests of each crate. Tests without a module are in `refused_memory`.
+# The tests of each crate. If a name has no module, its test is in the module `refused_memory`.
 TESTS = {
     "pass_forms_tests": "known_passes",
     "club_gate_tests": " ".join(["commands ask_in_each_form run_in_each_form",
@@ -60,8 +59,8 @@ def built(crate):
 
 
 def ends_without_memory(output):
-    """Returns whether a failed test failed because of out of memory. The value that the test returned or got must be only this fault, in an `Err`
-    or a similar type. If the fault appears elsewhere, such as in an expected value, the test failed for another reason."""
+    """Returns whether a test failed because a call reported out of memory. The value that the test returned or got must be this fault alone,
+    perhaps within an `Err`. If the fault appears elsewhere, such as in an expected value, the test failed for another reason."""
     def has_line(head):
         return any(re.fullmatch(head + FAULT, line) for line in output.splitlines())
 
