@@ -4,8 +4,8 @@
 The rules in Python are those of `tests/reference`. The test runs `clubdesk` over a file and a socket. The passes have all three forms. With
 `--self-test`, the test checks that it finds eight faults planted in the rules.
 
-A file has a fault if a line can't be read or has no answer. It also has a fault if its club can't be made, or if it has no line to run. The test
-names the place of each fault. The self-test has faulty files of all these kinds.
+The reader refuses a file if a line can't be read or has no answer, if the commands for a club fail, or if the file has no line to run. The test
+prints the place of each fault. The self-test tries faulty files of all these kinds.
 
     tests/desk/scenarios.py [--player rules|programs] [FILE ..]     plays all files, or those of these names
     tests/desk/scenarios.py --self-test                             plays odd files, and plants each fault of the rules
@@ -40,7 +40,7 @@ def expectations(scenarios):
 
 
 def whole(path):
-    """Returns the scenarios of a file. A line without an answer is a fault."""
+    """Returns the scenarios of a file. Raises Fault if a line has no answer."""
     found = lines.read(path)
     for event in (inner(it) for scenario in found for it in scenario.events):
         has = event.reply if isinstance(event, Request) else event.outcomes if isinstance(event, Office) else getattr(event, "lines", True)
@@ -71,7 +71,8 @@ def play_file(path, player, prints):
 
 
 def played(paths, player, jobs, prints=True):
-    """Runs the scenarios of several files at the same time. Returns the number of lines, and the differences between answers."""
+    """Runs the scenarios of several files at the same time. Returns the number of lines, and a text for each wrong answer and each fault of a
+    file."""
     count, faults = 0, []
     with ThreadPoolExecutor(jobs) as pool:
         for it in [pool.submit(play_file, path, player, prints) for path in paths]:
@@ -87,7 +88,7 @@ def outcome_of(answer):
 
 
 def filled(path):
-    """Returns the text of a file. A line without an answer gets the answer of the rules."""
+    """Returns the text of a file. Fills in the answer of the rules in Python where a line has no answer."""
     text = path.read_text(encoding="utf-8").split("\n")
     for scenario in lines.read(path):
         player = Rules()
@@ -110,7 +111,7 @@ def padded(line, answer):
 
 
 def reply_in(data):
-    """Returns a reply in the form that a line of a scenario has."""
+    """Returns a reply as a line of a scenario states it."""
     head, _, body = data.decode().partition("\r\n\r\n")
     methods = next((it[7:] for it in head.split("\r\n") if it.startswith("Allow: ")), None)
     reply = lines.Reply(int(head.split(" ")[1]), body.encode(), methods)
@@ -120,8 +121,8 @@ def reply_in(data):
 
 CLUB = "club  members amy 5 100; court-1 court 4 200 8-22; keys amy-1\nat  2026-04-20T12:00\n"
 ACCOUNT = 'amy-1  GET account  200 {"member":"amy","balance":100,"quota":5,"open":0,"spent":0}'
-# Faulty files: the text after CLUB, the line of the fault, and words of the fault. If the line of the fault is missing, the file is valid, and the
-# test runs it. FAULTY_CLUBS has complete files instead.
+# Faulty files: the text after CLUB, the line of the fault, and words of the fault. If the line is None, the file is valid. FAULTY_CLUBS has
+# complete files, without CLUB before them.
 FAULTY = (
     ("", 2, "no expectation"), ("amy-1", 3, "not understood"), ("amy-1  GET", 3, "a request has"), ("offce  revoke-key amy-1  done", 3, "is unknown"),
     ("bob-1  GET account  200 {}", 3, "the key bob-1 is unknown"), ("amy-1 [unknown]  GET account  200 {}", 3, "the key amy-1 is known"),
@@ -144,7 +145,8 @@ FAULTY_CLUBS = (
 
 
 def is_refused(text, line, words):
-    """Returns whether the reader refuses a file at this line, with these words. If no line is given, returns whether the test can run the file."""
+    """Returns whether the reader refuses the text at this line, with these words. If `line` is None, returns whether the reader accepts the
+    text."""
     with tempfile.TemporaryDirectory() as folder:
         path = Path(folder, "odd.txt")
         path.write_text(text, encoding="utf-8")
@@ -160,7 +162,7 @@ def is_refused(text, line, words):
 
 
 def self_test(paths):
-    """Checks that each faulty file is refused, and that each fault planted in the rules is found."""
+    """Checks that the reader refuses each faulty file, and that the test finds each fault planted in the rules."""
     are_refused = [is_refused(CLUB + text, line, words) for text, line, words in FAULTY] + [is_refused(*it) for it in FAULTY_CLUBS]
     print(f"{sum(are_refused)} of {len(are_refused)} odd files are refused, or played, as they have to be")
 

@@ -1,10 +1,9 @@
 #!/usr/bin/env -S /usr/bin/python3 -B
-"""Compares the rows of the test crates with the scenarios. Finds facts in rows that no scenario states.
+"""Finds the facts that rows of the test crates state and no scenario states.
 
 A fact consists of a question, the state of the club that the answer depends on, and the answer. READERS has
-a reader for each table whose rows a scenario can state. STAYS has the reasons why other rows stay in the
-test crates. The last printed line has the counts. The status is 1 if the scenarios lack a row that they
-could state.
+a reader for each table whose rows a scenario can state. STAYS has the reasons why scenarios can't state the other rows. The last printed line has
+the counts. The status is 1 if no scenario states a row that a scenario could state.
 
     tests/desk/scenarios_count.py             prints the missing rows, and the counts
     tests/desk/scenarios_count.py --leaves    also prints each table whose rows the files state, and how many of its rows stay
@@ -38,8 +37,7 @@ READERS = {
     "clubdesk_tests/commands": {"PASSES_OF_KEYS": rows.of_runs},
 }
 
-# The reasons why the rows of a module stay where they are. A reason also covers the unread rows of a module
-# above.
+# The reasons why scenarios can't state the rows of a module. A module's reason also holds for the modules below it.
 STAYS = {
     "club_core_tests/caveats/values": "readers of values: names, days, moments, numbers",
     "club_core_tests/caveats/allowed": "more points than requests can spend, and calls of their own",
@@ -74,7 +72,7 @@ def reason(module, name):
 
 
 def modules():
-    """Yields each file of the test crates with its tables."""
+    """Yields the name of each module of the test crates, and its file with the tables."""
     for crate in TESTS:
         top = CRATES / crate / "src"
         for path in sorted(top.rglob("*.rt")):
@@ -82,12 +80,12 @@ def modules():
 
 
 def read(reader, value, file):
-    """Returns the facts of each row, or the reason why the row stays."""
+    """Returns, for each row of a table, its facts, or the reason why no scenario can state the row."""
     return reader(value, file) if "file" in reader.__code__.co_varnames[:reader.__code__.co_argcount] else reader(value)
 
 
 class Count:
-    """Counts the facts in the rows and the facts in the scenarios."""
+    """Counts the facts that the rows and the scenarios state."""
 
     def __init__(self):
         self.said = defaultdict(list)

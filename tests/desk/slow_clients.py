@@ -1,14 +1,14 @@
 #!/usr/bin/env -S /usr/bin/python3 -B -m pytest -q -p no:cacheprovider
-"""The server disconnects slow clients in time, and clients that send too much lose no reply.
+"""The server disconnects slow clients in time, and clients that send too many bytes still get their replies.
 
 The clients that come after a slow client get their replies. Some clients send far more than a request before they read the reply.
 
-The server has a patience of two seconds. One client sends nothing, one begins its request, and one sends a byte a second. One never reads its
-reply, and one stays connected after its request. Then come 1,000 requests, each with 1 to 100,000 more bytes after it, and 1,000 heads of 100,000
-bytes. Half of the heads come in two pieces. Then come 200 requests in three, four and six pieces, with a length and with chunks. For 100 more
-requests, the test stops and continues the server.
+The server has a patience of two seconds. One client sends nothing, another sends only the beginning of its request, and a third sends a byte a
+second. A fourth client never reads its reply, and a fifth stays connected after its request. Then clients send 1,000 requests, each followed by 1
+to 100,000 more bytes, and 1,000 heads of 100,000 bytes. Half of these requests and heads come in two pieces. Then they send requests in three, four
+and six pieces, with a length or with chunks. During 100 more requests, the test stops the server and continues it.
 
-The clients send all bytes before they read, as Python's clients do. A client gives up when its sending fails.
+Each client sends all its bytes before it reads, as Python's HTTP clients do. A client gives up if it can't send its bytes.
 """
 
 import os
@@ -29,7 +29,7 @@ REQUEST = account().data
 
 @pytest.fixture
 def patient(club):
-    """A server for a number of connections."""
+    """Returns a function that starts a server for the given number of connections."""
     return lambda count: club.served("--patience", str(PATIENCE), count=count)
 
 
@@ -49,14 +49,14 @@ def replied(server, pieces, pause):
 
 
 def cut(text, count):
-    """Splits the text into a number of pieces."""
+    """Splits the text into `count` pieces."""
     size = (len(text) + count - 1) // count
     return [text[place:place + size] for place in range(0, len(text), size)]
 
 
 @pytest.mark.parametrize("dawdle, least, most", [
     (b"", PATIENCE - 0.2, PATIENCE + 1), (REQUEST[:40], PATIENCE - 0.2, PATIENCE + 1),
-    # One client never reads its reply, and one client stays connected after its request. The server waits a fifth of a second for more bytes.
+    # Two clients stay connected after their requests. The server waits a fifth of a second for more bytes.
     (REQUEST, 0, 1), (REQUEST + b"x", 0, 1)], ids=["silent", "begins its request", "never reads", "stays"])
 def test_client_behind_one_that_dawdles(patient, dawdle, least, most):
     with patient(2) as server, connected(server) as client:
@@ -88,7 +88,7 @@ def test_all_is_sent_before_it_is_read(patient, data_of, wanted):
 
 @pytest.mark.parametrize("count", [3, 4, 6])
 def test_requests_in_pieces(patient, count):
-    """Bodies with a length, a body that comes apart from its head, chunks, and a body that is too long."""
+    """Tries a body with a length, a body that arrives after its head, a body in chunks, and a body that is too long."""
     row = Row("PUT", slot(facility="court-2") + "/bookings/7", '{"guests":' + " " * 240 + "0}").gets(14)
     head, body = row.data.partition(b"\r\n\r\n")[0] + b"\r\n\r\n", row.body.encode()
     without = b"\r\n".join(line for line in head.split(b"\r\n") if not line.startswith(b"Content-Length"))
@@ -104,7 +104,7 @@ def test_requests_in_pieces(patient, count):
 
 
 def test_server_that_is_stopped_and_goes_on(patient):
-    """The test stops the server while it waits for each of 100 requests."""
+    """In the middle of each of 100 requests, the test stops the server and continues it."""
     with patient(100) as server:
         for _ in range(100):
             with connected(server) as client:

@@ -1,10 +1,10 @@
 #!/usr/bin/env -S /usr/bin/python3 -B -m pytest -q -p no:cacheprovider
-"""The shell of SQLite reads the file of `clubdesk`, and the lists and corrections of docs/RUNNING.md work.
+"""The shell sqlite3 reads the file of `clubdesk`, and the SQL for lists and corrections in docs/RUNNING.md works.
 
-A file without a club, or with a row outside the limits, causes a storage fault.
+If a file has no club, or a row outside the limits, `clubdesk` reports that storage failed.
 
-The columns, keys, references and limits are those of docs/TABLES.md. clubdesk shows the changes that sqlite3 makes within these limits. A refused
-file stays unchanged, byte for byte.
+The file has the columns, keys, references and limits of docs/TABLES.md. clubdesk shows the changes that sqlite3 makes within these limits. If
+clubdesk refuses a file, it doesn't change a byte of the file.
 """
 
 import re
@@ -23,7 +23,7 @@ DAY = "2026-05-01"
 RUNNING = (desk.ROOT / "docs" / "RUNNING.md").read_text(encoding="utf-8")
 SCHEMA = re.search(r"^```sql\n(.*?)^```", (desk.ROOT / "docs" / "TABLES.md").read_text(encoding="utf-8"), re.MULTILINE | re.DOTALL)[1]
 TABLES = re.findall(r"^CREATE TABLE (\w+)", SCHEMA, re.MULTILINE)
-# A column of docs/TABLES.md: its table, its name, and its least and greatest value.
+# For each column with limits in docs/TABLES.md: its table, its name, its least value and its greatest value.
 LIMITS = [(table, *limit) for table, columns in re.findall(r"^CREATE TABLE (\w+) \(\n(.*?)^\)", SCHEMA, re.MULTILINE | re.DOTALL)
           for limit in re.findall(r"CHECK \((\w+) BETWEEN (\d+) AND (\d+)\)", columns)]
 ROOT = "30313233343536373839616263646566"
@@ -36,7 +36,8 @@ NO_BOOKINGS = command(f"sheet {DAY}", printed=f"Day sheet {DAY}\nNo bookings.\n"
 
 
 def tells(taken, balance, opened, spent, quota=5, sheet=LINE_7 + "Total bookings 1, persons 3, charge 600\n", nine=True, room=False):
-    """Shows a club by three slots, the account, and the day sheet. `nine` and `room` tell whether these slots are closed."""
+    """Returns requests for three slots and the account, and a command for the day sheet, with the expected answers. `nine` and `room` tell whether
+    the court's slot at 9:00 and the room's slot are closed."""
     rows = [shown(0, 9, nine), shown(taken), view(ROOM).serves(facility="room-1", day=DAY, hour=18, kind="room", price=601, places=1, taken=0, closed=room),
             ACCOUNT.serves(member="amy", balance=balance, quota=quota, open=opened, spent=spent)]
     return [*(it.under(AMY) for it in rows), command(f"sheet {DAY}", printed=f"Day sheet {DAY}\n{sheet}")]
@@ -47,7 +48,7 @@ FIRST = tells(3, 9099, 1, 901)
 
 @pytest.fixture(scope="module")
 def made(new_club):
-    """A club with a booking, and with a booking that was cancelled less than a day before its slot."""
+    """A club with two bookings. One of them was cancelled less than a day before its slot."""
     club = new_club("add-member amy 5", "credit amy 10000", "add-facility court-1 court 4 200 8 22", "add-facility room-1 room 1 601 8 22",
                     f"add-key amy-1 amy {ROOT}", f"close-slot court-1 {DAY} 09")
     rows = [booked(book(7, THREE), 600, 1), booked(book(8, ONE, ROOM), 601, 0), cancel(8, ROOM).at("2026-04-30T18:01").serves(booking="amy-1/8", refund=300)]
@@ -106,7 +107,7 @@ def test_sums_of_an_auditor(club):
 
 
 def statements(texts):
-    """Returns the words and signs of each statement."""
+    """Returns each statement as a tuple of its words and signs."""
     return {tuple(re.findall(r"\w+|[^\w\s]", it)) for it in texts}
 
 
@@ -120,7 +121,7 @@ def test_columns_keys_references_and_limits(club):
 
 
 def test_what_sqlite3_writes_is_told(club):
-    """The rows are within the limits, also if clubdesk left a log next to the file."""
+    """clubdesk shows rows that sqlite3 has changed within the limits, also if clubdesk left a log next to the file."""
     club.does(f"sheet {DAY}")
     sql(club, """UPDATE members SET credited = credited + 5, quota = 99, used = used + 200; DELETE FROM slots;
         INSERT INTO slots VALUES ('room-1', 20574, 18, 1, 0), ('court-1', 20574, 9, 0, 0), ('court-1', 20574, 18, 0, 4);
@@ -145,7 +146,8 @@ def sound(club):
 
 
 def corrected(club, heading, again):
-    """The correction changes one row at first, and the given number of rows when it runs again. If it finds no row, it changes nothing."""
+    """Runs a correction twice. The first run changes one row. The second run changes `again` rows, and leaves the file unchanged if `again` is
+    0."""
     assert by_recipe(club, heading) == "1\n"
     sound(club)
     before = dump(club)
@@ -165,7 +167,7 @@ def test_lists(club):
 
 
 def test_corrections(club):
-    """The desk answers as for a club that always had this state."""
+    """After each correction, the desk answers as if the club had always been in this state."""
     corrected(club, "A credit that was too high", 1)
     corrected(club, "Another quota", 1)
     corrected(club, "A slot that is open again", 0)
@@ -199,7 +201,7 @@ def test_file_that_becomes_a_club(clubdesk, tmp_path, before):
 
 @pytest.mark.parametrize("change", ["DROP TABLE old_roots; DROP INDEX bookings_by_key; UPDATE desk SET version = 1", "DROP INDEX bookings_by_key"])
 def test_file_of_before_is_migrated(club, change):
-    """The rows and the schema are the same, and no key has an older root."""
+    """After the migration, the rows and the schema are the same as before, and no key has an older root."""
     schema = sql(club, "SELECT type, name, sql FROM sqlite_schema")
     sql(club, change)
     club.play(FIRST)
@@ -208,7 +210,8 @@ def test_file_of_before_is_migrated(club, change):
 
 
 def refused(club):
-    """A sheet causes a storage fault, and so does a request if the file opens. The file and its rows stay unchanged."""
+    """Checks that clubdesk reports a storage fault for a day sheet, or for a request if the sheet can be read. The file and its rows must stay
+    unchanged."""
     before = club.file.read_bytes(), dump(club)
     status, _, fault = club.command("sheet", DAY)
     if (status, fault) != (5, "storage failed\n"):
@@ -233,8 +236,8 @@ def test_command_that_is_refused_changes_nothing(club):
 
 @pytest.mark.parametrize("table, column, least, most", LIMITS, ids=map(" ".join, LIMITS))
 def test_limit(club, table, column, least, most):
-    """The desk accepts both ends of a range. sqlite3 refuses numbers outside the range. If sqlite3 ignores the checks, the desk refuses these
-    numbers."""
+    """The desk accepts the least and the greatest value of each column. sqlite3 refuses values outside these limits. If sqlite3 is told to ignore
+    the limits, the desk refuses such a value."""
     sql(club, "INSERT INTO old_roots VALUES ('amy-1', zeroblob(16), 20000000)")
     kept = club.copied_to(club.file.with_name("kept"))
     for value in (int(least) - 1, int(least), int(most), int(most) + 1):
@@ -248,7 +251,7 @@ def test_limit(club, table, column, least, most):
             kept.copied_to(club.file)
 
 
-# SQL lines that change a club.
+# SQL lines that spoil a club, so that the desk must refuse the file.
 RENAMED = ("old_roots until", "members quota", "members used", "facilities price", "keys root", "slots closed", "slots taken", "bookings remains")
 SPOILED = [
     *(f"UPDATE desk SET version = {it}" for it in (9, 0, -1, 1, 3)), *(f"DROP TABLE {it}" for it in TABLES),

@@ -1,12 +1,12 @@
 #!/usr/bin/env python3
-"""A club's year, with kills and both changes of summer time, gets the replies of the rules in Python.
+"""During a simulated year with kills and both changes of summer time, `clubdesk` answers as the rules in Python do.
 
-The rules are those of `tests/reference`. The test compares each reply, command and day sheet, and the rows and totals of each month. With
-`--self-test`, the test checks that it finds faults planted in the rules.
+The rules are those of `tests/reference`. The test compares each reply, each command's answer and each day sheet. Once a month it compares all rows
+and totals. With `--self-test`, the test checks that it finds faults planted in the rules.
 
-The year has narrowed passes and each command of the office. tests/lib/set_clock.c sets the clock of each server. The server converts the clock to
-the club's civil time by the zone's rule, and the test does so by Python's zoneinfo. After a kill, the test sends the request or command again. The
-reply must be the reference's reply, no matter whether the first try was carried out.
+Members use narrowed passes, and the office gives each of its commands. tests/lib/set_clock.c sets the clock of each server. The server converts the
+clock's time to the club's civil time by the zone's rule. The test converts it by Python's zoneinfo. After a kill, the test sends the request or
+command again. The answer must be the answer of the rules, no matter whether the killed program had carried out the first try.
 
     tests/desk/year.py [--seed N] [--days N] [--requests N] [--self-test]
 """
@@ -40,7 +40,7 @@ DAYS_OF_SUMMER_TIME = (86, 87, 88, 296, 297, 298)  # about the ends of March and
 
 
 def civil_minute(instant):
-    """Returns the minute of the club's clock at an instant, counted as if the day had no change of the clock."""
+    """Returns what the club's clock shows at an instant, as minutes since 1970-01-01T00:00 on that clock."""
     shown = instant.astimezone(ZONE)
     return (shown.date() - caveats.EPOCH).days * 1440 + shown.hour * 60 + shown.minute
 
@@ -67,7 +67,7 @@ class Year(Both):
         self.hand_out(key)
 
     def hand_out(self, key):
-        """A key's full pass, and two passes that its holder narrowed, in any form."""
+        """Adds the key's full pass and two narrowed passes to the passes in use, each in a random form."""
         whole = passes.minted(self.roots[key][-1], b"key:" + key.encode())
         held = [whole, *(self.narrowed(whole) for _ in range(2))]
         self.passes.setdefault(key, []).extend(passes.text_of(it, self.draw.choice(("v1", "v2", "json"))) for it in held)
@@ -127,8 +127,8 @@ class Year(Both):
             self.give_and_kill(("add-key", f"k{self.next_key}", draw.choice(MEMBERS), draw.randbytes(16)))
 
     def give_and_kill(self, command):
-        """Kills a command at some time. When the command is given again, it is done, or the answer is that it was done before. In both cases the
-        club then matches the reference."""
+        """Kills the command after a random delay of at most 30 ms. Then gives the command again. The second command must succeed, or report that
+        the key exists already. In both cases the club must then match the reference."""
         self.next_key += 1
         process = subprocess.Popen([self.desk, *map(str, self.words_of(command))], stdout=subprocess.DEVNULL, stderr=subprocess.DEVNULL)
         time.sleep(self.draw.random() * 0.03)
@@ -165,7 +165,7 @@ class Year(Both):
     def bytes_of(self, moment, method, key, path, body=b""):
         given = self.draw.choice(self.passes[key][-6:])
         if self.draw.random() < 0.03:
-            # narrowed for this test, to this minute or up to it
+            # adds a caveat `until < `, with this minute or the next one
             until = f"until < {spelled_moment(moment + self.draw.choice((0, 1)))}"
             given = passes.text_of(passes.read(given).narrowed(until.encode()), "v2")
         length = b"Content-Length: %d\r\n" % len(body) if body else b""
@@ -178,7 +178,7 @@ class Year(Both):
         return programs.Server(self.desk, self.file, count, "--zone", RULE, variables=variables)
 
     def served(self, instant, count):
-        """Sends requests to a server whose clock shows this instant. Kills every ninth server during a request."""
+        """Sends requests to a server whose clock shows this instant. Kills one server in nine, chosen at random, during a request."""
         moment = civil_minute(instant)
         kill_at = self.draw.randrange(count) if self.draw.randrange(KILLS_ONE_IN) == 0 else count
         asked = [self.request(moment) for _ in range(count)]

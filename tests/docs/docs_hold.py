@@ -1,12 +1,13 @@
 #!/usr/bin/env -S /usr/bin/python3 -B -m pytest -q -p no:cacheprovider
 """The commands, outputs, links and names on the pages are correct.
 
-Compares README.md, CONTRIBUTING.md, docs/, and the README.md of each crate with the repository.
-- The test runs each ```console block. It runs the blocks of a page one after the other, in a folder of the page's own. The PATH has the programs
-  and bin/. A line that begins with `$ ` is a command, and the lines after it are the command's standard output and error. The test ignores empty
-  lines and spaces at the end of a line. Another port may replace 8080.
+The test compares README.md, CONTRIBUTING.md, the pages of docs/, and the README.md of each crate with the rest of the repository.
+- The test runs each ```console block. It runs the blocks of a page one after the other, in a new folder for each page. The variable PATH names the
+  folders of the programs and bin/. A line that begins with `$ ` is a command, and the lines after it are the command's standard output and error.
+  The test ignores empty
+  lines and spaces at the end of a line. The test may replace port 8080 with a free port.
 - The docstring of each test below describes the other checks.
-The variables CLUBDESK and PASSTOOL name the programs. If a program has no variable, the test proves and builds the program first.
+The variables CLUBDESK and PASSTOOL have the paths of the programs. If a variable is unset, the test proves and builds its program first.
   tests/docs/docs_hold.py                    every page
   tests/docs/docs_hold.py -k DESK            the pages whose names have this word
   tests/docs/docs_hold.py --no-commands ..   only the checks that need no program of ours
@@ -39,7 +40,7 @@ def blocks(page, language):
 
 
 def prose(page):
-    """Returns the page without its blocks."""
+    """Returns the text of a page without its code blocks."""
     return re.sub(r"^```.*?^```.*?\n", "", TEXTS[page], flags=re.MULTILINE | re.DOTALL)
 
 
@@ -48,7 +49,7 @@ def ticked(text):
     return sorted(set(re.findall(r"`([^` \n]+)`", text)))
 
 
-# ---- the definitions in crates/, each as (file, crate, name ..)
+# ---- the definitions in crates/
 
 
 def found(endings, pattern):
@@ -56,7 +57,7 @@ def found(endings, pattern):
 
 
 def within(places, pattern):
-    """Yields the matches of a pattern with their places."""
+    """Returns the matches of a pattern in these texts, each with the place of its text."""
     return {(*place, name) for *place, text in places for name in re.findall(pattern, text, re.MULTILINE)}
 
 
@@ -74,7 +75,7 @@ CRATES = {crate for _, crate, _ in ITEMS}
 DEFINED = {it[1:] for it in ITEMS}
 CLAUSES = {it[1:] for it in CLAUSES}
 LIBRARIES = {word for line in Path("crates.txt").read_text(encoding="utf-8").splitlines() if line[:1] not in ("", "#") for word in line.replace(":", " ").split()}
-# Names of std that the page of a crate uses and the crate's code doesn't.
+# For each crate, the names of std that its page mentions although its code doesn't use them.
 OF_STD = {"test_kit": {"expect"}}
 
 
@@ -83,7 +84,7 @@ OF_STD = {"test_kit": {"expect"}}
 
 @each_page
 def test_quoted_lines_are_in_a_file(page):
-    """Each paragraph of a ```rust, ```antt or ```text block is in a file of crates/, apart from its indentation."""
+    """Each paragraph of a ```rust, ```antt or ```text block is in a file of crates/. The indentation may differ."""
     texts = [re.sub(r"^ +", "", text, flags=re.MULTILINE) for text in CODE.values()]
     for language in ("rust", "antt", "text"):
         for quote in (it for block in blocks(page, language) for it in re.split(r"\n\n+", re.sub(r"^ +", "", block, flags=re.MULTILINE))):
@@ -91,7 +92,8 @@ def test_quoted_lines_are_in_a_file(page):
 
 
 def anchors(page):
-    """Makes anchors from headings: in lower case, with dashes for spaces, and without signs other than `-` and `_`."""
+    """Returns the anchors of a page's headings. An anchor is the heading in lower case, with dashes in place of spaces, and without punctuation
+    except `-` and `_`."""
     text = re.sub(r"^```.*?^```.*?\n", "", Path(page).read_text(encoding="utf-8"), flags=re.MULTILINE | re.DOTALL)
     return {re.sub(r"[^a-z0-9 _-]", "", it.lower()).replace(" ", "-") for it in re.findall(r"^#+ (.*)", text, re.MULTILINE)}
 
@@ -107,7 +109,7 @@ def test_links_lead_to_pages_and_headings(page):
 
 @each_page
 def test_files_and_names_are_there(page):
-    """Each file that a page names exists. In the page of a crate, each named folder of the crate also exists. Each name `crate::..::name` or
+    """Each file that a page names exists. Each file and folder of a crate that the crate's page names exists. Each name `crate::..::name` or
     `Type::name` has a definition."""
     words = ticked(prose(page))
     scripts = [it for block in blocks(page, "sh") for it in re.findall(r"^(?:bin|tests|deploy)/[a-z_./]+", block, re.MULTILINE)]
@@ -126,8 +128,8 @@ def test_files_and_names_are_there(page):
 
 @pytest.mark.parametrize("page", [it for it in PAGES if it.startswith("crates/")])
 def test_bare_names_of_a_crate(page):
-    """Each name without a path in a crate's page is a word of the crate's code, or another crate defines it. It may also be a crate, a library, or
-    a file of the crate's folder."""
+    """Each plain name in a crate's page is a word of the crate's code, a name that another crate defines, a crate, a library, or a file of the
+    crate's folder."""
     folder = Path(page).parent
     crate, names = folder.name, {name for _, name in DEFINED}
     code = "\n".join(re.sub(r"//.*|^--.*", "", text, flags=re.MULTILINE) for file, text in CODE.items() if file.startswith(f"{folder}/"))
@@ -138,8 +140,9 @@ def test_bare_names_of_a_crate(page):
 
 @each_page
 def test_definitions_are_in_their_files(page):
-    """A list of definitions has the form `Definitions: NAME, .. in FILE; NAME, .. in FILE`. Each name of such a list is in its file. A file without
-    a folder is in the last named folder. A folder of specs/ stands for all its files."""
+    """A list of definitions has the form `Definitions: NAME, .. in FILE; NAME, .. in FILE`. Each FILE of the list defines the names before it. A
+    FILE without a folder is in the folder of the FILE before it. FILE may also be a folder of specs/. Then one of the folder's files defines each
+    name."""
     for line in re.findall(r"Definitions?: (`.*)", prose(page)):
         pieces, names, folder = line.split("`"), [], ""
         for before, piece in zip(pieces[::2], pieces[1::2]):
@@ -169,8 +172,7 @@ def test_passes_are_written_under_temporary_names(page):
 
 def test_laws():
     """README lists the laws of docs/PROMISES.md in the same order. Each law ends in a link to docs/PROMISES.md. The text of the link is a function
-    and one of its clauses. tests/audit.py checks the functions and clauses of docs/PROMISES.md. tests/audit.py holds the functions and clauses of
-    docs/PROMISES.md."""
+    and one of its clauses. tests/audit.py checks the functions and clauses of docs/PROMISES.md."""
     title = r"^\d+\. \*\*(.*?)\.\*\*"
     laws = re.findall(title, TEXTS["docs/PROMISES.md"], re.MULTILINE)
     rows = re.findall(title + r" .*\(\[`([^`]*)`: `([^`]*)`.*\]\(docs/PROMISES\.md#the-law-of-the-desk\)\)$", TEXTS["README.md"], re.MULTILINE)
@@ -191,8 +193,8 @@ def test_layers():
 
 
 def test_tour():
-    """Each question has three to six steps of the form `PATH`: `NAME`, .. The file PATH defines NAME. A file that isn't code contains NAME as a
-    word."""
+    """Each question has three to six steps of the form `PATH`: `NAME`, .. If PATH is a file of code, the file defines NAME. Otherwise the file
+    contains NAME."""
     questions = re.split(r"^## ", TEXTS["docs/TOUR.md"], flags=re.MULTILINE)[1:]
     assert len(questions) == 24
     for question in questions:
@@ -205,7 +207,7 @@ def test_tour():
 
 def test_audit_is_made_of_the_sources():
     """docs/AUDIT.md is exactly the output of tests/audit.py. No clause of a function that carries a promise depends on a definition of
-    specs/computed/. In the tour's paths through definitions, each step cites the next step."""
+    specs/computed/. In the second part of docs/TOUR.md, each step of a path cites the next step."""
     subprocess.run(["tests/audit.py", "--strict"], check=True, stdout=subprocess.DEVNULL)
 
 
@@ -258,7 +260,7 @@ def squeezed(text):
 
 def script_of(text):
     """Turns a page's commands into a script that prints each command before it runs the command. `$?` is the status of the previous command. After
-    a command that ends in `&`, the script waits until the command prints something."""
+    a command that ends in `&`, the script waits until the command has printed something."""
     lines = ["trap 'kill $(jobs -p) 2>/dev/null' EXIT", 'again() { return "$1"; }']
     for command in re.findall(r"^\$ (.*)", text, re.MULTILINE):
         is_behind = command.endswith(" &")
@@ -269,7 +271,7 @@ def script_of(text):
 
 
 def free_port(number):
-    """Returns a port that no program uses or has just used."""
+    """Returns the first port from this number on that no program uses or has just used."""
     is_used = any(f":{number:04X} " in it.read_text() for it in (Path("/proc/net/tcp"), Path("/proc/net/tcp6")) if it.exists())
     return free_port(number + 1) if is_used else number
 
@@ -281,13 +283,13 @@ def test_commands(page, tmp_path):
     text = re.sub(r"(:|--port )8080", rf"\g<1>{port}", "\n".join(blocks(page, "console")))
     room, out = tmp_path / "room", tmp_path / "out"
     room.mkdir()
-    # The commands of a page may run in the repository's top folder.
+    # A page's commands may use these folders as in the repository's top folder.
     for folder in ("bin", "deploy", "bindings"):
         (room / folder).symlink_to(desk.ROOT / folder)
-    # The body of a reply ends without a line feed. So a terminal shows the next prompt directly after the body.
+    # The body of a reply has no line feed at its end, so that a terminal would show the next prompt on the same line.
     (tmp_path / ".curlrc").write_text('silent\nshow-error\nnoproxy = "*"\nwrite-out = "\\n"\n')
-    # The fixture first builds all programs. Otherwise, the output of a build would count as a program's output, and a proof would use up the page's
-    # time.
+    # The test builds the page's programs before it runs the commands. Otherwise, the output of a build would count as a program's output, and a
+    # proof would use up the page's time.
     given = tmp_path / "given"
     given.mkdir()
     for name in ("passtool", "clubdesk"):

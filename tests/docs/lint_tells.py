@@ -1,7 +1,7 @@
 #!/usr/bin/env -S /usr/bin/python3 -B -m pytest -q -p no:cacheprovider
-"""`tests/lint.py` finds foreign English, faulty subjects of commits and misspelt words, and passes plain text.
+"""`tests/lint.py` finds foreign English, faulty subjects of commits and misspelt words, and finds nothing in plain text.
 
-tests/lint.py checks only added lines, and ignores code. For the same seed, `tests/docs/sentences.py` draws the
+tests/lint.py checks the English only of added lines, and ignores code. For the same seed, `tests/docs/sentences.py` draws the
 same sentences.
 
 The test uses small repositories of its own.
@@ -106,7 +106,7 @@ def test_numbers_of_lines_within_a_paragraph():
 
 @pytest.fixture
 def clone(tmp_path):
-    """A repository with a page, a crate and one commit, and a clone of this repository."""
+    """A clone of a small repository, which has a page, a crate and one commit."""
     def git(*words, at):
         subprocess.run(["git", "-c", "user.name=a", "-c", "user.email=a@example", *words], cwd=at, check=True, capture_output=True)
 

@@ -2,7 +2,7 @@
 # pyflakes, shellcheck, gofmt and go vet complain only where the code states a reason.
 #
 # shellcheck reads the shell scripts and bats files of tests/, bin/ and deploy/. The program pyflakes reads the Python files of these folders, of
-# examples/ and of bindings/. The Go of tests/, examples/ and bindings/ is read if Debian's Go is there.
+# examples/ and of bindings/. If Debian's Go is installed, gofmt and go vet read the Go files of tests/, examples/ and bindings/.
 # pytestmark = [mark.quick, mark.wants("shellcheck pyflakes3")]
 set -eu
 cd "$(dirname -- "$0")/../.."
@@ -15,7 +15,7 @@ by_first_line() {
 status=0
 # shellcheck disable=SC2046  # no name has a space
 shellcheck -x -P tests/lib $(by_first_line '^#!/bin/(ba)?sh') || status=1
-# A bats file reads variables that bats sets. A test in it ends at the first command that fails.
+# In a bats file, bats sets some variables, and a test ends at the first command that fails.
 shellcheck -x -P tests/lib -e SC2154,SC2164 tests/*/*.bats || status=1
 # shellcheck disable=SC2046
 pyflakes3 $(by_first_line 'python3') $(find tests examples deploy bindings -name '*.py') || status=1

@@ -1,12 +1,13 @@
 #!/usr/bin/env -S /usr/bin/python3 -B -m pytest -q -p no:cacheprovider
-"""Each kind of reply of the server over a file is right byte for byte, and docs/openapi.yaml describes it.
+"""Each kind of reply that the server gives is right byte for byte, and docs/openapi.yaml describes it.
 
 The replies are the rows of the table in tests/lib/kinds.py. The file docs/openapi.yaml obeys the schema of OpenAPI 3.0, and each of its examples
 equals one of these replies.
 
-The schema comes from Debian's openapi-specification. The test runs the scenes of the table with a new server for each request. So the facts in a
-reply about earlier requests come from the file. The bytes of a reply must equal those of the rules in Python. Its status, fields and body must
-match the description and obey its schema. The faults and their statuses are those in the table of docs/CLIENT.md.
+The schema comes from Debian's openapi-specification. The test runs the scenes of the table with a new server for each request. If a reply depends
+on earlier requests, the server must find their effects in the file. The bytes of a reply must equal those of the rules in Python. The status,
+fields and body of the reply must match the description and obey its schema. docs/openapi.yaml has the same faults and statuses as the table of
+docs/CLIENT.md.
 """
 
 import json
@@ -32,7 +33,7 @@ RESOLVER = jsonschema.RefResolver.from_schema(DOCUMENT)
 
 
 def found(part):
-    """Returns a part of the description. If the part is a reference, returns what it refers to."""
+    """Returns a part of the description. If the part is a reference, returns the part that it refers to."""
     return RESOLVER.resolve(part["$ref"])[1] if "$ref" in part else part
 
 
@@ -48,9 +49,9 @@ def examples_of(response):
     return media_of(response)["examples"]
 
 
-# the expression for a path, and the path's item
+# (regular expression for a path, path item)
 ITEMS = [(re.sub(r"\{(\w+)\}", r"(?P<\1>[^/]+)", path), item) for path, item in DOCUMENT["paths"].items()]
-# the name of the operation or a placeholder, the status, and the response
+# (name of the operation, status, response)
 RESPONSES = [(item[method]["operationId"], int(status), found(response)) for _, item in ITEMS for method in ("get", "put", "delete") if method in item
              for status, response in item[method]["responses"].items()]
 RESPONSES += [(path, 405, found(item["x-any-other-method"])) for path, item in ITEMS]
@@ -58,7 +59,7 @@ RESPONSES += [("other", 404, found(DOCUMENT["x-any-other-path"]))]
 
 
 def response_to(row, status):
-    """Returns the response in the description for a row's reply, and the response's operation."""
+    """Returns the operation and the response that describe the reply to a row."""
     path, item = next((it for it in ITEMS if re.fullmatch(it[0], row.path)), ("", {}))
     method = row.method.lower()
     operation = item[method]["operationId"] if method in item else "other" if status == 404 else path
@@ -66,7 +67,7 @@ def response_to(row, status):
 
 
 def example_of(row, reply):
-    """Returns the name of the operation's example that equals the reply, or None. First checks the reply and its fields."""
+    """Checks the reply's fields and body. Returns the operation, the status, and the name of the example that equals the reply, or None."""
     operation, response = response_to(row, reply.status)
     described = {"Content-Type": ["application/json"], "Content-Length": [str(len(reply.body))], "Connection": ["close"]}
     described |= {name: found(field["schema"])["enum"] for name, field in response.get("headers", {}).items()}

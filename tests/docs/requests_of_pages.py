@@ -2,10 +2,9 @@
 """The server answers each request in the tables of docs/HANDING_ON.md and docs/CLIENT.md as the page
 states.
 
-Runs the commands of a page's console blocks, and sends each request of its tables. The head of a
-table has the pass and the moment of its requests. The commands before the first table of a section
-make the club, without bookings. The section's requests and later commands use a copy of this club.
-tests/docs/docs_hold.py runs the blocks with their own server.
+The test runs the commands of a page's console blocks, and sends each request of the page's tables. The head of a table states the pass and the
+moment of the table's requests. The commands before the first table of a section make a club without bookings. The section's requests and later
+commands use a copy of this club. tests/docs/docs_hold.py runs the blocks with their own server.
 """
 
 import os

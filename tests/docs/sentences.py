@@ -3,8 +3,8 @@
 second reading.
 
 The code (its docstrings and comments), the pages, and the help each give a third of the sentences. The help
-consists of the tables of commands, the manual pages, and the texts of the office and of web/. For the same
-tree, the same seed draws the same sentences.
+consists of the tables of commands, the manual pages, and the texts of the office and of web/. In the same tree, the same seed always draws the same
+sentences.
 
     tests/docs/sentences.py                         forty sentences, seed 1
     tests/docs/sentences.py --seed 7 --count 12     twelve with another seed
@@ -54,8 +54,7 @@ def all_sentences(below):
 
 
 def drawn(found, seed, count):
-    """Yields an equal number of sentences of each kind. If the count doesn't divide evenly, the first kinds
-    get one sentence more."""
+    """Yields an equal number of sentences of each kind. If the count can't be divided equally, the first kinds get one sentence more."""
     dice, kinds = random.Random(seed), [it for it in found if found[it]]
     for place, kind in enumerate(kinds):
         share = count // len(kinds) + (place < count % len(kinds))

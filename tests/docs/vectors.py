@@ -1,9 +1,9 @@
 #!/usr/bin/env -S /usr/bin/python3 -B -m pytest -q -p no:cacheprovider
 """`passtool` and the server agree with docs/vectors.json about passes, invalid texts, caveats and replies.
 
-The vectors have each pass in each form, and other texts of the same pass. They also have the verdict of each caveat on each request, and each reply
-byte for byte. Between the requests, the office gives commands, and each command prints its expected lines. Python's standard library computes the
-signatures a second time. pymacaroons writes V1 and V2 a second time, if it leaves the pass unchanged.
+docs/vectors.json has each pass in each form, and other texts of one pass. It also has the verdict of each caveat on each request, and each reply
+byte for byte. Between some requests, the office gives commands, and each command prints its expected lines. Python's standard library must compute
+the same signatures. pymacaroons must write the same V1 and V2 texts, for the passes that it can write.
 """
 
 import contextlib
@@ -26,7 +26,7 @@ THIRD = VECTORS["passes"][2]
 
 
 def each(vectors):
-    """Makes a test for each vector. The test has the vector's name."""
+    """Makes a test for each vector, named after the vector."""
     names = [it if isinstance(it, str) else it.get("what") or it["caveat"] for it in vectors]
     return pytest.mark.parametrize("vector", vectors, ids=names)
 
@@ -44,7 +44,7 @@ def shown(data):
 
 
 def texts_of(vector):
-    """Returns the location, identifier and caveats as words of a command line, or None if one of them isn't UTF-8."""
+    """Returns the location, the identifier and the caveats as texts, or None if one of them isn't UTF-8."""
     try:
         return [it.decode() for it in (bytes_of(vector, "location"), bytes_of(vector, "identifier"), *caveats_of(vector))]
     except UnicodeDecodeError:
@@ -57,7 +57,7 @@ OF_WORDS = [it for it in WITH_A_ROOT if texts_of(it) is not None]
 
 @each(WITH_A_ROOT)
 def test_signatures_by_the_standard_library(vector):
-    """Returns the chain of signatures under the root."""
+    """The signatures in the vector are the chain of signatures under the root."""
     minted = passes.minted(bytes.fromhex(vector["root"]), bytes_of(vector, "identifier"))
     chain = [it.signature.hex() for it in itertools.accumulate(caveats_of(vector), passes.Pass.narrowed, initial=minted)]
     assert chain == vector["signatures"] and chain[-1] == vector["signature"]
@@ -65,7 +65,7 @@ def test_signatures_by_the_standard_library(vector):
 
 @each(WITH_A_ROOT)
 def test_texts_by_pymacaroons(vector):
-    """pymacaroons reproduces only ASCII passes, and in V2 only passes with a location."""
+    """pymacaroons can write only passes in ASCII with an identifier, and in V2 only passes with a location."""
     texts = texts_of(vector)
     if texts is None or not all(it.isascii() for it in texts) or not texts[1]:
         pytest.skip("pymacaroons counts letters, and wants an identifier")
@@ -116,7 +116,7 @@ def test_text_that_is_no_pass(passtool, vector):
 
 @pytest.fixture(scope="module")
 def made(clubdesk, tmp_path_factory):
-    """Makes the club of the vectors. Returns amy's pass, which the club's commands print first."""
+    """Makes the club of the vectors. `amy` is the pass that the club's first add-key command prints."""
     club = Club(clubdesk, tmp_path_factory.mktemp("made") / "club")
     printed = [club.does(command.removeprefix("clubdesk ").replace(" CLUB", "")) for command in VECTORS["club"]["commands"]]
     club.amy = next(it for it in printed if it != "done")
@@ -124,7 +124,7 @@ def made(clubdesk, tmp_path_factory):
 
 
 def verdict(passtool, club, amy, caveat, asked):
-    """Returns the desk's reply to a request under a pass with this caveat."""
+    """Sends a request under amy's pass with this caveat added, and returns the caveat's verdict."""
     passed = passtool("narrow", "--any", "--", caveat, given=amy)[1].strip()
     body = f'{{"guests":{asked["guests"]}}}' if "guests" in asked else None
     reply = club.ask(Row(asked["method"], asked["path"], body, passed).data, asked["at"]).value
@@ -155,7 +155,7 @@ def test_replies_of_a_run(club, vector):
 
 
 def command_of(step):
-    """A line `clubdesk COMMAND CLUB VALUE ..`, with the output of the command."""
+    """Returns the command of a step, with the output or the refusal that it must print."""
     _, name, _, *values = step["command"].split()
     is_refused = step["prints"].startswith("refused: ")
     return Command((name, *values), "" if is_refused else step["prints"] + "\n", step["prints"] if is_refused else "")
@@ -164,7 +164,7 @@ def command_of(step):
 @pytest.mark.parametrize("is_served", [False, True], ids=["file", "door"])
 @each(VECTORS["office"])
 def test_commands_between_requests(club, vector, is_served):
-    """Runs the command on the file, and through the door of a server."""
+    """Gives the commands to the file or to a running server. Sends each request to a new server."""
     for step in vector["steps"]:
         with club.served() if is_served and "command" in step else contextlib.nullcontext():
             club.play([command_of(step) if "command" in step else row_of(step)])

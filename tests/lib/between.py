@@ -8,14 +8,15 @@ import time
 
 import desk
 
-# For a failing request, the client gets no complete reply, no matter whether the desk carried out the request.
+# The ways in which a request can fail. In each of them the client doesn't get the desk's complete reply, although the desk may have carried out the
+# request.
 FAILURES = ["silent", "answer 502 <html>bad gateway</html>", "answer 504 <html>gateway timeout</html>", "answer 200 <html>a page</html>",
             'answer 500 {"error":"proxy"}', 'answer 503 {"fault":22,"text":"unavailable"}', "swallowed", "head-cut", "body-cut"]
 CUT_AT = {"swallowed": 0, "head-cut": 40, "body-cut": -5}  # of the desk's reply
 
 
 def request_from(client):
-    """Reads a head, and a body of the length that the head gives."""
+    """Reads the head of a request, and the body, whose length the head states."""
     with client.makefile("rb") as come:
         head = b"".join(iter(come.readline, b"\r\n")) + b"\r\n"
         length = re.search(rb"(?i)content-length: (\d+)", head)
@@ -23,8 +24,8 @@ def request_from(client):
 
 
 class Between:
-    """Passes connections on to the desk. `fates` has the fates of the next requests with a method, in order. `most` is the greatest number of
-    connections at the same time."""
+    """Passes connections on to the desk. For each method, `fates` lists how the next requests fail, in their order. `most` is the greatest number
+    of simultaneous connections so far."""
 
     def __init__(self, desk_port):
         self.desk_port, self.fates = desk_port, {}

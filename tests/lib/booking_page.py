@@ -27,8 +27,8 @@ os.environ["PATH"] = f"/usr/sbin:/sbin:{os.environ['PATH']}"
 os.chdir(ROOM.name)
 ROOT = "00112233445566778899aabbccddeeff"
 draw = random.Random(20260501)
-# The club's zone has an offset in whole hours that makes it about noon at the club now. So today has both past and future hours. The names in Etc
-# have the opposite sign, as in POSIX rules.
+# The club's zone is chosen so that the club's clock shows about noon now, because the tests need past and future hours today. In the names of Etc
+# zones, as in POSIX rules, the offset's sign is reversed.
 AHEAD = 12 - datetime.now(timezone.utc).hour
 ZONE = f"Etc/GMT{-AHEAD:+d}" if AHEAD else "Etc/GMT"
 RULE = f"<{AHEAD:+03d}>{-AHEAD}" if AHEAD else "GMT0"
@@ -47,7 +47,7 @@ def day(count=0):
     return f"{(now() + timedelta(days=count)).date()}"
 
 
-# ---- The desk, the proxy, and the proxy between them that fails
+# ---- The desk, and nginx as its proxy
 
 
 class Server(desk.Server):
@@ -61,8 +61,9 @@ class Server(desk.Server):
 
 
 def start_proxy(upstream, rate=5000, burst=5000):
-    """Runs nginx with the repository's configuration, at another port, in front of another desk. nginx serves the pages from the folder `www`. With
-    a `rate`, nginx has other request limits, because this script sends in a minute as many requests as a club in an hour."""
+    """Runs nginx with the repository's configuration, but with a free port and with the desk at the port `upstream`. nginx serves the pages from
+    the folder `www`. `rate` and `burst` replace nginx's request limits, because the test sends in a minute as many requests as a club sends in an
+    hour."""
     front = desk.free_port()
     site = pathlib.Path(TOP, "deploy/nginx.conf").read_text()
     here = os.getcwd()
@@ -134,7 +135,7 @@ def rows(question, *values):
 
 
 def make_club():
-    """Makes the club for all tests, and the passes of its keys."""
+    """Makes the club for all tests. Returns the pass of each key."""
     passes = {}
     for name, quota in [("amy", 99), ("bob", 2), ("carol", 5), ("hall", 0)]:
         office("add-member", name, quota)
@@ -153,7 +154,7 @@ def make_club():
 
 
 def club_list(titles):
-    """Makes the club's list, with these titles of facilities."""
+    """Makes the club's list of facilities with these titles."""
     pathlib.Path("titles").write_text(titles)
     return printed("env", f"RULE={RULE}", "CLUB=Rowing & tennis", "TITLES=titles", f"{TOP}/deploy/club_json", "club", ZONE)
 
@@ -201,12 +202,13 @@ class BookingPage(Browser):
         check(found, *what, condition, self.run("return document.body.innerText"), self.driver.get_log("browser"))
 
     def visit(self, end, condition, *what):
-        """Opens the page with a suffix to its address, and waits until a condition holds."""
+        """Opens the page's address with `end` appended, and waits until the condition holds."""
         self.open(self.address + end)
         self.when(condition, *what)
 
     def enter(self, text, ahead=None, keeps=None):
-        """Enters a pass, keeps it or not by pressing the button with a text, and opens a day."""
+        """Enters a pass. If `keeps` is given, presses the button with this text. If `ahead` is given, opens the day that comes so many days after
+        today."""
         self.visit(f"#{text}", "isShown('day') && dayIsThere()", "the day of a pass")
         if keeps:
             self.press(keeps, "notices")
@@ -218,7 +220,7 @@ class BookingPage(Browser):
         self.when(f"shownDay() === '{wanted}' && dayIsThere()", "a day")
 
     def offer(self, facility, hour):
-        """Presses a slot when the page is ready for the press. The page is ready when it has the desk's answer and the record."""
+        """Presses a slot's button as soon as the page has enabled it."""
         self.when(f"!cellAt('{facility}', {hour}).button.disabled", "a slot that can be pressed", facility, hour)
         self.run("cellAt(...arguments).button.click()", facility, hour)
 
@@ -229,14 +231,14 @@ class BookingPage(Browser):
         super().press(*keys)
 
     def book(self, facility, hour, guests=0):
-        """Books in the dialog, without waiting for the result."""
+        """Books a slot by the page's dialog, and doesn't wait for the result."""
         self.offer(facility, hour)
         for _ in range(guests):
             self.press("One guest more")
         self.run("byName('dialog').querySelector('.main').click()")
 
     def comes(self, words, *what):
-        """Closes the dialog when it shows these words."""
+        """Waits until the dialog shows these words, then closes it."""
         self.when(f"dialogText().includes({json.dumps(words)})", *what)
         self.press("Close")
 
@@ -257,7 +259,7 @@ class BookingPage(Browser):
         return self.booked(*what)
 
     def cancelled_at(self, entry, facility):
-        """Cancels a booking of another browser directly at the desk."""
+        """Cancels a booking by a request to the desk, as another browser with the same pass would."""
         text = self.run("return state.text")
         fetched(self.front, f"/slots/{facility}/{entry['day']}/{entry['hour']:02}/bookings/{entry['number']}", "-X", "DELETE", "-H", f"Authorization: Bearer {text}")
 
@@ -284,21 +286,22 @@ class BookingPage(Browser):
         return [(each["method"], each["url"]) for each in sent]
 
     def complaints(self):
-        """Returns the lines of the console. Leaves out lines about refusals."""
+        """Returns the lines of the browser's console, except those about refused requests and lost connections."""
         return [each["message"] for each in self.driver.get_log("browser") if "the server responded with a status" not in each["message"]
                 and "net::ERR_" not in each["message"]]
 
 
 def amounts(key):
-    """Returns the bookings of a key in the file, by number. Each has its facility, day, hour, guests, charge, places left, cancellation and
-    refund."""
+    """Returns the bookings of a key in the file, by number. Each booking is a tuple of its facility, day, hour, guests, charge, places left,
+    cancellation and refund."""
     found = rows("SELECT number, facility, date(day * 86400, 'unixepoch'), hour, guests, charge, remains, cancelled, refund FROM bookings "
                  "WHERE pass_key = ?", key)
     return {number: tuple(rest) for number, *rest in found}
 
 
 def recorded(entries, key):
-    """Returns the bookings of a key in the page's record, in the same form. They come from the desk or from a list."""
+    """Returns the bookings of a key in the page's record, in the form of `amounts`. The page got them from the desk's replies or from a list of the
+    office."""
     found = {}
     for each in entries:
         if each["key"] != key or "fault" in (each["book"] or {}):
@@ -330,12 +333,12 @@ def curl(page, method, path, text, body=None):
 
 
 def unasked(server, before):
-    """Returns the requests that the desk got since a moment, without GETs."""
+    """Returns the requests that the desk has got since `before` was counted, except GETs."""
     return {each: count for each, count in (server.asked() - before).items() if each[0] != "GET"}
 
 
 def cancel_by_office(server, entry, key, member):
-    """Changes the file in the same way as deploy/office when it cancels a booking with the whole refund."""
+    """Cancels a booking in the file with the whole refund, as deploy/office does."""
     server.kill()
     with contextlib.closing(sqlite3.connect("club")) as club:
         club.executescript(f"""
@@ -370,7 +373,7 @@ def goes_to(engine, wanted):
 
 
 def engines():
-    """Yields Firefox and WebKitGTK. The page in them has the functions that the steps below call."""
+    """Yields Firefox and WebKitGTK, with the functions that the tests call in the page."""
     import page_engines
     for place, engine_of in enumerate((page_engines.Firefox, page_engines.WebKit)):
         with engine_of() as engine:

@@ -1,9 +1,9 @@
-"""The built programs next to the reference: one club in a file, and the same club in plain Python."""
+"""Runs the built programs and the reference side by side: one club is in a file, and the same club is in plain Python."""
 
 import desk as programs
 from reference import caveats, club as rules, passes, wire
 
-# The kinds of those command values that aren't plain words or numbers.
+# The kinds of values of each command whose values aren't all words or numbers.
 KINDS_OF_VALUES = {"add-key": ("word", "word", "root"), "rotate-key": ("word", "root", "moment"), "close-slot": ("word", "day", "hour"),
                    "open-slot": ("word", "day", "hour")}
 
@@ -25,7 +25,7 @@ SPELLINGS = {"word": str, "root": bytes.hex, "moment": spelled_moment, "day": sp
 
 
 def finds_each_plant(run):
-    """Returns whether a run finds a difference under each planted fault of the rules."""
+    """Runs a test once with each planted fault of the rules. Returns whether each run finds a difference."""
     missed = set(rules.PLANTS)
     for plant in rules.PLANTS:
         try:
@@ -46,13 +46,13 @@ class Both:
         self.roots = {}  # of each key, all that it had
 
     def words_of(self, command):
-        """Returns the words of a command line."""
+        """Returns a command as words of a command line."""
         name, *values = command
         kinds = KINDS_OF_VALUES.get(name, ("word",) * len(values))
         return [name, self.file, *(SPELLINGS[kind](value) for kind, value in zip(kinds, values))]
 
     def answer_of(self, command):
-        """Carries out a command in the reference. Returns the status, the output and the fault."""
+        """Carries out a command in the reference. Returns the status, the output and the standard error that the program must give."""
         name, *values = command
         try:
             self.club.command(command)

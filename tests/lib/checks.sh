@@ -1,5 +1,4 @@
-# Checks for the scripts in the neighbouring folders. The scripts compare the behaviour of a machine with the expected behaviour. Source this file
-# after serving.sh. `checks` counts.
+# Checks for the test scripts in the neighbouring folders. Source this file after serving.sh. `checks` is the number of checks so far.
 checks=0
 trap 'exit 1' INT TERM HUP
 
@@ -16,7 +15,7 @@ $2
 $3"
 }
 
-# holds WHAT COMMAND..: checks that the command ends with status 0. The file `told` has the command's output.
+# holds WHAT COMMAND..: checks that the command ends with status 0. Writes the command's output to the file `told`.
 holds() {
     what=$1
     shift
@@ -24,7 +23,7 @@ holds() {
     "$@" >told 2>&1 || fail "$what: $(tail -n 30 told)"
 }
 
-# soon SECONDS WHAT COMMAND..: checks that the command ends with status 0 within these seconds. The file `told` has the last output.
+# soon SECONDS WHAT COMMAND..: repeats the command until it ends with status 0, for at most SECONDS. Writes the last output to the file `told`.
 soon() {
     tries=$(($1 * 10))
     what=$2

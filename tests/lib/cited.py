@@ -1,9 +1,9 @@
 """Reads the contracts that the tables of a page, such as docs/PROMISES.md, cite. Finds the computing definitions on which these contracts depend.
 
-The second cell of a row has groups. Each group ends at `;`. Each has the form `NAME, .. : CLAUSE, .. by DEFINITION, ..`. A NAME is a function of
-the section's crate, an implementation of a trait (`Log for LogLines`), a type or a trait. If a group has no CLAUSE, all clauses of its NAME count.
-The clauses cite the DEFINITIONs. A DEFINITION is in the section's crate, or in the crate before its `::`. The module or type of the first NAME also
-applies to later NAMEs that have no module or type."""
+The second cell of a row has groups, with `;` between them. Each group has the form `NAME, .. : CLAUSE, .. by DEFINITION, ..`. A NAME is a function
+of the section's crate, an implementation of a trait (`Log for LogLines`), a type or a trait. If a group has no CLAUSE, all clauses of its NAME
+count. The clauses cite the DEFINITIONs. A DEFINITION is in the section's crate, or in the crate that its name states before `::`. The module or
+type of the first NAME also applies to later NAMEs that have no module or type."""
 
 import re
 from dataclasses import dataclass
@@ -53,8 +53,8 @@ class Contracts:
         self.unknown = []  # what a clause has that wasn't understood
 
     def below(self, citation):
-        """Yields each cited clause and definition, with the definitions on which it depends. These include the definitions that the values of its
-        ghosts cite."""
+        """Yields each cited clause and definition, with the definitions on which it depends. A definition that the value of a ghost cites counts,
+        too."""
         above = None
         if citation.labels and not citation.names:
             self.unknown.append(f"no function of {' '.join(citation.labels)}")
@@ -96,8 +96,8 @@ class Contracts:
         return specs or [file.types[name] for file in self.files(crate) if name in file.types]
 
     def texts(self, crate, name, above, labels):
-        """Returns (file, place, label, text) for each clause. For an implementation, also returns its values of the trait's ghosts. Returns None if
-        there is no such contract."""
+        """Returns (file, place, label, text) for each clause of a contract, or None if there is no such contract. For the implementation of a
+        trait, also returns the values that it gives to the trait's ghosts."""
         if " for " in name:
             return self.texts_of_implementation(crate, name)
         last = name.split("::")[-1]
@@ -111,7 +111,7 @@ class Contracts:
         return self.texts_of_ghosts(crate, last)
 
     def places(self, crate, function, above):
-        """Returns the place where a function of this name begins. If `above` is given, the function is in that module or type."""
+        """Returns (file, place) for each function of this name. If `above` is given, returns only functions of that module or type."""
         found, owner = [], self.behind_alias(crate, above)
         for file in self.files(crate):
             for it in re.finditer(rf"{FUNCTION}{function}\b", file.text, re.MULTILINE):
@@ -121,7 +121,7 @@ class Contracts:
         return found
 
     def behind_alias(self, crate, name):
-        """Returns the type that a `type` of this name stands for, or the name itself."""
+        """If a `type` alias has this name, returns the type behind it. Otherwise returns the name."""
         found = [it[1] for file in self.files(crate) for it in re.finditer(rf"^pub type {name}\b[^=]*= (\w+)", file.text, re.MULTILINE)]
         return found[0] if found else name
 
@@ -151,7 +151,7 @@ class Contracts:
         return found
 
     def texts_of_ghosts(self, crate, name):
-        """Returns the type of a trait's ghost of this name, or the values that types give it."""
+        """Returns the type of a trait's ghost with this name, and the values that types give to the ghost."""
         found = [(file, it.start(), name, it[1]) for file in self.files(crate)
                  for it in re.finditer(rf"\bghost {name}(?: =|:) \{{\s*(.*?)\s*\}}[;,]", file.text, re.DOTALL)]
         return found or None
