@@ -1,7 +1,7 @@
 """Reads specs/*.antt and the clauses in src/*.rt, and finds which definition cites which.
 
-The reader knows declarations, imports and binders, and proves nothing. A word may be neither bound nor imported nor built in. `Definition.unknown`
-has such words, so that callers see which words the reader didn't understand."""
+The reader knows declarations, imports and binders, and proves nothing. `Definition.unknown` has the words that are neither bound nor imported nor
+built in, so that callers see which words the reader didn't understand."""
 
 import re
 from functools import cached_property
@@ -30,7 +30,7 @@ class CodeFile:
         it = Definition(f"{self.crate}.specs.declared.{self.place}.{name}", name, "type", self.path, self.line_of(found.start()), text)
         it.rust_kind = kind
         if kind == "trait":
-            # The reader treats each ghost of a trait separately.
+            # Each ghost of a trait has a definition of its own.
             it.text = text.splitlines()[0]
         return it
 
@@ -38,7 +38,7 @@ class CodeFile:
         return self.text.count("\n", 0, at) + 1
 
     def block_end(self, start):
-        """Returns the place after the block or semicolon that begins at a place."""
+        """Returns the end of the item that begins at `start`: the place after its block or its semicolon."""
         depth = 0
         for at in range(start, len(self.text)):
             sign = self.text[at]
@@ -53,7 +53,7 @@ class CodeFile:
         return len(self.text)
 
     def block_around(self, at):
-        """Returns the `impl` or `trait` around a place, as (head, text). Both are empty at the top level of the file."""
+        """Returns the `impl` or `trait` around a place, as (head, text). Returns two empty texts if the place is at the top level of the file."""
         best = ("", "")
         for found in re.finditer(r"^(?:pub(?:\([a-z]+\))? )?(?:impl|trait)\b[^{]*\{", self.text, re.MULTILINE):
             end = self.block_end(found.start())
@@ -62,10 +62,11 @@ class CodeFile:
         return best
 
     def scope_at(self, at):
-        """Returns the imports of the file and of the block, the types by their Rust names, and the ghosts of the traits that bound parameters."""
+        """Returns the names that clauses may use at a place: the imports of the file and of the block around the place, the Rust names of types and
+        constants, and the ghosts of the trait around the place."""
         head, block = self.block_around(at)
         scope = Scope(self.book, imports_in(self.text, "ghost use"))
-        # The imports of the block itself come last, so they replace earlier imports of the same name.
+        # The imports of the block replace imports of the file with the same name.
         inner = Scope(self.book, imports_in(block, "ghost use"))
         scope.names.update(inner.names)
         scope.aliases.update(inner.aliases)
@@ -80,7 +81,7 @@ class CodeFile:
 
     @cached_property
     def uses(self):
-        """Returns the names that `use` imports, each as the name in this file, the crate, and the name in the crate."""
+        """Returns a dict of the names that `use` imports. The key is the name in this file, and the value is (crate, name in the crate)."""
         found = {}
         for line in re.finditer(r"^(?:pub(?:\([a-z]+\))? )?use ((?:[^;])*);", self.text, re.MULTILINE):
             for crate, name, here in flat(line[1]):
@@ -101,7 +102,7 @@ class CodeFile:
         return self.book.constant(self, name)
 
     def clauses(self, name, owner=None):
-        """Returns the place of a function's `fn` line, and its clauses as (`requires` or `ensures`, label, text, place)."""
+        """Returns the place of a function's `fn` line, and the function's clauses as (`requires` or `ensures`, label, text, place)."""
         for found in re.finditer(rf"^ *(?:pub(?:\([a-z]+\))? )?(?:final )?(?:extern \"C\" )?fn {name}\b", self.text, re.MULTILINE):
             head = self.block_around(found.start())[0]
             if owner and not re.search(rf"\b{owner}\b", head.split(" for ")[-1]):
@@ -123,7 +124,7 @@ class CodeFile:
         raise KeyError(f"{self.path}: no function {name}")
 
     def generics_at(self, at):
-        """Returns the traits that bound the parameters of the function at a place, and the traits that bound those of its `impl`."""
+        """Returns the trait bounds of each type parameter of the function at a place, and of the `impl` around the function."""
         head = self.block_around(at)[0]
         paren = self.text.find("(", at)
         bounds = {}
@@ -199,7 +200,7 @@ class Book:
                 self.resolve_type(file, it)
 
     def look(self, module, name):
-        """Returns the definition of a name in a module."""
+        """Returns the definition that a name has in a module."""
         if module == "rust":
             crate, place, here = name.split("/")
             return self.code[f"{crate}/{place}"].rust_type(here)
@@ -222,7 +223,7 @@ class Book:
         return None
 
     def declared(self, module, name):
-        """Returns a type of the code, a variant of it, or a declaration about it."""
+        """Returns the type, the variant or the constant of the code that a name in a generated module stands for."""
         crate, _, place = module.partition(".specs.declared.")
         parts = place.split(".")
         start = next((at for at, part in enumerate(parts) if part[0].isupper()), len(parts))
@@ -271,7 +272,8 @@ class Book:
         return it
 
     def standing_for(self, ghost):
-        """Yields the ghosts of our own types, each with its type, its file, its value, and the definitions that the value cites."""
+        """Yields (type, file, value, definitions) for each of our own types that gives the ghost a value. The definitions are those that the value
+        depends on."""
         trait, name = ghost.name.split(".")
         for key, file in self.code.items():
             if key.split("/")[0].endswith("_tests") or key.split("/")[0] in ("test_kit", "club_bench"):
@@ -283,7 +285,7 @@ class Book:
                     yield found[1], file, value[1], closure(file.cited_by(found.start() + value.start(), value[1])[0])
 
     def resolve_type(self, file, it):
-        """Returns the types of a type's fields, or the type's value in contracts."""
+        """Adds to a type the definitions that it cites: those of its value in contracts, or otherwise the types of its fields."""
         if it.rust_kind == "trait":
             return
         model = re.search(rf"^impl(?:<[^>]*>)? Model for {it.name}\b[^{{]*\{{", file.text, re.MULTILINE)
@@ -312,7 +314,7 @@ def owner_of(it):
 
 
 def closure(cited):
-    """Returns all definitions on which these definitions depend, without duplicates."""
+    """Returns these definitions and all definitions that they depend on, each once."""
     found, open_ = {}, list(cited)
     while open_:
         it = owner_of(open_.pop())

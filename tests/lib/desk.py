@@ -1,8 +1,7 @@
-"""The built programs, for tests that talk to a server. The module has their paths, a server that ends with its block, and functions for an exchange
-and a command.
+"""Runs the built programs for tests: finds their paths, starts a server for a `with` block, sends requests, and runs commands.
 
-The variables CLUBDESK and PASSTOOL name the programs. If a variable is missing, and the program is missing or out of date, bin/ proves and builds
-the program first."""
+The variables CLUBDESK and PASSTOOL have the paths of the programs. If a variable is unset, and its program is missing or out of date, the wrapper
+in bin/ proves and builds the program first."""
 
 import contextlib
 import errno
@@ -37,7 +36,7 @@ def program(name):
 
 
 def library(name, folder):
-    """Builds a library of tests/lib, and returns its path. A program loads the library before the C library."""
+    """Builds a library from its source in tests/lib, and returns the path for LD_PRELOAD."""
     path = Path(folder, name)
     if not path.exists():
         subprocess.run(["cc", "-shared", "-fPIC", "-O1", "-o", path, TESTS / "lib" / f"{name}.c", "-ldl"], check=True)
@@ -45,8 +44,8 @@ def library(name, folder):
 
 
 def refused_in_turn(run, folder, step=1):
-    """Yields the results of `run` with one allocation of its program refused. It refuses each allocation in turn, or every Nth allocation. First
-    runs the program to count its allocations. Variables of the environment control the counting."""
+    """Calls `run` once to count the allocations of its program. Then calls `run` once for each allocation, or for every `step`th one, with this
+    allocation refused. Returns the results. `run` passes its keyword arguments to the program as environment variables."""
     counted, preload = Path(folder, "counted"), {"LD_PRELOAD": library("refused_memory", folder)}
     run(ALLOCATIONS_COUNTED=str(counted), **preload)
     with ThreadPoolExecutor(len(os.sched_getaffinity(0))) as pool:
@@ -54,18 +53,19 @@ def refused_in_turn(run, folder, step=1):
 
 
 def limit_files(size):
-    """Limits the size in bytes of each file of this process. A write beyond the limit fails, and causes no signal."""
+    """Limits the size in bytes of each file that this process writes. A write beyond the limit fails, and sends no signal."""
     signal.signal(signal.SIGXFSZ, signal.SIG_IGN)
     resource.setrlimit(resource.RLIMIT_FSIZE, (size, size))
 
 
 class Server:
-    """A server of `clubdesk` over a file, as a context manager. The server listens at `port` when the block begins, and has ended after the block.
+    """A server of `clubdesk` over a file, as a context manager. When the `with` block begins, the server listens at `port`. After the block, the
+    server has ended.
 
     `words` are further options, and `by` is a command that runs the server. `variables` are further environment variables, and `given` is the
-    standard input. `file_limit` is the greatest size of the server's files, in bytes. At the end of a block without an exception, the server's
-    status must be `status`, unless a test killed the server. If the server has no `count`, the end of the block kills it. `log` has the server's
-    standard error. If the block ends with an exception, the test prints the log."""
+    standard input. `file_limit` is the greatest size of the server's files, in bytes. After a block without an exception, the server's status must
+    be `status`, unless the test killed the server. If `count` is None, the end of the block kills the server. The file `log` has the server's
+    standard error. If the block ends with an exception, the log is printed."""
 
     killed_by = signal.SIGKILL
 
@@ -105,7 +105,7 @@ class Server:
         return exchange(self.port, data)
 
     def serves(self, *rows):
-        """Compares the reply to each row of tests/lib/kinds.py with the expected reply."""
+        """Sends the request of each row, and compares the reply with the row's expected reply."""
         for row in rows:
             assert self.exchange(row.data) == row.wanted, row
 
@@ -131,7 +131,7 @@ def free_port():
 
 
 def drip(client, data):
-    """Sends a byte a second, until the other end closes the connection."""
+    """Sends a byte a second until the server closes the connection."""
     with contextlib.suppress(OSError):
         for byte in data:
             client.sendall(bytes([byte]))
@@ -139,13 +139,13 @@ def drip(client, data):
 
 
 def read(client):
-    """Reads all bytes until the end."""
+    """Reads until the server ends its output, and returns the bytes."""
     with client.makefile("rb") as come:
         return come.read()
 
 
 def exchange(port, data, seconds=30):
-    """Sends bytes and ends the input. Returns the bytes of the reply, or None if the connection was lost."""
+    """Sends bytes, and then the end of the input. Returns the bytes of the reply, or None if the connection is lost."""
     try:
         with socket.create_connection(("127.0.0.1", port), seconds) as client:
             client.sendall(data)
@@ -173,19 +173,19 @@ def copy(file, to):
 
 @contextlib.contextmanager
 def opened(file, **how):
-    """Opens a database. At the end of the block, commits its changes and closes it."""
+    """Opens a database for a `with` block. At the end of the block, commits the changes and closes the database."""
     with contextlib.closing(sqlite3.connect(file, **how)) as database, database:
         yield database
 
 
 def rows(file, statement):
-    """Returns the rows of a statement from a copy of the file."""
+    """Runs an SQL query on a copy of the file, and returns the rows."""
     copy(file, f"{file}.copy")
     with opened(f"{file}.copy") as database:
         return database.execute(statement).fetchall()
 
 
-# Returns each wrong row of a file, by an auditor's sums from docs/TABLES.md.
+# The SQL query that finds wrong rows of a file by the sums in docs/TABLES.md.
 SUMS = """
 SELECT 'used', name FROM members WHERE used <> (SELECT total(charge - refund) FROM bookings JOIN keys ON keys.name = pass_key WHERE member = members.name)
 UNION ALL SELECT 'taken', facility || day || ' ' || hour FROM slots s WHERE taken <> (SELECT total(guests + 1) FROM bookings b WHERE cancelled = 0
@@ -197,13 +197,13 @@ UNION ALL SELECT 'integrity', integrity_check FROM pragma_integrity_check WHERE 
 
 
 def unsound(file):
-    """Returns the wrong totals of a file."""
+    """Returns the wrong rows of a file."""
     return rows(file, SUMS)
 
 
 def add_past_bookings(file, count, root):
-    """Adds the members x000 to x999. Each has a key that is named after the member. Adds a number of bookings by these members in `old-court`, two
-    in each slot. The totals stay the sums."""
+    """Adds the members x000 to x999, each with a key of the same name. Adds `count` bookings by these members in `old-court`, two in each slot.
+    Each total stays the sum of its rows."""
     thousand = "WITH n(i) AS (SELECT 0 UNION ALL SELECT i + 1 FROM n WHERE i < 999)"
     with opened(file) as database:
         database.executescript(f"""BEGIN;
@@ -218,7 +218,7 @@ def add_past_bookings(file, count, root):
 
 
 def paced(whole, step, what):
-    """Counts steps, and prints every tenth step."""
+    """Yields the number of items done before each step, and prints the progress about ten times."""
     for done in range(0, whole, step):
         yield done
         if (done + step) * 10 // whole > done * 10 // whole:
@@ -226,7 +226,7 @@ def paced(whole, step, what):
 
 
 def serve(program, file, count, moment, *words):
-    """Runs a server for a shell script. Prints the port, and ends after `count` connections or at a signal."""
+    """Runs a server for a shell script, and prints the server's port. Ends after `count` connections or at a signal."""
     with Server(program, file, int(count), "--at", moment, *words) as it:
 
         def end(*_):

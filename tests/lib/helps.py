@@ -1,5 +1,4 @@
-"""Reads the output of `--help` of a program, either ours or deploy/office: its commands, with their options
-and words."""
+"""Reads the `--help` output of one of our programs or of deploy/office: the commands, their options and their words."""
 
 import os
 import re
@@ -24,7 +23,7 @@ def names_of(text):
 
 
 def options_of(text):
-    """Returns each long option, and the name of the option's value if it has a value."""
+    """Returns each long option, with the name of its value if the option has one."""
     lines = between(text, "Options") + between(text, "options")
     return {found[1]: found[2] for line in lines if (found := re.match(r" .*?--([a-z-]+)(?: <?([A-Z-]+))?", line))}
 

@@ -1,7 +1,7 @@
-"""The table of all kinds of replies. It has requests to a club, each with its pass and moment, and the bytes of the replies.
+"""The table of all kinds of replies: requests to a club, each with its pass, its moment and the bytes of its reply.
 
-A scene is a list of steps on the club that COMMANDS make. A Row is a request to a separate server. A Command comes from the office, and Sql is a
-change by sqlite3. tests/reference makes the passes and the bytes of the replies."""
+A scene is a list of steps on the club that COMMANDS make. A Row is a request to a new server. A Command is a command of the office, and Sql is an
+SQL statement for sqlite3. tests/reference computes the passes and the bytes of the replies."""
 
 import itertools
 from dataclasses import dataclass, replace
@@ -29,7 +29,7 @@ AMY, BOB, CY, DI = (key_pass(f"{name}-1") for name in ("amy", "bob", "cy", "di")
 
 @dataclass(frozen=True)
 class Row:
-    """A request and its reply. If `raw` is given, it has the bytes of the request. Without a pass, the request has no field for a pass."""
+    """A request and its reply. If `raw` is given, it is the bytes of the request. If `passed` is None, the request has no Authorization field."""
 
     method: str = ""
     path: str = ""
@@ -70,7 +70,7 @@ class Row:
 
 @dataclass(frozen=True)
 class Command:
-    """A command of clubdesk, its output, and its line on standard error if the desk refuses it."""
+    """A command of clubdesk, its output, and the line on standard error if the desk refuses the command."""
 
     words: tuple
     printed: str = "done\n"
@@ -87,7 +87,7 @@ def command(words, **ended):
 
 
 def join(member, quota, points):
-    """Adds a member with points, and a key whose pass the command prints."""
+    """Returns commands that add a member with a quota, points and a key."""
     credit = [command(f"credit {member} {points}")] if points else []
     return [command(f"add-member {member} {quota}"), *credit, command(f"add-key {member}-1 {member} {ROOT}", printed=text(key_pass(f"{member}-1")) + "\n")]
 
@@ -151,7 +151,8 @@ SCENES["what is not verified"] = [
         text(key_pass("zed-1")), CHANGED, text(passes.minted(bytes.fromhex(ROOT), b"amy-1")), text(key_pass("amy-1", ROOT + "00")))),
     command("revoke-key amy-1"), ACCOUNT.gets(10), ACCOUNT.under(CHANGED).gets(9)]
 
-# Amy's replies in three clubs. One club has no other members, in one club other members do much, and in one club bob has a place in her slot.
+# Amy gets the same replies in three clubs. In the first club, no other member does anything. In the second club, other members do much. In the
+# third club, bob has a place in Amy's slot.
 TOLD = [account(9400, 1), CANCEL]
 SCENES["others are absent"] = [BOOK, *TOLD]
 SCENES["others are busy"] = [
@@ -187,7 +188,8 @@ for moment, hour, fault, caveat in (
     SCENES["a caveat"].append(row.gets(fault, 1) if fault else row)
 
 
-# Passes that nobody signed. The desk checks the form of a pass before its signature. So these passes have 32 bytes of zero as their signature.
+# Texts of passes that nobody signed. They have 32 zero bytes as their signature, because the desk refuses them before it checks the signature, or
+# checks it and refuses them.
 def unsigned_v2(caveats=b"", more=b""):
     head = b"\x02" + passes.v2_field(passes.IDENTIFIER, b"key:amy-1") + b"\0"
     return passes.to_base64(head + caveats + b"\0" + passes.v2_field(passes.SIGNATURE, bytes(32)) + more).decode()
@@ -205,7 +207,7 @@ SCENES["third-party caveats, and many"] = [ACCOUNT.under(it).gets(fault) for it,
     (unsigned_v2(FOREIGN), 7), (FOREIGN_V1, 7), (FOREIGN_JSON, 7), (unsigned_v2(guests(64)), 9), (unsigned_v2(guests(65)), 8),
     (unsigned_v2(guests(64) + FOREIGN), 7), (unsigned_v2(guests(65), b"x"), 6))] + [shown(0).under(text(AMY, *["guests <= 1"] * 64))]
 
-# Known passes with a valid form, under another root and with an identifier that names no key.
+# Known passes of other programs. Their form is valid, but their root and their identifier aren't those of a key of the club.
 BANK = ("MDAxY2xvY2F0aW9uIGh0dHA6Ly9teWJhbmsvCjAwMjZpZGVudGlmaWVyIHdlIHVzZWQgb3VyIHNlY3JldCBrZXkKMDAxNmNpZCB0ZXN0ID0gY2F2ZWF0CjAw"
         "MmZzaWduYXR1cmUgGXusegRK8zMyhluSZuJtSTvdZopmDkTYjOGpmMI9vWcK")
 EXAMPLE = "AgETaHR0cDovL2V4YW1wbGUub3JnLwIFa2V5aWQAAAYgfN7nklEcW8b1KEhYBd_psk54XijiqZMB-dcRxgnjjvc"
@@ -228,7 +230,7 @@ SCENES["methods that are none"] = [
     for path, allow, passed in (("/account", "GET", text(AMY)), (slot(), "GET", None), (slot() + "/bookings/7", "PUT, DELETE", text(AMY)))
     for method in ("GET", "HEAD", "POST", "PUT", "DELETE", "OPTIONS", "PATCH") if method not in allow]
 
-# Refusals that are the same for each action: refusals before the desk reads the pass, and refusals because of the pass.
+# Refusals that each action can get: those that come before the desk reads the pass, and those that the pass causes.
 ACTIONS = {"a view": view(), "a booking": book(7, THREE), "a cancellation": cancel(7), "an account": ACCOUNT}
 for name, row in ACTIONS.items():
     SCENES[f"{name} that is refused"] = [
@@ -239,8 +241,8 @@ for name, row in ACTIONS.items():
         *(row.under(text(AMY, caveat)).gets(fault, 1) for caveat, fault in (("shoe = red", 11), (f"until < {NOON}", 12))),
         command("revoke-key amy-1"), row.gets(10), Sql("UPDATE keys SET revoked = 0, root = x'00'"), row.gets(22)]
 
-# A file may have 512 bytes. This is enough to open the log, but too little for a booking. The desk books nothing, and serves the same request
-# afterwards.
+# The server's files may have at most 512 bytes. The server can open its log, but can't write a booking. It refuses the first request and books
+# nothing. The next server, without this limit, carries out the same request.
 SCENES["no storage"] = [BOOK.but(file_limit=512).gets(22), account(), BOOK]
 
 ROWS = [it for it in itertools.chain(*SCENES.values()) if isinstance(it, Row)]

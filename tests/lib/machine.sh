@@ -1,5 +1,5 @@
-# Tests that boot a fresh Debian with systemd-nspawn source this file. It makes the Debian, runs commands in it, and reads docs/RUNNING.md's lines
-# for root. It sources serving.sh and checks.sh. Needs root.
+# Functions for tests that boot a fresh Debian with systemd-nspawn. They make the Debian system, run commands in it, and read the lines for root in
+# docs/RUNNING.md. This file sources serving.sh and checks.sh. Needs root.
 . "$(dirname -- "$0")/../lib/serving.sh"
 [ "$(id -u)" = 0 ] || { echo "$0 wants root, for a fresh Debian" >&2; exit 2; }
 top=$(CDPATH='' cd -P -- "$here/../.." && pwd)
@@ -8,7 +8,7 @@ export CLUBDESK="$desk" PASSTOOL="$tool"
 . "$here/../lib/checks.sh"
 machine=
 
-# debian FOLDER: makes a fresh Debian, or copies the folder in the variable DEBIAN. The Debian's apt-get asks no questions.
+# debian FOLDER: makes a fresh Debian system, or copies it from the folder that the variable DEBIAN names. apt-get in this system asks no questions.
 debian() {
     if [ -n "${DEBIAN-}" ]; then cp -a "$DEBIAN" "$1"; else
         debootstrap --variant=minbase --include=systemd,systemd-sysv bookworm "$1" >debootstrap.log 2>&1 || fail "debootstrap: $(tail debootstrap.log)"
@@ -16,8 +16,8 @@ debian() {
     echo 'APT::Get::Assume-Yes "true";' >"$1/etc/apt/apt.conf.d/99yes"
 }
 
-# start FOLDER WORD..: boots the Debian in a folder, with further options of systemd-nspawn. `root` is the path of the machine, and `machine` is its
-# process.
+# start FOLDER WORD..: boots the Debian system in a folder. The words are further options of systemd-nspawn. Sets `root` to the path of the folder,
+# and `machine` to the process of systemd-nspawn.
 start() {
     root=$work/$1
     shift
@@ -32,8 +32,8 @@ is_up() {
     inside systemctl is-system-running >state 2>&1 || grep -q degraded state || { cat state; tail console; return 1; }
 }
 
-# inside COMMAND..: runs a command in the running machine. For offline FOLDER COMMAND.., runs a command in a folder that isn't booted, with the
-# network of this machine.
+# inside COMMAND..: runs a command in the running machine. offline FOLDER COMMAND..: runs a command in a system that isn't booted, with the host's
+# network.
 inside() { nsenter -t "$leader" -a -- env -i PATH=/usr/sbin:/usr/bin:/sbin:/bin HOME=/root LC_ALL=C.UTF-8 DEBIAN_FRONTEND=noninteractive "$@"; }
 offline() {
     folder=$1
@@ -41,20 +41,20 @@ offline() {
     systemd-nspawn -q -D "$folder" --register=no --keep-unit --pipe -E DEBIAN_FRONTEND=noninteractive "$@"
 }
 
-# lines_for_root PAGE: writes the page's lines for root into `running`. The heading of the section and a tab precede each line.
+# lines_for_root PAGE: writes the page's lines for root to the file `running`. Each line begins with the heading of its section and a tab.
 lines_for_root() {
     awk '
         /^```/ { if (inside) inside = 0; else if ($0 == "```sh" && !other) inside = 1; else other = !other; next }
         inside { print title "\t" $0; next }
         !other && /^#+ / { title = $0; sub(/^#+ /, "", title) }' "$1" >running
 }
-# blocks HEADING: prints the lines of a section, and notes the heading in `given`.
+# blocks HEADING: prints the lines for root of a section, and adds the heading to the file `given`.
 blocks() {
     echo "$1" >>given
     awk -F '\t' -v heading="$1" '$1 == heading { print substr($0, length($1) + 2); found = 1 } END { exit !found }' running ||
         fail "RUNNING has no lines for root in '$1'"
 }
-# gives WHAT: runs the lines on standard input as root in the machine. Each line must succeed.
+# gives WHAT: runs the lines on standard input in the machine as root. Each line must succeed.
 gives() {
     checks=$((checks + 1))
     { echo 'set -e; cd /root'; cat; } >"$root/root/lines"

@@ -2,8 +2,8 @@
 """Tries the mutants of crates/NAME/must-fail/ and crates/NAME/more-edits.txt, and prints how each is refused (see more_edits.sh).
 
 Most edits change the body of a single function. The proof of a function depends only on its own body and on the contracts of the functions that it
-calls. So one check can try edits of several functions. If such a check gives a function no verdict of its own, the program tries the function's
-edit alone."""
+calls. Therefore, one check can try edits of several functions together. If this check gives no verdict on one of the functions, the program tries
+the edit of that function alone."""
 import os
 import re
 import shutil
@@ -18,20 +18,20 @@ from typing import NamedTuple
 ROOT = Path(__file__).resolve().parents[2]
 FOLDER, FILE = "must-fail", "more-edits.txt"
 WORDS = ("false", "goal", "names", "test", "proved", "limit", "bad")
-# The program whose tests are the files of its data folder.
+# The crate whose tests are the files in its folder data/.
 SCENARIOS = "scenarios"
 # The crate and name of the test that must fail on an edit that no contract refuses.
 TEST = re.compile(r"^test: (\w+) ([\w:]+)$", re.MULTILINE)
-# The message of rattle about a goal with a counterexample. It is in the line of the goal or of the missing answer.
+# The message of rattle about a goal with a counterexample. The message is on the line that reports the goal or the missing answer.
 FALSE = re.compile(r"the facts known there allow values at which this goal is false|may be false: the known facts allow")
 # The messages of rattle about a proof file with an unknown name, and about proofs that depend on this file.
 NAMES = re.compile(r"has no field|is not in scope|has no `|was not admitted|no item `")
-# Messages that continue in the next line because the names of a record are long.
+# Messages that rattle continues on the next line because a record's name is long.
 WRAPPED = re.compile(r"\n +(has no |is not in scope|was not admitted)")
 FAULT = re.compile(r"(?:note: )?(?:\./)?((?:src|specs|proofs)/\S+?):(\d+):\d+: (error: .*|it is not proved .*)")
 WANTED = re.compile(r"no proof: expected answers in (?:\./)?(\S+);")
 HEAD = re.compile(r"(?:pub )?([^\s:]+) : ")
-# The heads of a function and of a block that contains functions, as `rt fmt` formats them.
+# The first line of a function, and of a block that contains functions, in the layout of `rt fmt`.
 FUNCTION = re.compile(r"(?P<indent> {4})?(?:pub(?:\([^)]*\))? )?(?:const )?(?:extern \"C\" )?fn (?P<name>\w+)")
 BLOCK = re.compile(r"(?:impl(?:<.*?>)? |(?:pub(?:\([^)]*\))? )?trait )(?:(?:\w+::)*(?P<trait>\w+)(?:<.*?>)? for )?(?:\w+::)*(?P<type>\w+)")
 AT_ONCE = 10  # edits that one check tries at most
@@ -40,18 +40,18 @@ LIMIT = re.compile(r"antt ran out of (stack|the (steps|memory) that the check of
 
 
 class NoVerdict(Exception):
-    """The word and the line for an edit that wasn't tried, with the reason."""
+    """The result and the reason for an edit that the check gives no verdict on."""
 
 
 class Edit(NamedTuple):
-    """A mutant: its name, its place (a folder or a file of the crate), and its lines."""
+    """A mutant: its name, the folder or file of the crate that contains it, and its text."""
     name: str
     place: str
     text: str
 
 
 def edits_of(crate):
-    """Reads the edits of a crate. An edit is a file of the crate's folder, or a part of its file that begins with `edit: NAME`."""
+    """Reads the edits of a crate. An edit is a file in must-fail/, or a part of more-edits.txt that begins with `edit: NAME`."""
     for path in sorted((crate / FOLDER).glob("*.edit")):
         yield Edit(path.stem, FOLDER, path.read_text(encoding="utf-8"))
     if (crate / FILE).exists():
@@ -72,7 +72,7 @@ def changes_of(edit):
 
 
 def edited_texts(crate, edit):
-    """Returns the texts of the files that an edit changes, by their path in the crate. Applies the edit in the same way as `rt ci`."""
+    """Returns the changed text of each file that an edit changes, by the file's path in the crate. Applies the edit in the same way as `rt ci`."""
     texts = {}
     for path, old, new in changes_of(edit):
         text = texts[path] if path in texts else (crate / path).read_text(encoding="utf-8")
@@ -83,7 +83,8 @@ def edited_texts(crate, edit):
 
 
 def function_at(path, text, offset):
-    """Returns the function whose body contains a place in a file: the words of its path, and its first and last line. None outside of bodies."""
+    """Returns the function whose body contains a place in a file, as the words of the function's path, its first line and its last line. Returns
+    None if no body contains the place."""
     lines = text.split("\n")
     place = text.count("\n", 0, offset)
     first = next((it for it in range(place, -1, -1) if FUNCTION.match(lines[it])), None)
@@ -116,7 +117,8 @@ def edited_function(crate, edit):
 
 
 def groups_of(crate, edits):
-    """Groups the edits. No two edits of a group change the same function, and some edits are alone in their group."""
+    """Groups the edits. No two edits of a group change the same function. An edit that changes more than one function body is alone in its
+    group."""
     groups = []
     for edit in edits:
         place = edited_function(crate, edit)
@@ -141,14 +143,15 @@ def check(crate):
 
 
 def faults_in(lines):
-    """Yields the faults of a check. Each has the file, the line, whether it is an error, and whether a name is missing."""
+    """Yields (text, file, line, whether it is an error, whether a name is missing) for each fault that a check reports."""
     for line in lines:
         if found := FAULT.match(line):
             yield line, found[1], int(found[2]), found[3].startswith("error"), bool(NAMES.search(found[3]))
 
 
 def without_answers(crate, lines):
-    """Returns the texts of proof files, by path. Leaves out the declarations in which these lines report unknown names."""
+    """Returns the new text of each proof file in which these lines report unknown names, by path. The new text lacks the declarations with these
+    names."""
     places = defaultdict(set)
     for _, path, number, _, is_name in faults_in(lines):
         if path.startswith("proofs/") and is_name:
@@ -167,21 +170,21 @@ def without_answers(crate, lines):
             (declarations[-1][1] if name else kept).append((number, line))
         lost = [one for one in declarations if numbers & {number for number, _ in one[1]}]
         left = [line for one in declarations if one not in lost for line in [*(text for _, text in one[1]), ""]]
-        # If a `use` line finds no module, the whole proof file is left out.
+        # If no declaration has the unknown name, a `use` line has it. Then the new text is empty.
         texts[path] = "\n".join([text for _, text in kept] + left) if lost else ""
     return texts
 
 
 def open_goal(lines, gone):
-    """Returns the line of a goal that is open for another reason than a missing name. The answer for the goal fails, or the goal has no answer in
-    the proof file that lost answers."""
+    """Returns the line of a goal that is open for another reason than a missing name. Either the answer for the goal fails, or the goal has no
+    answer and its proof file hasn't lost any."""
     failing = {line for line, path, _, is_error, is_name in faults_in(lines) if path.startswith("proofs/") and is_error and not is_name}
     return next((line for line in lines if line in failing or (wanted := WANTED.search(line)) and wanted[1] not in gone), None)
 
 
 def lines_of(crate, path, function, lines):
-    """Returns the lines of a check that are about this function. A method may be in another file than its type. rt names the method by the module
-    of the type."""
+    """Returns the lines of a check that are about this function. If a method is in another file than its type, rt names the method by the type's
+    module."""
     words, first, last = function
     before, own = (r"(\w+/)*", words[-2:]) if words[-2:][0][0].isupper() else ("", words)
     proofs, head = re.compile(f"proofs/{before}{'/'.join(own)}/"), re.compile(f"fn {crate.name}::{before.replace('/', '::')}{'::'.join(own)}:")
@@ -190,7 +193,7 @@ def lines_of(crate, path, function, lines):
 
 
 class Trial:
-    """A crate in the copy. The program restores it between two tries."""
+    """A crate in the scratch copy of the tree. The program restores the crate after each try."""
 
     def __init__(self, crate):
         self.crate = crate
@@ -207,7 +210,7 @@ class Trial:
         self.was = {}
 
     def verdicts(self, group):
-        """Yields (edit, how it is refused, a line with the reason) for each edit of a group."""
+        """Yields (edit, result, line with the reason) for each edit of a group."""
         told = self.told_together(group) if len(group) > 1 else {}
         for edit in group.values():
             try:
@@ -220,7 +223,8 @@ class Trial:
             yield edit, word, line
 
     def tested(self, edit, crate, test):
-        """Returns whether a test fails on an edit that no contract refuses, and the line for the edit. The tests run before they are proved."""
+        """Runs the test that an edit names, after no contract refused the edit. Returns `test` if the test fails and `proved` otherwise, with the
+        test's line. rt runs the test without a proof."""
         self.restore()
         self.put(edited_texts(self.crate, edit))
         front, words = f"test {test} ...", ["--test", "--", test]
@@ -234,7 +238,8 @@ class Trial:
         return ("proved" if line.endswith((" ok", " lines")) else "test"), line
 
     def told_together(self, group):
-        """Returns the verdicts of one check with all edits of a group. The verdict on a function is a false or open goal without a missing name."""
+        """Checks the crate once with all edits of a group. Returns the results of those edits whose functions have a false or open goal and no
+        missing name."""
         for edit in group.values():
             with suppress(NoVerdict):
                 self.put(edited_texts(self.crate, edit))
@@ -252,14 +257,14 @@ class Trial:
             elif left := open_goal(own, set()):
                 told[edit] = "goal", left
         if not told and len(group) > 3:
-            # One of these edits may stop the check.
+            # One of these edits may have stopped the check, so each half of the group is tried.
             items = list(group.items())
             middle = len(items) // 2
             told = self.told_together(dict(items[:middle])) | self.told_together(dict(items[middle:]))
         return told
 
     def verdict(self, edit):
-        """Returns how an edit is refused when it is tried alone, and a line with the reason."""
+        """Tries an edit alone. Returns the result, and a line with the reason."""
         texts = edited_texts(self.crate, edit)
         if not texts:
             raise NoVerdict("bad", "it changes nothing")
@@ -267,12 +272,12 @@ class Trial:
         lines, proved = check(self.crate)
         if proved:
             return "proved", "the crate is proved with this edit"
-        # a fault of the code or of the edit's text itself, so the edit wasn't tried
+        # If the edited code names something unknown, the edit can't be tried.
         for line, path, _, is_error, is_name in faults_in(lines):
             if (path in texts or path.startswith("src/")) and is_error and is_name:
                 raise NoVerdict("bad", line)
         gone = set()
-        # In the next round, answers that depend on a removed answer may lose their names.
+        # Each round removes answers with unknown names. Other answers may name a removed answer, and are removed in the next round.
         for _ in range(4):
             if false := next(filter(FALSE.search, lines), None):
                 return "false", false
@@ -297,7 +302,7 @@ def link_or_copy(source, target):
 
 
 def crates_below(names):
-    """Returns the crates that these crates depend on, directly or not, according to crates.txt."""
+    """Returns all crates that these crates depend on, directly or through other crates, according to crates.txt."""
     uses = {name: used.split() for name, used in re.findall(r"^(\w+)[^:#\n]*:([^#\n]*)", (ROOT / "crates.txt").read_text(encoding="utf-8"), re.MULTILINE)}
     below, left = set(), list(names)
     while left:
@@ -309,8 +314,8 @@ def crates_below(names):
 
 
 def take_libraries(copy, names):
-    """The copy uses the libraries that are built in this tree. rt takes a library for built while its sources are the same. No check writes to the
-    crates that the tried crates depend on. So the copy has links to these crates."""
+    """Puts the built libraries of this tree into the copy, so that rt doesn't build them again. For the crates that the tried crates depend on, the
+    copy has hard links, because no check writes to these libraries."""
     below = crates_below(names) - set(names)
     for crates, parts, copies in ((below, ("rlib",), link_or_copy), (names, ("rlib", "incremental"), shutil.copy2)):
         for crate in crates:
@@ -320,7 +325,7 @@ def take_libraries(copy, names):
 
 
 def try_crate(crate, wanted, counts):
-    """Tries the edits of a crate in the copy, or only the requested edits."""
+    """Tries the edits of a crate in the scratch copy. If `wanted` names edits, tries only these."""
     if not check(crate)[1]:
         sys.exit(f"{crate.name}: not proved as it is")
     trial = Trial(crate)

@@ -1,4 +1,5 @@
-"""The parts of page_narrows.py share this module. It has the page that narrows in a browser, passtool's answers, and random passes and caveats."""
+"""The parts of page_narrows.py share this module. It opens the page pass.html in a browser, asks passtool for the right answers, and draws random
+passes and caveats."""
 
 import base64
 import json
@@ -24,7 +25,7 @@ PASSES, SPOILED, CAVEATS = 1000, 2000, 2000
 FORMS = list(passes.FORMS)
 FAULTS = {"This text is too long for a pass.": 1, "This text isn't a complete pass.": 2, "This pass has a third-party caveat.": 3,
           "This pass has too many limits.": 4}
-# The page's choices, in the order in which the page adds their lines.
+# The names of the page's choices, in the order of the caveats that the page adds for them.
 CHOICES = ["kind", "facility", "actions", "days", "weekday", "hours", "until", "guests", "spend"]
 AMY = "AgEJY2x1Yi1kZXNrAglrZXk6YW15LTEAAAYgDsU-vMVpq3Ex5_BQk6D5VX6TimC0IfCk7Dn6nv7TIJk"
 draw = random.Random(20260501)
@@ -42,7 +43,7 @@ def written(form, it):
 
 
 def amys(form, *caveats):
-    """Makes a pass of Amy's with these caveats, under some signature."""
+    """Returns the text of a pass for Amy's key with these caveats. Its signature is 32 zero bytes."""
     return written(form, Pass(b"", b"key:amy-1", [it if isinstance(it, bytes) else it.encode() for it in caveats], bytes(32)))
 
 
@@ -50,20 +51,20 @@ def amys(form, *caveats):
 
 
 def tool(*words, given):
-    """Runs passtool. Returns the status, and the output or the fault's line."""
+    """Runs passtool. Returns the status, and the output or, if passtool fails, its line on standard error."""
     status, printed, fault = desk.command(TOOL, *words, text=given)
     return status, fault if status else printed
 
 
 def narrowed_by_tool(text, lines):
-    """Returns the narrowed pass, or the line of the fault."""
+    """Returns the narrowed pass, or passtool's fault line."""
     status, output = tool("narrow", *lines, given=text)
     check(status in (0, 3), "passtool narrow", text, lines, output)
     return output.removesuffix("\n")
 
 
 def reading_by_tool(text):
-    """Returns the number of the fault, or the facts and caveats that the page must show."""
+    """Returns what the page must show for a text: the number of the fault, or the pass's facts and caveats."""
     status, output = tool("show", given=text.strip(" \t\r\n"))
     if status == 3:
         return int(output[len("fault ")])
@@ -83,7 +84,7 @@ def is_understood_by_tool(caveat):
 
 # ---- The browser
 
-# Functions for the calls below. The functions use the page's fields and read its elements, as a person does.
+# JavaScript functions for the calls below. They fill in the page's fields and read the visible texts, as a person does.
 HELPERS = """
 const byId = (id) => document.getElementById(id);
 const changed = (field) => field.dispatchEvent(new Event("input", { bubbles: true }));
@@ -128,7 +129,7 @@ class NarrowingPage(Browser):
     helpers = HELPERS
 
     def narrow(self, text, *fields):
-        """Enters a text and choices, given by names with values. Returns the page's answer."""
+        """Enters the text of a pass, and (name, value) for each choice. Returns the page's answer."""
         return self.each("narrow", [(text, fields)])[0]
 
     def visit(self, text=""):
@@ -179,7 +180,7 @@ def drawn_line(choice):
 
 
 def fields_of(*lines):
-    """Returns the fields of the page that make these lines, as names with values."""
+    """Returns (name, value) for each field of the page that must be filled in to add these caveats."""
     found = []
     for line in lines:
         name, _, value = re.split(" (=|<=|<) ", line)
@@ -204,7 +205,7 @@ def drawn_pass():
 
 
 def drawn_spelling(form, drawn):
-    """Draws a text of the pass that a reader accepts. Most drawn texts differ from the text that a program writes."""
+    """Draws a text that readers accept as this pass. Most of the drawn texts differ from the text that our programs write."""
     text = written(form, drawn)
     if form == "json":
         names = json.loads(text)

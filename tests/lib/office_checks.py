@@ -1,11 +1,11 @@
-"""Refusals, requests at the desk, and the lines of the book. The parts of office_holds.py use them."""
+"""Checks of refused commands, requests to the desk, and readers of the office's book, for the parts of office_holds.py."""
 
 import json
 
 from office_room import HOME, NOON, begun, done, everything, office, same
 
 DAY = "2026-05-01"
-# Returns the line of a command in the book.
+# A line of the office's book, which records a command.
 LINE = r"20\d\d-\d\d-\d\dT\d\d:\d\d:\d\d [a-z]+ [0-9] [ -~]+"
 AT = ["--at", NOON]
 YES = ["--yes", *AT]
@@ -13,7 +13,8 @@ COPIES, BOOK, TURN = HOME / "back-ups", HOME / "club-book", HOME / "club-orders"
 
 
 def refused(words, status, line, by="anna", given="", keeps=True):
-    """Checks that the office refuses these words with a line on standard error, and that the rows of the club don't change. Returns the output."""
+    """Checks that the office refuses the command with this status and this text on standard error. Unless `keeps` is false, also checks that the
+    rows of the club don't change. Returns the output."""
     before = everything() if keeps else None
     found, out, errors = office(*words, by=by, given=given)
     same(f"office {' '.join(words)}: refused", (found, line in errors), (status, True))
@@ -45,12 +46,12 @@ def account(server, text):
 
 
 def book_lines(*words):
-    """Returns the lines of the book without their moments."""
+    """Returns the lines of the office's book, without the moment at the beginning of each line."""
     return [line.split(" ", 1)[1] for line in lines("log", *words)]
 
 
 def changed_meanwhile(words, shown, change):
-    """Checks that a command changes nothing if the club changed between the question and the answer."""
+    """Checks that a command is refused if the club changes after the office has asked the clerk and before the clerk answers."""
     with begun(*words, *AT) as command:
         same("what is shown", command.stdout.readline(), f"{shown}\n")
         change()
