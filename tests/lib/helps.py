@@ -10,7 +10,7 @@ def printed(*words):
 
 
 def between(text, first):
-    """Returns the lines after a line `first:` that begin with a space or are empty."""
+    """Returns the indented and empty lines that directly follow the line `FIRST:`, where FIRST is the value of `first`."""
     lines = text.splitlines()
     if f"{first}:" not in lines:
         return []

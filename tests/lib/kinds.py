@@ -188,8 +188,7 @@ for moment, hour, fault, caveat in (
     SCENES["a caveat"].append(row.gets(fault, 1) if fault else row)
 
 
-# Texts of passes that nobody signed. They have 32 zero bytes as their signature, because the desk refuses them before it checks the signature, or
-# checks it and refuses them.
+# Texts of passes with a wrong signature of 32 zero bytes. The desk checks the form of a pass before it checks the signature.
 def unsigned_v2(caveats=b"", more=b""):
     head = b"\x02" + passes.v2_field(passes.IDENTIFIER, b"key:amy-1") + b"\0"
     return passes.to_base64(head + caveats + b"\0" + passes.v2_field(passes.SIGNATURE, bytes(32)) + more).decode()

@@ -1,8 +1,8 @@
 """Fixtures for the tests of the office: a separate machine, a manager of services, clerks, requests, and checks of a club's file.
 
-tests/lib/office_room.sh runs a script that imports this module again in that machine. A service is a server. The manager restarts it a second after
-each end, as deploy/clubdesk@.service does (Restart=always, RestartSec=1). The folder `services` of the room names the process of the service. The
-room's systemctl uses this name to end the service.
+If a script that imports this module isn't in such a machine, tests/lib/office_room.sh makes the machine and runs the script again in it. The
+manager restarts a server a second after each end, as deploy/clubdesk@.service does (Restart=always, RestartSec=1). A file in the room's folder
+`services` has the process id of each server, so that the room's systemctl can end the server.
 """
 
 import contextlib
@@ -31,7 +31,7 @@ checks = 0
 
 
 def same(what, found, wanted):
-    """Records a check. The found value must equal the wanted value."""
+    """Counts a check, which fails unless the found value equals the wanted value."""
     global checks
     checks += 1
     if found != wanted:
@@ -45,7 +45,7 @@ def leave():
 
 
 def run_as(user, *line, given=None, folder=None):
-    """Runs a command as a user, in the user's home folder. Returns the status, the output and the errors."""
+    """Runs a command as a user, in the user's home folder. Returns the status, the output and the standard error."""
     return command("runuser", "-u", user, "--", *line, text=given, cwd=folder or f"/home/{user}")
 
 
@@ -61,7 +61,7 @@ def done(*words, by="anna", given=""):
 
 
 def desk(command, *words):
-    """Runs clubdesk itself on the club as the desk's user. Returns its status and output."""
+    """Runs clubdesk on the club, without the office, as the user `clubdesk`. Returns clubdesk's status and output."""
     return run_as("clubdesk", "clubdesk", command, CLUB, *words, folder="/")[:2]
 
 
@@ -86,7 +86,7 @@ class Service:
             time.sleep(1 if self.is_wanted else 0)
 
     def is_heard(self):
-        """Returns whether the server listens within half a minute."""
+        """Waits until the server listens, for about half a minute at most. Returns whether the server listens."""
         for _ in range(1500):
             with contextlib.suppress(OSError), socket.create_connection(("127.0.0.1", self.port), 5):
                 return True
@@ -100,7 +100,7 @@ class Service:
         self.named.unlink()
 
     def answer(self, text, method, path, body=None):
-        """Repeats a request under a pass until a complete reply comes. Returns the reply's status and body."""
+        """Repeats a request under a pass until the server gives a complete reply with a status below 500. Returns the reply's status and body."""
         for _ in range(200):
             with contextlib.closing(http.client.HTTPConnection("127.0.0.1", self.port, timeout=30)) as client:
                 with contextlib.suppress(OSError, http.client.HTTPException):
@@ -114,14 +114,14 @@ class Service:
 
 
 def begun(*words):
-    """Starts a command of the office in a session of its own."""
+    """Starts a command of the office in a new session."""
     return subprocess.Popen(["runuser", "-u", "anna", "--", "office", "club", *words], stdin=subprocess.PIPE, stdout=subprocess.PIPE, stderr=subprocess.PIPE,
                             text=True, cwd="/home/anna", start_new_session=True)
 
 
 def kill(command, chance=None):
-    """Kills a process and all its children, even in sessions that sudo began, or only a random one of these processes. Waits until they have
-    ended."""
+    """Kills a process and all its children, including those in sessions that sudo began. If `chance` is given, kills only one of these processes,
+    chosen at random. Waits until the killed processes have ended."""
     with contextlib.suppress(psutil.NoSuchProcess):
         first = psutil.Process(command.pid)
         found = [first, *first.children(recursive=True)]

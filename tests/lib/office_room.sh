@@ -1,8 +1,8 @@
-# Makes the room: a temporary machine for the tests of the office. In a mount namespace, overlays cover the folders of the machine. The programs and
-# the files of deploy/ and web/ are where bin/package puts them. The lines of docs/RUNNING.md under "The clerks" make the clerk anna. ben is also a
-# clerk, and carl isn't. `systemctl` accepts only the word `kill`. It then sends a signal to a server of the small service manager in
-# tests/lib/office_room.py. Needs root. If the caller sets `room_net` to a nonempty text, the room has a network of its own. If a program runs this
-# script directly, the script runs the command in its arguments, with the room's folder in ROOM.
+# Makes the room: a mount namespace in which overlays cover the machine's folders, so that tests of the office leave the machine unchanged. The room
+# has the programs and the files of deploy/ and web/ where bin/package puts them. The lines of docs/RUNNING.md under "The clerks" make the clerk
+# anna. ben is also a clerk, and carl isn't. The room's `systemctl` knows only the command `kill`, which ends a server of the service manager in
+# tests/lib/office_room.py. Needs root. If `room_net` is set and not empty, the room also has a separate network namespace. If this script isn't
+# sourced but run, it runs the command in its arguments. The variable ROOM then has the path of the room's folder.
 set -eu
 PATH=/usr/sbin:/sbin:$PATH
 [ "$(id -u)" = 0 ] || { echo "$0 wants root, for other users and folders of its own" >&2; exit 2; }
@@ -14,11 +14,11 @@ fi
 top=$(CDPATH='' cd -P -- "$here/../.." && pwd)
 
 chmod 755 "$work"
-# The room's mounts end with its last process.
+# The kernel removes the room's mounts when the last process in the room ends.
 room=/mnt
 mount -t tmpfs tmpfs "$room"
 
-# over FOLDER: from now on, the room keeps everything that a program writes to the folder.
+# over FOLDER: covers the folder with an overlay, so that the room keeps everything that a program writes to the folder.
 over() {
     called=$(echo "$1" | tr / _)
     mkdir "$room/$called" "$room/$called.work"
@@ -47,7 +47,7 @@ find "$top/deploy" -maxdepth 1 -type f -perm -100 ! -name office ! -name clubdes
 install -m 644 -t /usr/share/doc/clubdesk/examples "$top"/deploy/*.conf "$top/deploy/Caddyfile"
 find "$top/web" -maxdepth 1 -type f -exec install -m 644 -t /usr/share/clubdesk/web {} +
 
-# page_block HEADING: prints docs/RUNNING.md's lines for root under this heading. Leaves out the lines that install Debian packages.
+# page_block HEADING: prints the lines for root under this heading of docs/RUNNING.md, except those that install Debian packages.
 page_block() {
     awk -v heading="## $1" '
         /^## / { here = $0 == heading; next }
@@ -63,7 +63,7 @@ install -d -o clubdesk -g clubdesk -m 700 /var/lib/clubdesk
 mkdir "$room/services"
 cat >"$room/systemctl" <<SYSTEMCTL
 #!/bin/sh
-# \`kill UNIT\`: signals the server that the manager runs under this name.
+# \`kill UNIT\`: ends the server that the manager runs under this name.
 [ "\$1" = kill ] && [ -e "$room/services/\$2" ] && kill "\$(cat "$room/services/\$2")"
 SYSTEMCTL
 install -m 755 "$room/systemctl" /usr/bin/systemctl

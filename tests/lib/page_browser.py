@@ -1,7 +1,7 @@
-"""A browser for the scripts that drive the pages, with checks for both pages. The checks are about contrasts, targets, and names for screen
-readers.
+"""Runs a page in chromium for the tests of pass.html and book.html. Checks the contrast of texts, the size of buttons and links, and the names for
+screen readers.
 
-page_narrows.py and page_books.py use this module. Wants Debian's chromium, chromium-driver and python3-selenium."""
+page_narrows.py and page_books.py use this module. Needs Debian's chromium, chromium-driver and python3-selenium."""
 import base64
 import hashlib
 import json
@@ -19,7 +19,7 @@ def check(holds, *what):
 
 
 class Browser:
-    """A chromium that resolves names only by the rules. A script may run before the page's own script."""
+    """A chromium that resolves host names only by `rules`. It runs the script `before` before the page's own script."""
 
     helpers = ""  # functions for the scripts that `run` and `each` run
     batch = 25  # how many items go to the page in one call
@@ -46,7 +46,7 @@ class Browser:
         return self.driver.execute_cdp_cmd(name, words)
 
     def open(self, address):
-        # Opens another page first, so that the browser loads an address again that differs only after #.
+        # First opens an empty page, so that the browser also loads an address that differs from the current address only after `#`.
         self.driver.get("about:blank")
         self.driver.get(address)
 
@@ -54,7 +54,7 @@ class Browser:
         return self.driver.execute_script(self.helpers + script, *words)
 
     def each(self, function, items):
-        """Returns the results of the helper for each item."""
+        """Calls a helper function in the page for each item, and returns the results."""
         script = self.helpers + f"""
             const [items, done] = arguments;
             (async () => {{
@@ -87,7 +87,8 @@ class Browser:
         check(across <= width, "sideways scrolling", width, across, *what)
 
     def is_legible(self, *what):
-        """Returns the number of visible texts. Each text must have a contrast of at least 4.5, and targets must be large."""
+        """Checks that each visible text has a contrast of at least 4.5, and that buttons, links and fields are large enough. Returns the number of
+        visible texts."""
         count, faint = self.run(CONTRASTS)
         check(not faint, "faint texts", *what, *faint)
         small = self.run(SMALL_TARGETS)
@@ -95,8 +96,8 @@ class Browser:
         return count
 
     def is_named(self, roles, live, *what):
-        """Checks that screen readers find a name for each focusable element and for each element with these roles. Some elements must also announce
-        changes. Returns the page's nodes."""
+        """Checks that each focusable element, and each element with one of these roles, has a name for screen readers. The elements `live` must
+        announce their changes to screen readers. Returns the nodes of the page's accessibility tree."""
         tree = [node for node in self.command("Accessibility.getFullAXTree")["nodes"] if not node["ignored"]]
         for node in tree:
             properties = {each["name"]: each["value"].get("value") for each in node.get("properties", [])}
@@ -112,19 +113,19 @@ class Browser:
         check(not found, "what an audit finds", *what, *found)
 
     def cuts_nothing_off(self, width, *what):
-        """Checks that no word is beyond the edge, and that only the intended elements scroll sideways."""
+        """Checks that no word extends beyond an edge, and that only the intended elements scroll sideways."""
         across = self.run("return document.documentElement.scrollWidth")
         check(across <= width, "sideways scrolling", *what, across)
         cut = self.run(CUT_OFF)
         check(not cut, "words that are cut off", *what, *cut)
 
     def breaks_no_word(self, *what):
-        """Checks that no word is broken across lines because its place is too narrow. A word of ten letters or more may be broken."""
+        """Checks that no word of less than ten letters is broken across lines."""
         broken = self.run(BROKEN_WORDS)
         check(not broken, "words that are broken", *what, *broken)
 
     def focus_is_seen(self, *what):
-        """The focus in a date is an exception, because the browser marks a part of the date."""
+        """Checks that the focused element has an outline. A date field needs none, because the browser marks a part of the date."""
         outline = self.run("""const style = getComputedStyle(document.activeElement);
             return document.activeElement.type === "date" || [style.outlineStyle, style.outlineWidth];""")
         check(outline in (True, ["solid", "3px"]), "a focus that can't be seen", *what, self.focused(), outline)
@@ -140,7 +141,7 @@ class Browser:
         return self.command("Page.captureScreenshot")["data"]
 
     def picture(self, top=0, height=None):
-        """Returns a PNG in base64 of the whole page or of a stripe of it."""
+        """Returns a PNG in base64 of the whole page, or of the part from `top` on that is `height` high."""
         width, whole = self.run("const { offsetWidth, offsetHeight } = document.documentElement; return [offsetWidth, offsetHeight];")
         clip = {"x": 0, "y": top, "width": width, "height": height or whole, "scale": 1}
         return self.command("Page.captureScreenshot", captureBeyondViewport=True, clip=clip)["data"]
@@ -157,8 +158,8 @@ class Browser:
 
 
 def policy_holds(page, more, calls, *links):
-    """Checks by their hashes that only the page's own script and style run, and that the page can't load anything else. The script must not use
-    some calls."""
+    """Checks that the page's policy admits only the hashes of its own script and style, and lets the page load nothing else. The script must use
+    none of the calls `calls`."""
     text = page.read_text(encoding="utf-8")
     policy = re.search('http-equiv="Content-Security-Policy" content="([^"]*)"', text)[1]
     rules = dict(rule.strip().split(" ", 1) for rule in policy.split(";"))

@@ -1,7 +1,7 @@
-"""Drives three browsers in the same way: chromium, Debian's firefox-esr through Marionette, and WebKitGTK's MiniBrowser through its driver.
+"""Drives three browsers through one interface: chromium, Debian's firefox-esr through Marionette, and WebKitGTK's MiniBrowser through its driver.
 MiniBrowser needs a display.
 
-page_narrows.py and page_books.py use this module. Wants Debian's chromium-driver, firefox-esr, webkit2gtk-driver, xvfb and python3-selenium."""
+page_narrows.py and page_books.py use this module. Needs Debian's chromium-driver, firefox-esr, webkit2gtk-driver, xvfb and python3-selenium."""
 import base64
 import json
 import os
@@ -50,7 +50,7 @@ class Engine:
             time.sleep(0.1)
 
     def code(self, place):
-        """Reads the QR code in an element from the screen."""
+        """Scrolls to an element, and returns the text of the QR code on the screen."""
         self.run("document.getElementById(arguments[0]).scrollIntoView({ block: 'center' })", place)
         with tempfile.NamedTemporaryFile(suffix=".png") as file:
             for _ in range(20):
@@ -62,11 +62,11 @@ class Engine:
         return ""
 
     def press(self, words, root):
-        """Presses the button with these words in an element."""
+        """Presses the button that is in the element `root` and has these words."""
         self.tap(f"//*[@id='{root}']//button[normalize-space()=\"{words}\" or @aria-label=\"{words}\"]")
 
     def press_in_card(self, words):
-        """Presses the button with these words of the first future booking."""
+        """Presses the button that belongs to the first future booking and has these words."""
         self.tap(f"(//*[@id='to-come']/li)[1]//button[normalize-space()=\"{words}\"]")
 
 
@@ -100,7 +100,7 @@ class Chromium(Engine):
 
 
 class Firefox(Engine):
-    """Firefox without a window. The names of the page resolve to this machine."""
+    """Firefox without a window. It resolves the page's host name to this machine."""
 
     name, host = "Firefox", "desk.example.org"
 
@@ -126,7 +126,7 @@ class Firefox(Engine):
         self.command("WebDriver:SetWindowRect", width=WIDTH, height=HEIGHT)
 
     def received(self):
-        """A message has its length in digits, a colon, and JSON."""
+        """Returns the next message. A message consists of its length in digits, a colon, and JSON."""
         while b":" not in self.rest:
             self.rest += self.come()
         length, _, self.rest = self.rest.partition(b":")
@@ -177,7 +177,7 @@ class Firefox(Engine):
 
 
 class WebKit(Engine):
-    """WebKitGTK's small browser, on a display of its own. The browser resolves only the names of this machine."""
+    """WebKitGTK's MiniBrowser, on a separate virtual display. The browser resolves only the names of this machine."""
 
     name, host = "WebKit", "localhost"
 

@@ -1,12 +1,11 @@
-"""Finds the sentences of the repository. Finds patterns in them at which an English reader stops. tests/lint.py and
-tests/docs/sentences.py use this module.
+"""Finds the sentences of the repository, and the patterns in a sentence that make an English reader stop. tests/lint.py and tests/docs/sentences.py
+use this module.
 
-A paragraph is a list of (line, text). A paragraph is a paragraph, an item or a cell of a page, or a part of a
-docstring or comment. It may also be a help text, or a text of web/src/words. A paragraph contains no links and
-tags, and CODE stands for inline code.
+A paragraph is a list of (line number, text). It comes from a paragraph, a list item or a table cell of a page, a docstring, a comment, a help text,
+or a text of web/src/words. The text contains no markup for links, no tags, and CODE in place of inline code.
 
-CONTRIBUTING has the rules of wording. PATTERNS and FIRST have the rules that a pattern can check, each with its
-remedy. EXCEPTIONS has the texts that may break a rule, each with its reason."""
+CONTRIBUTING.md has the rules of wording. PATTERNS and FIRST have the rules that a regular expression can check, each with a remedy. EXCEPTIONS has
+the texts that may break a rule, each with its reason."""
 
 import ast
 import re
@@ -16,7 +15,7 @@ import subprocess
 CODE = "§"
 MOST_WORDS = 30
 MOST_LETTERS = 60
-# (pattern, remedy). FIRST matches only at the beginning of a sentence.
+# (pattern, remedy). The patterns of FIRST match only at the beginning of a sentence.
 PATTERNS = [(re.compile(pattern, re.IGNORECASE), remedy) for pattern, remedy in (
     (r"\bexactly if\b", "write 'if and only if', or 'exactly when'"),
     (r"\bso (many|often)\b(?! (\w+ )?(that|as)\b)", "name the number: 'n times'"),
@@ -41,16 +40,16 @@ EXCEPTIONS = {
     ("crates/passtool_commands/src/table.rt", "Exit status:"): "the help's table of statuses, no sentence",
     ("deploy/clubdesk-setup", "[--title TITLE]"): "a line of usage, no sentence",
 }
-# Generated pages, data, and texts that tests compare byte for byte.
+# Files that this module doesn't read: generated pages, data, and texts that tests compare byte for byte.
 LEFT_OUT = re.compile(r"docs/(AUDIT|RUNS)\.md|.*/more-edits\.txt|.*\.(told|png|svg|lock|toml|edit)|.*/stdout|tests/lib/words\.txt|docs/vectors\.json|web/[a-z]+\.(html|js|webmanifest)")
-# The areas of a commit's subject, apart from the crates.
+# The areas that the subject of a commit may have in place of a crate.
 AREAS = {"docs", "tests", "web", "deploy", "bin", "ci", "man", "examples"}
 IMPERATIVE = re.compile(r"[a-z]\S*(?<![^su]s)(?<!ed)(?<!ing)\b|(pass|process|discuss|compress|express|need|feed|bring|embed|seed|speed)\b")
 PAGES = ["README.md", "CONTRIBUTING.md", "CHANGELOG.md", "SECURITY.md"]
 
 
 class Missing(Exception):
-    """Reports a program that a check needs but the machine doesn't have."""
+    """Raised if a check needs a program that the machine doesn't have."""
 
 
 # ---- paragraphs
@@ -92,7 +91,7 @@ def of_markdown(lines):
 
 
 def runs(lines, pattern):
-    """Returns the runs of neighbouring comment lines, without the comment signs."""
+    """Groups neighbouring comment lines, and returns the groups without the comment signs."""
     found, last = [], None
     for number, line in lines:
         if comment := re.match(pattern, line):
@@ -121,7 +120,7 @@ def of_python(text, lines):
 
 
 def of_help(lines):
-    """Returns the help texts of a table of commands: its literals of several words. Leaves out examples."""
+    """Returns the help texts of a table of commands, which are its string literals of several words. Leaves out examples."""
     text = "\n".join(line for _, line in lines)
     found = []
     for literal in re.finditer(r'"((?:[^"\\]|\\.)*)"', re.sub(r"//.*", lambda it: re.sub(r"\S", " ", it[0]), text)):
@@ -138,7 +137,7 @@ def of_texts(text):
 
 
 def paragraphs(path, text):
-    """Returns the paragraphs of a file, or none if it contains no prose."""
+    """Returns the paragraphs of a file, or an empty list if the file contains no prose."""
     name = str(path)
     lines = list(enumerate(text.splitlines(), 1))
     first = text.partition("\n")[0]
@@ -169,8 +168,7 @@ def paragraphs(path, text):
 
 
 def sentences(paragraph):
-    """Yields the sentences of a paragraph, each with its line numbers. Skips headings. Two dots don't end a
-    sentence."""
+    """Yields the sentences of a paragraph, each with its line numbers. Skips headings. The two dots of an ellipsis don't end a sentence."""
     joined, starts = "", []
     for number, text in paragraph:
         starts.append((len(joined), number))
@@ -207,8 +205,7 @@ def is_excepted(file, sentence):
 
 
 def foreign(file, text, added=None):
-    """Yields a line for each slip in the sentences of a file. With `added`, checks only the sentences that touch
-    these lines."""
+    """Yields a line of text for each slip in the sentences of a file. If `added` is given, checks only sentences on these lines."""
     for paragraph in paragraphs(file, text):
         for numbers, sentence in sentences(paragraph):
             if (added is None or numbers & added) and not is_excepted(str(file), sentence):
@@ -242,15 +239,15 @@ def git(root, *words):
 
 
 def base_of(root):
-    """Returns the commit at which this branch left its upstream. Returns HEAD without an upstream, and None outside
-    a clone."""
+    """Returns the commit at which this branch left its upstream branch. If there is no upstream branch, returns HEAD. Outside a clone, returns
+    None."""
     if git(root, "rev-parse", "--show-toplevel") is None or not (root / ".git").exists():
         return None
     return (git(root, "merge-base", "HEAD", "@{upstream}") or git(root, "rev-parse", "HEAD") or "").strip() or None
 
 
 def added_lines(root, base):
-    """Returns, for each file, the numbers of the lines added since the base. Returns None for a new file."""
+    """Returns, for each changed file, the numbers of the lines added since the base. For an untracked file, the value is None."""
     found, file = {}, None
     for line in git(root, "diff", "--unified=0", "--no-color", "--no-ext-diff", "-M", base, "--").splitlines():
         if line.startswith("+++ "):
@@ -264,7 +261,7 @@ def added_lines(root, base):
 
 
 def of_change(root, base, below=""):
-    """Yields a line for each slip in the lines and in the subjects of commits that were added since a base."""
+    """Yields a line of text for each slip in lines and in subjects of commits that were added since the base."""
     for file, added in added_lines(root, base).items():
         path = root / file
         if path.is_file() and file.startswith(below):
@@ -282,7 +279,7 @@ def of_change(root, base, below=""):
 
 
 def spelled(root):
-    """Yields the files that aspell checks, each with its language: the pages, and the texts of web/."""
+    """Yields the files that aspell must check, each with its language. These are the pages and the texts of web/."""
     pages = [*map(root.joinpath, PAGES), *sorted((root / "docs").glob("*.md")), *sorted(root.glob("crates/*/README.md"))]
     yield from ((it, "en") for it in pages if it.name not in ("AUDIT.md", "RUNS.md"))
     yield root / "web/src/words/en.json", "en"
@@ -311,7 +308,7 @@ def misspelt(text, language):
 
 
 def misspellings(root):
-    """Yields a line for each word that neither aspell nor tests/lib/words.txt has. Skips names of files."""
+    """Yields a line of text for each word that neither aspell nor tests/lib/words.txt knows. Skips names of files."""
     known, texts = known_words(root), {}
     for path, language in spelled(root):
         file = str(path.relative_to(root))

@@ -11,7 +11,7 @@
 #include <sys/socket.h>
 #include <unistd.h>
 
-// Finds the function of this name in the C library, as `next`.
+// Declares `next`, the function of this name in the C library.
 #define NEXT(name) \
     static __typeof__(name) *next; \
     if (!next) next = dlsym(RTLD_NEXT, #name)
@@ -40,7 +40,7 @@ void *realloc(void *old, size_t size) {
     return refuses() ? NULL : next(old, size);
 }
 
-// Writes a word and the number of allocations to the file that a variable names. Makes no allocation.
+// Writes a word and the number of allocations so far to the file that a variable names. Allocates nothing.
 static void tell(const char *variable, int how, const char *word) {
     const char *path = getenv(variable);
     if (!path) return;

@@ -1,5 +1,5 @@
-"""Reads the constants and tables of Rust source as values, for example the rows in the `static` of a test. The reader knows literals, tuples,
-arrays, structs, calls of variants, references and sums. It also knows the names that a file defines or imports by `use`."""
+"""Reads constants and tables in Rust source as Python values, for example the rows of a test's `static`. The reader understands literals, tuples,
+arrays, structs, enum variants, references, sums, and the names that a file defines or imports by `use`."""
 
 import re
 from dataclasses import dataclass
@@ -19,7 +19,7 @@ class NotRead(Exception):
 
 @dataclass(frozen=True)
 class Node:
-    """A variant or a struct: the last one or two names of its path, its values, and the fields of a struct."""
+    """An enum variant or a struct: the last one or two words of its path, the values of the variant, and the fields of the struct."""
 
     name: str
     values: tuple = ()
@@ -35,7 +35,7 @@ class Node:
 
 
 def unescaped(text):
-    """Returns the value of a string. A backslash at the end of a line removes the spaces after it."""
+    """Returns the value of a string literal. A backslash at the end of a line removes the line break and the spaces after it."""
     text = re.sub(r"\\\n\s*", "", text)
     simple = {"n": "\n", "r": "\r", "t": "\t", "0": "\0", '"': '"', "'": "'", "\\": "\\"}
     return re.sub(r"\\(?:x([0-9a-f]{2})|u\{([0-9a-f]+)\}|(.))", lambda it: chr(int(it[1] or it[2], 16)) if it[1] or it[2] else simple[it[3]], text)
@@ -54,7 +54,7 @@ def tokens_of(text):
 
 
 class Expression:
-    """Reads one expression of a file."""
+    """Reads an expression in a file."""
 
     def __init__(self, file, tokens):
         self.file, self.tokens, self.at = file, tokens, 0
@@ -77,7 +77,7 @@ class Expression:
         return value
 
     def called(self):
-        """Reads a value, or a call of a method of the value."""
+        """Reads a value, and calls of methods on the value."""
         value = self.one()
         while self.peek() == ".":
             self.take()
@@ -169,7 +169,7 @@ USE = re.compile(r"^\s*(?:pub(?:\([a-z]+\))? )?use ([^;]+);", re.MULTILINE)
 
 
 class File:
-    """A file of a crate, with its definitions."""
+    """A source file of a crate, with its definitions."""
 
     def __init__(self, path):
         self.path = path
@@ -180,7 +180,7 @@ class File:
         self.kept = {}
 
     def expression(self, name):
-        """The tokens of an item after its `=`, up to the end of the item."""
+        """Returns the tokens of an item from its `=` to its end."""
         rest = self.text[self.items[name]:]
         end, depth, is_begun = 0, 0, False
         tokens = []
@@ -204,7 +204,7 @@ class File:
         raise NotRead(name)
 
     def value(self, name):
-        """Returns the value of a name. The name is an item of this file, an imported item, or otherwise a variant."""
+        """Returns the value of a name: the value of an item of this file or of an imported item, or otherwise an enum variant."""
         if name in self.kept:
             return self.kept[name]
         if name in self.items:
@@ -224,12 +224,12 @@ class File:
         return Node(short(name))
 
     def statics(self):
-        """Returns the names of the tables."""
+        """Returns the names of the file's `static` items."""
         return re.findall(r"^(?:pub(?:\([a-z]+\))? )?static (\w+):", self.text, re.MULTILINE)
 
 
 def leaves(tree, before=()):
-    """Returns each name that a `use` imports, with the name's path."""
+    """Yields each name that a `use` imports, with the path of the imported item."""
     tree = tree.strip()
     if "{" in tree:
         front, _, inside = tree.partition("{")
@@ -256,12 +256,12 @@ def file_at(path):
 
 
 def beside(file, module):
-    """Returns the file of a module that a file declares."""
+    """Returns the path of the file for a module that another file declares."""
     return (file.path.parent if file.path.stem == "lib" else file.path.with_suffix("")) / f"{module}.rt"
 
 
 def home_of(file, path):
-    """Returns the file of a module path as a file of a crate cites it. Returns None for a module of another crate."""
+    """Returns the file of the module that a path in another file leads to, or None if this reader finds no such file."""
     first, *rest = path or [""]
     if first == "crate":
         top = CRATES / file.crate / "src"

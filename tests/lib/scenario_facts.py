@@ -1,8 +1,9 @@
-"""The facts that a scenario or a row of a test states. A fact has a kind, a question with the state that its answer depends on, and the answer.
+"""Computes the facts that a scenario or a row of a test states. A fact consists of a kind, a question, and the answer. The question includes the
+part of the club's state that the answer depends on.
 
 The decision about a booking depends on the facility's numbers, the places taken in the slot, the member's account, and the time until the slot
-begins. Names, days and numbers are only in the reply. The bytes of the reply are a fact of their own. So the same row with other names states the
-same fact."""
+begins. It doesn't depend on names, days and booking numbers. Two rows that differ only in these state the same decision, but the bytes of their
+replies are different facts."""
 
 import re
 from typing import NamedTuple
@@ -29,7 +30,7 @@ class Fact(NamedTuple):
 
 
 def answer_of(reply, action):
-    """Returns a decision without the names in it."""
+    """Returns a reply as an answer, without the name of the booking."""
     if isinstance(reply, rules.Refused):
         return (reply.fault, reply.caveat) if reply.caveat else reply.fault
     body = {name: value for name, value in reply.body.items() if name != "booking"}
@@ -37,7 +38,7 @@ def answer_of(reply, action):
 
 
 def looked_at(ask, text):
-    """Returns the part of a request that a caveat tests."""
+    """Returns the value in a request that a caveat tests."""
     front = next((it for it, _ in caveats.LINES if text.startswith(it.encode())), None)
     slot = ask.slot
     if front in ("facility = ", "kind = ", "hours = ", "days = ", "weekday = "):
@@ -59,7 +60,7 @@ def understood(text):
 
 
 def holder(club, given, moment):
-    """Returns the key of a pass, if the club has the key. Also returns which root of the key signed the pass."""
+    """Returns the name of the club's key that signed a pass, or None, and which of the key's roots signed the pass."""
     name = re.fullmatch(rb"key:(%b)" % caveats.NAME.encode(), given.identifier)
     key = club.keys.get(name[1].decode()) if name else None
     if key is None:
@@ -72,7 +73,7 @@ def holder(club, given, moment):
 
 
 def text_fact(club, text, moment):
-    """Returns the fact of a text: which root signed its pass, or why the text is not a pass."""
+    """Returns the fact about a text: which root signed its pass, or why the text is not a pass."""
     try:
         found = holder(club, passes.read(text), moment)[1]
     except passes.NoPass as fault:
@@ -112,7 +113,7 @@ def recorded(request, booking, minutes):
 
 
 def asked_facts(club, text, request, moment, reply):
-    """Returns the facts of a request under a pass, and of its reply. The club must be in the state before the request."""
+    """Returns the facts about a request under a pass and its reply. The club must be in the state before the request."""
     try:
         given = passes.read(text)
     except passes.NoPass as fault:
@@ -140,7 +141,7 @@ def signed_facts(club, name, texts, request, moment, reply):
 
 
 def plain_bytes(data):
-    """Drops the parts of a request's bytes that don't affect the answer: the host, and the text of the pass if it is one word."""
+    """Removes two parts of a request that don't affect the answer: the field Host, and the text of the pass if it is one word."""
     return PLAIN_PASS.sub(lambda it: (it[1] or it[2]) + b"P", NO_FIELD.sub(b"", data))
 
 
@@ -162,7 +163,7 @@ def reply_fact(data):
 
 
 def exchange_facts(club, data, moment):
-    """Returns all facts of an exchange, and applies the exchange to the club."""
+    """Returns all facts about a request and its reply, and carries out the request in the club."""
     facts = [bytes_fact(data, decoded(data))]
     try:
         text, request = wire.decoded(data)
@@ -175,7 +176,7 @@ def exchange_facts(club, data, moment):
 
 
 class Before:
-    """The facts of a request, taken before the request changes the club. `facts` adds the reply."""
+    """The facts about a request, computed before the request changes the club. The method `facts` adds the reply."""
 
     def __init__(self, club, text, request, moment):
         self.made = asked_facts(club, text, request, moment, rules.Refused(0))
@@ -227,7 +228,7 @@ def slot_state(facility, hour, is_closed, taken):
 
 
 def command_facts(club, words, form="v2"):
-    """Returns the facts of a command, and applies the command to the club."""
+    """Returns the facts about a command, and carries out the command in the club."""
     asked = (words[0], *command_state(club, words))
     try:
         club.command(words)
@@ -244,7 +245,7 @@ def command_facts(club, words, form="v2"):
 
 
 def event_facts(player, event):
-    """Returns the facts of an event. The facts of a crash are those of the event that it stops, and one more fact."""
+    """Returns the facts about an event. A crash has the facts of the event that it stops, and a fact about the crash itself."""
     club = player.club
     if isinstance(event, Crash):
         what = event.event

@@ -1,5 +1,5 @@
-"""Reads the text of scenarios (docs/SCENARIOS.md). Turns the text into clubs and their events. If the text can't be read, it raises a Fault with
-file and line."""
+"""Reads files of scenarios (docs/SCENARIOS.md) as clubs and their events. If a line can't be read, the reader raises a Fault with the file and the
+line."""
 
 import json
 import re
@@ -17,8 +17,8 @@ MOST_CREDIT = 1_000_000  # points of one command
 ESCAPES = {"r": b"\r", "n": b"\n", "t": b"\t", "\\": b"\\"}
 AGAIN = "anywhere in the next line; then the same line again"
 REFUSALS = ("exists", "unknown", "out of range", "slot in use")
-# The kinds of each command's values. OF_KEYS has the commands that print a key's pass. For each command it has the position of the root among the
-# values.
+# COMMANDS has the kinds of each command's values. OF_KEYS has the commands that print a key's pass. The number is the position of the root among
+# the command's values.
 COMMANDS = {
     "add-member": ("name", "number"), "credit": ("name", "number"), "debit": ("name", "number"), "set-quota": ("name", "number"),
     "add-facility": ("name", "kind", "number", "number", "number", "number"),
@@ -31,7 +31,7 @@ OF_KEYS = {"add-key": 2, "rotate-key": 1}
 
 
 class Fault(Exception):
-    """The reason why a file of scenarios can't be run, with the place."""
+    """Reports why a file of scenarios can't be run, with the file and the line."""
 
 
 @dataclass(frozen=True)
@@ -69,7 +69,7 @@ class Pass:
 
 @dataclass(frozen=True)
 class Text:
-    """A text that is sent unchanged in place of a pass."""
+    """Bytes that a request has in place of a pass."""
 
     data: bytes
     form: str = "none"
@@ -96,7 +96,7 @@ class Reply:
 
 @dataclass(frozen=True)
 class Event:
-    """An event at a club, with its place in the file and its moment."""
+    """An event in a club, with its line in the file and its moment."""
 
     place: Place
     moment: int | None
@@ -104,7 +104,7 @@ class Event:
 
 @dataclass(frozen=True)
 class Request(Event):
-    """Bytes for the desk, as a list of pieces. A piece consists of bytes or of a pass."""
+    """A request to the desk, as a list of pieces. Each piece is bytes, a pass, or a text in place of a pass."""
 
     pieces: tuple
     reply: Reply | None
@@ -119,8 +119,8 @@ class Request(Event):
 
 @dataclass(frozen=True)
 class Office(Event):
-    """A command of the office, with its words and its outcome. After a crash, a second outcome is possible: the outcome of a command that was
-    already carried out."""
+    """A command of the office, with its words and its outcomes. If a crash stops the command, a second outcome is possible when the command is
+    given again: the desk has carried it out already."""
 
     words: tuple
     outcomes: tuple
@@ -134,7 +134,7 @@ class Office(Event):
 
 @dataclass(frozen=True)
 class Listing(Event):
-    """A listing for the office: the words of its command, and the lines that it prints or its refusal."""
+    """A command that lists something for the office, with its words, and with the lines that it prints or its refusal."""
 
     words: tuple
     lines: tuple | None
@@ -142,22 +142,21 @@ class Listing(Event):
 
 @dataclass(frozen=True)
 class Reopen(Event):
-    """The desk closes the tables and opens them again. If `version` is given, the tables get this older version before the desk opens them
-    again."""
+    """The desk closes its tables and opens them again. If `version` is given, the tables are first changed to the format of this older version."""
 
     version: int | None
 
 
 @dataclass(frozen=True)
 class Crash(Event):
-    """The event, stopped at any point and then repeated."""
+    """An event that is stopped at any point and then repeated."""
 
     event: Event
 
 
 @dataclass
 class Scenario:
-    """A club, and the events at it in their order."""
+    """A club, and the events in it, in their order."""
 
     place: Place
     commands: list
@@ -169,7 +168,7 @@ class Scenario:
 
     @property
     def forms(self):
-        """Returns the forms in which the test runs the scenario. This is only V2 if each line names its own form."""
+        """Returns the forms of passes with which the test runs the scenario: all forms, or only V2 if each pass in the scenario states its form."""
         return tuple(passes.FORMS) if any(it.is_in_any_form for it in self.requests) else ("v2",)
 
 
@@ -228,7 +227,7 @@ class Reader:
         return self.scenarios
 
     def below(self):
-        """Returns the lines below a line that belong to it. They begin with spaces."""
+        """Returns the lines that belong to the current line: the following lines that begin with a space."""
         found = []
         for line in self.lines[self.at:]:
             if not line.startswith(" "):
@@ -269,7 +268,7 @@ class Reader:
         self.scenarios.append(scenario)
 
     def part_of_club(self, part):
-        """The commands that make a part of a club."""
+        """Returns the commands that make a part of a club."""
         kind, _, rest = part.partition(" ")
         if kind == "members":
             return [it for member in rest.split(", ") for it in self.member(member)]
@@ -309,14 +308,14 @@ class Reader:
         self.roots[name] = self.root(root)
 
     def read_text(self, columns, below):
-        """Defines a text that replaces a pass, or reads a request that sends such a text."""
+        """Reads a line that defines a text, or a request that has a defined text in place of a pass."""
         if len(columns) > 2:
             return self.read_request([f"text {columns[1]}", *columns[2:]], below)
         name, = self.matched(" ".join(columns[1:]), rf"({NAME})", "a text has a name")
         self.texts[name] = b"".join(self.repeated(it) for it in below)
 
     def repeated(self, text):
-        """Returns the bytes of a piece. Repeats them if the piece has a number of repetitions."""
+        """Returns the bytes of a text. If the text begins with `N times`, returns the bytes N times."""
         count, _, what = text.partition(" times ")
         return unescaped(what) * int(count) if what and count.isdecimal() else unescaped(text)
 
@@ -380,7 +379,7 @@ class Reader:
         return found
 
     def with_part(self, given, part):
-        """Returns a pass after the change that one part of its bracket describes."""
+        """Returns a pass with the change that one of the parts in its brackets describes."""
         word, _, rest = part.partition(" ")
         if part == "unknown":
             return given
@@ -397,7 +396,7 @@ class Reader:
         return replace(given, caveats=given.caveats + (unescaped(unquoted(many[0])),) * many[1])
 
     def reply(self, columns):
-        """Returns the reply of a line, or None if the line has no answer yet."""
+        """Returns the reply that a line states, or None if the line states no reply."""
         if not columns:
             return None
         status, body = self.matched(columns[0], r"(\d{3}) (\S.*)", "a reply has a status and a body")
@@ -476,7 +475,7 @@ class Reader:
 
 
 def example(lines):
-    """Returns the lines of a page's example, with empty lines around them. So the lines keep their numbers."""
+    """Returns the lines of the example in a page. Empty lines replace the page's other lines, so that each line keeps its number."""
     begin = lines.index("```scenario") + 1
     end = lines.index("```", begin)
     return [""] * begin + lines[begin:end] + [""] * (len(lines) - end)
@@ -487,7 +486,7 @@ def unquoted(text):
 
 
 def made(scenario, plant=None):
-    """Returns the club of a scenario, which the rules in Python make."""
+    """Makes the club of a scenario by the rules in Python, and returns the club."""
     club = rules.Club(plant)
     for command in scenario.commands:
         try:

@@ -1,4 +1,5 @@
-"""The players of scenarios: the rules in Python, and `clubdesk` over a file and a socket. A wrong answer raises a Difference with its place."""
+"""Plays scenarios, either by the rules in Python or by `clubdesk` over a file and a socket. If an answer is wrong, the player raises a Difference
+with the file and the line."""
 
 import copy
 import random
@@ -18,12 +19,12 @@ from reference import caveats, club as rules, passes, wire
 from scenario_lines import Crash, Fault, Listing, Office, Reopen, Request
 
 KILLS = 4  # of the line after `crash`, each at another moment
-# Gives the tables the form of an older program: without older roots, and with only the first index.
+# The SQL that changes the tables to their format of version 1, which had no older roots and no index of bookings by key.
 AS_VERSION_1 = "DROP TABLE old_roots; DROP INDEX IF EXISTS bookings_by_key; UPDATE desk SET version = 1"
 
 
 class Difference(AssertionError):
-    """A line of a scenario whose answer differs from the expected answer."""
+    """Reports that the answer to a line of a scenario differs from the expected answer."""
 
     def __init__(self, place, wanted, found):
         super().__init__(f"{place}: wanted {wanted}\n{' ' * len(str(place))}  found  {found}")
@@ -39,7 +40,8 @@ def shown(value):
 
 
 def printed(event):
-    """Returns the output of a successful command. The output is `done`, or the pass of a key in the requested form, by default V2."""
+    """Returns the output of a command that succeeds: `done`, or the pass of a key in the requested form. Without a requested form, the pass is in
+    V2."""
     name, *values = event.words
     if name not in lines.OF_KEYS:
         return "done"
@@ -48,7 +50,7 @@ def printed(event):
 
 
 def wanted_of(event, number=0):
-    """Returns the first outcome of a command. If `number` is 1, returns the outcome of a command that was already carried out."""
+    """Returns the first outcome of a command. If `number` is 1, returns the outcome when the desk has already carried out the command."""
     outcome = event.outcomes[min(number, len(event.outcomes) - 1)]
     return printed(event) if outcome == "done" else outcome.removeprefix("prints ")
 
@@ -78,7 +80,7 @@ class Rules:
         return event.reply.data if isinstance(event, Request) else event.lines
 
     def found(self, event):
-        """Returns the answer of the rules."""
+        """Returns the answer that the rules give to an event."""
         if isinstance(event, Request):
             return wire.exchange(self.club, event.data(self.form), event.moment)
         if isinstance(event, Office):
@@ -90,7 +92,8 @@ class Rules:
         return listing(self.club, event)
 
     def crashes(self, event):
-        """Plays the event both as kept and as lost. In both cases the event is then repeated, and the resulting club must be the same."""
+        """Plays two cases: the crash comes after the desk has carried out the event, or before. In both cases the event is repeated after the
+        crash. The club must be the same in the end."""
         before = copy.deepcopy(self.club)
         compare(event, self.wanted(event), self.found(event))
         compare(event, self.wanted(event, 1), self.found(event))
@@ -145,11 +148,11 @@ class Programs:
             compare(scenario, [], programs.unsound(self.file))
 
     def played(self, scenario):
-        """Returns the events that this player can play."""
+        """Returns the events of a scenario that this player can play."""
         return scenario.events
 
     def made(self, scenario):
-        """Returns a file with the club. Makes each club only once."""
+        """Returns a file with the scenario's club. Makes the club only if no scenario before has made it."""
         whole = Path(self.folder, f"club-{abs(hash(tuple(scenario.commands)))}")
         if not whole.exists():
             begun = Path(tempfile.mkdtemp(dir=self.folder))
@@ -159,7 +162,7 @@ class Programs:
         return whole / "club"
 
     def make(self, scenario, file):
-        """Makes the club by commands. SQL adds the points that one command can't give."""
+        """Makes the club by commands. If a member has more points than one command can credit, adds the points by SQL."""
         points = Counter()
         self.carry_out(scenario, file, ("sheet", "2000-01-01"))
         for command in scenario.commands:
@@ -180,7 +183,7 @@ class Programs:
             raise Fault(f"{scenario.place}: no such club: {' '.join(words)}: {fault}")
 
     def serve(self, requests):
-        """Plays several requests of one moment at one server."""
+        """Sends requests of the same moment to one server, and compares the replies."""
         with self.server(requests[0], len(requests)) as server:
             for it in requests:
                 compare(it, it.reply.data, server.exchange(it.data(self.form)))
@@ -206,7 +209,8 @@ class Programs:
         return output.removesuffix("\n") if status == 0 else fault.removesuffix("\n")
 
     def crashes(self, event):
-        """Kills the line at several moments, each time in a copy of the file. Then plays the line again."""
+        """For each of several delays, gives a copy of the file the line's request or command, and kills the program after this delay. Then plays
+        the line again."""
         before = Path(f"{self.file}.before")
         programs.copy(self.file, before)
         for _ in range(KILLS):
@@ -246,13 +250,13 @@ def runs(events):
 
 
 def status_of(faults):
-    """Prints the faults that players found, one per line. Returns the exit status of the players' test."""
+    """Prints the faults that players have found, one per line. Returns 1 if there are faults, otherwise 0."""
     print(*faults, sep="\n", end="\n" if faults else "")
     return 1 if faults else 0
 
 
 def run_as_test(main):
-    """Exits with the status of a test's `main`. If a file can't be played, exits with its Fault."""
+    """Runs a test's `main`, and exits with its status. If a file of scenarios can't be played, exits with the Fault as the message."""
     try:
         sys.exit(main())
     except Fault as it:

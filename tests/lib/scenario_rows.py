@@ -1,5 +1,5 @@
-"""Turns rows of the test crates into facts (tests/lib/scenario_facts.py). Each reader takes a table in the form of tests/lib/rust_tables.py, and
-returns the facts of each row. For a row that no scenario can state, the reader returns the reason. The rules in Python must agree with each row."""
+"""Turns rows of the test crates into facts (tests/lib/scenario_facts.py). A reader gets a table as tests/lib/rust_tables.py reads it, and returns
+the facts of each row. If no scenario can state a row, the reader returns the reason. The rules in Python must agree with each row."""
 
 import rust_tables
 import scenario_facts as facts
@@ -20,7 +20,7 @@ def last(name):
     return name.rpartition("::")[2]
 
 
-# ---- plain values of the test kit
+# ---- values of the test kit
 
 
 def slot_of(it):
@@ -41,7 +41,7 @@ def view(slot, kind, price, places, taken, closed):
 
 
 def command_of(it):
-    """Returns the words of a command in the form that the rules take."""
+    """Returns a command in the form that the rules in Python expect."""
     name, values = last(it.name), it.values
     return {"AddMember": lambda: ("add-member", *values), "Credit": lambda: ("credit", *values),
             "Debit": lambda: ("debit", *values), "SetQuota": lambda: ("set-quota", *values),
@@ -52,7 +52,7 @@ def command_of(it):
             "CloseSlot": lambda: ("close-slot", *slot_of(values[0])), "OpenSlot": lambda: ("open-slot", *slot_of(values[0]))}[name]()
 
 
-# ---- the club with which most tests begin
+# ---- the club at the beginning of most tests
 
 
 def fixture():
@@ -64,14 +64,14 @@ def fixture():
 
 
 class Differs(Exception):
-    """A row whose answer differs from the answer of the rules."""
+    """Reports that the answer in a row differs from the answer of the rules."""
 
 
 DECISIONS = ("no pass", "holder", "caveats", "decision")
 
 
 def whole(club, data, moment, wanted, kinds):
-    """Returns the facts of an exchange whose reply has these bytes."""
+    """Returns the facts of these kinds about a request. Raises Differs unless the reply of the rules has the bytes `wanted`."""
     found = facts.exchange_facts(club, data, moment)
     reply = next(it.asked[0] for it in found if it.kind == "reply")
     if reply.encode() != wanted:
@@ -83,7 +83,7 @@ def whole(club, data, moment, wanted, kinds):
 
 
 def club_of_runs():
-    """Makes the club of the runs: a member, a court and a key."""
+    """Makes the club on which the commands of `of_runs` run. The club has a member, a court and a key."""
     club = rules.Club()
     for words in (("add-member", "amy", 5), ("credit", "amy", 10_000), ("add-facility", "court-1", "court", 4, 200, 8, 22), ("add-key", "amy-1", "amy", ROOT)):
         club.command(words)
@@ -91,7 +91,7 @@ def club_of_runs():
 
 
 def of_runs(value):
-    """Reads rows that have the words of a key command and the pass that the command prints. Each command runs on the club of the runs."""
+    """Reads rows that state a command about a key and the pass that the command prints. Each command runs on a new club."""
     return [run_facts(club_of_runs(), it) for it in value]
 
 
