@@ -1,23 +1,23 @@
 #!/usr/bin/env -S /usr/bin/python3 -B
 """Finds names defined twice, lines past their limits, unused files, misspelt words and foreign English.
 
-The program also finds functions, files and crates past their limits, numbers without units, and differing versions. It checks the English only in
-added lines.
+The program also finds functions, files and crates that exceed their limits, numbers without units, and differing versions. It checks the English
+only in added lines.
 
 It prints each slip with its place. The status is 1 if there is a slip.
-- Two specs modules, of one crate or of two crates, define the same name, and TWINS doesn't list it as one meaning.
+- Two modules in specs/ define the same name, and TWINS doesn't list the name.
 - A line is too long. The limit is 100 columns for code, comments and clauses, and 160 for imports, specs and proofs.
 - A limit of CONTRIBUTING is exceeded: 40 lines for a function's body, 800 for a file of code, 400 for a proof, and 100 functions for a crate.
-- A public docstring has a number without a unit. This is a guess, because the check only looks for a unit's word in the text.
+- A public docstring has a number and no word that is a unit.
 - The version in the newest heading of CHANGELOG.md differs from the code's version.
-- No file imports a module of specs or proofs, a file of code has no `mod`, or no page names a script.
-- No proof uses a name that its crate's proofs/Common re-exports.
-- The old text of an edit is missing from its file, or appears there twice. Or a crate has two edits of the same name.
-- A planted fault changes bytes that its file no longer contains.
-- Neither aspell nor tests/lib/words.txt has a word of the pages or of web/.
-- An added line has a pattern of tests/lib/prose.py, such as a sentence of more than 30 words.
-- The subject of an added commit has no area, or has more than 60 letters.
-Added lines and commits are those that this clone has beyond its upstream branch.
+- No file imports a module in specs/ or proofs/, no `mod` names a file of code, or no page names a script.
+- A crate's proofs/Common re-exports a name that none of the crate's proofs imports.
+- The old text of an edit doesn't appear exactly once in its file, or a crate has two edits of the same name.
+- A planted fault (tests/planted.py) replaces bytes that its file no longer contains.
+- A page or a text of web/ has a word that neither aspell nor tests/lib/words.txt knows.
+- A sentence on an added line breaks a rule of tests/lib/prose.py, for example because it has more than 30 words.
+- The subject of an added commit has no area, or is longer than 60 letters. Added lines and commits are those that this clone has and its upstream
+  branch doesn't have.
   tests/lint.py                  every crate, the pages, and the change
   tests/lint.py club_core ..     these crates, and what the change adds to them
   tests/lint.py --since COMMIT   the same for the lines and commits since a commit
@@ -53,8 +53,8 @@ TWINS = {
 }
 UNITS = re.compile("byte|bit|character|letter|digit|column|line|caveat|pass|place|person|guest|booking|point|day|hour|minute|second|moment|year|name|fault"
                    "|status|connection|port|version|row|request|key|field|case|number|memory|count|length", re.IGNORECASE)
-# A line that begins with a literal or with a field's literal may be longer, so that a search finds a known pass. An attribute may be longer because
-# it can't be broken.
+# A line that begins with a string literal, or with a field and its string literal, may be longer, so that a search finds a known pass. An attribute
+# may be longer because it can't be broken.
 LITERAL = r' *([a-z_]+: )?b?"'
 FN = re.compile(r"( *)(?:pub(?:\([a-z]+\))? )?(?:const )?(?:extern \"C\" )?fn (\w*)")
 
@@ -72,7 +72,8 @@ def of_crate(crate, part, ending):
 
 
 def twice_defined(crates):
-    """The names at the top level of a specs module. A name comes before a colon, or after `record` or `data`."""
+    """Yields a slip for each name that two modules in specs/ define at their top level. A definition has its name before a colon, or after `record`
+    or `data`."""
     homes = defaultdict(list)
     for file, text in FILES.items():
         if file.parts[2] == "specs":
@@ -95,7 +96,7 @@ def too_long(crate):
 
 
 def too_large(crate):
-    """The limits of CONTRIBUTING. A body is the text between the braces of a function."""
+    """Yields a slip for each limit of CONTRIBUTING.md that is exceeded. The body of a function is the text between its braces."""
     code = of_crate(crate, "src", ".rt")
     for file, text in code.items():
         name, start = "", 0
@@ -116,7 +117,7 @@ def too_large(crate):
 
 
 def without_unit(crate):
-    """A number in the docstring of a public item needs a unit."""
+    """Yields a slip for each docstring of a public item that has a number without a unit."""
     for file, whole in of_crate(crate, "src", ".rt").items():
         for found in re.finditer(r"^((?: */// .*\n)+)(?: *#\[.*\n)* *pub ", whole, re.MULTILINE):
             text = " ".join(re.findall(r"/// (.*)", found[1]))
@@ -130,8 +131,8 @@ MOD = re.compile(r"^(?:pub )?mod (\S+)$", re.MULTILINE)
 
 
 def unused_modules(crate, part):
-    """Yields the modules that no other file cites. Also yields the files that are missing from their folder's list, which is Lib.antt or the file
-    with the folder's name."""
+    """Yields a slip for each module that no other file imports, and for each file that its folder's list doesn't name. The list is in Lib.antt, or
+    in the file with the folder's name."""
     top = Path("crates", crate, part)
     for file, text in of_crate(crate, part, ".antt").items():
         above = top / "Lib.antt" if file.parent == top else file.parent.with_suffix(".antt")
@@ -147,7 +148,7 @@ def unused_modules(crate, part):
 
 
 def unused_names(crate):
-    """Yields the names that proofs/Common.antt re-exports and that no proof imports from it."""
+    """Yields a slip for each name that proofs/Common.antt re-exports and no proof imports."""
     common = Path("crates", crate, "proofs", "Common.antt")
     taken = "".join(names + ", " for text in of_crate(crate, "proofs", ".antt").values()
                     for names in re.findall(rf"^use Rattle\.{crate}\.proofs\.Common\.\{{(.*)\}}$", spelled_out(text), re.MULTILINE))
@@ -176,8 +177,7 @@ def stale_edits(crate):
 
 
 def stale_plants():
-    """Yields the faults of tests/planted.py that can't be planted because their file no longer has the bytes. Skips the faults of built
-    programs."""
+    """Yields a slip for each fault of tests/planted.py whose file no longer contains the bytes. Skips faults in built programs."""
     for name, (file, old, *_) in planted.PLANTS.items():
         if file not in planted.PROGRAMS and old.encode() not in Path(file).read_bytes():
             yield f"a planted fault doesn't apply: {name}: {file} has no {old}"
@@ -198,14 +198,14 @@ def unnamed_scripts():
 
 
 def install_aspell():
-    """Installs aspell if it is missing, the caller is root, and the system is Debian."""
+    """Installs aspell if it is missing, the caller is root, and the system has apt-get."""
     if not shutil.which("aspell") and os.geteuid() == 0 and shutil.which("apt-get"):
         for words in (["update"], ["install", "-y", "--no-install-recommends", "aspell", "aspell-en", "aspell-de"]):
             subprocess.run(["apt-get", "-o", "DPkg::Lock::Timeout=300", *words], stdin=subprocess.DEVNULL, stdout=subprocess.DEVNULL, check=False)
 
 
 def worded(named, since):
-    """Yields slips of prose in added lines. Unless crates are named, also yields misspelt words of all pages."""
+    """Yields the slips of wording in added lines. If no crates are named, also yields the misspelt words of all pages."""
     base = since or prose.base_of(ROOT)
     if base:
         for below in [f"crates/{it}/" for it in named] or [""]:

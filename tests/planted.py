@@ -1,7 +1,8 @@
-"""For each test, a fault on which the test must fail. `tests/run --planted` reads this module.
+"""Has faults for each test. If a fault is planted, the test must fail. `tests/run --planted` reads this module.
 
-A fault is one change of bytes in a copy of a built program or of a repository file. A fault may also be a shell script that replaces a program. In
-the script, $PROGRAM is the program. The log of the failed test must contain some words, so that a failure for another reason doesn't count."""
+A fault replaces some bytes in a copy of a built program or of a file in the repository. A fault may also be a shell script that replaces a program.
+In the script, $PROGRAM is the path of the replaced program. The log of the failed test must contain the words that the fault states, so that a
+failure for another reason doesn't count."""
 
 import os
 import shutil
@@ -14,8 +15,8 @@ import desk
 
 PROGRAMS = ("clubdesk", "passtool")
 BY_HAND = "#!/bin/sh\n"
-# test: the file, the bytes, their replacement, words of the log, and the arguments for a shorter run of the test. A test with several faults has a
-# line for each fault, TEST:FAULT.
+# The key is the name of a test, or TEST:FAULT if a test has several faults. The value is the file, the bytes, their replacement, the words of the
+# log, and the arguments for a shorter run of the test.
 PLANTS = {
     "beside": ("tests/peers/beside_go/desk.go", '"left":', '"lost":', "booking: the replies differ", "10", "1", "100"),
     "bookings_survive_kill": ("clubdesk", BY_HAND, '[ "$1" != sheet ] || rm -f "$2-wal"; exec "$PROGRAM" "$@"', "'sheet "),
@@ -158,7 +159,7 @@ def plants_of(test):
 
 
 def copied_tree(folder):
-    """Yields the files of the repository. Leaves out built files."""
+    """Copies the files of the repository, without built files, to a folder."""
     names = subprocess.run(["git", "-C", desk.ROOT, "ls-files", "-co", "--exclude-standard", "-z"], check=True, capture_output=True, text=True).stdout
     for name in filter(None, names.split("\0")):
         if (desk.ROOT / name).is_file():
@@ -179,7 +180,7 @@ def spoil(path, old, new):
 
 
 def plant(name, folder):
-    """Makes a copy of the tree with a test's fault. Returns the variables that name the tree's programs."""
+    """Makes a copy of the tree and plants a fault in it. Returns the environment variables with the paths of the copy's programs."""
     file, old, new = PLANTS[name][:3]
     folder.chmod(0o755)  # for tests with other users
     copied_tree(folder)
@@ -204,5 +205,5 @@ def plant(name, folder):
 
 
 def is_found(name, status, log):
-    """Returns whether a test failed because of its fault."""
+    """Returns whether a test failed because of its planted fault."""
     return status not in (0, 77) and PLANTS[name][3] in log

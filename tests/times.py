@@ -1,15 +1,13 @@
 #!/usr/bin/env python3
-"""The gate's cost in processor seconds for the proof, the tests and the edits of each crate.
+"""Measures the processor seconds that the gate needs for the proof, the tests and the edits of each crate.
 
-Runs `rt ci` in a scratch clone of HEAD. Adds up the seconds of the compiler's processes for three parts of
-each crate. These are its proof (with a program's builds), the proof and build of its tests, and its
-must-fail edits. At the end it prints the sums, the wall time, and the last line of the gate. The status is
-the gate's status.
+Runs `rt ci` in a scratch clone of HEAD. Adds up the processor seconds of the compiler's processes for three parts of each crate: the proof (and the
+build of a program), the proof and the build of the tests, and the must-fail edits. At the end, it prints the sums, the elapsed time, and the last
+line of the gate's output. The status is the gate's status.
   tests/times.py                 the whole gate
   tests/times.py club_core ..    `rt ci club_core ..`: these crates, and those below them
-It reads times from /proc once a second. So a process may count up to a second less than it took. The times
-don't include running the programs and tests. The measured times vary by about 25 percent, depending on the
-machine's other work.
+It reads the times from /proc once a second, so it may miss the last second of each process. The times don't include the runs of programs and tests.
+The times of two measurements may differ by about 25 percent, depending on the other work of the machine.
 """
 # pytestmark = [mark.proofs, mark.alone, mark.timeout(36000)]
 
@@ -29,27 +27,27 @@ TICKS = os.sysconf("SC_CLK_TCK")
 
 
 def process(pid):
-    """Returns a process's parent, start and ticks. The ticks include those of children that the process
+    """Returns a process's parent, its start time, and its processor time in ticks. The time includes that of ended children that the process has
     waited for."""
     fields = Path(f"/proc/{pid}/stat").read_text(encoding="utf-8", errors="replace").rpartition(")")[2].split()
     return int(fields[1]), fields[19], sum(map(int, fields[11:15]))
 
 
 def task(pid, work):
-    """Returns the crate and the kind of work of a process that compiles below a folder, or None."""
+    """If a process compiles a crate in a folder below `work`, returns the crate and the kind of the work, otherwise None."""
     words = Path(f"/proc/{pid}/cmdline").read_text(encoding="utf-8", errors="replace").split("\0")
     if os.path.basename(words[0]) != "rattle" or words[1:2] not in (["build"], ["check"]) or "--crate-name" not in words:
         return None
     folder = os.readlink(f"/proc/{pid}/cwd")
     if not folder.startswith(f"{work}/"):
         return None
-    # an edit is checked in a folder of its own
+    # the gate checks each edit in a separate folder
     is_edit = re.search(r"/rt-edit-[^/]*(/|$)", folder)
     return words[words.index("--crate-name") + 1], "edits" if is_edit else "tests" if "--test" in words else "proof"
 
 
 def sample(spent, work):
-    """Records the ticks of each compiling process and of its children, under the topmost process."""
+    """Records the ticks of each compiling process. Those of its compiling children count for the topmost compiling process."""
     found, totals = {}, Counter()
     for pid in filter(str.isdigit, os.listdir("/proc")):
         try:
@@ -65,10 +63,10 @@ def sample(spent, work):
 
 
 def run_gate(work, names):
-    """Returns the gate's status, and the ticks of each compiling process."""
+    """Runs the gate. Returns its status, and the ticks of each compiling process."""
     spent = Counter()
-    # The folders of the edits are also below the scratch folder, so that the times don't include other runs
-    # on the machine.
+    # TMPDIR puts the folders of the edits below the scratch folder. The times then include the edits of this run, and don't include other runs on
+    # the machine.
     with open(work / "log", "wb") as log, subprocess.Popen(["rt", "ci", *names], cwd=work / "clone", stdin=subprocess.DEVNULL, stdout=log, stderr=log,
                                                           env={**os.environ, "TMPDIR": str(work / "rooms")}, start_new_session=True) as gate:
         try:

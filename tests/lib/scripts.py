@@ -1,8 +1,9 @@
-"""The tests in tests/ as programs, for tests/run and tests/conftest.py. The module has their marks, their packages, and their runs.
+"""Finds the test programs in tests/, and runs them, for tests/run and tests/conftest.py.
 
-A test is a program with a list `pytestmark`. In a script that pytest doesn't read, the list is a comment. tests/pytest.ini describes the marks. A
-group's mark with words is a separate run with these words. It may name other needs and packages. The first run has the name of the program. A
-separate run of `quick` is named NAME-quick. Any other run is named after its first word, such as hostile-self-test."""
+A test program has a list `pytestmark`. In a script that pytest doesn't import, the list is a comment. tests/pytest.ini describes the marks. If the
+mark of a group has arguments, these are the words of a separate run of the program. Such a mark may also state needs and packages for this run. The
+run without words has the name of the program. A separate run in the group `quick` has the name NAME-quick. The name of any other separate run ends
+in its first word, as in hostile-self-test."""
 
 import ast
 import configparser
@@ -30,7 +31,7 @@ SECONDS = 3600  # that a run may take, where its marks say nothing else
 SECONDS_OF_QUICK = 600
 SECONDS_TO_CLEAR_UP = 30
 SECONDS_TO_INSTALL = 360  # to download what is missing
-# The path of each program after its build. `rt ci` builds the first two programs.
+# The files that a build of each program makes. `rt ci` builds only the first two programs.
 BUILT = {
     "clubdesk": ["crates/clubdesk/out/clubdesk"],
     "passtool": ["crates/passtool/out/passtool"],
@@ -39,11 +40,11 @@ BUILT = {
 
 
 class Fault(Exception):
-    """Reports why no test can run."""
+    """Reports why tests/run can't run any test."""
 
 
 def groups():
-    """Returns the groups of tests/pytest.ini with their descriptions."""
+    """Returns the groups that tests/pytest.ini describes, with their descriptions."""
     ini = configparser.ConfigParser()
     ini.read(ROOT / "tests" / "pytest.ini", encoding="utf-8")
     lines = (it.partition(": group: ") for it in ini["pytest"]["markers"].splitlines())
@@ -55,7 +56,7 @@ GROUPS = groups()
 
 @dataclass
 class Test:
-    """A program with its words, and the groups that run it."""
+    """A run of a test program: the program, its words, and the groups that this run is in."""
 
     name: str
     path: Path
@@ -75,7 +76,7 @@ class Test:
 
 @functools.cache
 def head_of(path):
-    """Returns the comment or docstring at the head of a program, and the program's marks. Each mark has a name and arguments."""
+    """Returns the comment or docstring at the head of a program, and the program's marks, each with its name and its arguments."""
     text = path.read_text(encoding="utf-8")
     listed = re.search(r"^(?:# )?(pytestmark = \[(?:[^\]]*\n)*?.*\])$", text, re.MULTILINE)
     marks = []
@@ -136,7 +137,7 @@ def every_test():
 
 @functools.cache
 def planted_tests():
-    """Returns each test once for each of its planted faults."""
+    """Returns a run for each planted fault of each test."""
     return [replace(it, name=name, plant=name) for it in every_test() for name in planted.plants_of(it.name)]
 
 
@@ -144,7 +145,7 @@ def planted_tests():
 
 
 def missing(packages):
-    """Returns the Debian packages that aren't installed. Returns all packages if no program can tell which are installed."""
+    """Returns those of the Debian packages that aren't installed. Without dpkg-query, returns all the packages."""
     if not packages or not shutil.which("dpkg-query"):
         return list(packages)
     found = subprocess.run(["dpkg-query", "-Wf", "${Package} ${db:Status-Status}\n", *packages], capture_output=True, text=True, check=False).stdout
@@ -152,7 +153,7 @@ def missing(packages):
 
 
 def prepare(packages):
-    """Installs the missing packages within some minutes. This needs root, apt-get and a network. Only one test installs packages at a time."""
+    """Installs those of the packages that are missing, if the caller is root and apt-get is there. Gives up downloads after SECONDS_TO_INSTALL."""
     OUT.mkdir(parents=True, exist_ok=True)
     (OUT / "apt.conf").write_text('DPkg::Lock::Timeout "600";\nAcquire::Retries "1";\nAcquire::http::Timeout "20";\n', encoding="utf-8")
     if os.geteuid() != 0 or not shutil.which("apt-get"):
@@ -161,7 +162,7 @@ def prepare(packages):
     with open(OUT / "apt.log", "wb") as log:
 
         def apt(*words, limit=None):
-            """Runs apt-get, and returns whether it succeeds. If there is a timeout, it ends apt-get only during the download."""
+            """Runs apt-get, and returns whether it succeeds. With a limit in seconds, kills apt-get when the time is over."""
             with suppress(subprocess.TimeoutExpired):
                 seconds = limit and max(1, min(limit, ends - time.monotonic()))
                 return subprocess.run(["apt-get", "-o", "DPkg::Lock::Timeout=120", *words], stdin=subprocess.DEVNULL, stdout=log, stderr=log, check=False,
@@ -171,7 +172,7 @@ def prepare(packages):
         lacking = missing(packages)
         if not lacking or not apt("update", limit=120):
             return
-        # An unavailable package doesn't stop the installation of the others.
+        # First tries all packages together, then each one alone, because one unavailable package stops a joint installation.
         for some in (lacking, *([it] for it in lacking)):
             install = ["install", "-y", "--no-install-recommends", *some]
             if missing(some) and time.monotonic() < ends and apt(*install, "--download-only", limit=SECONDS_TO_INSTALL):
@@ -182,7 +183,7 @@ def prepare(packages):
 
 
 def processes():
-    """Returns each process with its parent, its session, and its start."""
+    """Returns the parent, the session and the start time of each process."""
     found = {}
     for stat in Path("/proc").glob("[0-9]*/stat"):
         with suppress(OSError):
@@ -192,7 +193,7 @@ def processes():
 
 
 def begun_by(leader):
-    """Returns the processes of a leader's session, and their children in other sessions. Each has its start."""
+    """Returns (process, start time) for the processes of a leader's session and for all their children, which may be in other sessions."""
     every = processes()
     found = {it for it, (_, session, _) in every.items() if session == leader}
     while more := {it for it, (parent, _, _) in every.items() if parent in found} - found:
@@ -201,7 +202,7 @@ def begun_by(leader):
 
 
 def end(process):
-    """Ends a process and its children, after giving them time to clean up."""
+    """Asks a process and its children to end, gives them time to clean up, and kills those that remain."""
     begun = begun_by(process.pid)
     with suppress(ProcessLookupError):
         os.killpg(process.pid, signal.SIGTERM)
@@ -213,7 +214,7 @@ def end(process):
 
 
 def lacks(test, is_built):
-    """Returns the reason why a test can't run here, or an empty text. If `is_built` is true, no build starts for the test."""
+    """Returns the reason why a test can't run here, or an empty text. If `is_built` is true, a program that isn't built yet is such a reason."""
     if "root" in test.marks and os.geteuid() != 0:
         return "needs root"
     packages = missing(test.packages)
@@ -224,7 +225,7 @@ def lacks(test, is_built):
 
 
 def status_of(test, output, root, variables, seconds):
-    """Runs a test in a session of its own, and ends the session after the test."""
+    """Runs a test in a new session, and returns its status. If the test takes too long, ends all processes of the session."""
     environment = {**os.environ, "APT_CONFIG": str(OUT / "apt.conf"), "DEBIAN_FRONTEND": "noninteractive", "PYTHONDONTWRITEBYTECODE": "1", **variables}
     with subprocess.Popen([root / test.path.relative_to(ROOT), *test.words], cwd=root, stdin=subprocess.DEVNULL, stdout=output, stderr=output,
                           env=environment, start_new_session=True) as process:
@@ -239,7 +240,8 @@ def status_of(test, output, root, variables, seconds):
 
 
 def status_with_fault(test, output, seconds):
-    """Runs a test with its planted fault in a copy of the tree. Returns 0 if the test fails because of the fault."""
+    """Runs a test with its planted fault in a copy of the tree. Returns 0 if the test fails because of the fault, SKIPPED if the test is skipped,
+    and otherwise 1."""
     with tempfile.TemporaryDirectory() as folder:
         variables = planted.plant(test.plant, Path(folder))
         shorter = replace(test, words=list(planted.PLANTS[test.plant][4:]) or test.words)
@@ -249,8 +251,8 @@ def status_with_fault(test, output, seconds):
 
 
 def run(test, is_built=False, has_timer=False):
-    """Runs a test and returns its result. The output of the test is in out/tests/NAME.log. If another timer ends the test, this function sets no
-    timeout."""
+    """Runs a test and returns its result. Writes the output of the test to out/tests/NAME.log. If `has_timer` is true, sets no timeout, because
+    pytest-timeout ends the test."""
     OUT.mkdir(parents=True, exist_ok=True)
     begun, log = time.monotonic(), OUT / f"{test.name}.log"
     seconds = None if has_timer else test.seconds

@@ -1,15 +1,15 @@
-# The scripts in the neighbouring folders that run the desk's server source this file. It has the server's programs, a folder for the test, and a
-# server at a fixed moment.
+# Scripts in the neighbouring folders source this file to run the desk's server. It finds the programs, makes a temporary folder for the test, and
+# has functions that start and end a server.
 here=${BATS_TEST_DIRNAME:-$(CDPATH='' cd -P -- "$(dirname -- "$0")" && pwd)}
 
-# The variables CLUBDESK and PASSTOOL name the programs. If a variable is missing, the script proves and builds its program first, if necessary. The
-# script runs the program itself and not its wrapper, so that a signal reaches the server.
+# The variables CLUBDESK and PASSTOOL have the paths of the programs. If a variable is unset, the wrapper in bin/ proves and builds its program,
+# unless the program is up to date. The script then runs the program without the wrapper, so that a signal reaches the server.
 desk=${CLUBDESK-}
 tool=${PASSTOOL-}
 [ -n "$desk" ] || { "$here/../../bin/clubdesk" --help >/dev/null && desk=$here/../../crates/clubdesk/out/clubdesk; } || exit 2
 [ -n "$tool" ] || { "$here/../../bin/passtool" --help >/dev/null && tool=$here/../../crates/passtool/out/passtool; } || exit 2
 
-# Bats has a folder for each test, and its own traps.
+# Bats makes a folder for each test and sets its own traps, so the rest of this file is only for scripts without bats.
 [ -z "${BATS_TEST_DIRNAME-}" ] || return 0
 
 work=$(mktemp -d)
@@ -23,7 +23,8 @@ cd "$work" || exit 2
 mkfifo listening
 
 # serve FILE COUNT MOMENT [WORD..]: starts a server with further options (tests/lib/desk.py). When the function returns, the server listens at
-# $port. If the server fails, `fault` has the reason. FILE.log has the server's standard error. `finish` waits for its end.
+# $port. If the server fails, the file `fault` has the reason. FILE.log has the server's standard error. The function `finish` waits until the
+# server ends.
 serve() {
     /usr/bin/python3 -B "$here/../lib/desk.py" "$desk" "$@" >listening 2>fault &
     server=$!

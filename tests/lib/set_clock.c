@@ -1,5 +1,5 @@
-// Sets the clock for the time of day to the second in the variable CLOCK_SECOND, counted from 1970. If the variable isn't a number, the clock can't
-// be read. Other clocks, such as the monotonic clock, stay unchanged. Loaded before the C library.
+// Makes the clock for the time of day always show the time in the variable CLOCK_SECOND, in seconds since 1970. If the variable isn't a number,
+// calls that read this clock fail. Other clocks, such as the monotonic clock, stay unchanged. Loaded before the C library.
 #define _GNU_SOURCE
 #include <dlfcn.h>
 #include <errno.h>

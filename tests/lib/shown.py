@@ -1,8 +1,8 @@
-"""Finds the definitions that the vectors show, by running the reference in Python (tests/reference) on docs/vectors.json.
+"""Finds out which definitions docs/vectors.json shows, by running the reference in Python (tests/reference) on the vectors.
 
-A function of the reference is a second writing of some definitions. `WRITTEN` names these definitions for each function. The vectors show a
-definition completely (`all`) if they run each line of its functions. They show it in `part` if they run some lines, and `none` of it if they run no
-line. Lines of planted faults don't count."""
+Each function of the reference computes in Python what some definitions in specs/ state. `WRITTEN` names these definitions for each function. The
+mark of a definition is `all` if the vectors run each line of its functions, `part` if they run only some lines, and `none` if they run no line.
+Lines of planted faults don't count."""
 
 import ast
 import copy
@@ -19,7 +19,7 @@ ROOT = Path(__file__).resolve().parents[2]
 REFERENCE = ROOT / "tests" / "reference"
 VECTORS = ROOT / "docs" / "vectors.json"
 
-# FUNCTION ..: the definitions by their modules, `CRATE.FILE: NAME ..`
+# The key is one or more functions of the reference. The value lists the definitions by module, as `CRATE.FILE: NAME ..`.
 WRITTEN = {
     "passes.sign": "pass_mac.Hmac: block_len short_key key_block masked_block hmac",
     "passes.chain": "pass_mac.Chain: derivation_key derived_key extended_signature chain",
@@ -145,7 +145,7 @@ def check_passes(vectors):
         expect(vector["what"], passes.read(vector["text"].encode()), pass_of(vectors["passes"][2]))
 
 
-# passtool numbers its faults differently from the desk. The words after the number determine the desk's fault.
+# The desk's fault for the words of each passtool fault. passtool numbers its faults differently.
 FAULTS = {"too long": passes.TOO_LONG, "malformed": passes.MALFORMED, "third-party caveat": passes.THIRD_PARTY, "too many caveats": passes.TOO_MANY}
 
 
@@ -163,13 +163,13 @@ READERS = {"word": lambda word: int(word) if word.isdigit() else word, "root": b
 
 
 def command_of(line):
-    """The name and the values of a line `clubdesk COMMAND CLUB VALUE ..`."""
+    """Returns the name and the values of the command in a line `clubdesk COMMAND CLUB VALUE ..`."""
     name, _, *words = line.split()[1:]
     return [name, *(READERS[kind](word) for kind, word in zip(KINDS_OF_VALUES.get(name, ["word"] * len(words)), words, strict=True))]
 
 
 def made_club(commands):
-    """The club of the vectors, and the pass of the club's first key."""
+    """Returns a club that these commands make, and the pass of the club's first key."""
     made, first = rules.Club(), None
     for command in map(command_of, commands):
         made.command(command)
@@ -231,7 +231,7 @@ def check_all():
 
 
 def lines_run():
-    """Returns the lines of the reference that the vectors run, as (file, first line of the code, its name, line)."""
+    """Returns each line of the reference that the vectors run, as (file, first line of the function, name of the function, line)."""
     found = set()
 
     def trace(frame, event, _value):
@@ -259,7 +259,7 @@ def codes_in(code):
 
 
 def lines_of_functions():
-    """Returns the lines of each function of the reference, in the form of `lines_run`. Leaves out the lines of planted faults."""
+    """Returns the lines of each function of the reference, in the form that `lines_run` returns. Leaves out lines of planted faults."""
     found = {}
     for path in sorted(REFERENCE.glob("*.py")):
         text = path.read_text(encoding="utf-8")
@@ -282,7 +282,7 @@ def lines_of_functions():
 
 
 def marks():
-    """Returns how much of each definition (crate, file, name) the vectors show: all, part or none."""
+    """Returns the mark `all`, `part` or `none` of each definition (crate, file, name)."""
     run, functions = lines_run(), lines_of_functions()
     found = {}
     for names, listed in WRITTEN.items():

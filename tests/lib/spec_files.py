@@ -1,4 +1,4 @@
-"""A reader of specs/*.antt: the definitions of a file, their words, and what each name of it stands for."""
+"""Reads specs/*.antt: the definitions of a file, the words in each definition, and the definition that each name stands for."""
 
 import re
 from dataclasses import dataclass, field
@@ -10,12 +10,12 @@ CRATES = ROOT / "crates"
 
 WORD = r"""[^\s(){};,."λ]+(?:\.[^\s(){};,."λ]+)*"""
 TOKEN = re.compile(rf'"(?:\\.|[^"\\])*"|(?<=[)}}])\.{WORD}|λ|{WORD}|[(){{}};,.]')
-# Words that both languages have built in, and the signs of types.
+# Keywords and built-in names of both languages, and the signs in types and propositions.
 BUILT_IN = set("""
     : = | → ← × Type Unit Bool tt refl record data if then else let in do where of by pub abbrev unfoldable opaque module ⊥ ⊤ ¬ ∥ ∥₁ _ λ ↔ ≡
     now old new entry result self Self true false fields
 """.split())
-# The page that lists which functions compute a definition.
+# The page that lists the definitions that compute, and the functions whose contracts use them.
 COMPUTED = ROOT / "docs" / "COMPUTED.md"
 # The kinds of definitions in specs/.
 OF_SPECS = ("definition", "record", "data")
@@ -25,7 +25,7 @@ PATTERNS = {"[]", "∷", "Some", "None", "Ok", "Err", "true", "false", "zero", "
 
 @cache
 def computing():
-    """The definitions that docs/COMPUTED.md names after `by`, each as (crate, name)."""
+    """Returns the definitions that docs/COMPUTED.md names after `by`, each as (crate, name)."""
     crate, found = "", set()
     for line in COMPUTED.read_text(encoding="utf-8").splitlines():
         if line.startswith("## "):
@@ -37,8 +37,7 @@ def computing():
 
 @dataclass(eq=False)
 class Definition:
-    """A declaration of ours or a word of a library. Our declarations are those of specs/, types of the code, and ghosts of traits. A word of a
-    library has no file."""
+    """A definition in specs/, a type or constant of the code, a ghost of a trait, or a word of a library. Only a word of a library has no file."""
 
     module: str
     name: str
@@ -82,7 +81,7 @@ def indent_of(line):
 
 
 def names_of(path, lead=""):
-    """Returns the names of an import's path, as (module, name). A list in the path has names, paths and further lists."""
+    """Returns the names that the path of an import names, as (module, name). A list in the path may contain names, paths and further lists."""
     head, brace, inner = path.partition("{")
     if not brace:
         module, _, name = (lead + path).rpartition(".")
@@ -96,7 +95,7 @@ def names_of(path, lead=""):
 
 @cache
 def spelled_out(text):
-    """Returns the text with separate imports. If an import has paths in its list, one import for each module replaces it on the same line."""
+    """Returns the text without nested imports. Replaces an import that has paths in its list by one import for each module."""
 
     def flat(line):
         modules = {}
@@ -108,7 +107,8 @@ def spelled_out(text):
 
 
 def imports_in(text, word):
-    """Returns the imports of a text, as (module, name in the module or None, name in the text or alias)."""
+    """Returns the imports in a text, each as (module, name in the module, name in the text). If the text imports the module itself, the second
+    value is None and the third is the alias."""
     found = []
     for line in re.finditer(rf"^ *(pub )?{word} Rattle\.([\w.-]+?)(?:\.\{{([^}}]*)\}}|;|$| as ([\w◌]+))", spelled_out(text), re.MULTILINE):
         module, names, alias = line[2], line[3], line[4]
@@ -122,7 +122,7 @@ def imports_in(text, word):
 
 
 class Scope:
-    """Returns the names in a text: the imported names, and the names that the module defines."""
+    """The names that a text may use: names that it imports or defines, and aliases of modules."""
 
     def __init__(self, book, imports):
         self.book = book
@@ -136,7 +136,7 @@ class Scope:
                 self.names.setdefault(sign, (module, name))
 
     def find(self, word):
-        """Returns the definition of a word. An alias may come before the word, and fields after it."""
+        """Returns the definition of a word. The word may begin with the alias of a module, and end with names of fields."""
         head, _, rest = word.partition(".")
         if word in self.names:
             return self.book.look(*self.names[word])
@@ -152,7 +152,7 @@ class Scope:
 
 
 class Walk:
-    """Returns the unbound words of an expression."""
+    """Collects the definitions that an expression cites, and the words that aren't known."""
 
     def __init__(self, scope, bound=()):
         self.scope = scope
@@ -172,8 +172,8 @@ class Walk:
             self.unknown.append(word)
 
     def pattern(self, tokens):
-        """On the left side of an equation, each word that isn't a constructor is a variable. The first word in brackets is a function that is
-        applied, so it isn't a variable."""
+        """Reads the left side of an equation. Each word that isn't a constructor is a variable, except a library's function at the beginning of a
+        bracket, which is applied."""
         for at, token in enumerate(tokens):
             if token in "(){},;_":
                 continue
@@ -226,11 +226,11 @@ class Walk:
         if at + 1 < len(tokens) and tokens[at + 1] == "←":
             self.scopes[-1].add(token)
             return at + 2
-        # Adds a field of a record's type. The fields after it may use its name.
+        # The name of a field in a record type is bound in the fields after it.
         if at + 1 < len(tokens) and tokens[at + 1] == ":" and len(self.scopes) > 1:
             self.scopes[-1].add(token)
             return at + 2
-        # The sign `=` after a label in a record, unless it is the sign of the equation itself.
+        # A word before `=` within brackets is the label of a field in a record.
         if at + 1 < len(tokens) and tokens[at + 1] == "=" and len(self.scopes) > 1:
             return at + 2
         if token not in ",;.=":
@@ -252,7 +252,7 @@ def tokens_of(text):
 
 
 def top_level(tokens, sign):
-    """Returns the place of the sign outside all brackets, or None."""
+    """Returns the place of the first such sign that is outside all brackets, or None."""
     depth = 0
     for at, token in enumerate(tokens):
         depth += (token in "({") - (token in ")}")
@@ -280,7 +280,7 @@ class SpecsFile:
 
     @cached_property
     def head(self):
-        """Returns the comment at the head of the file as one line."""
+        """Returns the comment at the head of the file, in one line."""
         lines = []
         for line in self.raw.splitlines():
             if not line.startswith("-- "):
@@ -289,7 +289,8 @@ class SpecsFile:
         return " ".join(lines)
 
     def read(self):
-        """Splits the text into declarations. The declarations within `module _ (..) where` are indented, and share the module's parameters."""
+        """Splits the text into declarations. The declarations within `module _ (..) where` are indented. Each of them has the module's
+        parameters."""
         lines = self.text.splitlines()
         raw = self.raw.splitlines()
         outer = []  # (indent, telescope, indent of what is within)
@@ -351,7 +352,7 @@ class SpecsFile:
         if it.kind in ("record", "data"):
             self.resolve_record(it)
             return
-        # If the block has several equations, each begins in the first column of the block.
+        # Each equation of a definition begins at the definition's own indentation.
         pieces, piece = [], []
         for line in it.text.splitlines():
             if piece and line.strip() and indent_of(line) == it.indent and not line.lstrip().startswith("}"):

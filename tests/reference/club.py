@@ -10,7 +10,7 @@ DAY_MINUTES = 1440
 AHEAD_MINUTES = 86_400
 MOST_POINTS = 999_999_999
 
-# Planted faults, which test the tests. Each fault makes one rule wrong.
+# The names of faults that a test can plant in the rules. A planted fault makes one rule wrong, so that the test must find a difference.
 PLANTS = ("until_takes_its_minute", "cancels_without_a_refund", "counts_cancelled_as_open", "repeats_with_places_of_now",
           "spends_of_the_member", "rounds_refunds_up", "older_root_for_ever", "quota_by_key")
 
@@ -50,7 +50,7 @@ class Booking:
 
 @dataclass
 class Served:
-    """A reply with status 200. It has the names and values of its body, in order."""
+    """A reply with status 200. `body` has the names and values of the JSON body, in order."""
 
     body: dict
 
@@ -62,7 +62,7 @@ class Refused:
 
 
 class CommandRefused(Exception):
-    """A refused command of the office, with the word of the refusal."""
+    """Raised if the club refuses a command of the office. The message is the refusal."""
 
 
 @dataclass
@@ -109,13 +109,13 @@ class Club:
         return self.taken_in.get(slot, 0)
 
     def most_taken(self, facility):
-        """Returns the persons in the fullest slot of a facility on any day."""
+        """Returns the greatest number of persons that any slot of a facility has."""
         return max((persons for slot, persons in self.taken_in.items() if slot[0] == facility), default=0)
 
     # ---- a request under a pass
 
     def ask(self, text, request, moment):
-        """Returns the reply to a request with this text as its pass."""
+        """Carries out a request under the pass in `text`, and returns the reply."""
         try:
             given = passes.read(text)
         except passes.NoPass as fault:
@@ -297,7 +297,7 @@ class Club:
 
 
 def are_limits(places, price, opens, shuts):
-    """Returns whether a facility may have these numbers."""
+    """Returns whether these numbers of a facility are within their limits."""
     return 1 <= places <= 50 and price <= 9999 and opens < shuts <= 24
 
 

@@ -59,7 +59,8 @@ def minted(root, identifier, location=b"club-desk", caveats=()):
     return Pass(location, identifier, list(caveats), chain(root, identifier, caveats))
 
 
-# A parsed pass. Each caveat has its identifier, and whether it is a third-party caveat.
+# A parsed pass, which may have third-party caveats. Each caveat is (identifier, whether it is a third-party
+# caveat).
 @dataclass
 class WidePass:
     location: bytes
@@ -85,7 +86,8 @@ class Packets:
         self.data, self.at = data, 0
 
     def peek(self, key):
-        """Returns the data and the end of the next packet, if the packet has this key."""
+        """Returns the data of the next packet and the place where the packet ends. Returns None if the packet has
+        another key."""
         digits = self.data[self.at:self.at + 4]
         if not re.fullmatch(rb"[0-9a-f]{4}", digits):
             raise Malformed
@@ -153,7 +155,7 @@ class Fields:
         return self.data[self.at - 1]
 
     def number(self):
-        """Reads a number in its shortest encoding."""
+        """Reads a number in its varint encoding, and raises Malformed if the encoding isn't the shortest."""
         value = shift = 0
         while True:
             byte = self.byte()
@@ -228,7 +230,8 @@ def v2_bytes(it):
 
 
 def whole_number(text):
-    """Reads a number without a fraction in the same way as serde_json. Only a number that fits in unsigned 64 bits counts as a whole number."""
+    """Reads a JSON number without fraction and exponent as serde_json does. Returns an int if the number is from
+    0 to 2^64 - 1, otherwise a float."""
     number = finite(text)
     return int(text) if not text.startswith("-") and int(text) < 2**64 else number
 
@@ -245,7 +248,7 @@ def refused_constant(text):
 
 
 def depth(text):
-    """Returns the nesting depth of arrays and objects in JSON."""
+    """Returns how deep arrays and objects are nested in a JSON text."""
     deepest = level = 0
     for sign in re.sub(r'"(?:\\.|[^"\\])*"', "", text):
         level += (sign in "[{") - (sign in "]}")
@@ -262,7 +265,8 @@ def has_lone_surrogate(value):
 
 
 def json_value(data):
-    """Returns serde_json's value of the bytes. Of equal names in an object, the last counts. Raises one of NO_JSON for bytes that aren't JSON."""
+    """Reads bytes as JSON in the same way as serde_json. If an object has a name twice, the last value counts.
+    Raises one of NO_JSON for bytes that aren't JSON."""
     seen = []
 
     def pairs(found):
@@ -278,7 +282,8 @@ def json_value(data):
 
 
 def json_bytes_of(value, plain, encoded):
-    """The bytes under a plain name or under the name's `64` form, but never under both. None if both are missing."""
+    """Returns the bytes that an object has under a plain name, or in base64 under the encoded name. Returns None
+    if both names are missing, and raises Malformed if both are there."""
     if plain in value and encoded in value:
         raise Malformed
     text = value.get(plain, value.get(encoded))
@@ -342,7 +347,8 @@ def to_base64(data):
 
 
 def from_base64(text):
-    """Decodes both alphabets, but only one of them in a text. The text has no padding or the right padding, and trailing bits must be zero."""
+    """Decodes base64 in the standard or the URL-safe alphabet, but not in a mixture of both. The text must have
+    the right padding or none, and its unused bits must be zero."""
     letters = text.rstrip(b"=")
     padding = len(text) - len(letters)
     if not re.fullmatch(rb"[A-Za-z0-9_-]*|[A-Za-z0-9/+]*", letters) or len(letters) % 4 == 1 or padding not in (0, -len(letters) % 4):
@@ -376,7 +382,7 @@ def read_wide(text):
 
 
 def read(text):
-    """Returns the pass that a text encodes. Raises NoPass with the first fault in the order of the checks."""
+    """Returns the pass that a text encodes. Raises NoPass with the first fault that the checks find."""
     if len(text) > MOST_BYTES:
         raise NoPass(TOO_LONG)
     try:

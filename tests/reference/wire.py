@@ -28,7 +28,8 @@ PATH = re.compile(r"/slots/(%s)/([^/]*)/([^/]*)(?:/bookings/([1-9][0-9]{0,8}))?"
 
 
 class NotDecoded(Exception):
-    """Bytes that the desk refuses before it reads the pass. `fault` is the refusal's number, and `methods` are the methods of the path."""
+    """Raised for a request that the desk refuses before it reads the pass. `fault` is the number of the refusal. With refusal 3, `methods` has the
+    methods that the path allows."""
 
     def __init__(self, fault, methods=None):
         super().__init__(fault)
@@ -36,7 +37,7 @@ class NotDecoded(Exception):
 
 
 def split(data):
-    """Parses the method, target, fields and body at the beginning of bytes. No bytes follow these bytes in the input."""
+    """Splits the request at the beginning of `data` into its method, target, fields and body. `data` is the whole input."""
     end = data.find(b"\r\n\r\n", 0, MOST_HEAD)
     if end < 0:
         raise NotDecoded(1)
@@ -81,7 +82,7 @@ def guests_in(body):
 
 
 def decoded(data):
-    """Returns the text of the pass and the request that bytes encode."""
+    """Returns the text of the pass in a request's bytes, and the Request."""
     method, target, fields, body = split(data)
     guests = guests_in(body) if method == b"PUT" else 0
     if target == "/account":
@@ -98,7 +99,8 @@ def decoded(data):
 
 
 def slot_request(method, target, guests):
-    """Returns the request of a method at a slot's path, if the path has the method. Also returns the path's methods."""
+    """Returns the Request for a method and the path of a slot or a booking, and the methods that the path allows. The Request is None if the path
+    doesn't allow the method."""
     parts = PATH.fullmatch(target)
     day, hour = (day_of(parts[2]), hour_of(parts[3])) if parts else (None, None)
     if day is None or hour is None:
@@ -115,7 +117,7 @@ def compact(body):
 
 
 def bytes_with(status, body, methods=None):
-    """Returns the bytes of a reply with this body."""
+    """Returns the bytes of a reply with this status and this body."""
     lines = [f"HTTP/1.1 {status} {PHRASES[status]}", "Content-Type: application/json", f"Content-Length: {len(body)}"]
     if status == 401:
         lines.append("WWW-Authenticate: Bearer")
@@ -135,7 +137,7 @@ def reply_bytes(reply, methods=None):
 
 
 def exchange(club, data, moment):
-    """Returns the bytes of the reply to a complete input, and applies the change to the club."""
+    """Carries out the request that a complete input contains, and returns the bytes of the reply."""
     try:
         text, request = decoded(data)
     except NotDecoded as refusal:
