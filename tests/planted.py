@@ -15,8 +15,8 @@ import desk
 
 PROGRAMS = ("clubdesk", "passtool")
 BY_HAND = "#!/bin/sh\n"
-# The key is the name of a test, or TEST:FAULT if a test has several faults. The value is the file, the bytes, their replacement, the words of the
-# log, and the arguments for a shorter run of the test.
+# Each key is the name of a test, or TEST:FAULT if the test has several faults. Its value is the file, the bytes, their replacement, the words in
+# the log, and the arguments for a shorter run of the test.
 PLANTS = {
     "beside": ("tests/peers/beside_go/desk.go", '"left":', '"lost":', "booking: the replies differ", "10", "1", "100"),
     "bookings_survive_kill": ("clubdesk", BY_HAND, '[ "$1" != sheet ] || rm -f "$2-wal"; exec "$PROGRAM" "$@"', "'sheet "),

@@ -19,7 +19,7 @@ ROOT = Path(__file__).resolve().parents[2]
 REFERENCE = ROOT / "tests" / "reference"
 VECTORS = ROOT / "docs" / "vectors.json"
 
-# The key is one or more functions of the reference. The value lists the definitions by module, as `CRATE.FILE: NAME ..`.
+# Each key is one or more functions of the reference. Its value lists their definitions by module, as `CRATE.FILE: NAME ..`.
 WRITTEN = {
     "passes.sign": "pass_mac.Hmac: block_len short_key key_block masked_block hmac",
     "passes.chain": "pass_mac.Chain: derivation_key derived_key extended_signature chain",
