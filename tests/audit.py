@@ -10,15 +10,13 @@ definition either. Each contract in COMPUTED must depend on a computing definiti
 docs/vectors.json. AUDIT marks the definitions that these vectors show. Each step of a path in TOUR must cite the next step. Without an option, the
 program writes docs/AUDIT.md.
 
-The program reads the promises in docs/PROMISES.md, the clauses that carry them, and the definitions that the clauses cite. tests/lib/definitions.py
-reads the definitions.
+The program reads the promises in docs/PROMISES.md, the clauses that carry these promises, and the definitions that the clauses cite.
+tests/lib/definitions.py reads the definitions.
 
     tests/audit.py                  writes docs/AUDIT.md
     tests/audit.py --check          says whether it is current
-    tests/audit.py --strict         the same, and fails if any clause of a promise's function, or any other contract that docs/PROMISES.md
-                                    cites, or what stands for a ghost, reaches a computing definition that this page doesn't name
-    tests/audit.py --below NAME     what there is to read below one definition, or below all clauses of a function (Desk::ask), in reading
-                                    order
+    tests/audit.py --strict         the same, and fails if a contract or a ghost depends on a computing definition that PROMISES doesn't name
+    tests/audit.py --below NAME     prints the definitions below a definition, or below all clauses of a function (Desk::ask), in reading order
 """
 # pytestmark = [mark.quick("--strict")]
 
@@ -74,7 +72,7 @@ def clauses_of(book, function, labels=()):
 
 
 def below_all(book, function):
-    """Returns the definitions that all clauses of a function cite, directly or not."""
+    """Returns the definitions that all clauses of a function cite, directly or through other definitions."""
     cited = []
     for file, _, _, text, start in clauses_of(book, function):
         found, unknown = file.cited_by(start, text)
@@ -238,7 +236,7 @@ class Audit:
         return sorted((it for it in self.every.values() if it.is_computed and it.kind in OF_SPECS), key=lambda it: (it.module, it.line))
 
     def first_computed(self):
-        """Returns the computing definitions that a clause or a definition of another kind cites, each with the names of all that cite it."""
+        """Returns each computing definition that a clause or a non-computing definition cites, with the names of these clauses and definitions."""
         found = defaultdict(set)
         for it in self.every.values():
             if not it.is_computed:

@@ -1,7 +1,7 @@
 """Fixtures for the tests that pytest runs: the programs, clubs in files, and a separate server for each request.
 
-The files are in memory, where a sync costs no time. With `--scripts`, pytest imports no Python file. Each program of tests/ is then one test, which
-tests/lib/scripts.py runs. tests/run calls pytest with this option."""
+The files are in memory, where a sync costs no time. With the option `--scripts`, pytest imports no test file. It runs each program of tests/ as a
+test, by tests/lib/scripts.py. The runner tests/run calls pytest with `--scripts`."""
 
 import json
 import shutil
@@ -107,7 +107,7 @@ def pytest_sessionfinish(session):
 
 
 class Club:
-    """A club in a file of its own."""
+    """A club in a separate file."""
 
     def __init__(self, program, file):
         self.program, self.file = program, file
@@ -126,7 +126,7 @@ class Club:
         return printed.rstrip("\n")
 
     def balance(self, key):
-        """Returns the points of the member who owns a key, from a server's door or from the file."""
+        """Returns the points of the member who owns a key, by the command show-account."""
         return int(dict(line.split(" ", 1) for line in self.does(f"show-account {key} --at {kinds.NOON}").splitlines())["balance"])
 
     def sql(self, statement):
@@ -134,7 +134,7 @@ class Club:
             return database.execute(statement).fetchall()
 
     def served(self, *words, count=None, at=kinds.NOON, **more):
-        """Starts a server on the club. The server ends after a number of connections, or at the end of the block."""
+        """Starts a server on the club. The server ends after `count` connections, or at the end of the block."""
         return desk.Server(self.program, self.file, count, "--at", at, *words, **more)
 
     def ask(self, data, at=kinds.NOON, **more):
@@ -168,7 +168,7 @@ def clubdesk():
 
 @pytest.fixture(scope="session")
 def passtool():
-    """Runs passtool. Returns its status, and its output followed by its standard error."""
+    """Runs passtool. Returns passtool's status, and passtool's output followed by its standard error."""
     program = desk.program("passtool")
 
     def run(*words, given=""):
@@ -198,7 +198,7 @@ def new_club(clubdesk, tmp_path_factory):
 
 @pytest.fixture(scope="session")
 def made(new_club):
-    """Each test gets its own copy of this club. A test file may define another club."""
+    """Each test gets a copy of this club. A test file may define a fixture with the same name and a different club."""
     club = new_club()
     club.play(kinds.COMMANDS)
     return club

@@ -1,10 +1,10 @@
 #!/usr/bin/env -S /usr/bin/python3 -B
 """Finds names defined twice, lines past their limits, unused files, misspelt words and foreign English.
 
-The program also finds functions, files and crates that exceed their limits, numbers without units, and differing versions. It checks the English
-only in added lines.
+The program also finds functions, files and crates that exceed their limits, numbers without units, and differing versions. The program checks the
+English only in added lines.
 
-It prints each slip with its place. The status is 1 if there is a slip.
+The program prints each slip with its place. The status is 1 if there is a slip.
 - Two modules in specs/ define the same name, and TWINS doesn't list the name.
 - A line is too long. The limit is 100 columns for code, comments and clauses, and 160 for imports, specs and proofs.
 - A limit of CONTRIBUTING is exceeded: 40 lines for a function's body, 800 for a file of code, 400 for a proof, and 100 functions for a crate.

@@ -3,14 +3,14 @@
 #
 # If the contracts accept a mutant, the test that the mutant's edit names must fail.
 #
-# The program tries mutants and prints how each of them is refused. The check may find that a goal is false, or leave a goal open. Or a proof may
-# only lack a name that the edit removed. If the check proves the mutant, the test that the edit names must fail.
+# The program tries mutants and prints how each of them is refused. The check may find that a goal is false, or leave a goal open. In other cases, a
+# proof fails only because it cites a name that the edit removed. If the check proves the mutant, the test that the edit names must fail.
 #
 # The mutants are in crates/NAME/must-fail/ and crates/NAME/more-edits.txt. `rt check` tries the mutants in a scratch copy of the current tree. Run
 # this program for each crate whose code or contracts change. The status is 1 if a mutant is proved or can't be tried.
-#   tests/more_edits.sh                             every crate that has such edits
-#   tests/more_edits.sh club_core club_reference    these crates
-#   tests/more_edits.sh club_core/charges_a_repeat  this edit
+#   tests/more_edits.sh                              every crate that has such edits
+#   tests/more_edits.sh club_core club_reference     these crates
+#   tests/more_edits.sh club_core/charges_a_repeat   this edit
 #
 # The first word of a line gives the result:
 # - false: the check found a counterexample to a goal, so the mutant has no proof.
@@ -28,6 +28,7 @@
 # The results `false`, `goal` and `test` refuse a mutant because of its meaning. Only `false` proves that the goal is false. The result `goal` means
 # that the proof fails and that no tactic finds another proof. Most mutants get `goal` although their goals are false, because the check seldom
 # finds values that break an equation of lists or a bound on a product.
+#
 # pytestmark = [mark.proofs, mark.timeout(36000)]
 here=$(CDPATH='' cd -P -- "$(dirname -- "$0")" && pwd)
 exec python3 "$here/lib/more_edits.py" "$@"

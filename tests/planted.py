@@ -1,4 +1,4 @@
-"""Has faults for each test. If a fault is planted, the test must fail. `tests/run --planted` reads this module.
+"""Lists faults for each test. The test must fail if one of its faults is planted. `tests/run --planted` reads this module.
 
 A fault replaces some bytes in a copy of a built program or of a file in the repository. A fault may also be a shell script that replaces a program.
 In the script, $PROGRAM is the path of the replaced program. The log of the failed test must contain the words that the fault states, so that a
@@ -15,7 +15,8 @@ import desk
 
 PROGRAMS = ("clubdesk", "passtool")
 BY_HAND = "#!/bin/sh\n"
-# Each key is the name of a test, or TEST:FAULT if the test has several faults. Its value is the file, the bytes, their replacement, the words in
+# Each key is the name of a test, or TEST:FAULT if the test has several faults. The value of a key is the file, the bytes, their replacement, the
+# words in
 # the log, and the arguments for a shorter run of the test.
 PLANTS = {
     "beside": ("tests/peers/beside_go/desk.go", '"left":', '"lost":', "booking: the replies differ", "10", "1", "100"),

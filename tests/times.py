@@ -6,8 +6,8 @@ build of a program), the proof and the build of the tests, and the must-fail edi
 line of the gate's output. The status is the gate's status.
   tests/times.py                 the whole gate
   tests/times.py club_core ..    `rt ci club_core ..`: these crates, and those below them
-It reads the times from /proc once a second, so it may miss the last second of each process. The times don't include the runs of programs and tests.
-The times of two measurements may differ by about 25 percent, depending on the other work of the machine.
+The program reads the times from /proc once a second, so it may miss the last second of each process. The times don't include the runs of programs
+and tests. The times of two measurements may differ by about 25 percent, depending on the other work of the machine.
 """
 # pytestmark = [mark.proofs, mark.alone, mark.timeout(36000)]
 
@@ -47,7 +47,7 @@ def task(pid, work):
 
 
 def sample(spent, work):
-    """Records the ticks of each compiling process. Those of its compiling children count for the topmost compiling process."""
+    """Records the ticks of each compiling process. If a compiling process has compiling children, their ticks count as its own ticks."""
     found, totals = {}, Counter()
     for pid in filter(str.isdigit, os.listdir("/proc")):
         try:
@@ -63,10 +63,10 @@ def sample(spent, work):
 
 
 def run_gate(work, names):
-    """Runs the gate. Returns its status, and the ticks of each compiling process."""
+    """Runs the gate. Returns the gate's status, and the ticks of each compiling process."""
     spent = Counter()
-    # TMPDIR puts the folders of the edits below the scratch folder. The times then include the edits of this run, and don't include other runs on
-    # the machine.
+    # TMPDIR puts the folders of the edits below the scratch folder. The measured times include the edits of this run, but no other runs on the
+    # machine.
     with open(work / "log", "wb") as log, subprocess.Popen(["rt", "ci", *names], cwd=work / "clone", stdin=subprocess.DEVNULL, stdout=log, stderr=log,
                                                           env={**os.environ, "TMPDIR": str(work / "rooms")}, start_new_session=True) as gate:
         try:

@@ -1,11 +1,11 @@
 #!/usr/bin/env -S /usr/bin/python3 -B -m pytest -q -p no:cacheprovider
-"""Each acknowledged booking of 200 is in the file once, although servers are killed meanwhile.
+"""Although the test kills servers while clients book, each acknowledged booking is in the file exactly once.
 
-The same requests then get the same replies again.
+If the test sends the same requests again, they get the same replies.
 
 A fixed seed determines the times of the kills. sqlite3, the day sheets and GETs find each acknowledged
-booking. The booking in progress may be in the file too, but only complete. The totals are the sums of the
-bookings. At the end the file has all 200 bookings, each once. ROUNDS=N kills N servers.
+booking. A booking that was in progress may be in the file too, but only as a whole. The file's totals are the sums of its bookings. At the end the
+file has all 200 bookings, each once. ROUNDS=N kills N servers.
 """
 
 import os
@@ -51,7 +51,7 @@ class Desk(Both):
                 self.ask(it, data, MOMENT)
 
     def holds(self):
-        """The file has exactly the bookings of the reference, each once."""
+        """Checks that the file has exactly the bookings of the reference, each once, and the right totals."""
         expect("unsound", desk.unsound(self.file), [])
         self.compare_rows()
         for day in DAYS:

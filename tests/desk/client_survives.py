@@ -1,12 +1,12 @@
 #!/usr/bin/env -S /usr/bin/python3 -B -m pytest -q -p no:cacheprovider
-"""`examples/client.py` books nothing twice and loses nothing, while the test kills its server or its proxy fails.
+"""Even if its server is killed or its proxy fails, `examples/client.py` books nothing twice and loses no booking.
 
 The test kills the server and starts it again 100 times. No acknowledged booking or cancellation is lost.
 
 Every fifth time, the test also kills the client. The client requests each slot once, and cancels most of its bookings. At the end the file has
-exactly the bookings on the client's record, each once. The bookings have the charges, places and refunds that the server acknowledged. The totals
-are the sums of the bookings. Then the test runs each command of client.py and compares its output, while a proxy between client and server fails in
-several ways. KILLS=N kills N servers.
+exactly the bookings on the client's record, each once. The bookings have the charges, places and refunds that the server acknowledged. The file's
+totals are the sums of its bookings. Then the test runs each command of client.py and compares its output, while a proxy between client and server
+fails in several ways. KILLS=N kills N servers.
 """
 
 import multiprocessing
@@ -89,7 +89,7 @@ def killed_and_killed(club, folder):
 
 
 def recorded(folder, port):
-    """Returns the client's record of each booking, when no request is unfinished."""
+    """Finishes the client's unfinished requests, and returns the client's record of each booking."""
     rows = {}
     for key in KEYS:
         client = Counting(folder, port, key, sys.stderr)
@@ -132,7 +132,7 @@ def own(new_club, tmp_path):
     (tmp_path / "pass").write_text(club.does(f"add-key amy-1 amy {ROOT}"))
 
     def prints(port, words, patience=0):
-        """Returns the client's status, the number that it drew, and its output with N in place of that number."""
+        """Returns the client's status, its output with N in place of the booking number, and the booking number."""
         ended = subprocess.run([desk.ROOT / "examples" / "client.py", *words.split()], cwd=tmp_path, check=False, stdout=subprocess.PIPE, text=True,
                                env={**os.environ, "DESK": f"http://127.0.0.1:{port}", "PATIENCE": str(patience)})
         drawn = re.search(r"amy-1/(\d+)", ended.stdout)

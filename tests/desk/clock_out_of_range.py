@@ -1,11 +1,11 @@
 #!/usr/bin/env -S /usr/bin/python3 -B -m pytest -q -p no:cacheprovider
-"""Under clocks around the first and last minutes of 2000 to 2099, the server answers, or ends with status 6.
+"""The server answers while its clock shows a moment from 2000 to 2099, and ends with status 6 at any other moment.
 
-The server serves clients while its clock shows a moment of these years. At any other moment it ends with status 6 and leaves the club unchanged.
+When the server ends with status 6, it leaves the club unchanged.
 
-The test also sets the clock to moments outside these years, in three zones. If the clock shows a moment within these years, each client gets its
-reply. If the clock shows another moment or can't be read, the first client gets no byte. The server then prints a line on standard error and ends
-without waiting for a second client. The club is unchanged.
+The test also sets the clock to moments before 2000 and after 2099, in three zones. If the clock shows a moment from 2000 to 2099, each client gets
+its reply. If the clock shows another moment or can't be read, the first client gets no byte. The server then prints a line on standard error and
+ends without waiting for a second client. The club is unchanged.
 """
 
 from datetime import datetime, timezone

@@ -4,13 +4,14 @@
 The test refuses each allocation in turn, also while a command prints passes. After a fault the command has printed nothing, and the club is
 unchanged. After a kill the club is unchanged or the command is done.
 
-After each of these cases, sqlite3 finds no damage in the file, and clubdesk can read the file.
-- The test refuses each allocation in turn. The command ends with status 4, or with status 2 if clap met the refusal. If the command didn't need the
+After each fault or kill, sqlite3 finds no damage in the file, and clubdesk can read the file.
+- The test refuses each allocation in turn. The command ends with status 4, or with status 2 if the parser clap needed the refused allocation. If
+  the command didn't need the
   refused allocation, it ends as with ample memory.
-- The test limits the size of the file to a number of blocks. The command ends with status 5 if it needs more blocks. Otherwise it ends as with
-  ample storage.
-- The test kills the command after a number of milliseconds.
-STEP=N refuses only each Nth allocation, which is faster.
+- The test limits the size of the file to various numbers of blocks. The command ends with status 5 if it needs more blocks. Otherwise the command
+  ends as
+  with ample storage.
+- The test kills the command after various numbers of milliseconds. STEP=N refuses only each Nth allocation, which is faster.
 """
 
 import contextlib
@@ -103,7 +104,7 @@ class Command:
         return ended
 
     def fails(self, ended, fault, *statuses):
-        """Returns whether the command failed. A failed command must end with one of these statuses and no output. Any other command must end as
+        """Returns whether the command failed. A failed command must end with one of the given statuses and no output. Any other command must end as
         with ample memory and storage."""
         assert ended == self.whole or ended[0] in statuses and ended[1] == "" and (ended[0] == 2 or ended[2] == fault), ended
         return ended != self.whole

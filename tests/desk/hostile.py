@@ -6,9 +6,9 @@ planted in the rules.
 
 The test compares replies byte for byte. It compares rows and totals each time a server has ended. The rules in Python come only from the pages on
 the desk, passes and caveats, and not from the desk's code. A seed determines the requests. The passes have three forms, and are signed under
-current, older and unknown roots. Some passes are truncated, or changed in a byte. Other passes have caveats with values at a limit. Some passes
+current, older and unknown roots. Some passes are truncated, or have one changed byte. Other passes have caveats with values at a limit. Some passes
 have a third-party caveat. Heads and bodies vary in letters, line ends, lengths, fields and paths. The test runs many servers one after the other,
-each at a different moment. The office gives its commands before each server starts.
+each with its clock at a random moment. The office gives its commands before each server starts.
 
     tests/desk/hostile.py [--seed N] [--count M] [--plant FAULT | --self-test]
 """
@@ -276,7 +276,7 @@ def begin(world):
 
 
 def run(seed, count, desk, plant=None):
-    """Sends a number of requests. After every 10,000 requests it makes a new club."""
+    """Sends a number of requests. After every 10,000 requests, continues with a new club."""
     with tempfile.TemporaryDirectory(dir=programs.IN_MEMORY) as folder:
         for done in programs.paced(count, AT_ONE_SERVER, "requests"):
             if done % AT_ONE_CLUB == 0:

@@ -3,8 +3,8 @@
 
 The server makes six bookings and three cancellations in a file, under passes in V1, V2 and JSON.
 
-Tests that compare the bytes of replies can't notice an unnecessary allocation, because it changes no byte.
-The commit is the last call that syncs the file before the server sends the reply.
+Tests that compare the bytes of replies can't notice an unnecessary allocation, because such an allocation changes
+no byte. The commit is the last call that syncs the file before the server sends the reply.
 """
 
 import pytest

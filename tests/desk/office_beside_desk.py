@@ -1,14 +1,14 @@
 #!/usr/bin/env -S /usr/bin/python3 -B -m pytest -q -x -s -p no:cacheprovider
 """500 commands of two offices and 5,000 simultaneous requests of four clients get the right answers and leave the right totals.
 
-The answers and totals are also right after kills, with slow clients, stale doors and moved files. The test prints how long commands and requests
-took.
+The answers and totals are also right if clients are slow, or if the test kills programs, leaves stale doors or moves files. The test prints how
+long commands and requests took.
 
 The test uses real processes. When the server has stopped, sqlite3 finds that each total is the sum of its rows. Then the test kills 20 servers or
 commands. One client is silent while another client sends a byte a second. The test also tries a stale door, a door that another program has, and a
-second server. It tries links to the file and its folder, and a file that is moved, replaced or removed. The test also gives commands as another
-user, and checks the modes of the files and the lines of the log. The test measures the times with and without commands, and with 300,000 more
-bookings.
+second server. The test also tries links to the file and its folder, and a file that is moved, replaced or removed. The test also gives commands as
+another user, and checks the modes of the files and the lines of the log. The test measures the times with and without commands, and with 300,000
+more bookings.
 """
 
 import contextlib
@@ -151,8 +151,8 @@ def ends(wanted, most, *words):
 
 
 def test_what_others_meet_beside_a_server(club):
-    """Starts a second server on the file, and gives commands through links to the file and to its folder. Gives a command at the old name of a
-    moved file. Gives a command as another user who may read the file."""
+    """Starts a second server on the file, and gives commands through links to the file and to its folder. Moves the file, and gives a command at
+    the file's old path. Gives a command as another user who may read the file."""
     folder, moved = club.file.parent, club.file.with_name("moved")
     with club.served():
         ends(FAILED, 15, club.program, "serve", club.file, "--port", "0", "--count", "1")
@@ -254,7 +254,7 @@ def test_commands_beside_four_clients_of_which_two_dawdle(club):
 @pytest.mark.parametrize("dawdle", [lambda _: None, DRIP], ids=["silent", "a byte a second"])
 def test_client_that_dawdles_keeps_no_command(club, dawdle):
     """The server carries out each command within 0.9 seconds, while it still waits for the slow client. The server cuts off the slow client after
-    four seconds, its patience."""
+    the server's patience of four seconds."""
     commands = Times()
     with club.served("--patience", "4") as server, socket.create_connection(("127.0.0.1", server.port), 60) as client:
         begun, dawdling = time.monotonic(), threading.Thread(target=dawdle, args=[client])
@@ -272,7 +272,7 @@ def test_client_that_dawdles_keeps_no_command(club, dawdle):
 
 @pytest.mark.parametrize("number", range(1, 21))
 def test_killed_command_or_server(club, number):
-    """The status of a command tells whether the server has carried out the command, or that nobody knows. The totals agree with the status."""
+    """The status of a command states whether the server has carried out the command, or that this is unknown. The totals agree with the status."""
     with club.served() as server:
         before = club.balance("k1")
         command = subprocess.Popen([club.program, "credit", club.file, "m1", "1"], stdout=subprocess.DEVNULL, stderr=subprocess.DEVNULL)
@@ -284,7 +284,7 @@ def test_killed_command_or_server(club, number):
 
 
 def test_server_that_ends_takes_its_door_along(club):
-    """The server removes only its door. Any other file in the folder may be another club."""
+    """The server removes only its door. Other files in the folder stay, because they may belong to another club."""
     others = [Path(f"{club.file}-{ending}") for ending in ("wanted", "serving", "paused")]
     for it in others:
         it.write_text("another's\n")

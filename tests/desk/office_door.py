@@ -1,7 +1,7 @@
 #!/usr/bin/env -S /usr/bin/python3 -B -m pytest -q -p no:cacheprovider
 """A running desk carries out each complete command once, and nothing else that reaches its door.
 
-The test sends truncated, slow and foreign commands. It also runs senders and servers that misbehave. The real server must go on serving.
+The test sends truncated, slow and invalid commands. The test also runs senders and servers that misbehave. The real server must go on serving.
 
 The test sends each prefix of a command, commands of 70,000 bytes, and commands that state a wrong number of words. Some commands have arguments
 that aren't UTF-8, have an unknown name, or have the name `serve`. Some senders close the connection before the greeting, are silent, or never read
@@ -124,7 +124,7 @@ def test_a_sender_that_goes(club, serving):
 
 @pytest.mark.parametrize("length", [0, len(WHOLE) // 2, len(WHOLE)])
 def test_a_silent_sender(club, serving, length):
-    """The server cuts off a silent sender after 200 milliseconds. Other clients wait until then."""
+    """The server cuts off a silent sender after 200 milliseconds. Other clients wait for these 200 milliseconds."""
     with visitor(club) as it:
         began = time.monotonic()
         it.sendall(WHOLE[:length])
@@ -136,7 +136,7 @@ def test_a_silent_sender(club, serving, length):
 
 def test_a_sender_that_takes_no_answer(club):
     """The day sheet is too large for the socket's buffer, and the sender doesn't read it. The server cuts off the sender after 200 milliseconds,
-    even if the server's patience is longer. The part that was sent has no zero byte at its end."""
+    even if the server's patience is longer. The truncated answer doesn't end in a zero byte."""
     club.sql("""WITH n(i) AS (SELECT 1 UNION ALL SELECT i + 1 FROM n WHERE i < 10000)
         INSERT INTO bookings SELECT 'amy-1', 1000 + i, 'court-1', 10957, 8, 0, 0, 0, 0, 0 FROM n""")
     with club.served("--patience", "10") as server, visitor(club) as it:
@@ -183,8 +183,8 @@ def test_a_server_that_is_stopped_while_a_command_comes(club, serving, length, w
 
 
 def test_a_server_that_is_stopped_while_a_client_sends(club):
-    """A request arrives while the server is stopped for longer than its patience. When the server continues, it replies to a complete request and
-    cuts off an incomplete one."""
+    """A request arrives while the server is stopped for longer than the server's patience. When the server continues, it replies to a complete
+    request and cuts off an incomplete one."""
     whole = kinds.account().data
     with club.served("--patience", "1") as server:
         for data, begins in ((whole, b"HTTP/1.1 200 "), (whole[:-1], b"")):
@@ -199,7 +199,7 @@ def test_a_server_that_is_stopped_while_a_client_sends(club):
 
 @pytest.mark.parametrize("is_followed", [False, True], ids=["by nobody", "by another server"])
 def test_a_server_that_ends_before_it_greets(club, clubdesk, is_followed):
-    """The client has sent no byte of the command, so it opens the file itself or connects to the next server."""
+    """The client has sent no byte of the command, so the client opens the file itself or connects to the next server."""
     with club.served() as server:
         os.kill(server.process.pid, signal.SIGSTOP)
         with subprocess.Popen([clubdesk, "credit", club.file, "amy", "1"], stdout=subprocess.PIPE, stderr=subprocess.PIPE, text=True) as command:
@@ -235,7 +235,8 @@ def test_what_a_server_may_send(club, greeting, reply, wanted):
 
 
 def test_a_server_that_closes_after_it_greeted(club):
-    """The server closes the connection when it has read at most a part of the command, so it can't carry out the command. The next server does."""
+    """The server closes the connection when it has read at most a part of the command, so this server can't carry out the command. The next server
+    carries out the command."""
     with socket.socket(socket.AF_UNIX) as door:
         door.bind(f"{club.file}-office")
         door.listen()
@@ -257,7 +258,7 @@ def test_a_server_that_closes_after_it_greeted(club):
 
 
 def test_fifty_at_once(club, serving, clubdesk):
-    """The server carries out each command once. If the machine is busy, a client may get no processor time before its time for sending is over.
+    """The server carries out each command once. On a busy machine, a client may get no processor time until its timeout for sending is over.
     Then the client tries again."""
     commands = [subprocess.Popen([clubdesk, "credit", club.file, "amy", "1"], stdout=subprocess.PIPE, stderr=subprocess.PIPE) for _ in range(50)]
     ended = [(*it.communicate(), it.returncode) for it in commands]
@@ -319,8 +320,8 @@ with socket.socket(socket.AF_UNIX) as door:
 
 @needs_root
 def test_a_door_of_a_stranger(club, clubdesk):
-    """A stranger's program listens at the door's path, in a folder that everybody can write to. This program gets no command and no root, and no
-    server replaces its socket."""
+    """A stranger's program listens at the door's path, in a folder that everybody can write to. The stranger's program gets no command and no root,
+    and no server replaces its socket."""
     for parent in club.file.parents:
         if parent.stat().st_mode & 0o5 != 0o5:
             parent.chmod(0o755)

@@ -1,16 +1,16 @@
 #!/usr/bin/env -S /usr/bin/python3 -B
 """If an allocation is refused, each call in the tests still returns the right result, or reports out of memory and changes nothing.
 
-The chosen tests read and write the known passes in each form, and open new and existing stores. They also give each command of the office, and make
-the known booking by `Desk::ask`, `Desk::run` and `answer`.
+The chosen tests read and write the known passes in each form, and open new and existing stores. The chosen tests also give each command of the
+office, and make the known booking by `Desk::ask`, `Desk::run` and `answer`.
 
 The program fails if a test is missing, fails with ample memory, or makes no allocation. The program first proves and builds tests that are missing
 or older than their sources.
 
 Name only tests that accept out of memory in place of the right result. A test that expects another fault fails when memory is refused.
-  tests/desk/refused_memory_tests.py                                              the tests of the list below
-  tests/desk/refused_memory_tests.py club_gate_tests                                         those of one crate
-  tests/desk/refused_memory_tests.py club_gate_tests store::shown::shows_what_a_key_sees ..  any tests of a crate
+  tests/desk/refused_memory_tests.py                                                          the tests in the list below
+  tests/desk/refused_memory_tests.py club_gate_tests                                          the listed tests of a crate
+  tests/desk/refused_memory_tests.py club_gate_tests store::shown::shows_what_a_key_sees ..   any tests of a crate
 """
 # pytestmark = [mark.proofs, mark.timeout(36000), mark.wants("gcc libc6-dev")]
 
@@ -40,7 +40,7 @@ ROOM = tempfile.TemporaryDirectory(dir=desk.IN_MEMORY)
 
 
 def built(crate):
-    """Returns the tests of a crate. Proves and builds them if they are missing or older than their sources."""
+    """Returns the tests of a crate. Proves and builds the tests if they are missing or older than their sources."""
     if not (desk.ROOT / "crates" / crate / "src").is_dir():
         sys.exit(f"there is no crate {crate}")
     program, begun = desk.ROOT / "crates" / crate / "out" / f"{crate}_tests", time.time()

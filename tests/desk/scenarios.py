@@ -1,8 +1,8 @@
 #!/usr/bin/env -S /usr/bin/python3 -B
 """Each line of a scenario (docs/SCENARIOS.md) gets its stated answer from the rules in Python and from `clubdesk`.
 
-The rules in Python are those of `tests/reference`. The test runs `clubdesk` over a file and a socket. The passes have all three forms. With
-`--self-test`, the test checks that it finds eight faults planted in the rules.
+The rules in Python are those of `tests/reference`. The club of `clubdesk` is in a file, and requests reach its server over a socket. The test tries
+passes in all three forms. With `--self-test`, the test checks that it finds eight faults planted in the rules.
 
 The reader refuses a file if a line can't be read or has no answer, if the commands for a club fail, or if the file has no line to run. The test
 prints the place of each fault. The self-test tries faulty files of all these kinds.
@@ -121,8 +121,8 @@ def reply_in(data):
 
 CLUB = "club  members amy 5 100; court-1 court 4 200 8-22; keys amy-1\nat  2026-04-20T12:00\n"
 ACCOUNT = 'amy-1  GET account  200 {"member":"amy","balance":100,"quota":5,"open":0,"spent":0}'
-# Faulty files: the text after CLUB, the line of the fault, and words of the fault. If the line is None, the file is valid. FAULTY_CLUBS has
-# complete files, without CLUB before them.
+# Faulty files: the text after CLUB, the line of the fault, and words of the fault. If the line is None, the file is valid. The texts of
+# FAULTY_CLUBS are complete files, so CLUB isn't added to them.
 FAULTY = (
     ("", 2, "no expectation"), ("amy-1", 3, "not understood"), ("amy-1  GET", 3, "a request has"), ("offce  revoke-key amy-1  done", 3, "is unknown"),
     ("bob-1  GET account  200 {}", 3, "the key bob-1 is unknown"), ("amy-1 [unknown]  GET account  200 {}", 3, "the key amy-1 is known"),

@@ -5,8 +5,8 @@ The clients that come after a slow client get their replies. Some clients send f
 
 The server has a patience of two seconds. One client sends nothing, another sends only the beginning of its request, and a third sends a byte a
 second. A fourth client never reads its reply, and a fifth stays connected after its request. Then clients send 1,000 requests, each followed by 1
-to 100,000 more bytes, and 1,000 heads of 100,000 bytes. Half of these requests and heads come in two pieces. Then they send requests in three, four
-and six pieces, with a length or with chunks. During 100 more requests, the test stops the server and continues it.
+to 100,000 more bytes, and 1,000 heads of 100,000 bytes. Half of these requests and heads come in two pieces. Then clients send requests in three,
+four and six pieces, with a length or with chunks. During 100 more requests, the test stops the server and continues it.
 
 Each client sends all its bytes before it reads, as Python's HTTP clients do. A client gives up if it can't send its bytes.
 """

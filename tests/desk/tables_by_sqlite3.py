@@ -48,7 +48,7 @@ FIRST = tells(3, 9099, 1, 901)
 
 @pytest.fixture(scope="module")
 def made(new_club):
-    """A club with two bookings. One of them was cancelled less than a day before its slot."""
+    """A club with two bookings. One of the bookings was cancelled less than a day before its slot."""
     club = new_club("add-member amy 5", "credit amy 10000", "add-facility court-1 court 4 200 8 22", "add-facility room-1 room 1 601 8 22",
                     f"add-key amy-1 amy {ROOT}", f"close-slot court-1 {DAY} 09")
     rows = [booked(book(7, THREE), 600, 1), booked(book(8, ONE, ROOM), 601, 0), cancel(8, ROOM).at("2026-04-30T18:01").serves(booking="amy-1/8", refund=300)]
@@ -167,7 +167,7 @@ def test_lists(club):
 
 
 def test_corrections(club):
-    """After each correction, the desk answers as if the club had always been in this state."""
+    """After each correction, the desk answers as if the club had always been in the corrected state."""
     corrected(club, "A credit that was too high", 1)
     corrected(club, "Another quota", 1)
     corrected(club, "A slot that is open again", 0)
@@ -236,8 +236,8 @@ def test_command_that_is_refused_changes_nothing(club):
 
 @pytest.mark.parametrize("table, column, least, most", LIMITS, ids=map(" ".join, LIMITS))
 def test_limit(club, table, column, least, most):
-    """The desk accepts the least and the greatest value of each column. sqlite3 refuses values outside these limits. If sqlite3 is told to ignore
-    the limits, the desk refuses such a value."""
+    """The desk accepts the least and the greatest value of each column. sqlite3 refuses values outside these limits. If sqlite3 ignores the limits,
+    the desk refuses values outside the limits."""
     sql(club, "INSERT INTO old_roots VALUES ('amy-1', zeroblob(16), 20000000)")
     kept = club.copied_to(club.file.with_name("kept"))
     for value in (int(least) - 1, int(least), int(most), int(most) + 1):

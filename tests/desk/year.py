@@ -1,12 +1,12 @@
 #!/usr/bin/env python3
 """During a simulated year with kills and both changes of summer time, `clubdesk` answers as the rules in Python do.
 
-The rules are those of `tests/reference`. The test compares each reply, each command's answer and each day sheet. Once a month it compares all rows
-and totals. With `--self-test`, the test checks that it finds faults planted in the rules.
+The rules are those of `tests/reference`. The test compares each reply, each command's answer and each day sheet. Once a month the test compares all
+rows and totals. With `--self-test`, the test checks that it finds faults planted in the rules.
 
 Members use narrowed passes, and the office gives each of its commands. tests/lib/set_clock.c sets the clock of each server. The server converts the
-clock's time to the club's civil time by the zone's rule. The test converts it by Python's zoneinfo. After a kill, the test sends the request or
-command again. The answer must be the answer of the rules, no matter whether the killed program had carried out the first try.
+clock's time to the club's civil time by the zone's rule. The test converts the clock's time by Python's zoneinfo. After a kill, the test sends the
+request or command again. The answer must be the answer of the rules, no matter whether the killed program had carried out the first try.
 
     tests/desk/year.py [--seed N] [--days N] [--requests N] [--self-test]
 """
@@ -128,7 +128,7 @@ class Year(Both):
 
     def give_and_kill(self, command):
         """Kills the command after a random delay of at most 30 ms. Then gives the command again. The second command must succeed, or report that
-        the key exists already. In both cases the club must then match the reference."""
+        the key exists already. After that, the club must match the reference."""
         self.next_key += 1
         process = subprocess.Popen([self.desk, *map(str, self.words_of(command))], stdout=subprocess.DEVNULL, stderr=subprocess.DEVNULL)
         time.sleep(self.draw.random() * 0.03)
@@ -165,7 +165,7 @@ class Year(Both):
     def bytes_of(self, moment, method, key, path, body=b""):
         given = self.draw.choice(self.passes[key][-6:])
         if self.draw.random() < 0.03:
-            # adds a caveat `until < `, with this minute or the next one
+            # adds a caveat that makes the pass end at this minute or at the next minute
             until = f"until < {spelled_moment(moment + self.draw.choice((0, 1)))}"
             given = passes.text_of(passes.read(given).narrowed(until.encode()), "v2")
         length = b"Content-Length: %d\r\n" % len(body) if body else b""

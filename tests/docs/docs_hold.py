@@ -2,12 +2,13 @@
 """The commands, outputs, links and names on the pages are correct.
 
 The test compares README.md, CONTRIBUTING.md, the pages of docs/, and the README.md of each crate with the rest of the repository.
-- The test runs each ```console block. It runs the blocks of a page one after the other, in a new folder for each page. The variable PATH names the
-  folders of the programs and bin/. A line that begins with `$ ` is a command, and the lines after it are the command's standard output and error.
+- The test runs each ```console block. It runs the blocks of a page one after the other, in a new folder for each page. The variable PATH includes
+  bin/ and a folder with the built programs. A line that begins with `$ ` is a command, and the lines after it are the command's standard output and
+  error.
   The test ignores empty
   lines and spaces at the end of a line. The test may replace port 8080 with a free port.
-- The docstring of each test below describes the other checks.
-The variables CLUBDESK and PASSTOOL have the paths of the programs. If a variable is unset, the test proves and builds its program first.
+- The docstrings of the tests below describe the other checks. The variables CLUBDESK and PASSTOOL have the paths of the programs. If a variable is
+  unset, the test proves and builds its program first.
   tests/docs/docs_hold.py                    every page
   tests/docs/docs_hold.py -k DESK            the pages whose names have this word
   tests/docs/docs_hold.py --no-commands ..   only the checks that need no program of ours
@@ -109,8 +110,8 @@ def test_links_lead_to_pages_and_headings(page):
 
 @each_page
 def test_files_and_names_are_there(page):
-    """Each file that a page names exists. Each file and folder of a crate that the crate's page names exists. Each name `crate::..::name` or
-    `Type::name` has a definition."""
+    """Each file that a page names exists. If a crate's page names a file or a folder of the crate, the file or folder exists. Each name
+    `crate::..::name` or `Type::name` has a definition."""
     words = ticked(prose(page))
     scripts = [it for block in blocks(page, "sh") for it in re.findall(r"^(?:bin|tests|deploy)/[a-z_./]+", block, re.MULTILINE)]
     for path in [*words, *scripts]:
@@ -141,8 +142,8 @@ def test_bare_names_of_a_crate(page):
 @each_page
 def test_definitions_are_in_their_files(page):
     """A list of definitions has the form `Definitions: NAME, .. in FILE; NAME, .. in FILE`. Each FILE of the list defines the names before it. A
-    FILE without a folder is in the folder of the FILE before it. FILE may also be a folder of specs/. Then one of the folder's files defines each
-    name."""
+    FILE without a folder is in the folder of the FILE before it. FILE may also be a folder of specs/. If FILE is a folder, a file in this folder
+    defines each name."""
     for line in re.findall(r"Definitions?: (`.*)", prose(page)):
         pieces, names, folder = line.split("`"), [], ""
         for before, piece in zip(pieces[::2], pieces[1::2]):
@@ -171,8 +172,8 @@ def test_passes_are_written_under_temporary_names(page):
 
 
 def test_laws():
-    """README lists the laws of docs/PROMISES.md in the same order. Each law ends in a link to docs/PROMISES.md. The text of the link is a function
-    and one of its clauses. tests/audit.py checks the functions and clauses of docs/PROMISES.md."""
+    """README lists the laws of docs/PROMISES.md in the same order. Each law ends in a link to docs/PROMISES.md. The text of the link names a
+    function and one of the function's clauses. tests/audit.py checks the functions and clauses of docs/PROMISES.md."""
     title = r"^\d+\. \*\*(.*?)\.\*\*"
     laws = re.findall(title, TEXTS["docs/PROMISES.md"], re.MULTILINE)
     rows = re.findall(title + r" .*\(\[`([^`]*)`: `([^`]*)`.*\]\(docs/PROMISES\.md#the-law-of-the-desk\)\)$", TEXTS["README.md"], re.MULTILINE)
@@ -193,8 +194,8 @@ def test_layers():
 
 
 def test_tour():
-    """Each question has three to six steps of the form `PATH`: `NAME`, .. If PATH is a file of code, the file defines NAME. Otherwise the file
-    contains NAME."""
+    """Each question has three to six steps of the form `PATH`: `NAME`, .. If PATH is a file of code, the file defines NAME. If PATH isn't a file of
+    code, the file contains NAME."""
     questions = re.split(r"^## ", TEXTS["docs/TOUR.md"], flags=re.MULTILINE)[1:]
     assert len(questions) == 24
     for question in questions:
@@ -232,8 +233,8 @@ def test_glossary_gives_words_of_code():
 
 
 def test_each_decision_has_its_day_and_status():
-    """Each paragraph below a heading of docs/DECISIONS.md begins with the decision. It ends with a status and the day on which the decision was
-    written down."""
+    """Each paragraph below a heading of docs/DECISIONS.md begins with the decision. The paragraph ends with the day on which the decision was
+    written down, and with a status."""
     sections = re.split(r"^## .*\n", TEXTS["docs/DECISIONS.md"], flags=re.MULTILINE)[1:]
     for paragraph in (it for section in sections for it in re.split(r"\n\n+", section.strip())):
         assert re.fullmatch(r"\*\*.* \*20\d\d-\d\d-\d\d, (accepted|measured|stand-in)(, changed 20\d\d-\d\d-\d\d)?\*", paragraph), paragraph
@@ -271,7 +272,7 @@ def script_of(text):
 
 
 def free_port(number):
-    """Returns the first port from this number on that no program uses or has just used."""
+    """Returns the first free port from this number on. A port that a program has just used isn't free."""
     is_used = any(f":{number:04X} " in it.read_text() for it in (Path("/proc/net/tcp"), Path("/proc/net/tcp6")) if it.exists())
     return free_port(number + 1) if is_used else number
 
@@ -283,10 +284,10 @@ def test_commands(page, tmp_path):
     text = re.sub(r"(:|--port )8080", rf"\g<1>{port}", "\n".join(blocks(page, "console")))
     room, out = tmp_path / "room", tmp_path / "out"
     room.mkdir()
-    # A page's commands may use these folders as in the repository's top folder.
+    # A page's commands may use these folders of the repository.
     for folder in ("bin", "deploy", "bindings"):
         (room / folder).symlink_to(desk.ROOT / folder)
-    # The body of a reply has no line feed at its end, so that a terminal would show the next prompt on the same line.
+    # With this file, curl prints a line feed after each reply, because the body of a reply doesn't end in one.
     (tmp_path / ".curlrc").write_text('silent\nshow-error\nnoproxy = "*"\nwrite-out = "\\n"\n')
     # The test builds the page's programs before it runs the commands. Otherwise, the output of a build would count as a program's output, and a
     # proof would use up the page's time.

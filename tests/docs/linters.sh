@@ -1,13 +1,14 @@
 #!/bin/sh
-# pyflakes, shellcheck, gofmt and go vet complain only where the code states a reason.
+# pyflakes, shellcheck, gofmt and go vet find no faults except those that the code excuses with a stated reason.
 #
 # shellcheck reads the shell scripts and bats files of tests/, bin/ and deploy/. The program pyflakes reads the Python files of these folders, of
 # examples/ and of bindings/. If Debian's Go is installed, gofmt and go vet read the Go files of tests/, examples/ and bindings/.
+#
 # pytestmark = [mark.quick, mark.wants("shellcheck pyflakes3")]
 set -eu
 cd "$(dirname -- "$0")/../.."
 
-# by_first_line PATTERN: lists the files whose first line names this language.
+# by_first_line PATTERN: lists the scripts whose first line matches the pattern.
 by_first_line() {
     find tests bin deploy -type f ! -path '*/out/*' -exec sh -c 'head -n 1 "$1" | grep -qE "$2" && echo "$1"' - {} "$1" \;
 }

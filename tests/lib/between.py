@@ -1,4 +1,4 @@
-"""A proxy between a client and the desk. It lets some requests fail. client_survives.py and page_books.py use this proxy."""
+"""A proxy between a client and the desk. The proxy makes some requests fail. client_survives.py and page_books.py use this proxy."""
 
 import contextlib
 import re
@@ -8,7 +8,7 @@ import time
 
 import desk
 
-# The ways in which a request can fail. In each of them the client doesn't get the desk's complete reply, although the desk may have carried out the
+# The ways in which a request can fail. In each case the client doesn't get the desk's complete reply, although the desk may have carried out the
 # request.
 FAILURES = ["silent", "answer 502 <html>bad gateway</html>", "answer 504 <html>gateway timeout</html>", "answer 200 <html>a page</html>",
             'answer 500 {"error":"proxy"}', 'answer 503 {"fault":22,"text":"unavailable"}', "swallowed", "head-cut", "body-cut"]
@@ -24,7 +24,7 @@ def request_from(client):
 
 
 class Between:
-    """Passes connections on to the desk. For each method, `fates` lists how the next requests fail, in their order. `most` is the greatest number
+    """Forwards connections to the desk. For each method, `fates` lists how the next requests fail, in their order. `most` is the greatest number
     of simultaneous connections so far."""
 
     def __init__(self, desk_port):

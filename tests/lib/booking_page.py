@@ -1,4 +1,5 @@
-"""The parts of page_books.py share this module. It has the club, its desk behind nginx, and the page that books in a browser."""
+"""The parts of page_books.py share this module. This module makes the club, runs the club's desk behind nginx, and drives book.html in a
+browser."""
 
 import atexit
 import base64
@@ -51,7 +52,7 @@ def day(count=0):
 
 
 class Server(desk.Server):
-    """The server of clubdesk on the file `club`. A test can kill it and start it again at the same port."""
+    """The server of clubdesk on the file `club`. A test can kill this server and start it again at the same port."""
 
     start = desk.Server.__enter__
 
@@ -207,7 +208,7 @@ class BookingPage(Browser):
         self.when(condition, *what)
 
     def enter(self, text, ahead=None, keeps=None):
-        """Enters a pass. If `keeps` is given, presses the button with this text. If `ahead` is given, opens the day that comes so many days after
+        """Enters a pass. If `keeps` is given, presses the button with this text. If `ahead` is given, opens the day that is `ahead` days after
         today."""
         self.visit(f"#{text}", "isShown('day') && dayIsThere()", "the day of a pass")
         if keeps:
@@ -300,8 +301,8 @@ def amounts(key):
 
 
 def recorded(entries, key):
-    """Returns the bookings of a key in the page's record, in the form of `amounts`. The page got them from the desk's replies or from a list of the
-    office."""
+    """Returns the bookings of a key in the page's record, in the form of `amounts`. The page got these bookings from the desk's replies or from a
+    list of the office."""
     found = {}
     for each in entries:
         if each["key"] != key or "fault" in (each["book"] or {}):
@@ -333,7 +334,7 @@ def curl(page, method, path, text, body=None):
 
 
 def unasked(server, before):
-    """Returns the requests that the desk has got since `before` was counted, except GETs."""
+    """Returns the requests that the desk has got since the count `before`, except GETs."""
     return {each: count for each, count in (server.asked() - before).items() if each[0] != "GET"}
 
 

@@ -3,7 +3,7 @@
 import desk as programs
 from reference import caveats, club as rules, passes, wire
 
-# The kinds of values of each command whose values aren't all words or numbers.
+# For each command with other values than words and numbers, the kinds of all its values.
 KINDS_OF_VALUES = {"add-key": ("word", "word", "root"), "rotate-key": ("word", "root", "moment"), "close-slot": ("word", "day", "hour"),
                    "open-slot": ("word", "day", "hour")}
 

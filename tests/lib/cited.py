@@ -53,8 +53,8 @@ class Contracts:
         self.unknown = []  # what a clause has that wasn't understood
 
     def below(self, citation):
-        """Yields each cited clause and definition, with the definitions on which it depends. A definition that the value of a ghost cites counts,
-        too."""
+        """Yields each cited clause and definition, with the definitions on which it depends. The result includes definitions that the values of
+        cited ghosts cite."""
         above = None
         if citation.labels and not citation.names:
             self.unknown.append(f"no function of {' '.join(citation.labels)}")

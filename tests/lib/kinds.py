@@ -206,7 +206,7 @@ SCENES["third-party caveats, and many"] = [ACCOUNT.under(it).gets(fault) for it,
     (unsigned_v2(FOREIGN), 7), (FOREIGN_V1, 7), (FOREIGN_JSON, 7), (unsigned_v2(guests(64)), 9), (unsigned_v2(guests(65)), 8),
     (unsigned_v2(guests(64) + FOREIGN), 7), (unsigned_v2(guests(65), b"x"), 6))] + [shown(0).under(text(AMY, *["guests <= 1"] * 64))]
 
-# Known passes of other programs. Their form is valid, but their root and their identifier aren't those of a key of the club.
+# Known passes of other programs. The form of these passes is valid, but the club has no key with their identifier and root.
 BANK = ("MDAxY2xvY2F0aW9uIGh0dHA6Ly9teWJhbmsvCjAwMjZpZGVudGlmaWVyIHdlIHVzZWQgb3VyIHNlY3JldCBrZXkKMDAxNmNpZCB0ZXN0ID0gY2F2ZWF0CjAw"
         "MmZzaWduYXR1cmUgGXusegRK8zMyhluSZuJtSTvdZopmDkTYjOGpmMI9vWcK")
 EXAMPLE = "AgETaHR0cDovL2V4YW1wbGUub3JnLwIFa2V5aWQAAAYgfN7nklEcW8b1KEhYBd_psk54XijiqZMB-dcRxgnjjvc"
@@ -240,8 +240,8 @@ for name, row in ACTIONS.items():
         *(row.under(text(AMY, caveat)).gets(fault, 1) for caveat, fault in (("shoe = red", 11), (f"until < {NOON}", 12))),
         command("revoke-key amy-1"), row.gets(10), Sql("UPDATE keys SET revoked = 0, root = x'00'"), row.gets(22)]
 
-# The server's files may have at most 512 bytes. The server can open its log, but can't write a booking. It refuses the first request and books
-# nothing. The next server, without this limit, carries out the same request.
+# The server's files may have at most 512 bytes. The server can open its log, but can't write a booking. The server refuses the first request and
+# books nothing. The next server, without this limit, carries out the same request.
 SCENES["no storage"] = [BOOK.but(file_limit=512).gets(22), account(), BOOK]
 
 ROWS = [it for it in itertools.chain(*SCENES.values()) if isinstance(it, Row)]

@@ -1,4 +1,5 @@
-# Functions for tests that boot a fresh Debian with systemd-nspawn. They make the Debian system, run commands in it, and read the lines for root in
+# Functions for tests that boot a fresh Debian with systemd-nspawn. The functions make the Debian system, run commands in it, and read the lines for
+# root in
 # docs/RUNNING.md. This file sources serving.sh and checks.sh. Needs root.
 . "$(dirname -- "$0")/../lib/serving.sh"
 [ "$(id -u)" = 0 ] || { echo "$0 wants root, for a fresh Debian" >&2; exit 2; }

@@ -150,8 +150,8 @@ def faults_in(lines):
 
 
 def without_answers(crate, lines):
-    """Returns the new text of each proof file in which these lines report unknown names, by path. The new text lacks the declarations with these
-    names."""
+    """Returns the new text of each proof file in which these lines report unknown names, by path. The new text lacks the declarations that use
+    unknown names."""
     places = defaultdict(set)
     for _, path, number, _, is_name in faults_in(lines):
         if path.startswith("proofs/") and is_name:
@@ -170,7 +170,7 @@ def without_answers(crate, lines):
             (declarations[-1][1] if name else kept).append((number, line))
         lost = [one for one in declarations if numbers & {number for number, _ in one[1]}]
         left = [line for one in declarations if one not in lost for line in [*(text for _, text in one[1]), ""]]
-        # If no declaration has the unknown name, a `use` line has it. Then the new text is empty.
+        # If only a `use` line has an unknown name, the new text of the whole file is empty.
         texts[path] = "\n".join([text for _, text in kept] + left) if lost else ""
     return texts
 
@@ -223,8 +223,8 @@ class Trial:
             yield edit, word, line
 
     def tested(self, edit, crate, test):
-        """Runs the test that an edit names, after no contract refused the edit. Returns `test` if the test fails and `proved` otherwise, with the
-        test's line. rt runs the test without a proof."""
+        """Runs the test that an edit names, because no contract has refused the edit. Returns `test` if the test fails and `proved` otherwise, with
+        the test's line. rt runs the test without a proof."""
         self.restore()
         self.put(edited_texts(self.crate, edit))
         front, words = f"test {test} ...", ["--test", "--", test]

@@ -1,5 +1,5 @@
-"""The parts of page_narrows.py share this module. It opens the page pass.html in a browser, asks passtool for the right answers, and draws random
-passes and caveats."""
+"""The parts of page_narrows.py share this module. This module opens the page pass.html in a browser, asks passtool for the right answers, and draws
+random passes and caveats."""
 
 import base64
 import json
@@ -43,7 +43,7 @@ def written(form, it):
 
 
 def amys(form, *caveats):
-    """Returns the text of a pass for Amy's key with these caveats. Its signature is 32 zero bytes."""
+    """Returns the text of a pass for Amy's key with these caveats. The pass has 32 zero bytes as its signature."""
     return written(form, Pass(b"", b"key:amy-1", [it if isinstance(it, bytes) else it.encode() for it in caveats], bytes(32)))
 
 
@@ -84,7 +84,7 @@ def is_understood_by_tool(caveat):
 
 # ---- The browser
 
-# JavaScript functions for the calls below. They fill in the page's fields and read the visible texts, as a person does.
+# JavaScript functions for the calls below. The functions fill in the page's fields and read the visible texts, as a person does.
 HELPERS = """
 const byId = (id) => document.getElementById(id);
 const changed = (field) => field.dispatchEvent(new Event("input", { bubbles: true }));

@@ -1,8 +1,8 @@
 # Makes the room: a mount namespace in which overlays cover the machine's folders, so that tests of the office leave the machine unchanged. The room
 # has the programs and the files of deploy/ and web/ where bin/package puts them. The lines of docs/RUNNING.md under "The clerks" make the clerk
 # anna. ben is also a clerk, and carl isn't. The room's `systemctl` knows only the command `kill`, which ends a server of the service manager in
-# tests/lib/office_room.py. Needs root. If `room_net` is set and not empty, the room also has a separate network namespace. If this script isn't
-# sourced but run, it runs the command in its arguments. The variable ROOM then has the path of the room's folder.
+# tests/lib/office_room.py. Needs root. If `room_net` is set and not empty, the room also has a separate network namespace. If a caller runs this
+# script and doesn't source it, the script runs the command in its arguments. The variable ROOM then has the path of the room's folder.
 set -eu
 PATH=/usr/sbin:/sbin:$PATH
 [ "$(id -u)" = 0 ] || { echo "$0 wants root, for other users and folders of its own" >&2; exit 2; }

@@ -19,7 +19,7 @@ def check(holds, *what):
 
 
 class Browser:
-    """A chromium that resolves host names only by `rules`. It runs the script `before` before the page's own script."""
+    """A chromium that resolves host names only by `rules`. The browser runs the script `before` before the page's own script."""
 
     helpers = ""  # functions for the scripts that `run` and `each` run
     batch = 25  # how many items go to the page in one call
@@ -141,7 +141,7 @@ class Browser:
         return self.command("Page.captureScreenshot")["data"]
 
     def picture(self, top=0, height=None):
-        """Returns a PNG in base64 of the whole page, or of the part from `top` on that is `height` high."""
+        """Returns a PNG in base64 of the whole page, or of the part that begins at `top` and has the height `height`."""
         width, whole = self.run("const { offsetWidth, offsetHeight } = document.documentElement; return [offsetWidth, offsetHeight];")
         clip = {"x": 0, "y": top, "width": width, "height": height or whole, "scale": 1}
         return self.command("Page.captureScreenshot", captureBeyondViewport=True, clip=clip)["data"]

@@ -100,7 +100,7 @@ class Chromium(Engine):
 
 
 class Firefox(Engine):
-    """Firefox without a window. It resolves the page's host name to this machine."""
+    """Firefox without a window. The browser resolves the page's host name to this machine."""
 
     name, host = "Firefox", "desk.example.org"
 

@@ -1,8 +1,8 @@
 """Finds the sentences of the repository, and the patterns in a sentence that make an English reader stop. tests/lint.py and tests/docs/sentences.py
 use this module.
 
-A paragraph is a list of (line number, text). It comes from a paragraph, a list item or a table cell of a page, a docstring, a comment, a help text,
-or a text of web/src/words. The text contains no markup for links, no tags, and CODE in place of inline code.
+A paragraph is a list of (line number, text). A paragraph comes from a paragraph, a list item or a table cell of a page, a docstring, a comment, a
+help text, or a text of web/src/words. The text contains no markup for links, no tags, and CODE in place of inline code.
 
 CONTRIBUTING.md has the rules of wording. PATTERNS and FIRST have the rules that a regular expression can check, each with a remedy. EXCEPTIONS has
 the texts that may break a rule, each with its reason."""
@@ -31,7 +31,7 @@ FIRST = [(re.compile(pattern), remedy) for pattern, remedy in (
     (r"(What|Whatever|Whoever|Whichever|Who|How) (?!.*\?$)", "begin with a noun, not a clause"),
     (r"That (an?|the|its?|they|each|every|no|nobody|all|there|this|what|some|those|" + CODE + r")\b", "begin with a noun, not a clause"),
 )]
-# (file, words of the sentence): the reason why the sentence stays.
+# Maps (file, words of a sentence) to the reason why the sentence stays.
 EXCEPTIONS = {
     ("CONTRIBUTING.md", "exactly if"): "names the wording to avoid",
     ("CONTRIBUTING.md", "so many"): "names the wording to avoid",

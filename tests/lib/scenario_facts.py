@@ -2,8 +2,8 @@
 part of the club's state that the answer depends on.
 
 The decision about a booking depends on the facility's numbers, the places taken in the slot, the member's account, and the time until the slot
-begins. It doesn't depend on names, days and booking numbers. Two rows that differ only in these state the same decision, but the bytes of their
-replies are different facts."""
+begins. The decision doesn't depend on names, days and booking numbers. Two rows that differ only in names, days or booking numbers state the same
+decision, but the bytes of their replies are different facts."""
 
 import re
 from typing import NamedTuple

@@ -17,8 +17,8 @@ MOST_CREDIT = 1_000_000  # points of one command
 ESCAPES = {"r": b"\r", "n": b"\n", "t": b"\t", "\\": b"\\"}
 AGAIN = "anywhere in the next line; then the same line again"
 REFUSALS = ("exists", "unknown", "out of range", "slot in use")
-# COMMANDS has the kinds of each command's values. OF_KEYS has the commands that print a key's pass. The number is the position of the root among
-# the command's values.
+# COMMANDS has the kinds of each command's values. OF_KEYS has the commands that print a key's pass. The number in OF_KEYS is the position of the
+# root among the command's values.
 COMMANDS = {
     "add-member": ("name", "number"), "credit": ("name", "number"), "debit": ("name", "number"), "set-quota": ("name", "number"),
     "add-facility": ("name", "kind", "number", "number", "number", "number"),
@@ -379,7 +379,7 @@ class Reader:
         return found
 
     def with_part(self, given, part):
-        """Returns a pass with the change that one of the parts in its brackets describes."""
+        """Returns a pass with the change that a part of the line's brackets describes."""
         word, _, rest = part.partition(" ")
         if part == "unknown":
             return given

@@ -93,7 +93,7 @@ class Rules:
 
     def crashes(self, event):
         """Plays two cases: the crash comes after the desk has carried out the event, or before. In both cases the event is repeated after the
-        crash. The club must be the same in the end."""
+        crash. Both cases must lead to the same club."""
         before = copy.deepcopy(self.club)
         compare(event, self.wanted(event), self.found(event))
         compare(event, self.wanted(event, 1), self.found(event))
@@ -128,7 +128,7 @@ def listing(club, event):
 
 
 class Programs:
-    """`clubdesk` over a file, and its server at a socket."""
+    """Plays scenarios by `clubdesk`. Commands change a file, and a server of this file gets the requests over a socket."""
 
     name = "clubdesk over a file and a socket"
 
@@ -152,7 +152,7 @@ class Programs:
         return scenario.events
 
     def made(self, scenario):
-        """Returns a file with the scenario's club. Makes the club only if no scenario before has made it."""
+        """Returns a file with the scenario's club. Makes the club only if no earlier scenario had the same club."""
         whole = Path(self.folder, f"club-{abs(hash(tuple(scenario.commands)))}")
         if not whole.exists():
             begun = Path(tempfile.mkdtemp(dir=self.folder))
@@ -209,8 +209,8 @@ class Programs:
         return output.removesuffix("\n") if status == 0 else fault.removesuffix("\n")
 
     def crashes(self, event):
-        """For each of several delays, gives a copy of the file the line's request or command, and kills the program after this delay. Then plays
-        the line again."""
+        """Plays an event with a crash several times, each time on a new copy of the file. Starts the event, kills the program after a random delay,
+        and then plays the event again."""
         before = Path(f"{self.file}.before")
         programs.copy(self.file, before)
         for _ in range(KILLS):

@@ -1,7 +1,7 @@
 """Finds the test programs in tests/, and runs them, for tests/run and tests/conftest.py.
 
 A test program has a list `pytestmark`. In a script that pytest doesn't import, the list is a comment. tests/pytest.ini describes the marks. If the
-mark of a group has arguments, these are the words of a separate run of the program. Such a mark may also state needs and packages for this run. The
+mark of a group has arguments, these are the words of a separate run of the program. The mark may also state needs and packages for this run. The
 run without words has the name of the program. A separate run in the group `quick` has the name NAME-quick. The name of any other separate run ends
 in its first word, as in hostile-self-test."""
 
@@ -153,7 +153,8 @@ def missing(packages):
 
 
 def prepare(packages):
-    """Installs those of the packages that are missing, if the caller is root and apt-get is there. Gives up downloads after SECONDS_TO_INSTALL."""
+    """Installs those of the packages that are missing, if the caller is root and apt-get is there. Stops downloading after SECONDS_TO_INSTALL
+    seconds."""
     OUT.mkdir(parents=True, exist_ok=True)
     (OUT / "apt.conf").write_text('DPkg::Lock::Timeout "600";\nAcquire::Retries "1";\nAcquire::http::Timeout "20";\n', encoding="utf-8")
     if os.geteuid() != 0 or not shutil.which("apt-get"):
@@ -214,7 +215,8 @@ def end(process):
 
 
 def lacks(test, is_built):
-    """Returns the reason why a test can't run here, or an empty text. If `is_built` is true, a program that isn't built yet is such a reason."""
+    """Returns the reason why a test can't run here, or an empty text. If `is_built` is true, a test can't run if it needs a program that isn't
+    built yet."""
     if "root" in test.marks and os.geteuid() != 0:
         return "needs root"
     packages = missing(test.packages)

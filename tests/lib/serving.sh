@@ -1,4 +1,5 @@
-# Scripts in the neighbouring folders source this file to run the desk's server. It finds the programs, makes a temporary folder for the test, and
+# Scripts in the neighbouring folders source this file to run the desk's server. This file finds the programs, makes a temporary folder for the
+# test, and
 # has functions that start and end a server.
 here=${BATS_TEST_DIRNAME:-$(CDPATH='' cd -P -- "$(dirname -- "$0")" && pwd)}
 

@@ -252,7 +252,7 @@ def tokens_of(text):
 
 
 def top_level(tokens, sign):
-    """Returns the place of the first such sign that is outside all brackets, or None."""
+    """Returns the place of the first token `sign` outside all brackets, or None if there is no such token."""
     depth = 0
     for at, token in enumerate(tokens):
         depth += (token in "({") - (token in ")}")
@@ -289,8 +289,8 @@ class SpecsFile:
         return " ".join(lines)
 
     def read(self):
-        """Splits the text into declarations. The declarations within `module _ (..) where` are indented. Each of them has the module's
-        parameters."""
+        """Splits the text into declarations. The declarations within `module _ (..) where` are indented. Each of these declarations has the
+        module's parameters."""
         lines = self.text.splitlines()
         raw = self.raw.splitlines()
         outer = []  # (indent, telescope, indent of what is within)

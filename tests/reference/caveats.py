@@ -53,7 +53,8 @@ def number_of(text, most):
 
 
 def listed(text, words):
-    """Reads a list of one or more of these words with commas between them, in the order of `words`. Returns their places, or a false value."""
+    """Reads a list of one or more of these words with commas between them, in the order of `words`. Returns the places of the words in `words`, or
+    False if the text isn't such a list."""
     places = [words.index(it) if it in words else None for it in text.split(",")]
     return None not in places and all(one < other for one, other in zip(places, places[1:])) and places
 

@@ -62,7 +62,7 @@ class Refused:
 
 
 class CommandRefused(Exception):
-    """Raised if the club refuses a command of the office. The message is the refusal."""
+    """Raised if the club refuses a command of the office. The message of the exception is the refusal, such as `exists`."""
 
 
 @dataclass

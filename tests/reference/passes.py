@@ -283,7 +283,7 @@ def json_value(data):
 
 def json_bytes_of(value, plain, encoded):
     """Returns the bytes that an object has under a plain name, or in base64 under the encoded name. Returns None
-    if both names are missing, and raises Malformed if both are there."""
+    if both names are missing, and raises Malformed if the object has both names."""
     if plain in value and encoded in value:
         raise Malformed
     text = value.get(plain, value.get(encoded))
