@@ -16,8 +16,8 @@ The program prints each slip with its place. The status is 1 if there is a slip.
 - A planted fault (tests/planted.py) replaces bytes that its file no longer contains.
 - A page or a text of web/ has a word that neither aspell nor tests/lib/words.txt knows.
 - A sentence on an added line breaks a rule of tests/lib/prose.py, for example because it has more than 30 words.
-- The subject of an added commit has no area, or is longer than 60 letters. Added lines and commits are those that this clone has and its upstream
-  branch doesn't have.
+- The subject of an added commit has no area, or is longer than 60 letters.
+Added lines and commits are those that this clone has and its upstream branch doesn't have.
   tests/lint.py                  every crate, the pages, and the change
   tests/lint.py club_core ..     these crates, and what the change adds to them
   tests/lint.py --since COMMIT   the same for the lines and commits since a commit

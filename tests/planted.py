@@ -16,8 +16,7 @@ import desk
 PROGRAMS = ("clubdesk", "passtool")
 BY_HAND = "#!/bin/sh\n"
 # Each key is the name of a test, or TEST:FAULT if the test has several faults. The value of a key is the file, the bytes, their replacement, the
-# words in
-# the log, and the arguments for a shorter run of the test.
+# words in the log, and the arguments for a shorter run of the test.
 PLANTS = {
     "beside": ("tests/peers/beside_go/desk.go", '"left":', '"lost":', "booking: the replies differ", "10", "1", "100"),
     "bookings_survive_kill": ("clubdesk", BY_HAND, '[ "$1" != sheet ] || rm -f "$2-wal"; exec "$PROGRAM" "$@"', "'sheet "),

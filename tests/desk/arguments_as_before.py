@@ -3,12 +3,12 @@
 
     tests/desk/arguments_as_before.py BEFORE NOW
 
-Run this test after a change to the code that reads arguments, if the change must not affect the programs'
-behaviour. Both paths end in the name of the program. The test runs about 400 command lines. Some lines ask for help or the version. Other lines
-have arguments that are correct, wrong, repeated or missing, several faults at once, words after `--`, or bytes that aren't text. Each command line
-of `clubdesk` runs in a new folder. A `serve` line names a folder as its database, so that the server ends immediately. The test compares status,
-standard output and standard error byte for byte. The test prints each command line whose answers differ, and finally the counts. The status is 1 if
-any answers differ. `tests/run` doesn't run this test, because the repository contains no old program."""
+Run this test after a change to the code that reads arguments, if the change must not affect the programs' behaviour. Both paths end in the name of
+the program. The test runs about 400 command lines. Some lines ask for help or the version. Other lines have arguments that are correct, wrong,
+repeated or missing, several faults at once, words after `--`, or bytes that aren't text. Each command line of `clubdesk` runs in a new folder. A
+`serve` line names a folder as its database, so that the server ends immediately. The test compares status, standard output and standard error byte
+for byte. The test prints each command line whose answers differ, and finally the counts. The status is 1 if any answers differ. `tests/run` doesn't
+run this test, because the repository contains no old program."""
 
 import subprocess
 import sys
@@ -22,8 +22,7 @@ FORMS = [[], ["--form", "v1"], ["--form=json"], ["--form", "v3"], ["--form="], [
 CAVEATS = [[], ["guests <= 2"], ["no caveat"], ["kind = court", "no caveat", "nor this"], ["--", "-1", "guests <= 2"]]
 COMMANDS = ["mint", "show", "narrow", "convert", "verify"]
 KEY_ROOT = "000102030405060708090a0b0c0d0e0f"
-# The arguments of each clubdesk command: first valid values for each argument, then invalid values. FOLDER
-# isn't a database.
+# The arguments of each clubdesk command: first valid values for each argument, then invalid values. FOLDER isn't a database.
 FOLDER = "."
 WORDS = {
     "add-member": ([FOLDER, "amy", "5"], ["", "Amy", "5x"]),

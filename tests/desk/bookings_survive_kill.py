@@ -3,9 +3,9 @@
 
 If the test sends the same requests again, they get the same replies.
 
-A fixed seed determines the times of the kills. sqlite3, the day sheets and GETs find each acknowledged
-booking. A booking that was in progress may be in the file too, but only as a whole. The file's totals are the sums of its bookings. At the end the
-file has all 200 bookings, each once. ROUNDS=N kills N servers.
+A fixed seed determines the times of the kills. sqlite3, the day sheets and GETs find each acknowledged booking. A booking that was in progress may
+be in the file too, but only as a whole. The file's totals are the sums of its bookings. At the end the file has all 200 bookings, each once.
+ROUNDS=N kills N servers.
 """
 
 import os

@@ -6,11 +6,9 @@ unchanged. After a kill the club is unchanged or the command is done.
 
 After each fault or kill, sqlite3 finds no damage in the file, and clubdesk can read the file.
 - The test refuses each allocation in turn. The command ends with status 4, or with status 2 if the parser clap needed the refused allocation. If
-  the command didn't need the
-  refused allocation, it ends as with ample memory.
+  the command didn't need the refused allocation, it ends as with ample memory.
 - The test limits the size of the file to various numbers of blocks. The command ends with status 5 if it needs more blocks. Otherwise the command
-  ends as
-  with ample storage.
+  ends as with ample storage.
 - The test kills the command after various numbers of milliseconds. STEP=N refuses only each Nth allocation, which is faster.
 """
 

@@ -1,9 +1,9 @@
 #!/usr/bin/env -S /usr/bin/python3 -B
 """Finds the facts that rows of the test crates state and no scenario states.
 
-A fact consists of a question, the state of the club that the answer depends on, and the answer. READERS has
-a reader for each table whose rows a scenario can state. STAYS has the reasons why scenarios can't state the rows of the other tables. The last
-printed line has the counts. The status is 1 if no scenario states a row that a scenario could state.
+A fact consists of a question, the state of the club that the answer depends on, and the answer. READERS has a reader for each table whose rows a
+scenario can state. STAYS has the reasons why scenarios can't state the rows of the other tables. The last printed line has the counts. The status
+is 1 if no scenario states a row that a scenario could state.
 
     tests/desk/scenarios_count.py             prints the missing rows, and the counts
     tests/desk/scenarios_count.py --leaves    also prints each table whose rows the files state, and how many of its rows stay

@@ -4,11 +4,9 @@
 The test compares README.md, CONTRIBUTING.md, the pages of docs/, and the README.md of each crate with the rest of the repository.
 - The test runs each ```console block. It runs the blocks of a page one after the other, in a new folder for each page. The variable PATH includes
   bin/ and a folder with the built programs. A line that begins with `$ ` is a command, and the lines after it are the command's standard output and
-  error.
-  The test ignores empty
-  lines and spaces at the end of a line. The test may replace port 8080 with a free port.
-- The docstrings of the tests below describe the other checks. The variables CLUBDESK and PASSTOOL have the paths of the programs. If a variable is
-  unset, the test proves and builds its program first.
+  error. The test ignores empty lines and spaces at the end of a line. The test may replace port 8080 with a free port.
+- The docstrings of the tests below describe the other checks.
+The variables CLUBDESK and PASSTOOL have the paths of the programs. If a variable is unset, the test proves and builds its program first.
   tests/docs/docs_hold.py                    every page
   tests/docs/docs_hold.py -k DESK            the pages whose names have this word
   tests/docs/docs_hold.py --no-commands ..   only the checks that need no program of ours

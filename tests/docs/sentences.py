@@ -1,10 +1,8 @@
 #!/usr/bin/env -S /usr/bin/python3 -B
-"""Draws sentences at random, for a reader who didn't write them. The reader marks each sentence that needs a
-second reading.
+"""Draws sentences at random, for a reader who didn't write them. The reader marks each sentence that needs a second reading.
 
-The code (its docstrings and comments), the pages, and the help each give a third of the sentences. The help
-consists of the tables of commands, the manual pages, and the texts of the office and of web/. In the same tree, the same seed always draws the same
-sentences.
+The code (its docstrings and comments), the pages, and the help each give a third of the sentences. The help consists of the tables of commands, the
+manual pages, and the texts of the office and of web/. In the same tree, the same seed always draws the same sentences.
 
     tests/docs/sentences.py                         forty sentences, seed 1
     tests/docs/sentences.py --seed 7 --count 12     twelve with another seed

@@ -217,8 +217,7 @@ class Club:
     # ---- the office
 
     def command(self, words):
-        """Carries out a command. `words` has the command's name and values. Raises CommandRefused if the club refuses
-        the command."""
+        """Carries out a command. `words` has the command's name and values. Raises CommandRefused if the club refuses the command."""
         name, *values = words
         return getattr(self, "command_" + name.replace("-", "_"))(*values)
 
