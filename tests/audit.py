@@ -1,8 +1,8 @@
 #!/usr/bin/env python3
 """docs/AUDIT.md, docs/COMPUTED.md, the paths of docs/TOUR.md, and the contracts that docs/PROMISES.md cites are up to date.
 
-The test checks that the cited contracts exist, and that they depend on only three computing definitions. It also checks that the rules in Python
-agree with docs/vectors.json.
+The test checks that the cited contracts exist, and that they depend on only three computing definitions. The test also checks that the rules in
+Python agree with docs/vectors.json.
 
 AUDIT lists the definitions that a reader must trust for each promise. The test checks that each contract that PROMISES cites exists. A cited
 contract may depend on no computing definition except the three that PROMISES names. The value of a ghost may depend on no other computing

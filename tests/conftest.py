@@ -1,6 +1,6 @@
 """Fixtures for the tests that pytest runs: the programs, clubs in files, and a separate server for each request.
 
-The files are in memory, where a sync costs no time. With the option `--scripts`, pytest imports no test file. It runs each program of tests/ as a
+The files are in memory, where a sync costs no time. With the option `--scripts`, pytest imports no test file, but runs each program of tests/ as a
 test, by tests/lib/scripts.py. The runner tests/run calls pytest with `--scripts`."""
 
 import json

@@ -23,7 +23,7 @@
 #   of memory although memory is available.
 # - proved: the contracts accept the mutant, perhaps only after the answers with missing names are removed. The named test passes too, or the edit
 #   names no test.
-# - limit: the check reached one of its own limits, and gave no verdict.
+# - limit: the check exceeded its limit of stack, memory or steps, and gave no verdict.
 # - bad: the edit can't be applied, or its text can't be read.
 # The results `false`, `goal` and `test` refuse a mutant because of its meaning. Only `false` proves that the goal is false. The result `goal` means
 # that the proof fails and that no tactic finds another proof. Most mutants get `goal` although their goals are false, because the check seldom

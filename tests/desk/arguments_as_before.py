@@ -3,12 +3,12 @@
 
     tests/desk/arguments_as_before.py BEFORE NOW
 
-Run this test after a change to the code that reads arguments, if the change must not affect the programs' behaviour. Both paths end in the name of
-the program. The test runs about 400 command lines. Some lines ask for help or the version. Other lines have arguments that are correct, wrong,
-repeated or missing, several faults at once, words after `--`, or bytes that aren't text. Each command line of `clubdesk` runs in a new folder. A
-`serve` line names a folder as its database, so that the server ends immediately. The test compares status, standard output and standard error byte
-for byte. The test prints each command line whose answers differ, and finally the counts. The status is 1 if any answers differ. `tests/run` doesn't
-run this test, because the repository contains no old program."""
+Run this test after a change to the code that reads arguments, if the change must not affect the programs' behaviour. BEFORE and NOW are paths that
+end in the name of the program. The test runs about 400 command lines. Some lines ask for help or the version. Other command lines have correct,
+wrong, repeated or missing arguments, several faults together, words after `--`, or bytes that aren't text. Each command line of `clubdesk` runs in
+a new folder. A `serve` line names a folder as its database, so that the server ends immediately. The test compares status, standard output and
+standard error byte for byte. The test prints each command line whose answers differ, and finally the counts. The status is 1 if any answers differ.
+`tests/run` doesn't run this test, because the repository contains no old program."""
 
 import subprocess
 import sys

@@ -1,14 +1,14 @@
 #!/usr/bin/env -S /usr/bin/python3 -B -m pytest -q -p no:cacheprovider
 """Even if memory is refused, storage is full or a kill comes, each command of `clubdesk` is done or leaves the club unchanged.
 
-The test refuses each allocation in turn, also while a command prints passes. After a fault the command has printed nothing, and the club is
-unchanged. After a kill the club is unchanged or the command is done.
+The test refuses each allocation of a command once, including those for the printing of passes. After a fault the command has printed nothing, and
+the club is unchanged. After a kill the club is unchanged or the command is done.
 
 After each fault or kill, sqlite3 finds no damage in the file, and clubdesk can read the file.
-- The test refuses each allocation in turn. The command ends with status 4, or with status 2 if the parser clap needed the refused allocation. If
-  the command didn't need the refused allocation, it ends as with ample memory.
-- The test limits the size of the file to various numbers of blocks. The command ends with status 5 if it needs more blocks. Otherwise the command
-  ends as with ample storage.
+- The test repeats the command and refuses another allocation each time. The command ends with status 4, or with status 2 if the parser clap needed
+  the refused allocation. If the command didn't need the refused allocation, it ends as with ample memory.
+- The test limits the size of the file to various numbers of blocks. The command ends with status 5 if it needs more blocks. If the command needs no
+  more blocks, it ends as with ample storage.
 - The test kills the command after various numbers of milliseconds. STEP=N refuses only each Nth allocation, which is faster.
 """
 

@@ -1,14 +1,14 @@
 #!/usr/bin/env python3
 """`clubdesk` answers random requests, most of them wrong, and random commands as the rules in Python do.
 
-The rules are those of `tests/reference`. The test also compares all rows and totals. With `--self-test`, the test checks that it finds faults
-planted in the rules.
+The rules are those of `tests/reference`. The test also compares all rows and totals of the club. With `--self-test`, the test checks that it finds
+faults planted in the rules.
 
-The test compares replies byte for byte. It compares rows and totals each time a server has ended. The rules in Python come only from the pages on
-the desk, passes and caveats, and not from the desk's code. A seed determines the requests. The passes have three forms, and are signed under
-current, older and unknown roots. Some passes are truncated, or have one changed byte. Other passes have caveats with values at a limit. Some passes
-have a third-party caveat. Heads and bodies vary in letters, line ends, lengths, fields and paths. The test runs many servers one after the other,
-each with its clock at a random moment. The office gives its commands before each server starts.
+The test compares replies byte for byte. The test compares rows and totals each time a server has ended. The rules in Python come only from the
+pages on the desk, passes and caveats, and not from the desk's code. A seed determines the requests. The passes have three forms, and are signed
+under current, older and unknown roots. Some passes are truncated, or have one changed byte. Other passes have caveats with values at a limit. Some
+passes have a third-party caveat. Heads and bodies vary in letters, line ends, lengths, fields and paths. The test runs many servers one after the
+other, each with its clock at a random moment. The office gives its commands before each server starts.
 
     tests/desk/hostile.py [--seed N] [--count M] [--plant FAULT | --self-test]
 """

@@ -128,7 +128,7 @@ def beside(club, server, count):
 
 def test_door_has_a_mode_and_commands_have_lines(club):
     """Gives 500 commands while clients send 5,000 requests. Then gives three commands with a root. The server refuses one of the three commands.
-    Another of the three reads the root from standard input. The log contains no root."""
+    Another one of these commands reads the root from standard input. The log contains no root."""
     with club.served("--log") as server:
         assert stat.filemode(os.stat(f"{club.file}-office").st_mode) == "srw-------"
         beside(club, server, 500)
@@ -284,7 +284,7 @@ def test_killed_command_or_server(club, number):
 
 
 def test_server_that_ends_takes_its_door_along(club):
-    """The server removes only its door. Other files in the folder stay, because they may belong to another club."""
+    """The server removes only its door. The files of other clubs in the same folder stay."""
     others = [Path(f"{club.file}-{ending}") for ending in ("wanted", "serving", "paused")]
     for it in others:
         it.write_text("another's\n")

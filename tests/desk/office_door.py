@@ -29,7 +29,7 @@ pytestmark = [pytest.mark.faults, pytest.mark.needs("clubdesk"), pytest.mark.wan
 
 
 def command_bytes(*words, root="", count=None):
-    """Returns the bytes of a command: its number of words, its root, and its words. Each of these parts ends in a zero byte."""
+    """Returns the bytes of a command: its number of words, its root, and its words. A zero byte ends the number, the root and each word."""
     pieces = [str(len(words) if count is None else count), root, *words]
     return b"".join(it.encode() + b"\0" for it in pieces)
 

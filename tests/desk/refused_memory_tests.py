@@ -68,12 +68,12 @@ def ends_without_memory(output):
 
 
 def refuse(crate, test, program):
-    """Runs a test with ample memory, then with each allocation refused in turn. Returns the number of allocations."""
+    """Runs a test with ample memory, and then once for each allocation, with this allocation refused. Returns the number of allocations."""
     if f"{test}: test" not in subprocess.run([program, "--list"], capture_output=True, text=True, check=True).stdout.splitlines():
         sys.exit(f"{crate} has no test {test}")
 
     def run(**variables):
-        """Runs a test in a folder of its own, and returns the status and the output."""
+        """Runs a test in a new folder, and returns the status and the output."""
         with tempfile.TemporaryDirectory(dir=ROOM.name) as folder:
             ran = subprocess.run([program, test], stdout=subprocess.PIPE, stderr=subprocess.STDOUT, text=True, errors="replace", timeout=60, check=False,
                                  env={**os.environ, "TMPDIR": folder, **variables})

@@ -121,7 +121,7 @@ def test_columns_keys_references_and_limits(club):
 
 
 def test_what_sqlite3_writes_is_told(club):
-    """clubdesk shows rows that sqlite3 has changed within the limits, also if clubdesk left a log next to the file."""
+    """clubdesk shows rows that sqlite3 has changed within the limits, even if clubdesk left a log next to the file."""
     club.does(f"sheet {DAY}")
     sql(club, """UPDATE members SET credited = credited + 5, quota = 99, used = used + 200; DELETE FROM slots;
         INSERT INTO slots VALUES ('room-1', 20574, 18, 1, 0), ('court-1', 20574, 9, 0, 0), ('court-1', 20574, 18, 0, 4);

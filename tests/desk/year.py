@@ -127,8 +127,8 @@ class Year(Both):
             self.give_and_kill(("add-key", f"k{self.next_key}", draw.choice(MEMBERS), draw.randbytes(16)))
 
     def give_and_kill(self, command):
-        """Kills the command after a random delay of at most 30 ms. Then gives the command again. The second command must succeed, or report that
-        the key exists already. After that, the club must match the reference."""
+        """Kills the command after a random delay of at most 30 ms. Then gives the killed command again. The second command must succeed, or report
+        that the key exists already. After that, the club must match the reference."""
         self.next_key += 1
         process = subprocess.Popen([self.desk, *map(str, self.words_of(command))], stdout=subprocess.DEVNULL, stderr=subprocess.DEVNULL)
         time.sleep(self.draw.random() * 0.03)

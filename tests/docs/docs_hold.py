@@ -2,7 +2,7 @@
 """The commands, outputs, links and names on the pages are correct.
 
 The test compares README.md, CONTRIBUTING.md, the pages of docs/, and the README.md of each crate with the rest of the repository.
-- The test runs each ```console block. It runs the blocks of a page one after the other, in a new folder for each page. The variable PATH includes
+- The test runs each ```console block. The blocks of a page run one after the other, in a new folder for each page. The variable PATH includes
   bin/ and a folder with the built programs. A line that begins with `$ ` is a command, and the lines after it are the command's standard output and
   error. The test ignores empty lines and spaces at the end of a line. The test may replace port 8080 with a free port.
 - The docstrings of the tests below describe the other checks.
@@ -158,8 +158,8 @@ def test_definitions_are_in_their_files(page):
 
 @each_page
 def test_passes_are_written_under_temporary_names(page):
-    """A command that prints a pass must write to a file whose name ends in .new (`> pass.new && mv pass.new pass`). Otherwise, the shell would
-    empty the old file before the command is refused."""
+    """A command that prints a pass must write to a file whose name ends in .new (`> pass.new && mv pass.new pass`). If the command wrote to the old
+    file and were refused, the shell would already have emptied the file."""
     commands = [it for block in blocks(page, "console") for it in re.findall(r"^\$ (.*)", block, re.MULTILINE)]
     for command in [*commands, *(line for block in blocks(page, "sh") for line in block.splitlines())]:
         if re.search(r"(^|[ |])(passtool|clubdesk|office [a-z]+) (mint|narrow|convert|add-key|rotate-key) ", command):
@@ -287,8 +287,8 @@ def test_commands(page, tmp_path):
         (room / folder).symlink_to(desk.ROOT / folder)
     # With this file, curl prints a line feed after each reply, because the body of a reply doesn't end in one.
     (tmp_path / ".curlrc").write_text('silent\nshow-error\nnoproxy = "*"\nwrite-out = "\\n"\n')
-    # The test builds the page's programs before it runs the commands. Otherwise, the output of a build would count as a program's output, and a
-    # proof would use up the page's time.
+    # The test builds the page's programs before it runs the commands. Without this step, the output of a build would count as a program's output,
+    # and a proof would use up the page's time.
     given = tmp_path / "given"
     given.mkdir()
     for name in ("passtool", "clubdesk"):

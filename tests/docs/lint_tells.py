@@ -4,7 +4,7 @@
 tests/lint.py checks the English only of added lines, and ignores code. With the same seed, `tests/docs/sentences.py` always draws the same
 sentences.
 
-The test uses small repositories of its own.
+The test makes small repositories for these checks.
 """
 
 import subprocess

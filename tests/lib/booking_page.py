@@ -28,8 +28,8 @@ os.environ["PATH"] = f"/usr/sbin:/sbin:{os.environ['PATH']}"
 os.chdir(ROOM.name)
 ROOT = "00112233445566778899aabbccddeeff"
 draw = random.Random(20260501)
-# The club's zone is chosen so that the club's clock shows about noon now, because the tests need past and future hours today. In the names of Etc
-# zones, as in POSIX rules, the offset's sign is reversed.
+# The club's zone is chosen so that the club's clock shows about noon now, because the tests need past and future hours today. The names of Etc
+# zones and the POSIX rules have the offset with the opposite sign.
 AHEAD = 12 - datetime.now(timezone.utc).hour
 ZONE = f"Etc/GMT{-AHEAD:+d}" if AHEAD else "Etc/GMT"
 RULE = f"<{AHEAD:+03d}>{-AHEAD}" if AHEAD else "GMT0"

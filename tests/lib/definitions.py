@@ -30,7 +30,7 @@ class CodeFile:
         it = Definition(f"{self.crate}.specs.declared.{self.place}.{name}", name, "type", self.path, self.line_of(found.start()), text)
         it.rust_kind = kind
         if kind == "trait":
-            # Each ghost of a trait has a definition of its own.
+            # Each ghost of a trait has a separate definition.
             it.text = text.splitlines()[0]
         return it
 

@@ -62,10 +62,10 @@ class Server:
     """A server of `clubdesk` over a file, as a context manager. When the `with` block begins, the server listens at `port`. After the block, the
     server has ended.
 
-    `words` are further options, and `by` is a command that runs the server. `variables` are further environment variables, and `given` is the
-    standard input. `file_limit` is the greatest size of the server's files, in bytes. After a block without an exception, the server's status must
-    be `status`, unless the test killed the server. If `count` is None, the end of the block kills the server. The file `log` has the server's
-    standard error. If the block ends with an exception, the log is printed."""
+    `words` are additional options, and `by` is a command that runs the server. `variables` are additional environment variables, and `given` is the
+    file that the server has as its standard input. `file_limit` is the greatest size of the server's files, in bytes. After a block without an
+    exception, the server's status must be `status`, unless the test killed the server. If `count` is None, the end of the block kills the server.
+    The file `log` has the server's standard error. If the block ends with an exception, the log is printed."""
 
     killed_by = signal.SIGKILL
 

@@ -18,7 +18,7 @@ def key_pass(name, root=ROOT):
 
 
 def text(it, *caveats, form="v2"):
-    """Returns the text of a pass with further caveats."""
+    """Returns the text of a pass after adding these caveats."""
     for caveat in caveats:
         it = it.narrowed(caveat.encode())
     return passes.text_of(it, form).decode()

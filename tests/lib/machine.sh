@@ -17,7 +17,8 @@ debian() {
     echo 'APT::Get::Assume-Yes "true";' >"$1/etc/apt/apt.conf.d/99yes"
 }
 
-# start FOLDER WORD..: boots the Debian system in a folder. The words are further options of systemd-nspawn. Sets `root` to the path of the folder,
+# start FOLDER WORD..: boots the Debian system in a folder. The words are additional options of systemd-nspawn. Sets `root` to the path of the
+# folder,
 # and `machine` to the process of systemd-nspawn.
 start() {
     root=$work/$1

@@ -279,7 +279,7 @@ def of_change(root, base, below=""):
 
 
 def spelled(root):
-    """Yields the files that aspell must check, each with its language. These are the pages and the texts of web/."""
+    """Yields the files that aspell must check, each with its language. The files are the pages and the texts of web/."""
     pages = [*map(root.joinpath, PAGES), *sorted((root / "docs").glob("*.md")), *sorted(root.glob("crates/*/README.md"))]
     yield from ((it, "en") for it in pages if it.name not in ("AUDIT.md", "RUNS.md"))
     yield root / "web/src/words/en.json", "en"

@@ -92,8 +92,8 @@ class Rules:
         return listing(self.club, event)
 
     def crashes(self, event):
-        """Plays two cases: the crash comes after the desk has carried out the event, or before. In both cases the event is repeated after the
-        crash. Both cases must lead to the same club."""
+        """Plays two cases: the crash comes after the desk has carried out the event, or before. After the crash, the event is repeated in both
+        cases. Both cases must lead to the same club."""
         before = copy.deepcopy(self.club)
         compare(event, self.wanted(event), self.found(event))
         compare(event, self.wanted(event, 1), self.found(event))

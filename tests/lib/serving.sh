@@ -23,7 +23,7 @@ trap leave EXIT
 cd "$work" || exit 2
 mkfifo listening
 
-# serve FILE COUNT MOMENT [WORD..]: starts a server with further options (tests/lib/desk.py). When the function returns, the server listens at
+# serve FILE COUNT MOMENT [WORD..]: starts a server with additional options (tests/lib/desk.py). When the function returns, the server listens at
 # $port. If the server fails, the file `fault` has the reason. FILE.log has the server's standard error. The function `finish` waits until the
 # server ends.
 serve() {

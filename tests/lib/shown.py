@@ -19,7 +19,8 @@ ROOT = Path(__file__).resolve().parents[2]
 REFERENCE = ROOT / "tests" / "reference"
 VECTORS = ROOT / "docs" / "vectors.json"
 
-# Each key is one or more functions of the reference. Its value lists their definitions by module, as `CRATE.FILE: NAME ..`.
+# Each key is one or more functions of the reference. The value of a key lists the definitions of these functions by module, as `CRATE.FILE: NAME
+# ..`.
 WRITTEN = {
     "passes.sign": "pass_mac.Hmac: block_len short_key key_block masked_block hmac",
     "passes.chain": "pass_mac.Chain: derivation_key derived_key extended_signature chain",

@@ -81,7 +81,7 @@ def indent_of(line):
 
 
 def names_of(path, lead=""):
-    """Returns the names that the path of an import names, as (module, name). A list in the path may contain names, paths and further lists."""
+    """Returns the names that the path of an import names, as (module, name). A list in the path may contain names, paths and nested lists."""
     head, brace, inner = path.partition("{")
     if not brace:
         module, _, name = (lead + path).rpartition(".")
