@@ -7,7 +7,8 @@ English only in added lines.
 The program prints each slip with its place. The status is 1 if there is a slip.
 - Two modules in specs/ define the same name, and TWINS doesn't list the name.
 - A line is too long. The limit is 100 columns for code, comments and clauses, and 160 for imports, specs and proofs.
-- A limit of CONTRIBUTING is exceeded: 40 lines for a function's body, 800 for a file of code, 400 for a proof, and 100 functions for a crate.
+- The code exceeds a limit of CONTRIBUTING.md: 40 lines for a function's body, 800 for a file of code, 400 for a proof, and 100 functions for a
+  crate.
 - A public docstring has a number and no word that is a unit.
 - The version in the newest heading of CHANGELOG.md differs from the code's version.
 - No file imports a module in specs/ or proofs/, no `mod` names a file of code, or no page names a script.

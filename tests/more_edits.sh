@@ -17,7 +17,8 @@
 # - goal: a goal stays open although each name in its proof exists. The handwritten answer for the right body fails for the mutant. If the goal has
 #   no handwritten answer, the tactics fail.
 # - names: only handwritten answers fail, because they cite a name that the edit removed. The code's conditions, arms and calls determine these
-#   names. The mutant may break the contract, or only have another shape than the right body. So `names` is weak evidence. Rewrite such an edit so
+#   names. The mutant may break the contract, or it may only have a shape that differs from the right body's shape. So `names` is weak evidence.
+# Rewrite such an edit so
 #   that it changes a value and keeps the names.
 # - test: the contracts accept the mutant, and the test in the edit's line `test: CRATE MODULE::TEST` fails. An example is a body that reports out
 #   of memory although memory is available.

@@ -5,8 +5,8 @@ The test kills the server and starts it again 100 times. No acknowledged booking
 
 Every fifth time, the test also kills the client. The client requests each slot once, and cancels most of its bookings. At the end the file has
 exactly the bookings on the client's record, each once. The bookings have the charges, places and refunds that the server acknowledged. The file's
-totals are the sums of its bookings. Then the test runs each command of client.py and compares its output, while a proxy between client and server
-fails in several ways. KILLS=N kills N servers.
+totals are the sums of its bookings. Then the test runs each command of client.py and compares the command's output. Meanwhile, a proxy between the
+client and the server fails in several ways. KILLS=N kills N servers.
 """
 
 import multiprocessing

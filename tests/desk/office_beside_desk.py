@@ -296,7 +296,8 @@ def test_server_that_ends_takes_its_door_along(club):
 
 @pytest.mark.parametrize("bookings, count", [(0, 0), (300_000, 0), (300_000, 500)])
 def test_times(made, bookings, count):
-    """Measures a small club without commands. Then measures a club with 300,000 bookings of 1,000 other members, without and with commands."""
+    """Measures the times in a small club without commands. Then measures the times in a club with 300,000 bookings of 1,000 other members, first
+    without commands and then with commands."""
     club = made.copied_to(made.file.with_name(f"at {bookings}"))
     if bookings:
         desk.add_past_bookings(club.file, bookings, ROOT)

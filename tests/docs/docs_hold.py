@@ -285,7 +285,7 @@ def test_commands(page, tmp_path):
     # A page's commands may use these folders of the repository.
     for folder in ("bin", "deploy", "bindings"):
         (room / folder).symlink_to(desk.ROOT / folder)
-    # With this file, curl prints a line feed after each reply, because the body of a reply doesn't end in one.
+    # The file .curlrc makes curl print a line feed after each reply, because the body of a reply has no line feed at its end.
     (tmp_path / ".curlrc").write_text('silent\nshow-error\nnoproxy = "*"\nwrite-out = "\\n"\n')
     # The test builds the page's programs before it runs the commands. Without this step, the output of a build would count as a program's output,
     # and a proof would use up the page's time.

@@ -1,9 +1,9 @@
 #!/usr/bin/env -S /usr/bin/python3 -B -m pytest -q -p no:cacheprovider
 """`passtool` and the server agree with docs/vectors.json about passes, invalid texts, caveats and replies.
 
-docs/vectors.json has each pass in each form, and other texts of one pass. The file also has the verdict of each caveat on each request, and each
-reply byte for byte. Between some requests, the office gives commands, and each command prints its expected lines. Python's standard library must
-compute the same signatures. pymacaroons must write the same V1 and V2 texts, for the passes that it can write.
+docs/vectors.json has each pass in each form, and other texts of one pass. docs/vectors.json also has the verdict of each caveat on each request,
+and each reply byte for byte. Between some requests, the office gives commands, and each command prints its expected lines. Python's standard
+library must compute the same signatures. pymacaroons must write the same V1 and V2 texts, for the passes that it can write.
 """
 
 import contextlib

@@ -308,7 +308,7 @@ class Reader:
         self.roots[name] = self.root(root)
 
     def read_text(self, columns, below):
-        """Reads a line that defines a text, or a request that has a defined text in place of a pass."""
+        """Reads one of two kinds of lines: the definition of a text, or a request that has a defined text in place of a pass."""
         if len(columns) > 2:
             return self.read_request([f"text {columns[1]}", *columns[2:]], below)
         name, = self.matched(" ".join(columns[1:]), rf"({NAME})", "a text has a name")

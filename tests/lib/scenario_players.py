@@ -239,7 +239,7 @@ class Programs:
 
 
 def runs(events):
-    """Groups neighbouring requests of the same moment. Every other event is alone in its group."""
+    """Groups neighbouring requests of the same moment. An event that isn't a request is alone in its group."""
     found = []
     for event in events:
         if found and isinstance(event, Request) and isinstance(found[-1][0], Request) and found[-1][0].moment == event.moment:
