@@ -129,7 +129,7 @@ class Promise:
 
     @property
     def words(self):
-        """Returns the line of the page that names the clauses that carry the promise."""
+        """Returns the words with which the page names the clauses of the promise."""
         carriers = [f"`{function}`" + (f": `{'`, `'.join(labels)}`" if labels else "") for function, labels in self.carriers]
         return "; ".join(carriers) + (f" (`{'`, `'.join(self.fields)}`)" if self.fields else "")
 

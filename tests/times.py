@@ -47,7 +47,7 @@ def task(pid, work):
 
 
 def sample(spent, work):
-    """Records the ticks of each compiling process. If a compiling process has compiling children, their ticks count as its own ticks."""
+    """Records the ticks of each compiling process. If a compiling process has compiling children, the children's ticks count for the parent."""
     found, totals = {}, Counter()
     for pid in filter(str.isdigit, os.listdir("/proc")):
         try:

@@ -1,4 +1,4 @@
-"""Checks of refused commands, requests to the desk, and readers of the office's book, for the parts of office_holds.py."""
+"""Functions for the parts of office_holds.py. They check refused commands, send requests to the desk, and read the office's book."""
 
 import json
 
