@@ -1,8 +1,8 @@
 #!/usr/bin/env python3
 """Measures the processor seconds that the gate needs for the proof, the tests and the edits of each crate.
 
-Runs `rt ci` in a scratch clone of HEAD. Adds up the processor seconds of the compiler's processes for three parts of each crate: the proof (and the
-build of a program), the proof and the build of the tests, and the must-fail edits. At the end, it prints the sums, the elapsed time, and the last
+Runs `rt ci` in a scratch clone of HEAD. Adds up the processor seconds of the compiler's processes for three parts of each crate. The parts are the proof
+with the build of a program, the proof with the build of the tests, and the must-fail edits. At the end, it prints the sums, the elapsed time, and the last
 line of the gate's output. The status is the gate's status.
   tests/times.py                 the whole gate
   tests/times.py club_core ..    `rt ci club_core ..`: these crates, and those below them

@@ -4,7 +4,7 @@
 The rules in Python are those of `tests/reference`. The club of `clubdesk` is in a file, and requests reach its server over a socket. The test tries
 passes in all three forms. With `--self-test`, the test checks that it finds eight faults planted in the rules.
 
-The reader refuses a file if a line can't be read or has no answer, if the commands for a club fail, or if the file has no line to run. The test
+The reader refuses a file if a line can't be read or has no answer, or if the commands for a club fail. A file without a line is refused, too. The test
 prints the place of each fault. The self-test tries faulty files of all these kinds.
 
     tests/desk/scenarios.py [--player rules|programs] [FILE ..]     plays all files, or those of these names

@@ -127,8 +127,8 @@ def test_files_and_names_are_there(page):
 
 @pytest.mark.parametrize("page", [it for it in PAGES if it.startswith("crates/")])
 def test_bare_names_of_a_crate(page):
-    """Each plain name in a crate's page is a word of the crate's code, a name that another crate defines, a crate, a library, or a file of the
-    crate's folder."""
+    """A crate's page has no unknown plain names. A known name is a word of the crate's code, a file of its folder, another crate's definition, a
+    crate or a library."""
     folder = Path(page).parent
     crate, names = folder.name, {name for _, name in DEFINED}
     code = "\n".join(re.sub(r"//.*|^--.*", "", text, flags=re.MULTILINE) for file, text in CODE.items() if file.startswith(f"{folder}/"))

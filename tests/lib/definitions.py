@@ -62,8 +62,8 @@ class CodeFile:
         return best
 
     def scope_at(self, at):
-        """Returns the names that clauses may use at a place: the imports of the file and of the block around the place, the Rust names of types and
-        constants, and the ghosts of the trait around the place."""
+        """Returns the names that clauses may use at a place. These are the imports of the file and of the block around the place, and the ghosts of
+        the trait around the place. Rust's names of types and constants are among them."""
         head, block = self.block_around(at)
         scope = Scope(self.book, imports_in(self.text, "ghost use"))
         # The imports of the block replace imports of the file with the same name.

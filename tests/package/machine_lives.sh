@@ -69,8 +69,9 @@ dpkg-deb -x "packages/$deb" unpacked
 lines_for_root unpacked/usr/share/doc/clubdesk/docs/RUNNING.md
 sed -i 's/backup@elsewhere.example/backup-of-clubs@elsewhere.example/' running
 
-# ---- Three commands. The site's name is known only on this machine, so caddy uses its own certificate authority. by_name METHOD PATH [BODY]: sends a
-# request to the public name, with the pass in the machine's file /root/pass.
+# ---- Three commands. The site's name is known only on this machine, so caddy uses its own certificate authority.
+#
+# by_name METHOD PATH [BODY]: sends a request to the public name, with the pass in the machine's file /root/pass.
 by_name() {
     inside sh -c 'curl -sS --max-time 20 --cacert /root/ca.pem -X "$1" ${3:+-d "$3"} -H "Authorization: Bearer $(cat /root/pass)" -w " %{http_code}" "https://desk.example.org/$2"' sh "$@"
 }

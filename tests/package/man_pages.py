@@ -1,7 +1,7 @@
 #!/usr/bin/env -S /usr/bin/python3 -B -m pytest -q -p no:cacheprovider
 """`mandoc` finds no fault in the manual pages, and they have the commands, options and statuses of `--help`.
 
-The manual pages have no other commands, options and statuses. The test checks office's page only with `mandoc`. tests/office/office_holds.py compares
+The manual pages have no other commands, options and statuses. The test checks office's page only with `mandoc`. Another test, office_holds.py, compares
 office's page with the `--help` of office. office's page refers to the manual pages of sudo, so sudo must be installed.
 """
 

@@ -1,5 +1,5 @@
 #!/bin/sh
-# What docs/RUNNING.md says about installations, systemd units, copies and a full disk is true.
+# The claims of docs/RUNNING.md about installations, systemd units, copies and a full disk are true.
 #
 # If an installation fails, it changes nothing. The systemd units allow each system call that the desk needs.
 #
