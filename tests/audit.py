@@ -88,20 +88,10 @@ class Promise:
     def __init__(self, book, number, line):
         self.book, self.number = book, number
         self.title = re.match(r"\d+\. \*\*(.*?)\.\*\*", line)[1]
-        text, _, carriers = line.rpartition(": `")
-        self.fields = [it for group in re.findall(r"\((`[^)]*)\)", text) for it in re.findall(r"`(\w+)`", group)]
-        # Promise 7 also names a clause and its function in the middle of its sentence.
-        self.carriers = []
-        for group in [*re.findall(r": (`[\w:]+`, `\w+`)\. ", text), f"`{carriers}"]:
-            function, labels = None, []
-            for word in re.findall(r"`([\w:]+)`", group):
-                if "::" in word or function is None:
-                    if function:
-                        self.carriers.append((function, labels))
-                    function, labels = word, []
-                else:
-                    labels.append(word)
-            self.carriers.append((function, labels))
+        self.fields = [it for group in re.findall(r"\((`\w+`(?:, `\w+`)*)\)", line) for it in re.findall(r"`(\w+)`", group)]
+        # A function, a colon, and the function's clauses: `Desk::ask`: `lawful`.
+        self.carriers = [(function, re.findall(r"`(\w+)`", labels))
+                         for function, labels in re.findall(r"`([\w:]+)`: (`\w+`(?:, `\w+`)*)", line)]
         self.clauses = [it for function, labels in self.carriers for it in clauses_of(book, function, labels)]
         self.cited, heads = self.read()
         self.below = closure(self.cited)
