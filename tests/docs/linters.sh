@@ -1,7 +1,7 @@
 #!/bin/sh
 # pyflakes, shellcheck, gofmt and go vet find no faults except those that the code excuses with a stated reason.
 #
-# shellcheck reads the shell scripts and bats files of tests/, bin/ and deploy/. The program pyflakes reads the Python files of these folders, of
+# The shell scripts and bats files of tests/, bin/ and deploy/ are read by shellcheck. The program pyflakes reads the Python files of these folders, of
 # examples/ and of bindings/. If Debian's Go is installed, gofmt and go vet read the Go files of tests/, examples/ and bindings/.
 #
 # pytestmark = [mark.quick, mark.wants("shellcheck pyflakes3")]
