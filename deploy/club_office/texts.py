@@ -45,7 +45,7 @@ TEXTS = {
     # The menu.
     "menu": ("The office of {club}, {day}", "Das Büro von {club}, {day}"),
     "menu ends": (
-        "Type a task's number or a word of its name. Enter ends the menu, and Ctrl-C goes back.",
+        "Type a task's number or a word of its name. Enter ends. Ctrl-C goes back.",
         "Nummer oder ein Wort davon; Enter beendet. Strg-C geht zurück, ändert nichts.",
     ),
     "task": ("Task: ", "Aufgabe: "),
