@@ -104,7 +104,7 @@ def again_and_again():
     before = everything()
     for name in (f"{CLUB}-orders", f"{CLUB}-wal"):
         status, _, errors = set_up("--club", name)
-        same(f"a club {name} beside it", (status, f"the club {CLUB} has" in errors), (1, True))
+        same(f"a club {name} beside it", (status, f"of the club {CLUB} at" in errors), (1, True))
     same("nothing is made of it", everything(), before)
 
 
