@@ -71,7 +71,7 @@ def devices(passes, front, server):
         page.when("shownText('import-news') !== ''", "the office's record")
         check(same_record(page, "amy-phone") == len(by_office.splitlines()) - 1, "what the office printed is the record")
         page.run("byName('import').requestSubmit()")
-        page.when("shownText('import-news').includes('This browser already had all bookings')", "the same again")
+        page.when("shownText('import-news').includes('this browser already has every booking')", "the same again")
         page.run("byName('import-text').value = 'record of amy-phone\\n12 court-1'; byName('import').requestSubmit()")
         page.when("shownText('import-news').includes(\"Line 2 isn't one\")", "an odd record")
         page.cancelled_in_the_list("a cancellation of what another browser booked")
