@@ -106,7 +106,7 @@ def cancelled_by_the_office(passes, front, server):
         cancel_by_office(server, entry, "bob-2", "bob")
         page.view("day")
         page.view("bookings")
-        page.when("byName('to-come').innerText.includes('The office may have cancelled this.')", "a booking that the office cancelled")
+        page.when("byName('to-come').innerText.includes('The office may have cancelled this booking.')", "a booking that the office cancelled")
     print("a booking that the office cancelled is marked")
 
 
@@ -277,7 +277,7 @@ def does_more_with_bookings(page, passes, between):
     more("Change", moved["number"])
     page.run("byName('change-hour').value = '13'")
     page.press("Look up")
-    page.when("dialogText().includes('cancel the old one')", "a full slot")
+    page.when("dialogText().includes('cancel the old booking')", "a full slot")
     page.press("Book the new slot for 400 points, and cancel the old booking")
     page.comes("Not changed: you still have the old booking.", "a change that isn't one")
     check(not amounts("more-1")[moved["number"]][-2], "the old booking stays")
@@ -286,7 +286,7 @@ def does_more_with_bookings(page, passes, between):
     more("Change", moved["number"])
     page.run("byName('change-hour').value = '15'; byName('change-guests').value = '0'")
     page.press("Look up")
-    page.when("dialogText().includes('cancel the old one')", "another hour")
+    page.when("dialogText().includes('cancel the old booking')", "another hour")
     page.press("Book the new slot for 200 points, and cancel the old booking")
     page.comes("You have both bookings: the old booking wasn't cancelled.", "a change of which half fails")
     both = page.entries()[-1]

@@ -254,7 +254,7 @@ def other_engines(passes, server):
         engine.open(f"{address}#spare={passes[f'engine-lend-{place}']}")
         engine.when(f"shown('dialog').includes('engine-lend-{place}')", "a spare pass")
         engine.press("Keep it", "dialog")
-        engine.when("shown('dialog').includes('They are kept.')", "a kept spare pass")
+        engine.when("shown('dialog').includes('The spare passes are kept.')", "a kept spare pass")
         engine.press("Close", "dialog")
         engine.tap("//button[@id='to-lend']")
         check(engine.get("return shown('lend-which')") == "", engine.name, "a spare pass is there", engine.get("return shown('lend-which')"))
