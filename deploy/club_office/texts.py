@@ -114,7 +114,7 @@ TEXTS = {
     "ask hours": ("Hours, as 15-17", "Stunden, etwa 15-17"),
     "ask hour": ("Hours, as 15 or 15-17", "Stunden, etwa 15 oder 15-17"),
     "ask guests": ("How many come along", "Wie viele kommen mit"),
-    "ask label": ("A name for the credit, such as {example}: nobody gets the same credit twice", "Ein Name für die Gutschrift, etwa {example}: jede gibt es nur einmal"),
+    "ask label": ("A name for the credit, such as {example}; no member gets it twice", "Ein Name für die Gutschrift, etwa {example}: jede gibt es nur einmal"),
     "ask why": ("Why, for the page", "Grund, den die Seite zeigt"),
     "ask points": ("Points", "Punkte"),
     "ask new name": ("Full name", "Vor- und Nachname"),
