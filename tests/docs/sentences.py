@@ -46,7 +46,8 @@ def all_sentences(below):
         for paragraph in prose.paragraphs(file, text):
             for lines, sentence in prose.sentences(paragraph):
                 is_cut = file.startswith("man/") and not sentence.endswith(".")  # a request of mdoc follows
-                if len(re.findall(r"[A-Za-z]{2,}", sentence)) >= LEAST_WORDS and not is_cut:
+                is_usage = re.match(r"(tests|bin|deploy|crates)/\S+ |pytestmark", sentence)
+                if len(re.findall(r"[A-Za-z]{2,}", sentence)) >= LEAST_WORDS and not is_cut and not is_usage:
                     found[kind].append((file, min(lines), sentence))
     return found
 
