@@ -130,8 +130,8 @@ Example:
 
 const SERVE_HELP: &str =
     "Serves N connections to 127.0.0.1, one after the other, then ends. A client has
-SECONDS to send its request, SECONDS to read the reply, and SECONDS to close the
-connection. The server cuts off a slower client.
+SECONDS to send its request, SECONDS to read the reply, and SECONDS to stop
+sending. The server cuts off a slower client.
 
 Example:
   clubdesk serve club.db --port 8080 --count 1000 --zone CET-1CEST,M3.5.0,M10.5.0/3";
@@ -224,7 +224,7 @@ const SERVE_ARGUMENTS: &[Argument] = &[
     Argument::Or(
         "patience",
         "SECONDS",
-        "The time for each of request, reply and close, 1 to 3600",
+        "The time to send, to read and to stop sending, 1 to 3600 each",
         "10",
     ),
     Argument::Flag("log", "Writes a line for each connection to standard error"),
@@ -335,7 +335,7 @@ static CLUBDESK: Program<CommandName> = Program {
         Row {
             command: CommandName::Sheet,
             name: "sheet",
-            about: "Prints the bookings of a day",
+            about: "Prints a day's bookings that aren't cancelled",
             help: SHEET_HELP,
             arguments: &[FILE, DAY],
         },
