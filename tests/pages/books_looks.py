@@ -163,7 +163,7 @@ def shows_the_club(page, passes):
     has(page.run("return dialogText()"), "a facility's sentence", "Clay. Flat soles, please.")
     page.press("Close")
     page.enter(narrowed(passes["amy-1"], f"until < {day(0)}T00:00"))
-    has(page.run("return shownText('day-fault')"), "an ended pass", "This pass has ended.", f"Until the end of {page_date(day(-1), year=True)}.", "or the office")
+    has(page.run("return shownText('day-fault')"), "an ended pass", "This pass has ended.", f"Until the end of {page_date(day(-1), year=True)}.", "ask the office or the person who gave you this pass")
     for each in club["facilities"]:
         each["about"] = "Bring your own life jacket, and shoes with light soles. " * 3
     club["facilities"][0]["about"] = "Clay. Flat soles, please."
