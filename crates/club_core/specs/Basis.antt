@@ -25,7 +25,8 @@ club_account club member = record { member = member; balance = balance_of member
 abbrev pub account_named : List ℕ → Club → Option MemberAccount
 account_named name club = option_map (club_account club) (member_named name club)
 
--- The state of a slot: its facility, its number of persons, and whether the slot is closed.
+-- The state of a slot: its facility, if the facility is known, its number of persons, and whether
+-- the slot is closed.
 pub record SlotState : Type 0 where
   pub facility : Option Facility
   pub held : SlotUse

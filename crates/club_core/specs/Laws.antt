@@ -17,18 +17,19 @@ RefusalsChangeNothing = (words : Words) (moment : ℕ) (basis : Option Basis) �
 abbrev pub OneSheet : Type 0
 OneSheet = (club : Club) (day : ℕ) (text other : List ℕ) → IsSheet club day text → IsSheet club day other → text ≡ other
 
--- The view of the key that a pass names decides the answer to the request.
+-- The view of the key that a pass names is the view that the rules use to decide the request.
 abbrev pub ViewsDecide : Type 0
 ViewsDecide = (club : Club) (words : Words) (moment : ℕ) (name : List ℕ) → key_of words.pass ≡ Some name →
     view_in club name words.request moment ≡ option_map (λ (basis : Basis). view_of basis words.request moment) (basis_of club words)
 
--- `is_signed_under` returns true if and only if a valid root of the key signs the pass.
+-- `is_signed_under` returns true if and only if a root of the key that is valid at the moment signs
+-- the pass.
 abbrev pub TestsTheSignature : Type 0
 TestsTheSignature = (pass : Pass) (key : Key) (moment : ℕ) →
     IsTrue (is_signed_under pass key moment) ↔ IsSignedUnder pass key moment
 
--- The bookings of a key's member determine the points that the key has spent. The same bookings
--- contain the key's booking under each number.
+-- The bookings of a key's member are enough to compute the points that the key has spent. The same
+-- bookings are enough to find the key's booking under a number.
 pub record HasOwnBookings (club : Club) (key : Key) : Type 0 where
   pub spent : spent_under key.name (bookings_of key.member club) ≡ spent_under key.name club.bookings
   pub booking : (number : ℕ) → booking_under key.name number (bookings_of key.member club) ≡ booking_under key.name number club.bookings

@@ -48,8 +48,8 @@ seen_by_decision asked.Account view = record (seen_by_caveats view) {
   open_count = view.open_count;
 }
 
--- The caveats and the decision have the same results for a part of the view as for the complete
--- view.
+-- The caveats test the same values for `seen_by_caveats` as for the complete view, except that the
+-- points spent are 0. The decision is the same for `seen_by_decision` as for the complete view.
 pub record RestsOnItsParts (view : View) (request : Request) (moment : ℕ) : Type 0 where
   pub caveats : ask_of (seen_by_caveats view) request moment ≡ after_spending 0 (ask_of view request moment)
   pub decision : verdict_of (seen_by_decision request view) request moment ≡ verdict_of view request moment

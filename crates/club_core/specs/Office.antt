@@ -1,4 +1,4 @@
--- Defines how the rules decide the office's commands. The first true condition in a list refuses
+-- Defines how the rules decide the office's commands. The first true condition in a list decides
 -- the command.
 use Rattle.std.specs.{Prelude.{ℕ, ◌+◌, ◌&&◌, not, Bool, false, List, [], ◌∷◌, nat_lt, nat_le, is_some, Option, Some, None, Result, Ok, Err}, Str.bytes_eq}
 use Rattle.club_values.specs.declared.slot.Slot.{Slot}
@@ -83,7 +83,7 @@ close_verdict held slot (Some facility) =
     (Ok (Some (MarkClosed slot)))
 
 -- The decision on a command: the change that it makes, or the fault of its refusal. The change is
--- `None` if the command has nothing to change.
+-- `None` if the command cancels a booking that is already cancelled.
 abbrev pub command_verdict : CommandView → Command → Result (Option Change) OfficeFault
 command_verdict view (AddMember name quota) =
     first_of

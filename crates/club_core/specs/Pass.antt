@@ -18,7 +18,7 @@ pub record Words : Type 0 where
   pub request : Request
 
 -- The root is valid at the given moment. The key's root is always valid. The key's older root is
--- valid until it expires.
+-- valid if the moment is before the root's end.
 abbrev pub IsGoodRoot : Key → ℕ → List ℕ → Type 0
 IsGoodRoot key moment root = (root ≡ key.root) ⊎ (older_root_at key.older moment ≡ Some root)
 
@@ -28,7 +28,8 @@ pub record IsSignedUnder (pass : Pass) (key : Key) (moment : ℕ) : Type 0 where
   pub good : IsGoodRoot key moment root
   pub signed : IsTrue (pass.is_signed root)
 
--- Whether the pass is signed under the key's root, or under the key's older root before it expires.
+-- Whether the pass is signed under the key's root, or under the key's older root before the root's
+-- end.
 abbrev pub is_signed_under : Pass → Key → ℕ → Bool
 is_signed_under pass key moment =
     pass.is_signed key.root || option_map_or pass.is_signed (older_root_at key.older moment) false

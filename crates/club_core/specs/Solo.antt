@@ -18,7 +18,8 @@ abbrev pub outside : List ℕ → Club → Option Slot → SlotUse
 outside member club slot = slot_use_by (bookings_of_others member club) club slot
 
 -- An event that concerns a member: a request under a key of the member, or a change of the member's
--- part of the club. A request includes other members' use of its slot.
+-- part of the club. A request includes the number of other members' persons in its slot, and
+-- whether the slot is closed.
 pub data OwnEvent : Type 0 where
   OwnAsk : (words : Words) (moment : ℕ) (others : SlotUse) → OwnEvent
   OwnChange : (change : Change) → OwnEvent
@@ -71,7 +72,8 @@ part_of name club = record {
   closed = [];
 }
 
--- The basis from the member's part of the club, after adding other members' use of the slot.
+-- The basis from the member's part of the club, after adding other members' persons to the slot.
+-- `others` also states whether the slot is closed.
 abbrev pub with_others : SlotUse → Basis → Basis
 with_others others basis = record basis {
   state = record basis.state {

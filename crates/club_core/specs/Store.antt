@@ -9,7 +9,7 @@ use Rattle.club_core.specs.declared.{change.Change.TheVariants.{ReplaceQuota, In
 abbrev pub HasMember : List ℕ → Club → Type 0
 HasMember name club = (row : Member) × (member_named name club ≡ Some row)
 
--- The club has a member with this name, and has credited at least these points to the member.
+-- The club has a member with this name, and the member's `credited` is at least these points.
 abbrev pub HasCredited : List ℕ → ℕ → Club → Type 0
 HasCredited name points club = (row : Member) × (member_named name club ≡ Some row) × (points ≤ row.credited)
 
@@ -36,11 +36,12 @@ IsToCancel booking club = (booking_under booking.key booking.number club.booking
 -- The change matches the club's rows:
 --
 -- - The member, key or facility that the change edits exists.
--- - A debit is at most the points credited.
+-- - The facility of a slot to open exists.
+-- - A debit is at most the member's `credited`.
 -- - A new key has no older root.
 -- - A rotated key has the former root.
 -- - A booking's key belongs to the member.
--- - A booking to cancel is on record with the same values.
+-- - A booking to cancel is on record with the same values, and isn't cancelled.
 abbrev pub IsTrueOf : Change → Club → Type 0
 IsTrueOf (AddCredit name points) club = HasMember name club
 IsTrueOf (TakeCredit name points) club = HasCredited name points club
@@ -87,7 +88,7 @@ IsRead {S} Fails old new = (wish : Option Change) (fault : StoreFault) (later : 
 --
 -- - The disk was clean before the read.
 -- - The read changes neither the store's club nor its possible crash states.
--- - If the read succeeds, its result matches the club.
+-- - If the read succeeds, its result matches the club, and the read doesn't affect later failures.
 -- - If the read fails, the failure satisfies `Fails`.
 pub record ReadsStore {S A : Type 0} (IsClean : S → Type 0) (Represents : S → Club → List Club → Type 0)
     (Fails : Option Change → S → StoreFault → S → Type 0) (old new : S) (result : Result A StoreFault) (IsReturned : Club → A → Type 0) : Type 0 where

@@ -35,14 +35,16 @@ new_booking view slot number guests facility = record {
   refund = 0;
 }
 
--- The reply to a new booking, and the change that inserts its row.
+-- The reply to a new booking, and the change that inserts its row. The booking's key belongs to
+-- `member`.
 abbrev pub booked_now : Booking → List ℕ → Verdict
 booked_now booking member = record {
   reply = Booked booking.key booking.number booking.charge booking.left;
   change = Some (InsertBooking booking member);
 }
 
--- The reply to a cancellation, and the change that records the refund.
+-- The reply to a cancellation, and the change that records the refund. The booking's key belongs to
+-- `member`.
 abbrev pub cancelled_now : Booking → List ℕ → ℕ → Verdict
 cancelled_now booking member refund = record {
   reply = Cancelled booking.key booking.number refund;

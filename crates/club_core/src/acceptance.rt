@@ -12,9 +12,9 @@ use club_values::Moment;
 use pass_caveats::CaveatFault;
 
 /// Returns the reply to a request with a decoded pass, and the change to apply. `view` is the view
-/// of the pass's key, or `None` if the club doesn't have this key. `is_signed` is true if a valid
-/// root of the key signs the pass. `fault` is the first fault of the pass's caveats. An unknown key
-/// and a wrong signature get the same refusal, whatever the caveats are.
+/// of the pass's key, or `None` if the club doesn't have this key. `is_signed` is true if a root of
+/// the key that is valid at the moment signs the pass. `fault` is the first fault of the pass's
+/// caveats. An unknown key and a wrong signature get the same refusal, whatever the caveats are.
 pub fn answer(
     view: Option<&View>,
     is_signed: bool,

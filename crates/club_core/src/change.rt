@@ -13,8 +13,7 @@ pub enum Change {
         member: Name,
         points: u32,
     },
-    /// Subtracts points from the points credited to a member. The member must have been credited at
-    /// least these points.
+    /// Subtracts points from the member's `credited`, which must be at least these points.
     TakeCredit {
         member: Name,
         points: u32,

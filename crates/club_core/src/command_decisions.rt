@@ -258,7 +258,7 @@ fn open_slot(view: &CommandView, slot: &Slot) -> Result<Option<Change>, OfficeFa
 }
 
 /// Returns the change that a command makes, decided from the command's view. Returns `None` if the
-/// command has nothing to change.
+/// command cancels a booking that is already cancelled.
 ///
 /// # Errors
 ///

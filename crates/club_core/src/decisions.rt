@@ -103,8 +103,8 @@ fn book_at(
     Verdict::new_booking(booking, &view.key.member)
 }
 
-/// Decides a booking. The verdict contains the reply. For a new booking, the verdict also contains
-/// the row to insert.
+/// Decides a booking. The verdict contains the reply. If the decision makes a new booking, the
+/// verdict also contains the row to insert.
 pub fn decide_book(
     view: &View,
     slot: &Slot,
@@ -141,8 +141,8 @@ fn cancel_recorded(booking: &Booking, member: &Name, slot: &Slot, moment: Moment
     Verdict::new_cancellation(booking, member, booking.refund_at(moment))
 }
 
-/// Decides a cancellation. The verdict contains the reply. If the booking wasn't cancelled before,
-/// the verdict also contains the refund to record.
+/// Decides a cancellation. The verdict contains the reply. If the decision cancels the booking, the
+/// verdict also contains the refund to record.
 pub fn decide_cancel(view: &View, slot: &Slot, moment: Moment) -> Verdict
     ensures { result ≡ cancel_verdict view.now slot.now moment }
 {

@@ -70,7 +70,7 @@ pub fn refusals_change_nothing()
     ensures { RefusalsChangeNothing }
 {}
 
-/// The view of the key that a pass names decides the answer to the request.
+/// The view of the key that a pass names is the view that the rules use to decide the request.
 pub fn views_decide()
     ensures { ViewsDecide }
 {}
@@ -82,13 +82,14 @@ pub fn looks_no_further()
     ensures { LooksNoFurther }
 {}
 
-/// `is_signed_under` returns true if and only if a valid root of the key signs the pass.
+/// `is_signed_under` returns true if and only if a root of the key that is valid at the moment
+/// signs the pass.
 pub fn tests_the_signature()
     ensures { TestsTheSignature }
 {}
 
-/// The bookings of a key's member determine the points that the key has spent. The same bookings
-/// contain the key's booking under each number.
+/// The bookings of a key's member are enough to compute the points that the key has spent. The same
+/// bookings are enough to find the key's booking under a number.
 pub fn own_bookings_suffice()
     ensures { OwnBookings }
 {}

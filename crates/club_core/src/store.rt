@@ -34,7 +34,7 @@ impl fmt::Display for StoreFault {
 impl Error for StoreFault {}
 
 /// A store of a club's rows. The store keeps its promises while its disk is clean. A disk is clean
-/// if every read returns the bytes that were written, and no other program writes to the disk.
+/// if every read returns the bytes that were written, and nothing else writes to the disk.
 pub trait ClubStore {
     ghost use Rattle.std.specs.Prelude.{◌≡◌, ◌∷◌, All, IfErr, List, Option, Some, option_map};
     ghost use Rattle.club_core.specs.Basis.{account_named, slot_use};
@@ -61,7 +61,8 @@ pub trait ClubStore {
         ensures { ReadsStore disk_is_clean represents fails self.old self.new result
             (λ club row. row ≡ option_map row_of_key (key_named name.now club)) };
 
-    /// Returns the older root of the key with this name, or `None` if the key was never rotated.
+    /// Returns the older root of the key with this name. Returns `None` if the key was never
+    /// rotated, or if no key has this name.
     fn older_root(&mut self, name: &Name) -> Result<Option<OlderRoot>, StoreFault>
         ensures { ReadsStore disk_is_clean represents fails self.old self.new result
             (λ club older. older ≡ older_root_of name.now club) };
