@@ -31,7 +31,8 @@ IsNoCorrection (Commanded (CancelBooking key number)) = ⊥
 IsNoCorrection event = Unit {0}
 
 -- If the office neither debits nor cancels, the member's balance plus charges equals the member's
--- credits plus refunds.
+-- credits plus the refunds in the replies. For each booking, only the first charge and the first
+-- refund count.
 abbrev pub ConservesWithoutCorrections : Type 0
 ConservesWithoutCorrections =
     (events : List Event) (name : List ℕ) (member : Member) → All IsEvent events → All IsNoCorrection events

@@ -23,8 +23,8 @@ ChangesThePartAlike =
     → IsSound (after change club)
     → part_of name (after change club) ≡ part_after name club change
 
--- An event that adds nothing to the member's own events leaves the member's part of the club
--- unchanged.
+-- In a sound club, an event that adds nothing to the member's own events leaves the member's part
+-- of the club unchanged.
 abbrev pub LeavesThePart : Type 0
 LeavesThePart =
     (name : List ℕ) (club : Club) (event : Event)

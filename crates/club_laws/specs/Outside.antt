@@ -1,5 +1,6 @@
--- Laws about the solo machine, which has only one member's part of the club. The solo machine sees
--- only how many persons of other members are in the requested slot, and whether the slot is closed.
+-- Laws about the solo machine, which has only one member's part of the club. Of the other members,
+-- the solo machine sees only how many of their persons are in the requested slot. It also sees
+-- whether the slot is closed.
 use Rattle.std.specs.Prelude.{◌≡◌, ℕ, List, Option, Some, None, codes}
 use Rattle.club_values.specs.declared.slot.Slot.{Slot}
 use Rattle.club_core.specs.{Basis.{Basis, basis_of}, Club.{Club, empty_club, is_closed}, Pass.Words, Request.request_slot, Run.Asked}
@@ -14,8 +15,9 @@ HoldAlike name a b (Some slot) =
     (taken_in slot (bookings_of_others name a) ≡ taken_in slot (bookings_of_others name b))
     × (is_closed slot a ≡ is_closed slot b)
 
--- Suppose that other members use the requested slot in the same way in two clubs. Then the solo
--- machine gets the same event from both clubs.
+-- Suppose that the pass of a request names a key of the same member in two clubs, and that the
+-- requested slot satisfies `HoldAlike`. Then the solo machine gets the same event for the request
+-- from both clubs.
 abbrev pub SeesTheSlotAlone : Type 0
 SeesTheSlotAlone =
     (name : List ℕ) (a b : Club) (words : Words) (moment : ℕ) (in_a in_b : Basis)

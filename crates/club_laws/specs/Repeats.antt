@@ -28,7 +28,7 @@ pub record WasServed (club : Club) (history : List Event) (words : Words) (reply
   pub same_request : words.request ≡ first.request
 
 -- An accepted repeat of a served request gets the same reply and changes nothing. Other events may
--- come between the request and its repeat.
+-- come between the request and its repeat, and the repeat may come at any moment.
 abbrev pub RepeatsReturnTheSame : Type 0
 RepeatsReturnTheSame =
     (club : Club) (history : List Event) (words : Words) (moment : ℕ) (reply : Reply)
@@ -63,8 +63,9 @@ pub record WasCancelled (club : Club) (history : List Event) (key : List ℕ) (n
 abbrev pub refund_by_office : Booking → ℕ
 refund_by_office booking = if booking.cancelled then booking.refund else booking.charge
 
--- If a member cancels a booking that the office cancelled before, the reply states the recorded
--- refund, and nothing changes.
+-- Suppose that the office cancelled a booking before, and an accepted request of the member cancels
+-- the booking. Then the reply states the recorded refund, and nothing changes. The request may come
+-- at any moment.
 abbrev pub CancellationsReturnTheRecord : Type 0
 CancellationsReturnTheRecord =
     (club : Club) (history : List Event) (words : Words) (moment : ℕ) (key : List ℕ) (number : ℕ) (booking : Booking)

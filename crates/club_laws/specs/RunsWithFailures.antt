@@ -9,7 +9,8 @@ use Rattle.std.specs.Prelude.{◌≡◌, ℕ, IsFalse, List, ◌∷◌, ◌++◌
 use Rattle.club_values.specs.declared.slot.Slot.{Slot}
 use Rattle.club_core.specs.declared.request.Request.TheVariants as asked
 
--- A run from a sound club ends in a sound club, even if some events failed.
+-- A run from a sound club ends in a sound club, even if some events failed. The values of all
+-- events must be within their limits.
 abbrev pub SoundWithFailures : Type 0 → Type 0
 SoundWithFailures O =
     (presentation : Presentation O) (club last : Club) (events : List Event) (replies : List (Response O))
@@ -18,7 +19,8 @@ SoundWithFailures O =
     → IsRun presentation club events replies last
     → IsSound last
 
--- A run neither creates nor loses points, even if some events failed.
+-- A run from the empty club neither creates nor loses points, even if some events failed. The
+-- values of all events must be within their limits.
 abbrev pub ConservesWithFailures : Type 0 → Type 0
 ConservesWithFailures O =
     (presentation : Presentation O) (last : Club) (events : List Event) (replies : List (Response O)) (name : List ℕ) (member : Member)
@@ -28,7 +30,8 @@ ConservesWithFailures O =
     → let answered = answered_events presentation events replies in
     IsConserved last answered (replies_of empty_club answered) member
 
--- No slot is overbooked after a run, even if some events failed.
+-- No slot is overbooked after a run from the empty club, even if some events failed. The values of
+-- all events must be within their limits.
 abbrev pub PlacesWithFailures : Type 0 → Type 0
 PlacesWithFailures O =
     (presentation : Presentation O) (last : Club) (events : List Event) (replies : List (Response O)) (slot : Slot)
@@ -52,8 +55,8 @@ pub record WasReturned {O : Type 0} (history : List Event) (replies : List (Resp
   pub same_key : key_of words.pass ≡ key_of first.pass
   pub same_request : words.request ≡ first.request
 
--- A later repeat gets the same response, unless the repeat fails. The run without the repeat has
--- the same other responses and the same last club.
+-- A later accepted repeat gets the same response, unless the repeat fails. The run without the
+-- repeat has the same other responses and the same last club.
 abbrev pub RepeatsWithFailures : Type 0 → Type 0
 RepeatsWithFailures O =
     (presentation : Presentation O) (club last : Club) (history rest : List Event) (before since : List (Response O))
@@ -65,9 +68,9 @@ RepeatsWithFailures O =
     → (IsFalse (has_failed presentation (Asked words moment) returned) → returned ≡ ToMember reply)
     × IsRun presentation club (history ++ rest) (before ++ since) last
 
--- If a member cancels a booking that the office cancelled before, the response states the recorded
--- refund, unless the request fails. The run without this request has the same other responses and
--- the same last club.
+-- Suppose that the office cancelled a booking before, and an accepted request of the member cancels
+-- the booking. Then the response states the recorded refund, unless the request fails. The run
+-- without this request has the same other responses and the same last club.
 abbrev pub CancellationsWithFailures : Type 0 → Type 0
 CancellationsWithFailures O =
     (presentation : Presentation O) (club last : Club) (history rest : List Event) (before since : List (Response O))

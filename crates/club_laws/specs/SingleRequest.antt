@@ -24,7 +24,8 @@ abbrev pub RefusesWithoutABasis : Type 0
 RefusesWithoutABasis =
     (words : Words) (moment : ℕ) (club : Club) → basis_of club words ≡ None → verdict_in club words moment ≡ refusal_verdict (blind_refusal words.pass)
 
--- A request is refused with `NotVerified` if no valid root of the pass's key signs the pass.
+-- A request is refused with `NotVerified` if its pass names a key of the club, but no root of the
+-- key that is valid at the moment signs the pass.
 abbrev pub RefusesTheUnsigned : Type 0
 RefusesTheUnsigned =
     (words : Words) (moment : ℕ) (club : Club) (pass : Pass) (key : Key)
@@ -44,9 +45,10 @@ ServesOnlyTheEntitled =
 abbrev pub words_with : Pass → Request → Words
 words_with pass request = record { pass = Ok pass; request = request }
 
--- The wide pass and the narrow pass name the same key, but the narrow pass has more caveats. A
--- valid root of the key signs the wide pass. If a request is served under the narrow pass, the same
--- request gets the same answer under the wide pass.
+-- The wide pass and the narrow pass name the same key of the club. The narrow pass has the caveats
+-- of the wide pass, followed by more caveats. A root of the key that is valid at the moment signs
+-- the wide pass. If a request is served under the narrow pass, the same request gets the same
+-- answer under the wide pass.
 abbrev pub MoreCaveatsNeverOpenMore : Type 0
 MoreCaveatsNeverOpenMore =
     (wide narrow : Pass) (more : List (Option Caveat)) (key : Key) (request : Request) (moment : ℕ) (club : Club)

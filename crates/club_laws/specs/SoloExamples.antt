@@ -72,8 +72,8 @@ ShowsAmyATakenPlace =
     ∷ [])
     ≡ served_booking 7 600 0 ∷ account 9_400 1 600 ∷ served_cancellation 7 600 ∷ []
 
--- The office cancels bob's booking in amy's slot, and later cancels amy's booking. Amy can then
--- book the places that bob had, and later gets her points back. Amy's repeated requests get the
+-- The office cancels bob's booking in amy's slot. Amy can then book the places that bob had. After
+-- the office also cancels amy's booking, amy has her points back, and her repeated requests get the
 -- recorded replies.
 abbrev pub ShowsAmyHerCancellation : Type 0
 ShowsAmyHerCancellation =

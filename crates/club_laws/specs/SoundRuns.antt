@@ -1,4 +1,4 @@
--- Laws about sound clubs. Every run from a sound club ends in a sound club.
+-- Laws about sound clubs, and about the changes that events make to them.
 use Rattle.std.specs.Prelude.{◌≡◌, ◌≢◌, ◌+◌, ◌≤◌, true, false, List, [], ◌∷◌, ◌++◌, map, sum_by, All, Contains, Some, Ok}
 use Rattle.club_values.specs.{Moment.IsMoment, declared.slot.Slot.Slot}
 use Rattle.club_rows.specs.{Limits.{credited_limit, quota_limit, IsRoot}, Rows.{IsMember, IsFacility, IsKey, IsSlot, IsBooking}}
@@ -22,8 +22,8 @@ abbrev pub IsChangeBy : Club → Event → Change → Type 0
 IsChangeBy club (Asked words moment) change = (verdict_in club words moment).change ≡ Some change
 IsChangeBy club (Commanded command) change = office_verdict club command ≡ Ok (Some change)
 
--- If an event changes a sound club, the change matches the club's rows, and the changed club is
--- sound.
+-- If an event with values within their limits changes a sound club, the change matches the club's
+-- rows, and the changed club is sound.
 abbrev pub ChangesFit : Type 0
 ChangesFit = (club : Club) (event : Event) (change : Change) → IsSound club → IsEvent event → IsChangeBy club event change → FitsClub change club
 

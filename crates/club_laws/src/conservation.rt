@@ -28,7 +28,7 @@ pub fn conserves_points()
 {}
 
 /// If the office neither debits nor cancels, a member's balance plus charges equals the member's
-/// credits plus refunds.
+/// credits plus the refunds in the replies.
 #[tactic(auto, using(crate::proofs::PointRuns::conserved_without_corrections))]
 pub fn conserves_without_corrections()
     ensures { ConservesWithoutCorrections }

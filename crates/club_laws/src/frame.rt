@@ -3,15 +3,15 @@
 
 ghost use Rattle.club_laws.specs.Frame.{ChangesThePartAlike, LeavesThePart, TakenIsOwnAndOthers};
 
-/// In a sound club, each change makes the same change in a member's part of the club, or leaves the
-/// part unchanged.
+/// If a change leads from a sound club to a sound club, it makes the same change in a member's part
+/// of the club, or leaves the part unchanged.
 #[tactic(auto, using(crate::proofs::MemberParts::changes_the_part_alike))]
 pub fn changes_the_part_alike()
     ensures { ChangesThePartAlike }
 {}
 
-/// An event that isn't one of the member's own events leaves the member's part of the club
-/// unchanged.
+/// In a sound club, an event that isn't one of the member's own events leaves the member's part of
+/// the club unchanged.
 #[tactic(auto, using(crate::proofs::SoloRuns::leaves_the_part))]
 pub fn leaves_the_part()
     ensures { LeavesThePart }

@@ -31,8 +31,8 @@ pub fn accepts_a_repeat()
     ensures { AcceptsARepeat }
 {}
 
-/// If a member cancels a booking that the office cancelled before, the reply states the recorded
-/// refund, and nothing changes.
+/// Suppose that the office cancelled a booking before, and an accepted request of the member
+/// cancels the booking. Then the reply states the recorded refund, and nothing changes.
 pub fn cancellations_return_the_record()
     ensures { CancellationsReturnTheRecord }
 {

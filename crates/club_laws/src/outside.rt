@@ -2,8 +2,8 @@
 
 ghost use Rattle.club_laws.specs.Outside.{SeesNothingOfOthers, SeesTheSlotAlone};
 
-/// The solo machine sees only how many persons of other members are in the requested slot, and
-/// whether the slot is closed.
+/// Of the other members, the solo machine sees only how many of their persons are in the requested
+/// slot. It also sees whether the slot is closed.
 pub fn sees_the_slot_alone()
     ensures { SeesTheSlotAlone }
 {}

@@ -9,25 +9,26 @@ ghost use Rattle.club_laws.specs.RunsWithFailures.{RepeatsWithFailures};
 use club_core::laws::tests_the_signature;
 use pass_caveats::laws::tests_the_set;
 
-/// A run from a sound club ends in a sound club.
+/// A run from a sound club ends in a sound club if the values of all events are within their
+/// limits.
 #[tactic(auto, using(crate::proofs::FailedEvents::sound_with_failures))]
 pub fn keeps_sound<O>()
     ensures { SoundWithFailures O }
 {}
 
-/// A run neither creates nor loses points.
+/// A run from the empty club neither creates nor loses points.
 pub fn conserves_points<O>()
     ensures { ConservesWithFailures O }
 {}
 
-/// After a run, each slot has at least as many places as persons.
+/// After a run from the empty club, each slot has at least as many places as persons.
 #[tactic(auto, using(crate::proofs::FailedEvents::places_with_failures))]
 pub fn never_overbooks<O>()
     ensures { PlacesWithFailures O }
 {}
 
-/// A repeated request gets the first response, unless the repeat fails. The run without the repeat
-/// has the same other responses and the same last club.
+/// An accepted repeat of a served request gets the first response, unless the repeat fails. The run
+/// without the repeat has the same other responses and the same last club.
 pub fn repeats_return_the_same<O>()
     ensures { RepeatsWithFailures O }
 {
@@ -35,9 +36,9 @@ pub fn repeats_return_the_same<O>()
     tests_the_signature();
 }
 
-/// If a member cancels a booking that the office cancelled before, the response states the recorded
-/// refund, unless the request fails. The run without this request has the same other responses and
-/// the same last club.
+/// Suppose that the office cancelled a booking before, and an accepted request of the member
+/// cancels the booking. Then the response states the recorded refund, unless the request fails. The
+/// run without this request has the same other responses and the same last club.
 pub fn cancellations_return_the_record<O>()
     ensures { CancellationsWithFailures O }
 {

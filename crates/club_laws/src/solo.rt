@@ -31,8 +31,8 @@ pub fn answers_amy_alone()
     ensures { AnswersAmyAlone }
 {}
 
-/// An example: another member's bookings, cancellations, credits and keys don't change the replies
-/// to a member.
+/// An example: the replies to a member stay the same while another member books and cancels, and
+/// while the office credits this other member and adds and revokes its keys.
 pub fn answers_amy_among_others()
     ensures { AnswersAmyAmongOthers }
 {}

@@ -1,4 +1,4 @@
-//! Laws about sound clubs. Every run from a sound club ends in a sound club.
+//! Laws about sound clubs, and about the changes that events make to them.
 
 ghost use Rattle.club_laws.specs.SoundRuns.{ChangesFit, EmptyIsSound, RunsKeepSound};
 ghost use Rattle.club_laws.specs.SoundRuns.{StepsKeepSound, SuitingChangesKeepSound};
@@ -14,8 +14,8 @@ pub fn steps_keep_sound()
     ensures { StepsKeepSound }
 {}
 
-/// If an event changes a sound club, the change matches the club's rows, and the changed club is
-/// sound.
+/// If an event with values within their limits changes a sound club, the change matches the club's
+/// rows, and the changed club is sound.
 #[tactic(auto, using(crate::proofs::SoundSteps::fits_event))]
 pub fn changes_fit()
     ensures { ChangesFit }
