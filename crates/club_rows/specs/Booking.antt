@@ -16,8 +16,7 @@ abbrev pub full_refund_ahead : ℕ
 full_refund_ahead = minutes_a_day
 
 -- The refund for a cancellation at this moment. At least one day before the start of the slot, the
--- refund is the whole charge. Less than one day before the start, the refund is half of the charge,
--- rounded down.
+-- refund is the whole charge. Later, the refund is half of the charge, rounded down.
 abbrev pub refund_at : Booking → ℕ → ℕ
 refund_at booking moment =
     if nat_le (moment + full_refund_ahead) (start_of booking.slot) then booking.charge else booking.charge / 2

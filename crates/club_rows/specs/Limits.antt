@@ -2,7 +2,7 @@
 use Rattle.std.specs.Prelude.{ℕ, ◌-◌, ◌*◌, ◌≤◌, List, length}
 use Rattle.club_values.specs.{Hour.hours_a_day, Number.number_limit, Slot.guests_limit}
 
--- The most points that a member can ever receive as credit.
+-- The maximum of all credits of a member minus all its debits, in points.
 abbrev pub credited_limit : ℕ
 credited_limit = number_limit
 

@@ -56,8 +56,8 @@ impl Booking {
     ghost use Rattle.club_rows.specs.{Booking.refund_at, Columns.IsBookingOf};
 
     /// Returns the refund in points for a cancellation at this moment. At least one day before the
-    /// start of the slot, the refund is the whole charge. Less than one day before the start, the
-    /// refund is half of the charge, rounded down.
+    /// start of the slot, the refund is the whole charge. Later, the refund is half of the charge,
+    /// rounded down.
     pub fn refund_at(&self, moment: Moment) -> u32
         ensures { result ≡ refund_at self.now moment }
     {

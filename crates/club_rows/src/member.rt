@@ -6,7 +6,7 @@ use crate::columns::number_within;
 use club_values::Name;
 use club_values::digits::MAX_NUMBER;
 
-/// The most points that a member can ever receive as credit.
+/// The maximum of all credits of a member minus all its debits, in points.
 pub const MAX_CREDITED: u32 = MAX_NUMBER;
 
 /// The most open bookings that a member can have.
@@ -16,7 +16,7 @@ pub const MAX_QUOTA: u32 = 99;
 #[derive(Clone, Copy, Debug, PartialEq, Eq)]
 pub struct Member {
     pub name: Name,
-    /// The total credit that the member has ever received, from 0 to 999,999,999 points.
+    /// All points ever credited to the member, minus all points debited, from 0 to 999,999,999.
     pub credited: u32,
     /// The most open bookings that this member can have, from 0 to 99.
     pub quota: u8,
