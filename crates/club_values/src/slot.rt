@@ -25,8 +25,8 @@ impl Slot {
     /// Returns the number of minutes from 1970-01-01T00:00 to the start of the slot.
     pub fn start(&self) -> u32
         ensures value { result ≡ start_of self.now }
-        // The last slot begins at 23:00 on the last supported day, so every slot ends by midnight
-        // of that day.
+        // The last slot begins at 23:00 on the last supported day, so every slot ends by the end of
+        // that day.
         ensures bound { result + minutes_an_hour ≤ last_moment + 1 }
     {
         u32::from(self.day.number()) * u32::from(MINUTES_A_DAY)
