@@ -19,14 +19,15 @@ pub record RecoversOne (state : State) (clubs : List Club) (events : List machin
   pub represents : Represents state club []
   pub again : RepeatsServedReplies club events returned
 
--- Suppose that a crash of the old store may leave any of these clubs. A store that is opened on the
--- files after the crash recovers exactly one of the clubs.
+-- Suppose that these are the clubs that the old store may have after a crash. A store that is
+-- opened on the files after the crash recovers exactly one of the clubs.
 abbrev pub SurvivesCrash : {D E : Type 0} {d : disk.Ghosts D} {e : disk.Ghosts E} → FileStore D d → Held (FileStore E e) → List Club
     → List machine.Event → List DeskResponse → Type 0
 SurvivesCrash before after clubs events returned =
     (left : Image) → CrashLeaves before clubs left → OpensFrom left after → ∥ RecoversOne (file_state after) clubs events returned ∥₁
 
--- A crash may leave this image of a store's file and log.
+-- The store's disk has been clean so far, and a crash may leave this image of the store's file and
+-- log.
 abbrev pub CrashMayLeave : {D : Type 0} {d : disk.Ghosts D} → FileStore D d → Image → Type 0
 CrashMayLeave store left = IsClean (file.view store) × (file.state store).may_leave left
 
@@ -48,9 +49,9 @@ leaves_sound_in g store club others =
     All IsSound (club ∷ others) × IsTrue (g.view store).is_numbered × LeavesOneOf g store (club ∷ others)
 
 -- After a run and a crash, a reopened store represents exactly one club, and no later crash changes
--- the club. The store's club is the club of the answered events, or another possible crash state.
--- If the store's club is at most one event later than the answered events, an accepted repeat gets
--- the first reply.
+-- the club. The store's club is the club of the answered events, or another possible crash state of
+-- the run. If the store's club is at most one event later than the club of the answered events, an
+-- accepted repeat of a served request gets the first reply and changes nothing.
 pub record RecoversAfterRun {E : Type 0} {e : disk.Ghosts E} (opened : Held (FileStore E e)) (club : Club) (others : List Club) (events : List machine.Event)
     (returned : List DeskResponse) : Type 0 where
   pub now : Club

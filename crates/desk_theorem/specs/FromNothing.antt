@@ -18,7 +18,7 @@ abbrev pub fails_in_memory : Option Change → InMemory → StoreFault → InMem
 fails_in_memory = Fails over_memory
 
 -- The desk handled the events in order. A step of the machine answered each event, or the event
--- failed because memory or storage failed.
+-- failed. An event failed only if the store failed, or if there was no memory for a pass in JSON.
 abbrev pub AreHandledInMemory : InMemory → List Event → List EventReply → InMemory → Type 0
 AreHandledInMemory = AreHandled (λ held. HasCleanDisk (state over_memory held)) (sound_in over_memory) fails_in_memory
 

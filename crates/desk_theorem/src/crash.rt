@@ -18,10 +18,10 @@ use club_store::laws::{files_hold_one_of, one_club_recovered};
 use sqlite::{Alter, FileFrom, FileStore, Start};
 use sqlite_disk::Disk;
 
-/// States the crash law. Suppose that a crash of the old store may leave any of these clubs.
-/// Reopening the files after the crash recovers exactly one of the clubs, and every later crash
-/// recovers the same club. If a repeat of a served request gets the same reply in each of these
-/// clubs, the recovered club gives this reply too.
+/// States the crash law. Suppose that these are the clubs that the old store may have after a
+/// crash. Reopening the files after the crash recovers exactly one of the clubs, and every later
+/// crash recovers the same club. If a repeat of a served request gets the same reply in each of
+/// these clubs, the recovered club gives this reply too.
 pub fn served_survives_a_crash<D: Disk, Q: Start>(
     before: &FileStore<D>,
     after: &Store<FileStore<FileFrom<Q>>>,

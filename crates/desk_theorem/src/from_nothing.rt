@@ -25,8 +25,8 @@ pub fn run_from_nothing(alloc: Global, events: &[Event]) -> Result<Vec<EventRepl
     ensures lawful { IfOk result (λ replies. (seen : List machine.Event)
         → AreEventsOf events.now seen
         → IsLawfulRun empty_club seen (responses_of replies.items)) }
-    // A step of the machine answered each event, or the event failed because memory or storage
-    // failed.
+    // A step of the machine answered each event, or the event failed. An event failed only if the
+    // store failed, or if there was no memory for a pass in JSON.
     ensures handled { IfOk result (λ replies. HandlesFromNothing events.now replies.items) }
     ensures fault { IfErr result IsMemoryFault }
 {
@@ -66,9 +66,9 @@ pub fn reply_from_nothing(
         → AreEventsOf events.now seen
         → IsLawful (club_left empty_club seen (responses_of returned.replies.items))
         words.now.pass.now words.now.request moment returned.reply) }
-    // A step of the machine answered each event, or the event failed because memory or storage
-    // failed. If the reply is `Unavailable`, the store failed, or there was no memory for a pass in
-    // JSON.
+    // A step of the machine answered each event, or the event failed. An event failed only if the
+    // store failed, or if there was no memory for a pass in JSON. The same causes apply if the
+    // reply is `Unavailable`.
     ensures handled { IfOk result (λ returned. RepliesFromNothing events.now
         returned.replies.items words.now.pass.now words.now.request moment returned.reply) }
     ensures fault { IfErr result IsMemoryFault }
