@@ -1,5 +1,5 @@
 -- Defines the basis and the view of a request. The basis contains the rows on which the answer may
--- depend. The view contains rows of the basis, and sums of the basis's bookings.
+-- depend. The view contains the rows and sums that decide the request, computed from the basis.
 use Rattle.std.specs.Prelude.{ℕ, false, List, Option, Some, None, Result, Ok, Err, option_map, option_and_then}
 use Rattle.club_values.specs.declared.slot.Slot.{Slot}
 use Rattle.club_rows.specs.{Key.row_of_key, declared.{booking.Booking.Booking, facility.Facility.Facility, key.Key.Key, member.Member.Member}}

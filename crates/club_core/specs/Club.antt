@@ -37,6 +37,7 @@ keys_of member club = filter (λ (key : Key). bytes_eq key.member member) club.k
 abbrev pub is_key_of : List ℕ → Club → List ℕ → Bool
 is_key_of member club name = list_any (λ (key : Key). bytes_eq key.name name) (keys_of member club)
 
+-- The bookings under all keys of the member with this name.
 abbrev pub bookings_of : List ℕ → Club → List Booking
 bookings_of member club = filter (λ (booking : Booking). is_key_of member club booking.key) club.bookings
 

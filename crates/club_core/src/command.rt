@@ -58,7 +58,7 @@ pub enum Command {
         name: Name,
     },
     /// Replaces a key's root. The desk accepts passes signed under the former root until the moment
-    /// `until`. From this moment on, the desk refuses these passes.
+    /// `until`, or until the next rotation of the key. From then on, the desk refuses these passes.
     RotateKey {
         name: Name,
         root: Root,
