@@ -25,7 +25,8 @@ has_failed presentation (Asked words moment) (ToMember reply) = is_unavailable r
 has_failed presentation (Commanded command) (ToOffice answer) = presentation.is_fault answer
 has_failed presentation event returned = false
 
--- An event was answered. The response and the next club are the results of the machine's step.
+-- An event was answered, so it didn't fail. The response shows the machine's reply to the event,
+-- and the next club is the club after the machine's step.
 pub record IsAnsweredStep {O : Type 0} (presentation : Presentation O) (club : Club) (event : Event) (returned : Response O) (next : Club) : Type 0 where
   pub success : IsFalse (has_failed presentation event returned)
   pub reply : returned ≡ present_reply presentation (step club event).reply
@@ -55,6 +56,7 @@ answered_events presentation (event ∷ events) (returned ∷ replies) =
     else event ∷ answered_events presentation events replies
 answered_events presentation events replies = []
 
+-- The responses to the events that didn't fail.
 abbrev pub answers : {O : Type 0} → Presentation O → List Event → List (Response O) → List (Response O)
 answers presentation (event ∷ events) (returned ∷ replies) =
     if has_failed presentation event returned then answers presentation events replies else returned ∷ answers presentation events replies

@@ -100,7 +100,8 @@ RepeatsAfterOneMore O =
     → IsRun presentation club events replies last
     → RepeatsServedReplies last events replies × ((event : Event) → RepeatsServedReplies (step last event).club events replies)
 
--- A member's part of the club and own events determine the replies to the member's requests.
+-- In a run from a sound club, a member's part of the club and own events determine the replies to
+-- the member's requests.
 abbrev pub SoloLawWithFailures : Type 0 → Type 0
 SoloLawWithFailures O =
     (presentation : Presentation O) (name : List ℕ) (club last : Club) (events : List Event) (replies : List (Response O))
@@ -110,8 +111,8 @@ SoloLawWithFailures O =
     replies_to name club answered (answers presentation events replies)
     ≡ map ToMember (solo_replies (part_of name club) (own_events name club answered))
 
--- Suppose that a member's part of the club and own events are the same in two runs. Then the
--- replies to the member's requests are the same in both runs.
+-- Suppose that a member's part of the club and own events are the same in two runs from sound
+-- clubs. Then the replies to the member's requests are the same in both runs.
 abbrev pub SoloLawOfTwoWithFailures : Type 0 → Type 0
 SoloLawOfTwoWithFailures O =
     (presentation : Presentation O) (name : List ℕ) (a b last end : Club) (events others : List Event) (replies returned : List (Response O))

@@ -21,8 +21,9 @@ pub fn counts_a_cancellation_once()
     ensures { CountsACancellationOnce }
 {}
 
-/// A member's balance plus debits plus charges equals the member's credits plus refunds. No balance
-/// is below 0. If the office is the first to cancel a booking, the refund is the whole charge.
+/// After a run from the empty club, a member's balance plus debits plus charges equals the member's
+/// credits plus refunds. No balance is below 0. If the office is the first to cancel a booking, the
+/// refund is the whole charge.
 pub fn conserves_points()
     ensures { ConservesPoints }
 {}
@@ -34,7 +35,7 @@ pub fn conserves_without_corrections()
     ensures { ConservesWithoutCorrections }
 {}
 
-/// After a run, each slot has at least as many places as persons.
+/// After a run from the empty club, each slot has at least as many places as persons.
 #[tactic(auto, using(crate::proofs::PointRuns::has_room))]
 pub fn never_overbooks()
     ensures { NeverOverbooks }

@@ -17,7 +17,8 @@ pub fn repeats_return_the_same()
     tests_the_signature();
 }
 
-/// A run without a repeated request has the same other replies and the same last club.
+/// A run without an accepted repeat of a served request has the same other replies and the same
+/// last club.
 pub fn repeats_may_be_left_out()
     ensures { RepeatsMayBeLeftOut }
 {

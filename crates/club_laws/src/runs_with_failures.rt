@@ -55,14 +55,15 @@ pub fn repeats_after_one_more<O>()
     tests_the_signature();
 }
 
-/// A member's part of the club and own events determine the replies to the member's requests.
+/// In a run from a sound club, a member's part of the club and own events determine the replies to
+/// the member's requests.
 #[tactic(auto, using(crate::proofs::SoloRuns::solo_with_failures))]
 pub fn solo_law<O>()
     ensures { SoloLawWithFailures O }
 {}
 
-/// Suppose that a member's part of the club and own events are the same in two runs. Then the
-/// replies to the member's requests are the same in both runs.
+/// Suppose that a member's part of the club and own events are the same in two runs from sound
+/// clubs. Then the replies to the member's requests are the same in both runs.
 #[tactic(auto, using(crate::proofs::SoloRuns::solo_with_failures))]
 pub fn solo_law_of_two<O>()
     ensures { SoloLawOfTwoWithFailures O }

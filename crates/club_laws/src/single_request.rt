@@ -20,7 +20,8 @@ pub fn refuses_without_a_basis()
     ensures { RefusesWithoutABasis }
 {}
 
-/// A pass gets the same reply as a pass that names no key, if no valid root of its key signs it.
+/// A pass gets the same reply as a pass that names no key, if no root of its key that is valid at
+/// the moment signs it.
 #[tactic(auto, using(crate::proofs::ServedPasses::unsigned_in))]
 pub fn refuses_the_unsigned()
     ensures { RefusesTheUnsigned }
@@ -28,8 +29,9 @@ pub fn refuses_the_unsigned()
     tests_the_signature();
 }
 
-/// The desk serves a request only if its pass names a key of the club that isn't revoked. A valid
-/// root of the key must have signed the pass. Each caveat must allow the request.
+/// The desk serves a request only if its pass names a key of the club that isn't revoked. A root of
+/// the key that is valid at the moment must have signed the pass. Each caveat must allow the
+/// request.
 #[tactic(auto, using(crate::proofs::ServedPasses::served_entitled))]
 pub fn serves_only_the_entitled()
     ensures { ServesOnlyTheEntitled }

@@ -6,21 +6,22 @@ ghost use Rattle.club_laws.specs.SoloExamples.{ShowsAmyATakenPlace, ShowsAmyHerC
 ghost use Rattle.club_laws.specs.SoloExamples.{ShowsAmyNewNumbers};
 ghost use Rattle.club_laws.specs.SoloLaw.{EndsWithThePart, SoloLaw, SoloLawOfTwo};
 
-/// A member's part of the club and own events determine the replies to the member's requests.
+/// In a run from a sound club, a member's part of the club and own events determine the replies to
+/// the member's requests.
 #[tactic(auto, using(crate::proofs::SoloRuns::solo_law))]
 pub fn solo_law()
     ensures { SoloLaw }
 {}
 
-/// Suppose that a member's part of the club and own events are the same in two runs. Then the
-/// replies to the member's requests are the same in both runs.
+/// Suppose that a member's part of the club and own events are the same in two runs from sound
+/// clubs. Then the replies to the member's requests are the same in both runs.
 #[tactic(auto, using(crate::proofs::SoloRuns::solo_law))]
 pub fn solo_law_of_two()
     ensures { SoloLawOfTwo }
 {}
 
-/// Applying the member's own events to the member's part gives the member's part of the club after
-/// the run.
+/// In a run from a sound club, applying the member's own events to the member's part gives the
+/// member's part of the club after the run.
 #[tactic(auto, using(crate::proofs::SoloRuns::ends_with_the_part))]
 pub fn ends_with_the_part()
     ensures { EndsWithThePart }
