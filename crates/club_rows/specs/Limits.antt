@@ -6,6 +6,7 @@ use Rattle.club_values.specs.{Hour.hours_a_day, Number.number_limit, Slot.guests
 abbrev pub credited_limit : ℕ
 credited_limit = number_limit
 
+-- The most open bookings that a member can have.
 abbrev pub quota_limit : ℕ
 quota_limit = 99
 
@@ -13,9 +14,11 @@ quota_limit = 99
 abbrev pub places_limit : ℕ
 places_limit = 50
 
+-- The highest price of a facility, in points per person and slot.
 abbrev pub price_limit : ℕ
 price_limit = 9_999
 
+-- The latest closing hour of a facility.
 abbrev pub shutting_limit : ℕ
 shutting_limit = hours_a_day
 
@@ -23,6 +26,7 @@ shutting_limit = hours_a_day
 abbrev pub charge_limit : ℕ
 charge_limit = places_limit * price_limit
 
+-- The most places that remain in a slot after a booking of one person.
 abbrev pub left_limit : ℕ
 left_limit = places_limit - 1
 
@@ -40,6 +44,7 @@ IsGuests n = n ≤ guests_limit
 abbrev pub min_root_len : ℕ
 min_root_len = 16
 
+-- The maximum number of bytes in a root.
 abbrev pub max_root_len : ℕ
 max_root_len = 64
 
