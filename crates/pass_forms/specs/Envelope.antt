@@ -1,4 +1,5 @@
--- Defines the envelope of a pass text. A pass text is plain JSON or base64.
+-- Defines the envelope of a pass text. A pass text is plain JSON or base64. This project chose the
+-- envelope, the way to determine the form, and the order of the faults.
 use Rattle.std.specs.{List.starts_with, Option.option_and_then, Prelude.{◌≡◌, ◌==◌, ◌≤◌, ◌<◌, ◌&&◌, ◌||◌, ◌⊎◌, ℕ, Bool, List, length, take, slice_get, nat_eq}}
 use Rattle.std.specs.Prelude.{nat_le, IsTrue, codes, if◌then◌else◌, Option, None, Some, Result, Ok, Err}
 use Rattle.base64.specs.{Engines.{url_safe_no_pad, url_safe, standard_no_pad, standard}, GeneralPurpose.{IsBytes, encode_of}}

@@ -1,4 +1,5 @@
--- Defines the results of reading a pass in any form.
+-- Defines the results of reading a pass in any form. This project chose the limits and the order of
+-- the faults.
 use Rattle.std.specs.Prelude.{◌≡◌, ℕ, ◌<◌, ◌≤◌, true, false, length, Result, Ok, Err}
 use Rattle.pass_forms.specs.{Pass.{Plain, WidePass, has_third_party, as_wide_pass}, declared.fault.FormFault.FormFault}
 use Rattle.pass_forms.specs.declared.fault.FormFault.TheVariants.{TooLong, Malformed, ThirdParty, TooMany, Memory}

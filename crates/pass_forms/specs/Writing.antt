@@ -1,5 +1,5 @@
 -- Defines the results of writing a pass. In each form, a pass has only one text that a writer may
--- return.
+-- return. This project chose the limits, the order of the faults, and base64 without padding.
 use Rattle.std.specs.{List.AllByRecursion, Prelude.{◌≡◌, ℕ, ◌<◌, ◌≤◌, List, [], ◌∷◌, ◌++◌, length, Option, None, Some, Result, Ok, Err, IsOk}}
 use Rattle.base64.specs.{Engines.url_safe_no_pad, GeneralPurpose.{IsBytes, encode_of}}
 use Rattle.pass_mac.specs.Hmac.{hmac}

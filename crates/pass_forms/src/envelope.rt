@@ -60,7 +60,8 @@ impl Unwrapped {
 /// # Errors
 ///
 /// Fails with `TooLong` if the text has more than 8,192 bytes. Otherwise fails with `Malformed` if
-/// the text isn't in any form. No other fault can occur.
+/// the text doesn't start with `{` and isn't base64. Also fails with `Malformed` if the decoded
+/// bytes are empty or don't begin with the first byte of a form. No other fault can occur.
 #[tactic(auto, unfolding(crate::specs::computed::Envelope::unwrapping))]
 pub fn unwrap_text(text: &[u8], buffer: &mut [u8; MAX_BYTES]) -> Result<Unwrapped, FormFault>
     ensures reading { IsUnwrapped text.now (unwrapped_result result text.now buffer.new) }

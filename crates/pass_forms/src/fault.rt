@@ -7,16 +7,16 @@ use std::alloc::{AllocError, AllocFailed};
 use std::error::Error;
 use std::fmt;
 
-/// The reason why a call couldn't read or write a pass.
+/// The reason why a call couldn't read, write or narrow a pass.
 #[derive(Clone, Copy, Debug, PartialEq, Eq)]
 pub enum FormFault {
-    /// The pass text has more than 8,192 bytes.
+    /// The text or the bytes of the pass have, or would have, more than 8,192 bytes.
     TooLong,
     /// The text doesn't encode a pass.
     Malformed,
     /// The pass has a third-party caveat.
     ThirdParty,
-    /// The pass has more than 64 caveats.
+    /// The pass has, or would have, more than 64 caveats.
     TooMany,
     /// An allocation failed.
     Memory,

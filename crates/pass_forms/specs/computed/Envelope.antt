@@ -12,7 +12,8 @@ by_decoders text =
     option_or (option_or (decoded_of url_safe_no_pad text) (decoded_of url_safe text))
     (option_or (decoded_of standard_no_pad text) (decoded_of standard text))
 
--- Decodes a base64 text. Returns `None` if an element of the text isn't a byte.
+-- Decodes a base64 text. Returns `None` if the text isn't base64 or an element of the text isn't a
+-- byte.
 unfoldable pub from_base64 : List ℕ → Option (List ℕ)
 from_base64 text = if list_all (λ byte. nat_lt byte 256) text then by_decoders text else None
 
