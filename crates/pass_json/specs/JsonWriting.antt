@@ -11,7 +11,7 @@ abbrev pub base64_text : List ℕ → Data
 base64_text bytes = string (encode_of url_safe_no_pad bytes)
 
 -- Adds bytes to the members of an object. If the bytes are UTF-8, the member has the plain name.
--- Otherwise the member has the `64` name, and its value is base64.
+-- Otherwise the member has the `64` name, and its value is base64. This project chose this rule.
 unfoldable pub put_member : List ℕ → List ℕ → List ℕ → Members → Members
 put_member plain base64 bytes members =
     if is_utf8 bytes then put plain (string bytes) members else put base64 (base64_text bytes) members
