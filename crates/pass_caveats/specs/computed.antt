@@ -1,4 +1,4 @@
--- Functions that compute the results that `specs/` defines. Laws prove that each function agrees
--- with its definition.
+-- Functions that compute the results that `specs/` defines. Laws state that the computed results
+-- agree with the definitions.
 
 pub mod CaveatOf

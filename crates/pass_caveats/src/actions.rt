@@ -18,9 +18,9 @@ pub struct Actions {
 impl Actions {
     ghost use Rattle.pass_caveats.specs.Actions.{has_action, SpellsActions};
 
-    /// Parses a comma-separated list of actions. The actions are `view`, `book`, `cancel` and
-    /// `account`, and they must be in this order. Returns `None` for any other text, including an
-    /// empty list.
+    /// Parses a comma-separated list of one or more of the actions `view`, `book`, `cancel` and
+    /// `account`. Each action occurs at most once, and the actions must be in this order. Returns
+    /// `None` for any other text.
     pub fn read(text: &[u8]) -> Option<Actions>
         ensures { Reads (SpellsActions text.now) result }
     {

@@ -30,7 +30,8 @@ pub fn finds_the_fault_at()
 {}
 
 /// Suppose that a caveat is appended to a list. If the list already has a first fault, the fault
-/// stays the same. Otherwise the first fault is the fault of the new caveat.
+/// stays the same. Otherwise the first fault is the fault of the new caveat. The number of the new
+/// caveat is one more than the length of the list.
 #[tactic(auto, using(crate::proofs::CaveatOfLemmas::fault_of_one_more))]
 pub fn finds_the_fault_of_one_more()
     ensures { FindsTheFaultOfOneMore }

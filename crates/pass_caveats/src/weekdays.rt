@@ -21,9 +21,9 @@ pub struct Weekdays {
 impl Weekdays {
     ghost use Rattle.pass_caveats.specs.Weekdays.{has_weekday, SpellsWeekdays};
 
-    /// Parses a comma-separated list of weekdays, such as `mon,wed`. The weekdays must be in the
-    /// order of the week, starting with `mon`. Returns `None` for any other text, including an
-    /// empty list.
+    /// Parses a comma-separated list of one or more of the weekdays `mon`, `tue`, `wed`, `thu`,
+    /// `fri`, `sat` and `sun`. Each weekday occurs at most once, and the weekdays must be in this
+    /// order. Returns `None` for any other text.
     pub fn read(text: &[u8]) -> Option<Weekdays>
         ensures { Reads (SpellsWeekdays text.now) result }
     {
