@@ -18,7 +18,7 @@ held object = record {
   signature = object.signature;
 }
 
--- The form of the text from which the object was read.
+-- The form of the text from which the object was read, or V2 if the object has no form.
 abbrev pub form_in : PassObject → Form
 form_in object = form_with_number object.form
 

@@ -26,15 +26,16 @@ IsWrittenAs form pass (Ok text) =
     IsWritableText (IsTextIn form) pass text × IsAnyReading text (Ok (form, pass))
 IsWrittenAs form pass (Err fault) = fault ≢ Memory → IsRefusedIn form pass fault
 
--- The buffer contains the text of the pass in this form. If there is no such text, the code is the
--- fault's code.
+-- The call copied the text of the pass in this form to the buffer, or the code says why not. The
+-- reason is a buffer that is too short, or a fault of the library's writer.
 pub record IsTextCopied (form : Form) (pass : Plain) (old new : List ℕ) (len code : ℕ) : Type 0 where
   pub writing : Result (List ℕ) FormFault
   pub written : IsWrittenAs form pass writing
   pub copied : MatchResult writing (λ text. IsCopied text old new len code) (λ fault. IsLeft (fault_code fault) old new len code)
 
--- The buffer contains the text of the pass in the form with this number. If no form has this
--- number, the call fails and the buffer is unchanged.
+-- The call copied the text of the pass in the form with this number to the buffer, or the code
+-- says why not. If no form has this number, the buffer is unchanged and the code is
+-- `no_form_code`.
 pub record WritesForm (number : ℕ) (pass : Plain) (old new : List ℕ) (len code : ℕ) : Type 0 where
   pub known : (form : Form) → number ≡ number_of_form form → IsTextCopied form pass old new len code
   pub unknown : ((form : Form) → number ≢ number_of_form form) → IsLeft no_form_code old new len code

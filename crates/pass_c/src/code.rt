@@ -11,7 +11,7 @@ use pass_forms::{Form, FormFault};
 /// The call succeeded.
 pub const OK: u32 = 0;
 
-/// The text of the pass would have more than 8,192 bytes.
+/// The text has, or would have, more than 8,192 bytes.
 pub const TOO_LONG: u32 = 1;
 
 /// The text isn't a pass.
@@ -20,7 +20,7 @@ pub const MALFORMED: u32 = 2;
 /// The pass has a third-party caveat.
 pub const THIRD_PARTY: u32 = 3;
 
-/// The pass has more than 64 caveats.
+/// The pass has, or would have, more than 64 caveats.
 pub const TOO_MANY: u32 = 4;
 
 /// Memory ran out, or the object has no room for the pass.

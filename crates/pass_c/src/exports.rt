@@ -40,7 +40,8 @@ pub extern "C" fn clubpass_read(alloc: Global, text: &[u8], pass: &mut PassObjec
     code_of(pass.read(alloc, text))
 }
 
-/// Returns the number of the form from which the pass was read: 1 for V1, 2 for V2, 3 for JSON.
+/// Returns the number of the form from which the pass was read: 1 for V1, 2 for V2, 3 for JSON. The
+/// number is 2 for a minted pass, and 0 for an empty object.
 #[unsafe(no_mangle)]
 pub extern "C" fn clubpass_form(pass: &PassObject) -> u32
     ensures { result ≡ pass.now.form }
@@ -154,7 +155,7 @@ pub extern "C" fn clubpass_mint(
     }
 }
 
-/// Adds a caveat to a pass, and signs the caveat without the root. If the call fails, the pass is
+/// Adds a caveat to a pass, and signs the pass without the root. If the call fails, the pass is
 /// unchanged.
 #[unsafe(no_mangle)]
 pub extern "C" fn clubpass_narrow(pass: &mut PassObject, caveat: &[u8]) -> u32

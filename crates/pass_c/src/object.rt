@@ -17,8 +17,8 @@ pub const ROOM: usize = 8192;
 #[repr(C)]
 #[derive(Drop)]
 pub struct PassObject {
-    /// The number of the form from which the pass was read, or 0 if the pass wasn't read from a
-    /// text.
+    /// The number of the form from which the pass was read. The number is 2 for a minted pass, and 0
+    /// for an empty object.
     pub form: u32,
     pub location_len: u32,
     pub identifier_len: u32,
@@ -209,7 +209,7 @@ impl PassObject {
         self.start(Form::V2, location, identifier, &signature)
     }
 
-    /// Adds a caveat, and signs the caveat without the root.
+    /// Adds a caveat to the pass, and signs the pass without the root.
     pub fn narrow(&mut self, caveat: &[u8]) -> Result<(), FormFault>
         ensures ok { OnOk result (held self.new ≡ with_caveat caveat.now (held self.old)) }
         ensures signed { OnOk result ((root : List ℕ)
