@@ -13,9 +13,10 @@ pub fn arguments_name_a_row<C: Copy>()
     ensures { WordsNameARow C }
 {}
 
-/// If a row can be given some values, `clap` accepts arguments with these values, and finds exactly
-/// these values. An option is `--NAME=VALUE` or `--NAME VALUE`, and a flag is `--NAME`. Options and
-/// flags come first, in the row's order. After the options come `--` and the positional arguments.
+/// If a row can be given some values, `clap` accepts arguments with these values. `clap` finds
+/// exactly these values, and the defaults of the arguments without a value. An option is
+/// `--NAME=VALUE` or `--NAME VALUE`, and a flag is `--NAME`. Options and flags come first, in the
+/// row's order. After the options come `--` and the positional arguments.
 pub fn rows_take_what_they_are_given<C: Copy>()
     ensures { RowsTakeWhatTheyAreGiven C }
 {}
