@@ -25,6 +25,7 @@ abbrev pub IsCaveatText : Text → Type 0
 IsCaveatText text = (caveat : ACaveat) × Understood text caveat
 
 -- The test returns true for a text if and only if the text is a caveat of the caveat language.
+-- Therefore all such tests agree.
 abbrev pub IsCaveatTest : (Text → Bool) → Type 0
 IsCaveatTest is_understood = (text : Text) → IsTrue (is_understood text) ↔ IsCaveatText text
 

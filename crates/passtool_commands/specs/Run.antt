@@ -8,7 +8,8 @@ use Rattle.passtool_commands.specs.declared.answer.{Fault.TheVariants.{Arguments
 use Rattle.passtool_commands.specs.declared.{answer.Outcome.TheVariants.{Done, NotSigned}, command.Command.Command}
 use Rattle.command_line.specs.{Arguments.HasText, Input.ReadsAtMost, Table.refusals, declared.errors.ArgumentsFault.TheVariants.{Refused, BadValue}}
 
--- A command that reads input reads up to 8,194 bytes of it.
+-- A command that reads input reads all bytes that the reader has left, or the first 8,194 of them.
+-- For any other command, `bytes` is empty.
 abbrev pub ReadsInput : Bool → Option (List ℕ) → Option (List ℕ) → List ℕ → Type 0
 ReadsInput true left left' bytes = ReadsAtMost 8194 left left' bytes
 ReadsInput false left left' bytes = bytes ≡ []
@@ -21,13 +22,15 @@ pub record Writes (command : Command) (left left' held held' : Option (List ℕ)
   pub answers : IsAnswer command bytes (Ok ending)
   pub appends : Appends held held' written
 
--- The command reads its input and writes a prefix of its answer.
+-- The command reads its input and writes a prefix of its answer. The prefix may be the whole
+-- answer.
 abbrev pub WritesFront : Command → Option (List ℕ) → Option (List ℕ) → Option (List ℕ) → Option (List ℕ) → Type 0
 WritesFront command left left' held held' =
     (ending : OutcomeText) × (front : List ℕ) × StartsWith ending.1 front × Writes command left left' held held' ending front
 
--- A command reads its input and writes exactly its answer, unless memory runs out. If the reader or
--- the writer fails, the command writes a prefix of the answer, or nothing.
+-- A command reads its input and writes exactly its answer, unless memory runs out. If the answer is
+-- a fault, the command fails with this fault. If the reader or the writer fails, the command writes
+-- nothing, or a prefix of the answer to the whole input.
 abbrev pub Performs : Command → Option (List ℕ) → Option (List ℕ) → Option (List ℕ)
     → Option (List ℕ) → Result Outcome Fault → Type 0
 Performs command left left' held held' (Ok outcome) = (text : List ℕ) × Writes command left left' held held' (outcome, text) text

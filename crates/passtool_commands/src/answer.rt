@@ -85,7 +85,7 @@ pub enum BadValue {
 /// error.
 #[derive(Debug, Drop)]
 pub enum Fault {
-    /// `clap` refused the arguments, or `--form` names an unknown form.
+    /// `clap` refused the arguments, `--form` names an unknown form, or an argument isn't UTF-8.
     Arguments(clap::Error),
     /// The input isn't a pass, the pass can't be narrowed or written, or memory ran out.
     Pass(FormFault),
@@ -101,7 +101,8 @@ pub enum Fault {
 impl Fault {
     ghost use Rattle.passtool_commands.specs.Fault.{fault_status};
 
-    /// Returns the exit status, which is between 2 and 7.
+    /// Returns the exit status: 2 for arguments, 3 for a pass, 4 if memory ran out, 5 for a caveat,
+    /// 6 for a root, 7 for input or output.
     pub fn status(&self) -> u8
         ensures { result ≡ fault_status self.now }
     {

@@ -9,7 +9,8 @@ use crate::command::Command;
 use command_line::laws::{arguments_ask_once, rows_answer_once};
 use pass_json::laws::{one_reading_for_each_text, one_writing_for_each_form};
 
-/// If arguments ask for a command, they ask for no other command and have no fault.
+/// If arguments ask for a command, they ask for no other command. The only possible fault of these
+/// arguments is that memory runs out.
 pub fn ask_for_one_command()
     ensures { AskForOneCommand }
 {

@@ -16,20 +16,23 @@ use std::io::{Read, Write};
 /// Runs the program on its arguments. The first argument is the program's name.
 ///
 /// The program checks the arguments before it reads the input. `clap` checks the arguments first.
-/// After `clap`, the program checks the form, the root and the caveats. The program reads at most
-/// 8,194 bytes of the input. `mint` reads no input. The program writes nothing before the answer is
-/// complete. The texts of help and of the version come from `clap`.
+/// After `clap`, the program checks the form and the root. It checks the caveats only for `narrow`
+/// without `--any`. The program reads the input to its end, or the first 8,194 bytes of it. `mint`
+/// reads no input. The program writes nothing before the answer is complete. The texts of help and
+/// of the version come from `clap`.
 ///
 /// # Errors
 ///
 /// The run has written nothing when it fails with one of these faults:
 /// - `Arguments`, if `clap` refuses the arguments or the form is unknown.
 /// - `BadRoot`, if the root isn't 1 to 64 bytes in hexadecimal.
-/// - `CaveatNotUnderstood`, with the number of the first caveat that isn't in the caveat language.
-/// - `Pass`, with the fault of the pass. The fault is `Memory` if memory runs out.
+/// - `CaveatNotUnderstood`, if `narrow` without `--any` has a caveat that isn't in the caveat
+///   language. The fault has the number of the first such caveat.
+/// - `Pass`, with the fault of the pass. The fault is `Memory` only if an allocation fails.
 ///
-/// The run fails with `InputOutput` if the reader or the writer fails. The run has then written a
-/// prefix of its output, or nothing.
+/// The run fails with `InputOutput` if the reader or the writer fails. The run has then written
+/// nothing, or a prefix of its output. The output is the answer to the whole input, or the text of
+/// help or of the version.
 pub fn run<S: AsStr, R: Read, W: Write>(
     alloc: Global,
     arguments: &[S],
