@@ -7,10 +7,11 @@ ghost use Rattle.pass_forms.specs.FieldSource.{AreSignedBy, caveat_field, signat
 use crate::{Field, FieldSource};
 use pass_mac::{Chain, same};
 
-/// Returns whether a pass is signed. The argument `chain` must be the chain of the pass's
-/// identifier. The source must have returned the location and the identifier already. The function
-/// adds the remaining caveats to the chain and compares the chain's signature with the pass's
-/// signature. The function returns false if the source returns another location or identifier.
+/// Returns whether a pass is signed under a root. The argument `chain` must be the chain of the
+/// pass's identifier under this root. The source must have returned the location and the identifier
+/// already. The function adds the remaining caveats to the chain and compares the chain's signature
+/// with the pass's signature. The function returns false if a location or an identifier remains
+/// before the signature.
 #[tactic(auto, using(crate::proofs::Verifying::signed_behind))]
 pub fn is_signed_by<'a, F: FieldSource<'a>>(mut chain: Chain, source: &mut F) -> bool
     ensures signed { IsTrue result ↔ AreSignedBy chain (F.left source.old) }
