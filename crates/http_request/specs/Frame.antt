@@ -26,7 +26,7 @@ abbrev pub HasNoPiece : List ℕ → Type 0
 HasNoPiece bytes = (n : ℕ) → n ≤ length bytes → n ≤ max_head_len → ends_with nat_eq (take n bytes) empty_line ≡ false
 
 -- The bytes begin with a head that the desk refuses. A refused head ends with an empty line. A
--- refused head isn't valid, or announces a body that the desk doesn't allow.
+-- refused head isn't valid, has too many fields, or announces a body that the desk doesn't allow.
 pub record IsRefusedHead (bytes : List ℕ) : Type 0 where
   pub piece : List ℕ
   pub rest : List ℕ

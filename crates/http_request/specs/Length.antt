@@ -7,12 +7,13 @@ use Rattle.http_request.specs.{Fields.values_of, Limits.max_body_len}
 abbrev pub body_length : ℕ → Option ℕ
 body_length n = if nat_le n max_body_len then Some n else None
 
--- The number that 1 to 4 digits represent. The number is `None` if it is over the limit of a body.
+-- The number that 1 to 4 digits represent. The result is `None` for any other text, and for a
+-- number over the limit of a body.
 abbrev pub length_in : List ℕ → Option ℕ
 length_in value = if nat_le (length value) 4 then option_and_then body_length (number_of_digits value) else None
 
--- The length that the field `Content-Length` declares. A head without a field `Content-Length` has
--- the length 0. The desk refuses a head with two or more fields `Content-Length`.
+-- The length of the body that the field `Content-Length` declares. Without this field, the length
+-- is 0. The desk refuses a head with two or more fields `Content-Length`.
 abbrev pub declared_length : List (List ℕ) → Option ℕ
 declared_length [] = Some 0
 declared_length (value ∷ []) = length_in value

@@ -58,7 +58,7 @@ NeedsMemory method body = (method ≡ codes "PUT") × (0 < length body)
 abbrev pub HoldsBody : List ℕ → Type 0
 HoldsBody bytes = (head : RequestHead) × (body : List ℕ) × IsFramed bytes head body × NeedsMemory head.method body
 
--- The answer satisfies the relation `Answers`. The answer may also be `Unavailable` if the decoding
+-- The answer satisfies the relation `Answers`, or the answer is `Unavailable` and the decoding
 -- needs memory.
 abbrev pub OrUnavailable : Type 0 → (Result DecodedRequest Refusal → Type 0) → Result Words Refusal → Type 0
 OrUnavailable Needs Answers (Ok words) = Answers (Ok (record { pass = words.pass.now; request = words.request }))
