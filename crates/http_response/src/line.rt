@@ -3,7 +3,8 @@
 use itoa::Buffer;
 use std::marker::Model;
 
-/// The maximum number of bytes in a `Line`. A reply consists of two lines: its head and its body.
+/// The maximum number of bytes in a `Line`. A reply consists of two values of the type `Line`: its
+/// head and its body.
 pub const MAX_LINE_LEN: usize = 256;
 
 /// A text that grows by `push`. Contracts represent a `Line` by the list of its bytes, at most 256.
