@@ -31,7 +31,7 @@ pub record ReadsNoFurther {Reader : Type 0} (Fills : Call Reader) (old : Reader)
   pub within : length bytes ≤ max_request_len
   pub calls : Gives Fills old bytes new ⊎ EndsWithNone Fills old bytes new
 
--- Only calls that write bytes changed the writer.
+-- Only consecutive calls of the writer changed the writer. A call may also have failed.
 pub data ArePut {Writer : Type 0} (Puts : Call Writer) (old : Writer) : Writer → Type 0 where
   not_put : ArePut Puts old old
   put_again : (result : Option ℕ) (bytes : List ℕ) (mid new : Writer) → ArePut Puts old mid → Puts mid result bytes new → ArePut Puts old new

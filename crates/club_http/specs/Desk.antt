@@ -5,8 +5,9 @@ use Rattle.pass_json.specs.AnyForm.{IsAnyReading}
 use Rattle.club_core.specs.{Club.Club, Pass.Words, declared.{change.Change.Change, reply.Reply.Reply, request.Request.Request, store.StoreFault.StoreFault}}
 use Rattle.club_gate.specs.{DecodedPass.AreWordsOf, Desk.{DecidesOrFails, FailsForCause, OfItsClub}, Served.{IsLawful, RefusesByFormFault}}
 
--- If the store's disk is clean, the desk's reply and the store's new state obey the rules of the
--- club. A clean disk returns exactly the bytes that were written to it.
+-- If the store's disk is clean after the reply, the desk's reply and the store's new state obey the
+-- rules of the club. A disk is clean if every read returns the bytes that were written, and no
+-- other program writes to the disk.
 pub record AnswersBy {S : Type 0} (IsClean : S → Type 0)
     (Represents : S → Club → List Club → Type 0)
     (Fails : Option Change → S → StoreFault → S → Type 0) (moment : ℕ) (text : List ℕ)

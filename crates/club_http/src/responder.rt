@@ -13,7 +13,7 @@ pub trait Responder {
     // after each reply.
     ghost answers: { ℕ → AnswerRelation Self };
 
-    /// Answers a request. The moment is the minute when the request arrived.
+    /// Answers a request at the given moment.
     fn ask(&mut self, moment: Moment, words: &Words<'_>) -> Reply
         ensures { answers moment words.now.pass.now words.now.request self.old result self.new };
 }
