@@ -57,8 +57,8 @@ module _ {S C : Type 0} (to_come taken : S → Option (List ℕ)) where
 
   module _ (Shows : C → Option ℕ → Type 0) (Reads Writes : Calls S) where
     -- The course of an exchange. The server read the request, and stopped reading once the request
-    -- was complete. Once the request was complete, the server wrote the reply, and ended the
-    -- connection. The server wrote exactly the bytes `written`.
+    -- was complete. After the last read, the server wrote the reply, and ended the connection. The
+    -- server wrote exactly the bytes `written`.
     pub record Talks (old : Accepted S C) (bytes written : List ℕ) (outcome : Result Reply AnswerFault) (new : Accepted S C) : Type 0 where
       pub heard : Accepted S C
       pub sent : Accepted S C

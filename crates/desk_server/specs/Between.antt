@@ -14,15 +14,16 @@ pub data AreWaits {Reader : Type 0} (Waits : Wait Reader) (old : Reader) : Reade
   no_wait : AreWaits Waits old old
   wait_again : (mid new : Reader) → AreWaits Waits old mid → Waits mid new → AreWaits Waits old new
 
--- The reader waited zero or more times, and then filled a buffer.
+-- The reader waited zero or more times. After the waits, the reader was called once to fill a
+-- buffer.
 pub record Awaits {Reader : Type 0} (Waits : Wait Reader) (Fills : Call Reader) (old : Reader) (result : Option ℕ) (room : List ℕ) (new : Reader)
     : Type 0 where
   pub awaited : Reader
   pub waits : AreWaits Waits old awaited
   pub fills : Fills awaited result room new
 
--- The reader borrows the same values as before, and only commands of the office changed the
--- borrowed values.
+-- The reader borrows the same values as before. Only commands of the office changed the borrowed
+-- clock, desk and log.
 pub record CommandsAlone {R M D G : Type 0} (Gives : GivesMoment M) (Carries : CommandRelation D) (Begins : G → G → Type 0) (Noted : Notes G)
     (old new : Between R M D G) : Type 0 where
   pub same_reader : new.reader.ghost_name ≡ old.reader.ghost_name

@@ -29,9 +29,9 @@ impl fmt::Display for ClockOutOfRange {
 impl Error for ClockOutOfRange {}
 
 /// Serves `count` clients of a listener, one after the other. The server carries out commands of
-/// the office between clients, and while it waits for a client's request. A client gets the clock's
-/// moment at the start of its turn. A client counts even if its connection or exchange fails, or if
-/// its request is refused. Commands don't count as clients.
+/// the office before each client, and while it waits for a client's request. A client gets the
+/// clock's moment at the start of its turn. A client counts even if its connection or exchange
+/// fails, or if its request is refused. Commands don't count as clients.
 ///
 /// # Errors
 ///

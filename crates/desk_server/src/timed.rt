@@ -163,8 +163,8 @@ const REST_MILLISECONDS: u64 = 200;
 const MAX_REST_AT_ONCE: usize = 4_096;
 
 /// Both ends of an accepted connection, with time limits. All reads together may take the patience,
-/// counted from the start of the connection. All writes together may take the patience, counted
-/// from the first write. A call waits at most for the time left of its limit.
+/// counted from the moment when the server accepted the connection. All writes together may take
+/// the patience, counted from the first write. A call waits at most for the time left of its limit.
 ///
 /// If no time is left or the clock can't be read, the call is still made, but doesn't wait. If a
 /// signal interrupts a call, the call is repeated with the time that is left.
