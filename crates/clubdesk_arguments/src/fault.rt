@@ -23,10 +23,10 @@ pub enum Fault {
     ClockOutOfRange,
     /// The program couldn't read its input or write its output, or the server couldn't listen.
     InputOutput,
-    /// A server received the command and didn't answer. It is unknown whether the server carried
-    /// out the command.
+    /// The program sent the command to a server, which didn't answer. It is unknown whether the
+    /// server carried out the command.
     NoAnswer,
-    /// A server received the command and answered with this status and this line.
+    /// The program sent the command to a server, which answered with this status and this line.
     Answered { status: u8, line: String },
 }
 

@@ -48,8 +48,8 @@ pub struct Service<'a> {
     pub count: u32,
     /// The clock that shows the moment of each request.
     pub clock: Clock<'a>,
-    /// The timeout for receiving a client's request and for sending the reply, from 1 to 3,600
-    /// seconds.
+    /// The time limit for receiving a client's request, from 1 to 3,600 seconds. The same limit
+    /// applies anew to sending the reply, and anew to closing the connection.
     pub patience: u32,
     /// True if the server logs each connection.
     pub log: bool,
