@@ -21,6 +21,6 @@ abbrev pub machine_answers : ℕ → AnswerRelation Club
 machine_answers moment text request club reply next =
     (words : Words) × AreWordsOf text request words × IsStep desk_presentation club (Asked words moment) (ToMember reply) next
 
--- A command changes the club in the same way as a store that represents the club.
+-- A command changes the club in the same way as it changes a store that represents the club.
 abbrev pub machine_commands : (Option Timestamp → Type 0) → served.CommandRelation Club
 machine_commands Given bytes club answer next = CarriesOutBy Always IsItself Given bytes club answer next

@@ -26,7 +26,7 @@ named_line (Some name) = codes "office " ++ take 24 name ++ codes " "
 named_line None = []
 
 -- The log's words for a command with this answer. If `clap` refused the arguments, the log has no
--- words, because `clap` found no name of a command.
+-- words, because `clap` then returns no name of a command.
 abbrev pub logged_line : Result (List ℕ) Fault → Option Text → List ℕ
 logged_line (Err (Arguments error)) name = []
 logged_line answer name = named_line name
@@ -42,8 +42,9 @@ pub data AskOther (arguments : List Text) : Type 0 where
 
 module _ {Store : Type 0} (Clean : Store → Type 0) (Represents : Store → Club → List Club → Type 0) (Given : Option Timestamp → Type 0) where
   -- The effect of a command with these arguments. If the arguments are valid, the desk carries out
-  -- the command in the same way as a run without a server. If the arguments contain no root, the
-  -- command takes this root. If the arguments or the root are invalid, the store is unchanged.
+  -- the command in the same way as a run without a server. If the arguments leave the root of a key
+  -- to standard input, the command takes this root. If the arguments or the root are invalid, the
+  -- store is unchanged.
   pub data DoesArguments (root : Text) (arguments : List Text) (answer : Result (List ℕ) Fault) (old new : Store) : Type 0 where
     task_done : (file : Text) (task : Task) → AskFor arguments file (Office task) → Does Clean Represents Given task answer old new
         → DoesArguments root arguments answer old new
@@ -55,8 +56,9 @@ module _ {Store : Type 0} (Clean : Store → Type 0) (Represents : Store → Clu
         → DoesArguments root arguments answer old new
 
   -- The effect of the bytes that a server receives. If the bytes encode a command of the office,
-  -- the desk carries out the command once. The log gets the name of the command, which is the
-  -- second argument. If the bytes encode no command of the office, the store is unchanged.
+  -- the desk carries out the command once, unless memory runs out. The log gets the name of the
+  -- command, which is the second argument. If the bytes encode no command of the office, the store
+  -- is unchanged.
   pub data CarriesOutBy (bytes : List ℕ) (old : Store) (answer : Answer) (new : Store) : Type 0 where
     command_done : (root : Text) (arguments : List Text) (result : Result (List ℕ) Fault) → SpellsCommand bytes root arguments
         → DoesArguments root arguments result old new
@@ -66,8 +68,8 @@ module _ {Store : Type 0} (Clean : Store → Type 0) (Represents : Store → Clu
         → CarriesOutBy bytes old answer new
     no_memory : IsUnnamed 4 answer → new ≡ old → CarriesOutBy bytes old answer new
 
--- The replies of a desk with a store and a clock. The replies depend only on the store, and the
--- clock never changes.
+-- The replies of a desk with a store and a clock. The clock has no effect on the replies, and never
+-- changes.
 abbrev pub answers_with_clock : {S C : Type 0} → (ℕ → AnswerRelation S) → ℕ → AnswerRelation (S × C)
 answers_with_clock Answers moment text request old reply new = Answers moment text request old.0 reply new.0 × (new.1 ≡ old.1)
 

@@ -35,8 +35,9 @@ outcome_of_server (Err stopped) = Err ClockOutOfRange
 
 -- The effect of a server. A server that listens serves clients until it reaches the requested
 -- number of clients, or until the clock fails. The server takes the time of each client from its
--- clock, which may be the machine's clock. Between clients, the server carries out the office's
--- commands. The log notes all turns. A server that can't listen or can't write its address serves
+-- clock, which may be the machine's clock. Before each client, and while the server waits for a
+-- request, the server carries out the office's commands. If the service asks for a log, the log
+-- notes all turns. A server that can't listen, can't write its address or runs out of memory serves
 -- no client, and its log notes no turn.
 pub data RunsServer {Desk Machine : Type 0} (Shows : Machine → Option Timestamp → Type 0) (machine : Machine)
     (Answers : ℕ → AnswerRelation Desk) (Carries : served.CommandRelation Desk) (service : Service) (turns : List Turn) (old new : Desk)

@@ -90,8 +90,8 @@ pub fn run<C: Instants + MonotonicClock, D: Databases, S: AsStr, R: Read, W: Wri
 }
 
 // Carries out a task of the office. If a server has the database open, the server carries out the
-// task. Otherwise, the function closes the database before it writes the answer, so that a blocked
-// writer doesn't keep the database open.
+// task. Otherwise, the function carries out the task on the database. It closes the database before
+// it writes the answer, so that a blocked writer doesn't keep the database open.
 fn perform<C: Instants, D: Databases, S: AsStr, W: Write>(
     alloc: Global,
     machine: &C,
