@@ -32,7 +32,7 @@ pub(crate) fn is_key_of(keys: &[Key], member: &Name, name: &Name) -> bool
         .any(|key| key.name == *name)
 }
 
-/// Returns the number of persons in the bookings of the slot.
+/// Returns the number of persons in the slot. Cancelled bookings don't count.
 pub(crate) fn persons_in(bookings: &[Booking], slot: &Slot) -> u32
     requires { sums.taken_in slot.now bookings.now < 2 ^ 32 }
     ensures { result ≡ sums.taken_in slot.now bookings.now }
