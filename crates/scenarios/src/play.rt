@@ -223,8 +223,8 @@ where
     }
 
     /// Returns true if the line takes effect before a crash. In this case, the caller plays the
-    /// line, reopens the tables, and plays the line again. Otherwise, this function reopens the
-    /// tables.
+    /// line, reopens the tables, and plays the line again. If a crash stops the line before it
+    /// takes effect, this function reopens the tables.
     fn was_kept(&mut self) -> Result<bool, Fault> {
         let crashes = self.known.crashes;
         self.known.crashes = false;
