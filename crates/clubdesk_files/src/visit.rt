@@ -87,6 +87,7 @@ pub(crate) fn find_server<'a>(rt: &'a HostRuntime, file: &str) -> Result<Found<'
 /// - Fails with `NotFound` or `ConnectionRefused` if no server listens on the door.
 /// - Fails with `InvalidInput` if the name is too long for a door.
 /// - Fails with `PermissionDenied` if only root can use the door.
+/// - Fails with `InvalidData` if another kind of file has the door's name.
 /// - Fails with `InvalidData` if the door belongs to a user who may not make the door.
 /// - Fails with another error if the door can't be used for another reason.
 pub fn connect(rt: &HostRuntime, file: &str) -> io::Result<UnixStream> {
