@@ -6,7 +6,8 @@ use Rattle.club_rows.specs.{Limits.{credited_limit, places_limit}, declared.{boo
 use Rattle.club_core.specs.{Club.{Club, member_named}, Sums.{taken_in, spent_under}}
 
 pub record FitsWidths (club : Club) : Type 0 where
-  -- No member has more credit than `credited_limit`, and no two members have the same name.
+  -- No member is credited with more points than `credited_limit`, and no two members have the same
+  -- name.
   pub credited : All (λ (member : Member). member.credited ≤ credited_limit) club.members
   pub unique : All (λ (member : Member). member_named member.name club ≡ Some member) club.members
   -- No facility has more places than `places_limit`, and no slot has more persons than

@@ -46,7 +46,8 @@ impl Club {
         &self.closed
     }
 
-    /// Returns the member's balance, which is the credit minus the cost of the member's bookings.
+    /// Returns the member's balance, which is the credited points minus the cost of the member's
+    /// bookings.
     pub fn balance(&self, member: &Member) -> u32
         ensures { result ≡ sums.balance_of member.now
             (own_bookings self.now.keys member.now.name self.now.bookings) }

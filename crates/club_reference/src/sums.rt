@@ -86,7 +86,8 @@ fn left_of(keys: &[Key], bookings: &[Booking], member: &Member) -> u32
         )
 }
 
-/// Returns the member's balance, which is the credit minus the cost of the member's bookings.
+/// Returns the member's balance, which is the credited points minus the cost of the member's
+/// bookings.
 pub(crate) fn balance(keys: &[Key], bookings: &[Booking], member: &Member) -> u32
     ensures { result ≡ sums.balance_of member.now
         (own_bookings keys.now member.now.name bookings.now) }
