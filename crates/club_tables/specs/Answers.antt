@@ -40,8 +40,8 @@ abbrev pub IsFirst : {A : Type 0} → (Row → A → Type 0) → List Row → Op
 IsFirst Yields [] found = found ≡ None
 IsFirst Yields (row ∷ rows) found = IsSomeAnd found (Yields row)
 
--- The rows decode to this use of a slot. If there is no row, the slot is open and nobody has booked
--- it. Two or more rows can't be decoded.
+-- The rows decode to this use of a slot. If there is no row, the slot is open and none of its
+-- places is taken. Two or more rows can't be decoded.
 abbrev pub IsUse : List Row → SlotUse → Type 0
 IsUse [] found = found ≡ no_slot_use
 IsUse (row ∷ []) found = IsUseIn row found

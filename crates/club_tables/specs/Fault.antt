@@ -6,7 +6,7 @@ use Rattle.club_core.specs.declared.store.StoreFault.{StoreFault, TheVariants.St
 use Rattle.club_tables.specs.Transaction.{BoundStatement, Ran, IsKept, transaction_start, fault_by}
 
 -- The database refused a query with an error, and the fault is the one that corresponds to this
--- error.
+-- error. The disk's count of failures doesn't decrease.
 pub record FailsToAsk {S : Type 0} (g : Ghosts S) (statement : BoundStatement) (old new : Held S) (fault : StoreFault) : Type 0 where
   pub mid : Held S
   pub error : Error

@@ -92,7 +92,7 @@ pub record Upgrade (version : ℕ) (texts : List (List ℕ)) (statements : List 
   pub same : (state g from).now ≡ (state g old).committed
   pub ran : Ran g 0 statements from (state g new).committed
 
--- SQLite accepted each text as a statement over the tables. Then all of these statements ran.
+-- SQLite accepted each of `texts` as a statement over the tables. Then all of `statements` ran.
 abbrev pub HasRunOver : List (List ℕ) → List BoundStatement → {S : Type 0} → Ghosts S → Held S → Held S → Type 0
 HasRunOver texts statements {S} g old new =
     (from : Held S) × IsTrue (state g old).is_open × Understands g texts old

@@ -29,7 +29,8 @@ found_in g held = IsFound (state g held)
 
 -- A call that only reads. Its result is correct for the current club. The club and its possible
 -- crash states are unchanged. If no write was pending, the connection is unchanged. A failed call
--- returns the fault of the database's error, or `Storage` if the rows can't be decoded.
+-- returns the fault of the database's error. The call returns `Storage` if the rows can't be
+-- decoded, and `Memory` if there is no memory for a day's decoded bookings.
 pub record ReadsClub {S A : Type 0} (g : Ghosts S) (old new : Held S) (result : Result A StoreFault) (IsReturned : Club → A → Type 0) : Type 0 where
   pub returns : HasCleanDisk (state g new) → Returns (represents_in g) old result IsReturned
   pub kept : HasCleanDisk (state g new) → KeepsClub (represents_in g) old new
@@ -61,7 +62,7 @@ InLimits (InsertBooking booking member) = IsBooking booking
 InLimits (MarkCancelled booking member refund) = refund ≤ booking.charge
 
 -- A change fails with this fault because a value is outside its limits, the database refuses a
--- statement, or a statement writes no row.
+-- statement or the commit, or a statement writes no row.
 abbrev pub IsChangeFault : {S : Type 0} → Ghosts S → Change → Held S → Held S → StoreFault → Type 0
 IsChangeFault g change old new fault = IsRunFault g 1 (statements_of change) old new fault ⊎ ((¬ InLimits change) × (fault ≡ Storage))
 
@@ -75,6 +76,6 @@ pub record ChangesClub {S : Type 0} (g : Ghosts S) (change : Change) (old new : 
   pub survives : Survives (state g old) (state g new) (MayCommit g 1 (AreStatementsOf change) old)
   pub fault : HasCleanDisk (state g new) → IfErr result (IsChangeFault g change old new)
   -- If the change fits the club, each of its statements writes a row. So the change can only fail
-  -- because the database refuses a statement.
+  -- because of an error of the database.
   pub fault_if_fits : HasCleanDisk (state g new) → (club : Club) (others : List Club) → represents_in g old club others → FitsClub change club
       → IfErr result (IsRunFault g 0 (statements_of change) old new)

@@ -9,7 +9,7 @@ use Rattle.club_tables.specs.Columns.{HasValues, booking_values}
 abbrev pub ShowsDay : Club → ℕ → List Row → Type 0
 ShowsDay club day rows = (bookings : List Booking) × AreRowsOf club day bookings × (rows ≡ map booking_values bookings)
 
--- Each row contains the values of the booking at the same index, and each booking is within its
--- limits.
+-- There is one row for each booking, in the same order. Each row contains the values of its
+-- booking, and each booking is within its limits.
 abbrev pub AreBookings : List Row → List Booking → Type 0
 AreBookings = AllZip (λ row booking. IsBooking booking × HasValues row (booking_values booking))

@@ -33,7 +33,8 @@ olders_tree = 12
 abbrev pub IsRowOf : Row → Row → Type 0
 IsRowOf values row = (id : ℤ) × (row ≡ Int id ∷ values)
 
--- Each row contains the values of the list's element at the same index. The rowids are ascending.
+-- There is one row for each element of the list, in the same order. Each row contains a rowid and
+-- the values of its element. The rowids are ascending.
 pub record Holds {X : Type 0} (values : X → Row) (rows : List Row) (xs : List X) : Type 0 where
   pub rising : IsTable rows
   pub same : AllZip (λ row x. IsRowOf (values x) row) rows xs

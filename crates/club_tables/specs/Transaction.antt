@@ -43,8 +43,8 @@ BoundStatement = List ℕ × Row
 abbrev pub bound_statement : Statement → BoundStatement
 bound_statement statement = (statement.text.now, bound statement.params.now)
 
--- The statements ran in order, in a transaction that had already started. Each statement wrote at
--- least `fewest` rows.
+-- The statements ran in order, over an open connection, in a transaction that had already started.
+-- Each statement wrote at least `fewest` rows.
 abbrev pub RanInTurn : {S : Type 0} → Ghosts S → ℕ → List BoundStatement → Held S → Held S → Type 0
 RanInTurn g fewest [] old new = new ≡ old
 RanInTurn {S} g fewest (statement ∷ more) old new =
@@ -59,8 +59,8 @@ pub record Ran {S : Type 0} (g : Ghosts S) (fewest : ℕ) (all : List BoundState
   pub turns : RanInTurn g fewest all (transaction_start old) last
   pub is : db ≡ (state g last).now
 
--- A crash may leave these B-trees, because they are the result of statements that satisfy
--- `AreStatements`. Each statement wrote at least `fewest` rows.
+-- A crash may leave these B-trees, because they are the result of statements that ran from this
+-- state and satisfy `AreStatements`. Each statement wrote at least `fewest` rows.
 pub record MayCommit {S : Type 0} (g : Ghosts S) (fewest : ℕ) (AreStatements : List BoundStatement → Type 0) (old : Held S) (trees : Trees) : Type 0 where
   pub from : Held S
   pub same : IsUntouched (state g old) (state g from)

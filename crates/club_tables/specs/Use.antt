@@ -6,7 +6,7 @@ use Rattle.club_core.specs.{Basis.slot_use, Club.Club}
 use Rattle.club_tables.specs.{Columns.use_values, Stored.no_slot_use}
 
 -- The query returns one row with the use of the slot. The query returns no row only if the slot is
--- open and nobody has booked it.
+-- open and none of its places is taken.
 abbrev pub ShowsUse : Club → Slot → List Row → Type 0
 ShowsUse club slot rows =
     (rows ≡ use_values (slot_use club slot) ∷ []) ⊎ ((rows ≡ []) × (slot_use club slot ≡ no_slot_use))

@@ -125,7 +125,7 @@ impl FromRows for SlotUse {
 
     ghost holds = { IsUse };
 
-    /// Decodes the use of a slot. Without a row, the slot is open and nobody has booked it.
+    /// Decodes the use of a slot. Without a row, the slot is open and none of its places is taken.
     fn from_rows(rows: &[Row]) -> Option<SlotUse> {
         match rows {
             [] => Some(SlotUse {

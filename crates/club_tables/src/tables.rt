@@ -113,7 +113,8 @@ impl<S: Alter> Tables<S> {
     ///
     /// # Errors
     ///
-    /// Fails with `Storage` if a statement inserts or updates no row. Also fails if `run` fails.
+    /// Fails with `Storage` if a statement inserts or updates no row. Also fails in the same cases
+    /// as `run`. A failed call has the same effects as a failed `run`.
     pub fn write(&mut self, statements: &[Statement<'_>]) -> Result<(), StoreFault>
         ensures commits { Commits S.Store 1 (map bound_statement statements.now)
             self.old self.new result }
