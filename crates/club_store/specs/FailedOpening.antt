@@ -9,9 +9,9 @@ use Rattle.club_store.specs.declared.failed_opening.FailedOpening.TheVariants as
 abbrev pub busy : Error
 busy = SqliteFailure DatabaseBusy
 
--- The remains of an opening that failed with this error. If another program has the file open,
--- nothing remains. If no other program has the file open, the file and its log remain, as the
--- database engine returned them.
+-- The remains of an opening that failed with this error. If the database engine returned no files
+-- because another program has the file open, nothing remains. Otherwise, the remains are the files
+-- that the engine returned, if there are any.
 pub data IsFailedOpening {D : Type 0} {g : disk.Ghosts D} (error : Error) (rest : Option (Leftover D g)) (left : FailedOpening D g) : Type 0 where
   in_use : error ≡ busy → rest ≡ None → left ≡ failed.InUse → IsFailedOpening error rest left
   files : (rest ≡ None → error ≢ busy) → left ≡ failed.Files rest → IsFailedOpening error rest left

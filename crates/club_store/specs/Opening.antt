@@ -66,7 +66,7 @@ pub record IsTablesFault {D : Type 0} {g : disk.Ghosts D} (start : Image) (now :
 
 -- The fault of a failed opening. The opening fails in one of three cases:
 -- - Another program has the file open.
--- - The database engine refuses the file.
+-- - The file couldn't be opened, memory ran out, or the database engine refused the file.
 -- - The opening doesn't accept the tables in the file.
 abbrev pub FailsFrom : {D : Type 0} {g : disk.Ghosts D} → Image → FailedOpening D g → StoreFault → Type 0
 FailsFrom start failed.InUse fault = fault ≡ fault_by busy

@@ -10,13 +10,15 @@ use sqlite_disk::Disk;
 pub enum FailedOpening<D: Disk> {
     /// Nothing remains, because another program has the file open.
     InUse,
-    /// The file and its log, which weren't opened, or `None` if they didn't exist.
+    /// The file and its log, which weren't opened. `None` if the file couldn't be opened at all, or
+    /// if memory ran out.
     Files(Option<Leftover<D>>),
     /// The connection to a file whose tables weren't accepted.
     Connection(Connection<FileStore<D>>),
 }
 
-/// Returns the remains of a failed opening. The error decides between `InUse` and `Files`.
+/// Returns the remains of a failed opening. If there are no files, the error decides between
+/// `InUse` and `Files(None)`.
 pub(crate) fn failed_opening<D: Disk>(error: &Error, left: Option<Leftover<D>>) -> FailedOpening<D>
     ensures { IsFailedOpening error.now left result }
 {
