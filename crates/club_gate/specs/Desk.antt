@@ -58,8 +58,8 @@ pub record HasFailed {S : Type 0} (Represents : S → Club → List Club → Typ
   pub unavailable : reply ≡ member_replies.Refused Unavailable
   pub represents : Represents new club others ⊎ Represents new club (after_change verdict.change club ∷ others)
 
--- For each club that the store may represent, either the request was decided by this club's
--- verdict, or the request failed.
+-- For each club that the store represented before the request, either the request was decided by
+-- this club's verdict, or the request failed.
 abbrev pub DecidesOrFails : {S : Type 0} → (S → Club → List Club → Type 0) → S → S → Words → ℕ → Reply → Type 0
 DecidesOrFails Represents old new words moment reply =
     (club : Club) (others : List Club) → Represents old club others
@@ -80,7 +80,8 @@ pub record IsRefusedBy {S : Type 0} (Represents : S → Club → List Club → T
   pub failure : IsTrue (has_failed desk_presentation event response)
   pub represents : Represents new club others ⊎ Represents new club ((step club event).club ∷ others)
 
--- For each club that the store may represent, either the event was answered, or the event failed.
+-- For each club that the store represented before the event, either the event was answered, or the
+-- event failed.
 abbrev pub Steps : {S : Type 0} → (S → Club → List Club → Type 0) → S → S → Event → Response OfficeReply → Type 0
 Steps Represents old new event response =
     (club : Club) (others : List Club) → Represents old club others

@@ -13,9 +13,10 @@ IsBlindPass pass =
     (ask : Ask) (kind : Option Kind)
     → first_fault_of (map caveat_of pass.caveats) (at_kind kind ask) ≡ first_fault_of (map caveat_of pass.caveats) ask
 
--- The view has the booking with the request's number, and the facility of the request's slot. The
--- desk reads these rows before it checks the caveats. The facility may be missing if the booking
--- exists and no caveat depends on the facility's kind. The view contains no other rows.
+-- The view has the row of the key, the key's booking with the request's number, and the facility of
+-- the request's slot. The desk reads the booking and the facility before it checks the caveats. The
+-- facility may be missing if the booking exists and no caveat depends on the facility's kind. The
+-- view contains no other rows.
 pub record AgreesOnRecord (club : Club) (key : KeyRow) (pass : Plain) (request : Request) (view : View) : Type 0 where
   pub key_is : view.key ≡ key
   pub booking_is : view.booking ≡ option_and_then (λ (number : ℕ). booking_under key.name number club.bookings) (request_number request)

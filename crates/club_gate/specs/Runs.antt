@@ -74,8 +74,8 @@ abbrev pub IsWithinOneEvent : Club → Club → Type 0
 IsWithinOneEvent club now = (now ≡ club) ⊎ ((event : machine.Event) × (now ≡ (step club event).club))
 
 -- The store represents the club after the answered events. `MayBeLeft` allows each of the store's
--- other possible crash states. A repeat of a served request gets the same response and changes
--- nothing, in this club and in each club after one more event.
+-- other possible crash states. An accepted repeat of a served booking or cancellation gets the same
+-- response and changes nothing, in this club and in each club after one more event.
 pub record LeavesClub {S : Type 0} (Represents : S → Club → List Club → Type 0) (new : S) (club : Club) (others : List Club) (events : List machine.Event)
     (responses : List DeskResponse) : Type 0 where
   pub left : List Club
@@ -104,7 +104,8 @@ IsAsInAnother club events responses =
     ≡ replies_to name other (events_answered others replies) (answers desk_presentation others replies)
 
 -- A repeat of a served booking or cancellation gets the same response, if the repeat is accepted
--- and doesn't fail. Leaving out the repeat changes neither the other responses nor the final club.
+-- and doesn't fail. Leaving out an accepted repeat changes neither the other responses nor the
+-- final club.
 abbrev pub IsOnce : Club → List machine.Event → List DeskResponse → Type 0
 IsOnce club events responses =
     (history rest : List machine.Event) (before since : List DeskResponse) (words : Words) (moment : ℕ) (reply : Reply) (again : DeskResponse)
@@ -117,7 +118,7 @@ IsOnce club events responses =
     × IsRun desk_presentation club (history ++ rest) (before ++ since) (club_left club events responses)
 
 -- A member may cancel a booking that the office has already cancelled. If the member's request is
--- accepted and doesn't fail, the response is the recorded refund. Leaving out the member's request
+-- accepted and doesn't fail, the response is the recorded refund. Leaving out the accepted request
 -- changes neither the other responses nor the final club.
 abbrev pub ReturnsTheRecord : Club → List machine.Event → List DeskResponse → Type 0
 ReturnsTheRecord club events responses =
@@ -155,15 +156,17 @@ pub record IsLawfulRun (club : Club) (events : List machine.Event) (responses : 
   -- The responses to the answered events are the responses of the machine.
   pub run : IsAnsweredRun club events responses
   -- A member's replies depend only on the member's part of the club, the member's own events, and
-  -- the use of slots by other members.
+  -- other members' use of the slots that the member's requests name.
   pub solo : IsSolo club events responses
   pub solo_of_two : IsAsInAnother club events responses
-  -- A repeat of a served request gets the same reply and changes nothing.
+  -- An accepted repeat of a served booking or cancellation gets the same reply, unless the repeat
+  -- fails. The repeat changes nothing.
   pub once : IsOnce club events responses
-  -- If the office cancelled a booking, a later cancellation gets the recorded refund and changes
-  -- nothing.
+  -- If the office cancelled a booking, an accepted later cancellation gets the recorded refund,
+  -- unless this cancellation fails. The later cancellation changes nothing.
   pub returns_the_record : ReturnsTheRecord club events responses
-  -- The run neither creates nor loses points. No balance is negative, and no slot is overbooked.
+  -- A run from the empty club neither creates nor loses points. In each run, no member is charged
+  -- more than the member's credit, and no slot is overbooked.
   pub conserves : Conserves club events responses
   pub never_negative : IsNeverNegative (club_left club events responses)
   pub never_overbooked : IsNeverOverbooked (club_left club events responses)

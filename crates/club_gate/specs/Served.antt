@@ -94,8 +94,8 @@ pub record IsLawful (club : Club) (text : List ℕ) (request : Request) (moment 
   pub blind : IsBlind club text request reply
   -- The same pass in another form gets the same reply.
   pub forms : AnswersItsForms club text request moment reply
-  -- If a request is served, the same request gets the same reply with a pass that has fewer
-  -- caveats.
+  -- If a request is served, the same request gets the same reply with a signed pass for the same
+  -- key that has all caveats except the last ones.
   pub less : OpensNoMore club text request moment reply
 
 -- The text is in JSON. Parsing JSON needs memory, but the other forms are parsed without memory.

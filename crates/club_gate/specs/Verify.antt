@@ -11,8 +11,8 @@ use Rattle.club_gate.specs.{DecodedPass.fault_of, computed.DecodedPass.machine_p
 abbrev pub OfItsPass : List PassField → (Plain → Type 0) → Type 0
 OfItsPass fields IsSo = (pass : Plain) → fields ≡ pass_fields pass → length pass.caveats ≤ max_caveats → IsSo pass
 
--- Returns the row of the key that a pass names, or a refusal. The refusal means that the pass isn't
--- signed under this key, or that the key is revoked.
+-- Returns the row of the key that a pass names, or a refusal. The refusal means that the club has
+-- no such key, the pass isn't signed under this key, or the key is revoked.
 abbrev pub signer_of : Plain → ℕ → Option Key → Result KeyRow Refusal
 signer_of pass moment None = Err NotVerified
 signer_of pass moment (Some key) =

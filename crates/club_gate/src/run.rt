@@ -53,8 +53,9 @@ impl<S: ClubStore> Desk<S> {
         // After a crash, the store has the club after the answered events, or the club after one
         // more event. The additional event failed after the last change of the run. If the run
         // changed nothing, the store may also have a club that a crash could have left before the
-        // run. A repeat of a served request gets the same reply and changes nothing. The repeat may
-        // come directly after the answered events, or after one more event.
+        // run. An accepted repeat of a served booking or cancellation gets the same reply and
+        // changes nothing. The repeat may come directly after the answered events, or after one
+        // more event.
         ensures represents { S.disk_is_clean self.new → (club : Club) (others : List Club)
             → S.represents self.old club others
             → IfOk result (λ replies. (seen : List machine.Event) → AreEventsOf events.now seen

@@ -1,6 +1,6 @@
 //! The verifier: computes the verdict on a request. The verifier has four steps:
 //!
-//! 1. Read the row of the key that the pass names.
+//! 1. Read only the row of the key that the pass names.
 //! 2. Check the signature. Read the key's older root if the pass isn't signed under the current
 //!   root.
 //! 3. Read the rows that the caveats depend on, and check the caveats.
@@ -98,10 +98,10 @@ impl<S: ClubStore> Desk<S> {
         }
     }
 
-    /// Returns the row of the key that a pass names. Returns a refusal if the pass isn't signed
-    /// under this key or the key is revoked. Reads no other row of the club, except the older root
-    /// if the pass isn't signed under the current root. An unknown key and a wrong signature get
-    /// the same refusal.
+    /// Returns the row of the key that a pass names. Returns a refusal if the club has no such key,
+    /// the pass isn't signed under this key, or the key is revoked. Reads no other row of the club,
+    /// except the older root if the pass isn't signed under the current root. An unknown key and a
+    /// wrong signature get the same refusal.
     fn signer<'a, F: FieldSource<'a> + Drop>(
         &mut self,
         source: &F,
@@ -129,7 +129,8 @@ impl<S: ClubStore> Desk<S> {
 
     /// Returns the verdict on a request with a pass that is signed under this key. If a caveat
     /// refuses the request, the call reads at most two sums: the points that the member has used,
-    /// and the points that the key has spent. The call reads a sum only if a caveat depends on it.
+    /// and the points that the key has spent. The call reads these sums only if a caveat depends on
+    /// the points that the key has spent.
     fn verdict_under<'a, F: FieldSource<'a> + Drop>(
         &mut self,
         key: &KeyRow,
