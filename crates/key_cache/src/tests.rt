@@ -36,7 +36,8 @@ fn expect_derived(rt: &impl Abort, keys: &KeptKeys, name: &Name, root: &Root, wa
     expect_eq(rt, keys.derived(name, root).bytes(), want);
 }
 
-// Looks up a derived key and then caches it. The desk does the same if a root has signed a pass.
+// Looks up a derived key and then caches it. The desk does the same if a pass is signed under the
+// root.
 fn derive_and_keep(
     rt: &impl Abort,
     keys: &mut KeptKeys,
@@ -117,7 +118,7 @@ fn keeps_a_key_that_is_used_again(rt: HostRuntime) {
 }
 
 // A lookup alone neither caches a key nor evicts a key. So the derived key of the older root stays
-// in the cache after a rotation, until the new root signs a pass.
+// in the cache after a rotation, until the desk checks a pass that is signed under the new root.
 #[test]
 fn keeps_a_key_until_another_is_kept(rt: HostRuntime) {
     let (root, older) = (root(&rt, ROOT), root(&rt, OTHER_ROOT));
