@@ -19,9 +19,9 @@ impl<S: ClubStore> Desk<S> {
     /// Reads the older root only if the pass isn't signed under the current root. The caller has
     /// already taken the identifier from the source.
     ///
-    /// Once a pass is signed under the current root, the cache keeps the derived key of the current
-    /// root. Until then, the cache keeps the older root's derived key if a pass was signed under
-    /// the older root before the rotation.
+    /// If the pass is signed under the current root, the cache stores the derived key of this root.
+    /// Otherwise, the cache is unchanged. So the older root's derived key can stay in the cache
+    /// after a rotation, until the desk checks a pass that is signed under the current root.
     pub(crate) fn is_signed<'a, F: FieldSource<'a> + Drop>(
         &mut self,
         source: &F,
