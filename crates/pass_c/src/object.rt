@@ -17,8 +17,8 @@ pub const ROOM: usize = 8192;
 #[repr(C)]
 #[derive(Drop)]
 pub struct PassObject {
-    /// The number of the form from which the pass was read. The number is 2 for a minted pass, and 0
-    /// for an empty object.
+    /// The number of the form from which the pass was read. The number is 2 for a minted pass, and
+    /// 0 for an empty object.
     pub form: u32,
     pub location_len: u32,
     pub identifier_len: u32,
