@@ -50,8 +50,8 @@ leaves_sound_in g store club others =
 
 -- After a run and a crash, a reopened store represents exactly one club, and no later crash changes
 -- the club. The store's club is the club of the answered events, or another possible crash state of
--- the run. An accepted repeat of a served request then gets the first reply and changes nothing, if
--- the store's club is at most one event later than the club of the answered events.
+-- the run. Suppose the store's club is at most one event later than the club of the answered
+-- events. Then an accepted repeat of a served request gets the first reply and changes nothing.
 pub record RecoversAfterRun {E : Type 0} {e : disk.Ghosts E} (opened : Held (FileStore E e)) (club : Club) (others : List Club) (events : List machine.Event)
     (returned : List DeskResponse) : Type 0 where
   pub now : Club
