@@ -335,7 +335,7 @@ def menu_lines():
 
 def tasks_named(answer):
     """Returns the task with a number, or the tasks whose title matches the text. The text may be the whole title, its beginning, one of its words, or
-    letters in it."""
+    any other part of the title."""
     if answer.isdigit():
         return [TASKS[int(answer) - 1]] if 0 < int(answer) <= len(TASKS) else []
     typed = plain(answer)

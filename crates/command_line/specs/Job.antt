@@ -19,7 +19,8 @@ abbrev pub ◌>>=◌ : {A B V : Type 0} → Result A (Refusal V) → (A → Resu
 Ok x >>= f = f x
 Err refusal >>= f = Err refusal
 
--- A function `JobOf` maps a command and the rows that clap found to a job or to a refusal.
+-- `JobOf` is the type of a function that takes a command and the rows found by clap, and returns a
+-- job or a refusal.
 abbrev pub JobOf : Type 0 → Type 0 → Type 0 → Type 0
 JobOf C J V = C → List Row → Result J (Refusal V)
 
