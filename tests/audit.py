@@ -384,12 +384,11 @@ class Audit:
             "# What has to be believed",
             "For anyone who asks what the eight laws of [README](../README.md#what-is-proved) mean. This page lists each definition below their clauses, "
             "from the standards up, and what is trusted besides. The check reads proofs, lemmas and laws, so they aren't here. `tests/audit.py` writes "
-            "the page. `tests/audit.py --below NAME` prints the files and lines below one definition, or below a function such as `Desk::ask`. "
-            "[TOUR](TOUR.md#when-is-a-root-good) follows twelve paths.",
+            "the page. [TOUR](TOUR.md#when-is-a-root-good) follows twelve paths.",
             "To check a promise, read its clause, then the definitions with its number, from the top. The numbers and the [mark](#marks) come before the "
             "names. Each file has its lines of code in brackets, and the standards that it cites. Without one, its definitions are ours.",
             "\n".join(self.summary()),
-            "These functions have further clauses, such as why a request fails: `--below` prints what is below all of them.",
+            "These functions have further clauses, such as why a request fails. `tests/audit.py --below NAME` prints the files and lines below a function or a definition.",
             "## Computing definitions",
             *self.section_of_faults(),
             "## Marks",
