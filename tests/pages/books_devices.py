@@ -73,7 +73,7 @@ def devices(passes, front, server):
         page.run("byName('import').requestSubmit()")
         page.when("shownText('import-news').includes('this browser already has every booking')", "the same again")
         page.run("byName('import-text').value = 'record of amy-phone\\n12 court-1'; byName('import').requestSubmit()")
-        page.when("shownText('import-news').includes(\"Line 2 isn't one\")", "an odd record")
+        page.when("shownText('import-news').includes(\"Line 2 doesn't belong\")", "an odd record")
         page.cancelled_in_the_list("a cancellation of what another browser booked")
         same_record(page, "amy-phone")
     number = max(amounts("amy-phone"), key=lambda each: amounts("amy-phone")[each][2] if not amounts("amy-phone")[each][-2] else 0)

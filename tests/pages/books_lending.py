@@ -355,7 +355,7 @@ def keeps_so_many(address):
         has(page.run("return shownText('notices')"), "a 21st pass", "This browser keeps 20 passes, and can't keep more.", "“Forget the pass” under “Account”")
         check("can't keep the pass" not in page.run("return shownText('notices')"), "a 21st pass", page.run("return shownText('notices')"))
         page.run("byName('to-account').click(); pressIn(byName('pass-buttons'), 'Keep the pass in this browser')")
-        has(page.run("return shownText('pass-news')"), "once more", "20 passes are kept")
+        has(page.run("return shownText('pass-news')"), "once more", "keeps 20 passes")
         page.run("byName('who').value = arguments[0]; byName('who').dispatchEvent(new Event('change')); byName('to-account').click(); pressIn(byName('pass-buttons'), 'Forget the pass')", passes[7])
         page.run("pressIn(byName('dialog'), 'Forget the pass')")
         time.sleep(0.5)
