@@ -105,7 +105,7 @@ line = ["-t", sys.argv[1], "-a", "--", "runuser", "-u", "anna", "--", "env", "-i
 it = pexpect.spawn("nsenter", line, encoding="utf-8", timeout=60, dimensions=(50, 80))
 for question, answer in (
     ("Task: ", "a new one"), ("Short name", "court-1"), ("Kind", "court"), ("Places", "4"), ("Points per", "200"), ("Opening hours", "8-22"), ("Do it", ""), ("Enter for", ""),
-    ("Task: ", "a new member"), ("Name", "Amy Möller"), ("Open bookings", "99"), ("Points", "100000"), ("Do it", ""), ("Enter for", ""), ("Task: ", ""),
+    ("Task: ", "a new member"), ("Full name", "Amy Möller"), ("Open bookings", "99"), ("Points", "100000"), ("Do it", ""), ("Enter for", ""), ("Task: ", ""),
 ):
     it.expect(question)
     it.sendline(answer)
