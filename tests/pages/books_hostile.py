@@ -48,7 +48,7 @@ def lists_send_nothing(page, passes, server):
     page.view("bookings")
     page.run("""[...byName('to-come').children].find((each) => /Number 10(?![0-9])/.test(each.innerText)).querySelector('button').click()""")
     page.when("dialogText().includes('Book for 300 points')", "the press")
-    has(page.run("return dialogText()"), "what the press names", "Book Double scull", "10:00 to 11:00", "300 points", "books nothing twice")
+    has(page.run("return dialogText()"), "what the press names", "Book Double scull", "10:00 to 11:00", "300 points", "the desk confirms it")
     check(not unasked(server, before), "sent before the press", unasked(server, before))
     page.press("Book for 300 points")
     page.comes("Booked.", "what a list named")

@@ -82,7 +82,7 @@ def faulty_texts():
         (known.replace("_", "/").replace("-", "_"), 2, "two base64 alphabets"), (known + "==", 2, "the wrong number of = signs"),
         (known[:-1] + "d", 2, "ends with a wrong character"), ("====", 2, "the wrong number of = signs"),
         # no form
-        ("Aw", 2, "doesn't begin like a pass of any form"), ("MDA", 2, "breaks off in the location"), ("Zw", 2, "doesn't begin like a pass of any form"),
+        ("Aw", 2, "doesn't begin like a pass"), ("MDA", 2, "breaks off in the location"), ("Zw", 2, "doesn't begin like a pass"),
         # V1
         (unpadded(v1 + b"x"), 2, "continues after the signature"), (unpadded(b"0003"), 2, "a length of 3"),
         (unpadded(b"0003location http://mybank/\n"), 2, "a length of 3"), (unpadded(b"001Clocation"), 2, "“001C”"),

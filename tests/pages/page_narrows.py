@@ -112,7 +112,7 @@ def choices_say_what_they_add(page):
     nothing = page.narrow(AMY)
     check(nothing.get("fault") == "Choose at least one limit.", "no choice", nothing)
     nothing = page.narrow("", ("guests", "1"))
-    check("First enter a pass that the page can read" in nothing.get("fault", ""), "no pass", nothing)
+    check("First enter a pass in the field above" in nothing.get("fault", ""), "no pass", nothing)
     print(f"{len(SENTENCES)} sentences, and {len(CHOSEN) + sum(map(len, WRONG.values()))} choices that say and add their lines, or what they want")
 
 
