@@ -309,7 +309,7 @@ def says_what_it_keeps(address):
         page.helpers = HELPERS
         opens_lend(page, address)
         page.run(FULL)
-        for key, words in [("anna-lend-1", "may lend it again"), ("anna-lend-2", "may lend the spare pass again"), ("anna-1", "until you reload or close the page.")]:
+        for key, words in [("anna-lend-1", "may lend it again"), ("anna-lend-2", "may lend it again"), ("anna-1", "until you reload or close the page.")]:
             found = made(page)
             check(found[0] == key and page.run("return shownText('lend-news')").endswith(words) == (key == "anna-1"), "no spare pass twice", key, found)
             check(words in page.run("return shownText('lend-news')"), "what isn't kept", key, page.run("return shownText('lend-news')"))
