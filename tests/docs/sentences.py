@@ -8,6 +8,7 @@ manual pages, and the texts of the office and of web/. In the same tree, the sam
     tests/docs/sentences.py --seed 7 --count 12     twelve with another seed
     tests/docs/sentences.py --below docs/TOUR.md    of one file, or of the files below a folder; may be given several times
     tests/docs/sentences.py --slips                 also prints what tests/lib/prose.py finds in each
+    tests/docs/sentences.py --context               also prints the lines around each: of a table, the titles and the row
 """
 
 import argparse
@@ -26,6 +27,7 @@ KINDS = {
     "help": re.compile(r"crates/(clubdesk_arguments|passtool_commands)/src/table\.rt|man/.*|deploy/club_office/texts\.py|web/src/words/en\.json"),
 }
 LEAST_WORDS = 5  # a shorter one is a name or a label
+MOST_LINES = 6  # of the context, before and after the sentence's first line
 
 
 def kind_of(file):
@@ -52,6 +54,20 @@ def all_sentences(below):
     return found
 
 
+def context(file, line):
+    """Returns the lines around a line of a file, up to the next blank lines. Of a table in a page, returns the titles and the row."""
+    lines = (ROOT / file).read_text(encoding="utf-8").splitlines()
+    first = last = line - 1
+    is_row = file.endswith(".md") and lines[first].lstrip().startswith("|")
+    while first > 0 and lines[first - 1].strip() and (is_row or line - first <= MOST_LINES):
+        first -= 1
+    if is_row:
+        return [lines[first], lines[line - 1]]
+    while last + 1 < len(lines) and lines[last + 1].strip() and last + 1 - line < MOST_LINES:
+        last += 1
+    return lines[first:last + 1]
+
+
 def drawn(found, seed, count):
     """Yields an equal number of sentences of each kind. If the count can't be divided equally, the first kinds get one sentence more."""
     dice, kinds = random.Random(seed), [it for it in found if found[it]]
@@ -61,11 +77,12 @@ def drawn(found, seed, count):
 
 
 def main():
-    parser = argparse.ArgumentParser(usage="tests/docs/sentences.py [--seed N] [--count N] [--below PATH] [--slips]")
+    parser = argparse.ArgumentParser(usage="tests/docs/sentences.py [--seed N] [--count N] [--below PATH] [--slips] [--context]")
     parser.add_argument("--seed", type=int, default=1)
     parser.add_argument("--count", type=int, default=40)
     parser.add_argument("--below", action="append", default=[], metavar="PATH")
     parser.add_argument("--slips", action="store_true")
+    parser.add_argument("--context", action="store_true")
     given = parser.parse_args()
     found = all_sentences(given.below)
     if not any(found.values()):
@@ -75,6 +92,8 @@ def main():
         if given.slips:
             for remedy in prose.remedies(sentence):
                 print(f"         {remedy}")
+        if given.context:
+            print(*(f"         | {it}" for it in context(file, line)), sep="\n")
     return 0
 
 
