@@ -244,7 +244,7 @@ class Audit:
         for it in self.computed():
             if id(it) in cited:
                 names = ", ".join(name if " " in name else f"`{name}`" for name in sorted(cited[id(it)]))
-                yield f"- `{it.name}` in `{it.file}`, by {names}"
+                yield f"- `{it.name}` in `{it.file}`, cited by {names}"
 
     def further_faults(self):
         """Returns, by file, the computing definitions that only computing definitions cite."""
@@ -285,7 +285,7 @@ class Audit:
             yield f"- **`crates/{crate}/src`**: " + ", ".join(f"`{it.name}`" for path in files for it in sorted(by_file[path], key=lambda it: it.line))
 
     def ghosts(self):
-        yield "| Ghost | Promises | Its values |"
+        yield "| Ghost | Promises | Values |"
         yield "|---|---|---|"
         for it in sorted((it for it in self.every.values() if it.kind == "ghost"), key=lambda it: (it.path, it.line)):
             stands = []
@@ -346,7 +346,7 @@ class Audit:
         calls, below = self.calls()
         words, citing = self.words_of()
         ours = {name for file in self.book.code.values() for name in re.findall(r"\bfn (\w+)\([&m]*self", file.text)}
-        yield "| Library | Calls | Words of its contracts | Promises |"
+        yield "| Library | Calls | Definitions cited | Promises |"
         yield "|---|---|---|---|"
         for library in sorted(set(calls) | set(words)):
             names = ", ".join(f"`{it}`" for it in sorted(calls[library] - ours))
@@ -357,22 +357,22 @@ class Audit:
 
     def externs(self):
         found = [f"`{file.path.relative_to(ROOT)}`" for file in self.book.code.values() if re.search(r'\bextern (?:"C" )?\{', file.text)]
-        return f"Functions of C are declared in {', '.join(found)}." if found else "No file declares a function of C (`extern`)."
+        return f"These files declare C functions: {', '.join(found)}." if found else "No file declares a C function (`extern`)."
 
     # ---- the page
 
     def section_of_faults(self):
         computed = self.computed()
         if not computed:
-            return ["None of these clauses rests on a computing definition, nor does another clause of their functions, nor what stands for a "
-                    "[ghost](#ghosts-of-traits), nor any other contract that [PROMISES](PROMISES.md) cites."]
+            return ["No clause of these promises rests on a computing definition. The same is true for the other clauses of the promises' functions, for the "
+                    "values of [ghosts](#ghosts-of-traits), and for the other contracts that [PROMISES](PROMISES.md) cites."]
         sections = [
-            f"These promises rest on {len(computed)} definitions that compute what another one states. [COMPUTED](COMPUTED.md) has the laws that both "
-            f"agree. The lists below leave them out. Other definitions cite {len(self.first_computed())} of them:",
+            f"A computing definition computes what another definition states. [COMPUTED](COMPUTED.md) has the laws that both agree. These promises rest on "
+            f"{len(computed)} computing definitions, which the crates' lists omit. Other definitions cite {len(self.first_computed())} of these:",
             "\n".join(self.faults()),
         ]
         if len(computed) > len(self.first_computed()):
-            sections.append(f"The others are below those: {self.further_faults()}.")
+            sections.append(f"Only computing definitions cite the others: {self.further_faults()}.")
         return sections
 
     def page(self):
@@ -381,40 +381,43 @@ class Audit:
         counts = {mark: sum(1 for it in plain if self.mark(it) == mark) for mark in ("all", "part", "none", "row", "")}
         handles = (ROOT / "HANDLES").read_text(encoding="utf-8").strip().rpartition(": ")[2].rstrip(".")
         sections = [
-            "# What has to be believed",
-            "For anyone who asks what the eight laws of [README](../README.md#what-is-proved) mean. This page lists each definition below their clauses, "
-            "from the standards up, and what is trusted besides. The check reads proofs, lemmas and laws, so they aren't here. `tests/audit.py` writes "
-            "the page. [TOUR](TOUR.md#when-is-a-root-good) follows twelve paths.",
-            "To check a promise, read its clause, then the definitions with its number, from the top. The numbers and the [mark](#marks) come before the "
-            "names. Each file has its lines of code in brackets, and the standards that it cites. Without one, its definitions are ours.",
+            "# What a reader must trust",
+            "This page lists each definition that the eight laws of [README](../README.md#what-is-proved) depend on, beginning with the standards, and what "
+            "else is trusted. The prover checks proofs, lemmas and laws, so this page omits them. `tests/audit.py` writes the page. "
+            "[TOUR](TOUR.md#when-is-a-root-good) follows twelve paths through definitions.",
+            "To check a promise, read its clause, then the definitions with the promise's number, from the top. Numbers and [marks](#marks) precede the "
+            "definitions' names. After a file's name, brackets contain the listed definitions' number of lines, and the standards that the file "
+            "cites. Definitions without a standard are ours.",
             "\n".join(self.summary()),
-            "These functions have further clauses, such as why a request fails. `tests/audit.py --below NAME` prints the files and lines below a function or a definition.",
+            "These functions have further clauses, for example about failed requests. `tests/audit.py --below NAME` prints the file and line of each "
+            "definition that a function or definition depends on.",
             "## Computing definitions",
             *self.section_of_faults(),
             "## Marks",
-            "`tests/reference` has the definitions once more, in Python, written from the pages alone. It gives the expected answer of each vector of "
-            "[vectors.json](vectors.json). A mark says how many of a definition's lines there the vectors run: "
-            f"`all` ({counts['all']} of {len(plain)} definitions), `part` ({counts['part']}) or `none` ({counts['none']}). {counts['row']} more, with "
-            "`row`, are in statements over worked rows, which are proved by computing them. "
-            f"No vector shows the other {counts['']}: laws, and what a store and its tables hold. The seven cases of RFC 4231 also show HMAC.",
+            "`tests/reference` states definitions again in Python, written from the pages alone. For each vector of [vectors.json](vectors.json), the Python "
+            "code returns the expected answer. A mark says how many of a definition's Python lines the vectors run: "
+            f"`all` ({counts['all']} of {len(plain)} definitions), `part` ({counts['part']}) or `none` ({counts['none']}). {counts['row']} more definitions, "
+            "marked `row`, occur in worked examples, which are proved by computation. "
+            f"No vector tests the other {counts['']}: laws, and the contents of stores and tables. The seven cases of RFC 4231 also test HMAC.",
         ]
         for crate in self.book.crates:
             if any(it.crate == crate for it in plain):
                 sections += [f"## {crate}", "\n".join(self.definitions_of(crate)).strip()]
         sections += [
             "## Types and constants of the code",
-            "A definition sees a type's fields and variants, or the value of its `Model`. The constants are SQL.",
+            "Definitions represent types as fields and variants, or as the value of `Model`. The constants are SQL.",
             "\n".join(self.types()),
             "## Ghosts of traits",
-            "A promise over any store, reader, writer or desk names a ghost of its trait. Read what our types have for it. Brackets count the "
-            "definitions below, not all of them in the lists above. The ghosts of a reader and a writer are the bytes that they give and take.",
+            "A promise about any store, reader, writer or desk cites a ghost of a trait, which only contracts use. Read the ghost's values in our types. "
+            "Brackets contain the number of definitions that a value depends on; the lists above omit some. A reader's ghost is the remaining bytes, and a "
+            "writer's ghost is the written bytes.",
             "\n".join(self.ghosts()),
-            "## Trusted besides",
-            "These promises rest on the toolchain's contracts of these libraries. The calls are those of the crates below a promise; `perhaps` marks "
-            "names that a method of ours has, too. The words are the library's definitions that ours cite. std is left out: nearly every line uses it.",
+            "## Also trusted",
+            "The promises rest on the toolchain's contracts of these libraries. The calls are in the crates that a promise depends on; `perhaps` marks "
+            "names that our methods also have. Our definitions cite the definitions in the third column. The table omits std, which nearly every line uses.",
             "\n".join(self.trusted()),
-            f"{self.externs()} The programs' handle is {handles}. [TRUST](TRUST.md#trusted) has the rest: the compiler, the prover, the system, what is "
-            "[only read](TRUST.md#read-and-shown-by-vectors), and what is [not claimed](TRUST.md#not-claimed).",
+            f"{self.externs()} `HANDLES` allows {handles}. [TRUST](TRUST.md#trusted) lists the rest: compiler, prover, system, what people [only "
+            "read](TRUST.md#read-and-shown-by-vectors), and what is [not claimed](TRUST.md#not-claimed).",
         ]
         return "\n\n".join(sections) + "\n"
 
