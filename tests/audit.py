@@ -1,11 +1,11 @@
 #!/usr/bin/env python3
 """docs/AUDIT.md, docs/COMPUTED.md, the paths of docs/TOUR.md, and the contracts that docs/PROMISES.md cites are up to date.
 
-The test checks that the cited contracts exist, and that they depend on only three computing definitions. The test also checks that the rules in
+The test checks that the cited contracts exist, and that they depend on only four computing definitions. The test also checks that the rules in
 Python agree with docs/vectors.json.
 
 AUDIT lists the definitions that a reader must trust for each promise. The test checks that each contract that PROMISES cites exists. A cited
-contract may depend on no computing definition except the three that PROMISES names. The value of a ghost may depend on no other computing
+contract may depend on no computing definition except the four that PROMISES names. The value of a ghost may depend on no other computing
 definition either. Each contract in COMPUTED must depend on a computing definition. The rules in Python (`tests/reference`) must agree with
 docs/vectors.json. AUDIT marks the definitions that these vectors show. Each step of a path in TOUR must cite the next step. Without an option, the
 program writes docs/AUDIT.md.
@@ -131,7 +131,7 @@ def promises_of(book):
 
 def named_as_computing():
     """Returns the computing definitions that promises rest on, according to docs/PROMISES.md."""
-    found = re.search(r"Promises rest on only \w+ computing functions: (.*?)\.", PROMISES.read_text(encoding="utf-8"))
+    found = re.search(r"Promises rest on \w+ computing functions: (.*?)\.", PROMISES.read_text(encoding="utf-8"))
     return set(re.findall(r"`(\w+)`", found[1])) if found else set()
 
 
@@ -390,7 +390,7 @@ class Audit:
             "cites. Definitions without a standard are ours.",
             "\n".join(self.summary()),
             "These functions have further clauses, for example about failed requests. `tests/audit.py --below NAME` prints the file and line of each "
-            "definition that a function or definition depends on.",
+            "definition that the function or definition depends on.",
             "## Computing definitions",
             *self.section_of_faults(),
             "## Marks",
@@ -408,7 +408,7 @@ class Audit:
             "Definitions represent types as fields and variants, or as the value of `Model`. The constants are SQL.",
             "\n".join(self.types()),
             "## Ghosts of traits",
-            "A promise about any store, reader, writer or desk cites a ghost of a trait, which only contracts use. Read the ghost's values in our types. "
+            "A promise about any store, reader, writer or desk cites a trait's ghost, which only contracts use. Read the ghost's value in each type. "
             "Brackets contain the number of definitions that a value depends on; the lists above omit some. A reader's ghost is the remaining bytes, and a "
             "writer's ghost is the written bytes.",
             "\n".join(self.ghosts()),
