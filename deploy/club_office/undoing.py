@@ -17,8 +17,8 @@ TABLES = ("members", "facilities", "keys", "slots", "bookings", "old_roots")
 KEYS = {"slots": 3, "bookings": 2}
 # The columns of the tables that commands change.
 COLUMNS = {"members": ("name", "credited", "quota", "used"), "facilities": ("name", "kind", "places", "price", "opens", "shuts")}
-# A clerk can't undo a correction that changes more rows than this. Nor can a clerk undo a new year, because it replaces the club's file and keeps the
-# old file.
+# A clerk can't undo a correction that changes more rows than this. Nor can a clerk undo a new year, which copies the club's file, then changes the
+# original in place.
 MOST_ROWS = 5_000
 NOT_UNDONE = "new-year"
 # Options that don't affect the changes that a correction makes to the club.
