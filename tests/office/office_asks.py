@@ -1,12 +1,12 @@
 #!/usr/bin/env -S /usr/bin/python3 -B
-"""The office's menu, in English and German, has each task of a week and of a season's start.
+"""The menu of the command `office` has the tasks of a club's week and of a season's start, in English and German.
 
-The test runs the office at a terminal, and checks what each task changes. Needs root, because the test makes a temporary machine
-(tests/lib/office_room.sh).
+The test runs the office at a terminal, and checks what each task changes. The test needs root, because it covers the machine's
+folders with temporary overlays (tests/lib/office_room.sh).
 
-The menu and the commands accept names, days and hours as people write them. The office asks again if two members match a name, or if an input is
-unusual. The office can also print its refusals, lists and usage text in German. Ctrl-C at any question changes nothing. Commands without a terminal
-accept only whole names.
+The menu and the commands accept names, days and hours as people write them. If two members match a name, the office asks which one is meant. If an
+input is unusual, the office asks for confirmation. The office can also print its refusals, lists and usage text in German. Ctrl-C at any question
+changes nothing. Commands without a terminal accept only whole names.
 """
 # pytestmark = [mark.package, mark.root, mark.needs("clubdesk passtool"),
 #     mark.wants("sudo sqlite3 openssl util-linux bsdutils iproute2 systemd qrencode python3-psutil python3-pexpect")]
@@ -37,8 +37,8 @@ class Terminal:
         self.shown = ""
 
     def answers(self, *pairs):
-        """Waits for each question and sends its answer. Each pair consists of a pattern for the question and of the answer. The answer None sends
-        Ctrl-C."""
+        """Waits for each question and sends its answer. Each pair has the question's pattern and the answer. If the answer is None, this method
+        sends Ctrl-C."""
         for question, answer in pairs:
             try:
                 self.it.expect(question)
@@ -47,7 +47,7 @@ class Terminal:
                 raise
             self.shown += self.it.before + self.it.after
             if answer is None:
-                time.sleep(0.5)  # so that the whole question is there, and its answer awaited
+                time.sleep(0.5)  # so that the office has printed the whole question and waits for the answer
                 self.it.sendintr()
             else:
                 self.it.sendline(answer)
@@ -63,7 +63,7 @@ class Terminal:
 
 
 def task(called, *pairs, language="C.UTF-8", begin="Task: ", end="Enter for"):
-    """Chooses a task in the menu by its name, runs this task, and then leaves the menu."""
+    """Chooses a task by name in the menu, runs the task, and leaves the menu."""
     terminal = Terminal("club", language=language)
     terminal.answers((begin, called), *pairs, (end, ENTER), (begin, ENTER))
     same(f"{called}: the status of the menu", terminal.ends(), 0)
@@ -158,7 +158,7 @@ def refused_in_german():
 
 
 def calls():
-    """The clerk uses the menu for members who call by telephone."""
+    """With the menu, a clerk books and cancels for members who telephone, and does other tasks of the office."""
     day = TODAY + datetime.timedelta(2)
     shown = task("book for", ("Member", "bob"), ("Court", "court 2"), ("Day", "+2"), ("Hours", "15-17"), ("How many", "1"), ("Do it", ENTER))
     shown.has("a booking for a caller", f"office club book mueller-bob court-2 {day} 15-17 1", f"booked court-2 {day} 16:00 for mueller-bob, 2 persons",
@@ -181,8 +181,7 @@ def calls():
 
 
 def season_start():
-    """The menu has the tasks of a season's start: members from a list, letters, points for all, training, a new court, a new year, and the board's
-    page."""
+    """The menu has the tasks of a season's start, such as importing members, printing letters and crediting points."""
     run_as("anna", "sh", "-c", "printf 'Name;Buchungen;Punkte\\nIda Lund;3;500\\nÖzil, Can;3;500\\n' >members.csv")
     task("members from a list", ("File", "members.csv"), ("Shall", "y")).has("a list", "read as UTF-8 with ;", "ida-lund: done", "2 of 2 rows done")
     run_as("anna", "sh", "-c", "printf 'Vorname;Nachname\nBea;Noll\n' >names.csv")
@@ -210,7 +209,7 @@ def season_start():
 
 
 def what_is_odd():
-    """The menu and the commands ask again about a day that is over or far ahead, and about more than ten times the usual points."""
+    """Commands ask for confirmation if a day is past or far ahead, or if the points are more than ten times the usual number."""
     before = everything()
     for words, text in ((["close", "-1", "10", "court-1"], "is past"), (["close", "+100", "10", "court-1"], "100 days ahead"),
                         (["close", f"{TODAY - datetime.timedelta(7)}..{TODAY}", "10", "court-1", "--why", "x"], "is past"),

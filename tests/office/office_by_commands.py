@@ -1,12 +1,12 @@
 #!/usr/bin/env -S /usr/bin/python3 -B
-"""Corrections by commands don't stop the server. A correction that is killed and repeated takes effect once.
+"""Corrections that run clubdesk's commands don't stop the server. A correction that is killed and repeated takes effect once.
 
 The test kills each correction before and after each program that the correction runs. The test also kills a correction whose output no program reads.
-Then the test gives the same command again. The club must be the same as after one command. If a correction is killed but its clubdesk command still
-runs, the next correction waits for that command. The test also checks the copy that the office makes before a correction, and the rows that `undo`
-restores. Needs root, because the test makes a temporary machine (tests/lib/office_room.sh).
+Then the test runs the same correction again. The club must be the same as after a single run. If a correction is killed but its clubdesk command
+still runs, the next correction waits for that command. The test also checks the copy that the office makes before a correction, and the rows that
+`undo` restores. The test needs root, because it covers the machine's folders with temporary overlays (tests/lib/office_room.sh).
 
-  tests/office/office_by_commands.py [debit|times]    debit: debits alone; times: how long a tournament takes, and a client beside it waits
+  tests/office/office_by_commands.py [debit|times]    debit: only debits; times: the time of a tournament, and a client's wait meanwhile
 """
 # pytestmark = [mark.package, mark.faults, mark.speed("times"), mark.root, mark.alone, mark.needs("clubdesk passtool"),
 #     mark.wants("sudo sqlite3 openssl util-linux bsdutils iproute2 systemd python3-psutil")]
@@ -29,7 +29,7 @@ sys.path[:0] = [str(Path(__file__).resolve().parents[1] / it) for it in ("lib", 
 from office_checks import book_lines, lines, refused
 from office_room import HOME, ROOM, Service, begun, configure, done, kill, leave, office, rows, same, whole
 
-# The server's clock and the office's clock show the same time.
+# The server's clock shows today's date, because the office uses the machine's clock.
 TODAY = datetime.date.today()
 PASSES = {}
 PROGRAMS = {"clubdesk": Path("/usr/bin/clubdesk"), "back_up": Path("/usr/lib/clubdesk/back_up"), "systemctl": Path("/usr/bin/systemctl")}
@@ -48,7 +48,7 @@ read -r at how <{ROOM}/stop
 
 
 def put_stoppers():
-    """Replaces each program by a script that counts its calls, and that can wait at one of them."""
+    """Replaces each program with a script that counts the calls of all these programs. The script can wait at a chosen call."""
     ROOM.chmod(0o777)
     stop_at("0 never")
     for name, path in PROGRAMS.items():
@@ -71,7 +71,7 @@ def calls():
 
 
 def stopped(point, words):
-    """Gives a command, and returns when the command waits at this point."""
+    """Starts a command, and returns when the command waits at this point."""
     stop_at(point)
     command = begun(*words)
     while command.poll() is None and not (ROOM / "stopped").exists():
@@ -86,7 +86,7 @@ def killed(point, words):
 
 
 def killed_at_its_output(words):
-    """Kills a command whose output no program reads, so that no clerk sees its end."""
+    """Runs a command whose output no program reads. Kills the command after the log has its line."""
     stop_at("0 never")
     reader, writer = os.pipe()
     os.set_blocking(writer, False)
@@ -107,7 +107,7 @@ def killed_at_its_output(words):
 
 
 class Correction:
-    """A kind of correction. Each call of `next` returns the words of a new correction, and the rows that `sql` must find afterwards."""
+    """A kind of correction. Each call of `next` returns the arguments of a new correction, and the rows that the query `sql` must find afterwards."""
 
     def __init__(self):
         self.number = 0
@@ -147,7 +147,7 @@ class Reopening(Correction):
 
 
 class Prices(Correction):
-    """Sets a new price, and keeps the facility's places and hours."""
+    """Sets a new price and new hours, and keeps the facility's places."""
 
     sql = "SELECT * FROM facilities WHERE name = 'court-1'"
 
@@ -166,7 +166,7 @@ class Debit(Correction):
 
 
 class OfBookings(Correction):
-    """A correction of a day on which zoe has bookings at ten and at eleven, one of them with a guest."""
+    """A correction of a day on which zoe has booked ten o'clock and, if `bookings` is 2, eleven o'clock with a guest."""
 
     bookings = 2
 
@@ -199,7 +199,8 @@ class Raining(OfBookings):
 
 
 class Closing(OfBookings):
-    """Closes the two hours that zoe has booked, and a free hour. The office writes the reason only once."""
+    """Closes the two hours that zoe has booked, and a free hour. The office stores the reason only once, even if the correction is killed and
+    repeated."""
 
     court, booked = "court-4", 3000
 
@@ -234,7 +235,7 @@ class Leaving(Correction):
 
 
 def killed_and_given_again(correction, programs):
-    """Makes a correction without a kill. Then kills a correction of this kind at each point, and gives the killed command again."""
+    """Runs a correction without killing it. Then kills a new correction of this kind at each point, and runs the killed correction again."""
     words, wanted = correction.next()
     command, before = words[0], rows(correction.sql)
     stop_at("0 never")
@@ -256,7 +257,7 @@ def killed_and_given_again(correction, programs):
 
 
 def rows_of_copy(command, sql):
-    """Returns the rows that an SQL statement finds in the newest copy from before a command of this kind."""
+    """Returns the rows that an SQL statement finds in the newest copy that the office made before a command of this kind."""
     newest = max((HOME / "club-before").glob(f"*-{command}*"), key=lambda it: it.stat().st_mtime_ns)
     with contextlib.closing(sqlite3.connect(f"file:{newest}?immutable=1", uri=True)) as db:
         return db.execute(sql).fetchall()
@@ -280,8 +281,8 @@ def outlives_its_order(correction, programs):
 
 
 def credited_meanwhile(correction):
-    """If the member's credit has changed since an interrupted debit, the office refuses to continue the debit. When the clerk gives the command
-    again, the office starts a new debit."""
+    """If the member's credit has changed since an interrupted debit, the office refuses to continue the debit. When the clerk runs the command
+    once more, the office starts a new debit."""
     words, _ = correction.next()
     killed("3 before", [*words, "--yes"])
     done("credit", "zoe", "7")
@@ -292,7 +293,7 @@ def credited_meanwhile(correction):
 
 
 def late(point, words, path):
-    """Gives a command that waits at this point until amy has booked. Returns the command's status and output."""
+    """Runs a command that waits at this point until amy has booked. Returns the command's status and output."""
     order = stopped(f"{point} late", words)
     same(path, server.answer(PASSES["amy"], "PUT", path, '{"guests":0}')[0], 200)
     out, errors = order.communicate()
@@ -300,8 +301,8 @@ def late(point, words, path):
 
 
 def booked_meanwhile(closing):
-    """The office names a slot that a member books just before the office closes it. With --yes the office also cancels that booking, and one undo
-    reverts all changes."""
+    """If a member books a slot just before the office closes this slot, the office prints the slot. With --yes, the office also cancels the new
+    booking. One undo reverts all these changes."""
     words, wanted = closing.next()
     before = rows(closing.sql)
     path = f"/slots/court-4/{closing.day}/10/bookings/1"

@@ -1,4 +1,4 @@
-"""A part of office_holds.py: each correction with its refusals, and restores of the club, even over a damaged file."""
+"""The part of office_holds.py that tests corrections, refused corrections, and restores of the club, even over a damaged file."""
 
 import os
 import re
@@ -100,8 +100,8 @@ def member_leaves(server, bob):
 
 
 def breaks_no_total(server):
-    """The test changes the number of guests in the club's file by hand, so that a booking takes more places than its slot counts as taken. The office
-    refuses to cancel the booking."""
+    """The test increases a booking's guests in the club's file, so that the booking takes more places than its slot records. The office refuses to
+    cancel the booking."""
     text = done("add-key", "amy-4", "amy").strip()
     book(server, text, "court-2", 20, 5, 1)
     by_hand("UPDATE bookings SET guests = 3 WHERE pass_key = 'amy-4'")
@@ -126,8 +126,8 @@ def by_hand(sql):
 
 
 def booked_meanwhile(server):
-    """If a member books a slot after the office has asked whether to close it, the office names this slot and asks again. The booking stays if the
-    clerk declines."""
+    """The office asks the clerk whether to close some slots. If a member then books one of these slots, the office shows the new booking and asks
+    again. If the clerk declines, the booking stays."""
     text, slot_text = done("add-key", "amy-5", "amy").strip(), f"court-2 {DAY} 17:00"
     for number, answers, status, last in ((1, "y\nn\n", 1, None), (3, "y\ny\n", 0, "done")):
         book(server, text, "court-2", 17, number, 0)
@@ -164,7 +164,8 @@ def keep_copy():
 
 
 def restores(server):
-    """Restores a copy. The office shows what the restore changes. The office keeps a copy of the old club, or the damaged file itself."""
+    """Restores a copy. The office shows what the restore changes. The office keeps a copy of the old club. If the old file is damaged, the office
+    keeps this file instead."""
     configure(BACK_UPS=COPIES)
     same("no copy of a night", [line for line in lines("copies", "--csv") if "back-up" in line], [])
     text = done("add-key", "amy-6", "amy").strip()
@@ -230,7 +231,7 @@ def restores(server):
 
 
 def spoil(what):
-    """Overwrites a part of the club's file, empties the file, or removes it."""
+    """Overwrites a part of the club's file, empties the file, or moves the file away."""
     if what == "gone":
         CLUB.rename(HOME / "mislaid")
         return
@@ -250,7 +251,7 @@ def damaged(server, text, night, before, was):
 
     for what in ("head", "pages", "index", "empty", "gone"):
         server.stop()
-        desk("sheet", DAY)  # its log is in it now
+        desk("sheet", DAY)  # copies the write-ahead log into the club's file
         (HOME / "club-wal").unlink(missing_ok=True)
         spoil(what)
         if what in ("head", "pages"):

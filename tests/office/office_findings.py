@@ -1,4 +1,4 @@
-"""A part of office_holds.py: a hostile clerk, a full memory, a full disk, and a program that holds the journal's socket but reads nothing."""
+"""The part of office_holds.py that tests hostile clerks, full memory, a full disk, and a journal that reads nothing."""
 
 import contextlib
 import json
@@ -20,8 +20,8 @@ from office_room import CLUB, HOME, NOON, ROOM, begun, done, kill, office, rows,
 
 
 def journal_that_is_silent():
-    """If the program behind the journal's socket reads nothing, no command waits for that program. The command's line goes into the file of the
-    book."""
+    """If the program behind the journal's socket reads nothing, commands don't wait for that program. The office writes each command's line
+    into the book's file instead."""
     entry = Path("/run/systemd/journal/socket")
     entry.parent.mkdir(parents=True, exist_ok=True)
     with socket.socket(socket.AF_UNIX, socket.SOCK_DGRAM) as silent, socket.socket(socket.AF_UNIX, socket.SOCK_DGRAM) as sender:
@@ -54,15 +54,15 @@ def copies_of_one_second():
 
 
 def moments_to_come():
-    """The office refuses a correction at a future moment, because the correction would treat future bookings as over."""
+    """The office refuses a correction whose --at is in the future, because the correction would treat bookings before that moment as past."""
     for words in (["new-year"], ["set-facility", "court-1", "--hours", "8-9"], ["cancel", "amy-1", "--all"], ["restore", "2026-01-01T000000Z"]):
         refused([*words, "--yes", "--at", "2099-12-31T00:00"], 1, "refused: --at 2099-12-31T00:00 is to come: it is 20")
     same("in the book", book_lines()[-1], "anna 1 restore 2026-01-01T000000Z --at 2099-12-31T00:00")
 
 
 def lines_that_are_forged():
-    """The book escapes characters that end a line for a terminal or a line reader, and bytes that aren't UTF-8. Unconfirmed commands have a
-    line."""
+    """In the book, the office escapes bytes that aren't UTF-8, and characters that end a line or change how a terminal shows the line. The
+    book also has a line for each unconfirmed command."""
     before = len(book_lines())
     forged = f"{NOON}:00 ben 0 credit amy 13"
     for end in ("\n", "\r", "\x0b", "\x0c", "\x1c", "\x85", "\x9b2J", "\u2028", "\u2029", "\u202e"):
@@ -99,8 +99,8 @@ def orders_that_cannot_be_read():
 
 
 def programs_of_a_clerk():
-    """A clerk can't choose a program or a folder for the office's part that runs as the desk's user, even if sudo passes on the clerk's
-    environment."""
+    """A clerk can't choose the programs or folders of the office's part that runs as the desk's user. This holds even if sudo passes on
+    the clerk's environment."""
     home, lax = Path("/home/anna"), Path("/etc/sudoers.d/zz-lax")
     (home / "bin").mkdir()
     (home / "conf").mkdir()
@@ -152,7 +152,7 @@ def desk_side(command):
 
 @contextlib.contextmanager
 def slow_clubdesk():
-    """Replaces clubdesk by a script that waits two seconds before a credit or a new key. The script records its variable HOME."""
+    """Replaces clubdesk with a script that waits two seconds before a credit or a new key. The script writes its variable HOME into a file."""
     program, whole_one, home = Path("/usr/bin/clubdesk"), ROOM / "clubdesk-whole", ROOM / "home-of-clubdesk"
     shutil.copy2(program, whole_one)
     program.unlink()
@@ -205,8 +205,8 @@ def terminals_that_take_nothing():
 
 
 def folder_of_a_clerk():
-    """The office's part that runs as the desk's user has that user's home folder, even if sudo passes on the clerk's home folder. A mailer would read
-    a configuration file in the clerk's home folder."""
+    """The office's part that runs as the desk's user gets that user's home folder, even if sudo passes on the clerk's home folder. Otherwise a mailer
+    would read a configuration file in the clerk's home folder."""
     lax = Path("/etc/sudoers.d/zz-lax")
     lax.write_text('Defaults env_keep += "HOME"\n')
     lax.chmod(0o440)
@@ -218,7 +218,7 @@ def folder_of_a_clerk():
 
 def file_that_came_since():
     """While the office makes a key, another program may create a file with the name of the pass. The office doesn't overwrite the other program's
-    file, and gives the pass another name."""
+    file, and writes the pass into a file with another name."""
     with slow_clubdesk():
         command = begun("add-key", "amy-8", "amy", "--to", "amy-8")
         desk_side(command)
@@ -258,7 +258,8 @@ def page_that_came_since():
 
 
 def clubs_beside():
-    """A club's file may have the same name as an office file of another club. Then the office refuses the other club, and doesn't change the file."""
+    """The office keeps files such as other-book next to the file of the club other. If such a name is already the file of a second club, the office
+    refuses commands for other. The second club's file stays unchanged."""
     for ending in ("before", "book", "metrics", "new", "office", "offsite", "orders", "people.csv", "reasons", "seasons", "undo", "until-2026-12-31", "wal"):
         file, configuration = HOME / f"other-{ending}", Path(f"/etc/clubdesk/other-{ending}.conf")
         file.write_bytes(b"another club")
@@ -280,8 +281,8 @@ def clubs_beside():
 
 
 def memory_that_is_full():
-    """If the file system in memory is full, the office makes its temporary copies next to the club. The next command removes the copies that killed
-    commands left."""
+    """If the file system in memory is full, the office makes its temporary copies next to the club's file. The next command removes the copies that
+    killed commands left."""
     memory, user = Path("/dev/shm"), pwd.getpwnam("clubdesk")
     subprocess.run(["mount", "-o", "remount,size=200k", memory], check=True)
     (memory / "rest").write_bytes(bytes(190_000))
@@ -316,8 +317,8 @@ def memory_that_is_full():
 
 
 def disk_that_is_full():
-    """On a full disk, a command's output says whether the command was done. A correction changes nothing. When the disk has space again, all commands
-    work."""
+    """On a full disk, a command's exit status shows whether the command was done. A failed command changes nothing. When the disk has space again,
+    all commands work."""
     def credited():
         return rows("SELECT credited FROM members WHERE name = 'amy'")[0][0]
 
@@ -337,7 +338,7 @@ def disk_that_is_full():
 
 
 def titles_of_the_page():
-    """club.json has each title unchanged, or the office refuses the title's line and prints the line's number."""
+    """The program club_json copies the facilities' titles into club.json. It refuses a faulty line and prints the line's number."""
     def made(text):
         titles = ROOM / "titles"
         titles.write_bytes(text)

@@ -1,17 +1,18 @@
 #!/usr/bin/env -S /usr/bin/python3 -B
 """`office` carries out the clerks' commands, lists, corrections and restores, and resists a hostile clerk.
 
-The test compares each result with the desk's data, and checks refusals, passes and the book. Needs root,
-because the test makes a temporary machine (tests/lib/office_room.sh).
+The test compares each result with the desk's data, and checks refusals, passes and the book of
+commands. The test needs root, because it covers the machine's folders with temporary overlays
+(tests/lib/office_room.sh).
 
-The test runs deploy/office as a clerk without root, under the rules of deploy/office.sudoers. A small service
-manager of the test runs the server. The test has these parts:
+The test runs deploy/office as a clerk without root, under the rules of deploy/office.sudoers. The test's own
+small service manager runs the server. The test has these parts:
 - office_orders.py: commands and lists, compared with the desk's replies; passes in files; the book in a file and in the journal
 - office_corrections.py: corrections, compared with show-account, the day sheet and the totals; restores, even over a damaged file
 - office_season.py: a season's points, closures and letters, members' full names, undo, and the files of old years
-- office_findings.py: forged lines, a clerk's own programs, a stopped terminal, a journal that reads nothing, and a full memory or disk
+- office_findings.py: forged lines, a clerk's own programs, a stopped terminal, a journal that reads nothing, full memory, and a full disk
 
-  tests/office/office_holds.py [findings|season]    findings: what others may do, alone; season: a season's club, alone
+  tests/office/office_holds.py [findings|season]    findings, season: only this part, after the first steps
 """
 # pytestmark = [mark.package, mark.root, mark.needs("clubdesk passtool"),
 #     mark.wants("sudo sqlite3 openssl util-linux bsdutils iproute2 systemd python3-psutil")]

@@ -1,17 +1,17 @@
 #!/usr/bin/env -S /usr/bin/python3 -B
-"""The office's commands, corrections, imports and restores, killed at random moments, are done once or not at all.
+"""A command of the office that is killed at a random moment is done once or not at all. A killed import can be repeated.
 
-A desk runs while the test kills the commands, and no total is wrong afterwards. Needs root, because the test makes a temporary machine
-(tests/lib/office_room.sh).
+A desk runs while the test kills the commands, and no total is wrong afterwards. The test needs root, because it covers the machine's
+folders with temporary overlays (tests/lib/office_room.sh).
 
 - The test kills 100 commands and corrections while four clients use the desk. Each reply is right, and the desk keeps running.
-- The test kills an import of twelve members before and after each command of the import, and at 40 random moments. No member gets a credit twice, and
-  each pass that the import has written works.
-- The test kills a restore 25 times. After each kill, the club is either the old club or the copy's club.
+- The test kills an import of twelve members before and after each command of the import, and at 40 random moments. After the test repeats the import,
+  each member has one credit, and each pass works.
+- The test kills a restore 25 times. After each kill, the club is either unchanged or equal to the copy.
 - At random moments, the test kills the job that copies the club to another disk, and the restore from that disk. Each copy with a final name is
   complete and tested.
-- The test kills credits for all members, bookings for members who call, and undos at random moments. Then the test gives the killed command again.
-  Each member gets one credit, each slot has one booking, and each undo is complete.
+- At random moments, the test kills commands that credit all members, book for a caller, or undo a correction. Then the test runs the killed
+  command again. Each member gets one credit, each slot has one booking, and each undo is complete.
 
   tests/office/office_killed.py [KILLS [SEED]]
 """
@@ -45,8 +45,8 @@ YES = ["--yes", "--at", NOON]
 
 
 def books_and_cancels(server, place, text, is_over):
-    """Runs a client that alone uses this court, and that sends each booking and each cancellation twice. Counts the expected replies, and returns the
-    unexpected replies."""
+    """Runs a client that has this court for itself, and sends each booking and each cancellation twice. Returns the number of replies, and at most
+    three wrong replies."""
     wrong = []
     for number in itertools.count(1):
         if is_over.wait(0.05):
@@ -67,7 +67,7 @@ def seconds_of(*words):
 
 
 def commands_beside_the_desk():
-    """Kills credits, debits, quotas, closings and cancellations while clients use the desk."""
+    """Kills commands that credit, debit, close, cancel or set a quota, while clients use the desk."""
     configure()
     done("new")
     for place in range(1, 5):
@@ -119,7 +119,8 @@ def command_of(attempt):
 
 
 def hold_book(commands):
-    """The club has all credits and debits that have status 0 in the book. Credits and debits with a question mark may be missing."""
+    """In the book, a command has status 0 if it is done, and a question mark if it was interrupted. The club must have all credits and debits with
+    status 0. It may have those with a question mark, and no others."""
     book = [line.split() for line in done("log", "zoe").splitlines()]
     book = [(status, command, words) for _, _, status, command, *words in book if command in ("credit", "debit")]
     sums, counts = {0}, Counter(status for status, _, _ in book)
@@ -134,7 +135,7 @@ def hold_book(commands):
 
 
 def restores():
-    """Kills restores at random moments. After each kill, the club is either the old club or the copy's club."""
+    """Kills restores at random moments. After each kill, the club is either unchanged or equal to the copy."""
     copies, night = HOME / "back-ups", "2026-04-19T030000Z"
     configure(BACK_UPS=copies)
     run_as("clubdesk", "mkdir", "-m", "700", copies, folder="/")
@@ -166,7 +167,7 @@ def restores():
 
 
 def season_points():
-    """Kills the command that credits all members, and gives the command again. Each member gets the points once, no matter how often the command
+    """Kills the command that credits all members, and runs the command again. Each member gets the points once, no matter how often the command
     runs."""
     for number in range(1, 21):
         done("add-member", f"player-{number}", "5")
@@ -184,7 +185,7 @@ def season_points():
 
 
 def bookings_for_callers():
-    """Kills a command that books an hour for a member who calls, and gives the command again. The member gets one booking. A command for two hours
+    """Kills a command that books an hour for a member who calls, and runs the command again. The member gets one booking. A command for two hours
     makes one booking for each hour."""
     done("add-member", "caller", "99")
     done("credit", "caller", "10000")
@@ -203,7 +204,7 @@ def bookings_for_callers():
 
 
 def undos():
-    """Kills an undo. Afterwards the club is either as it was after the correction, or as it was before the correction."""
+    """Kills an undo. Afterwards the correction is either unchanged or fully undone."""
     for attempt in range(min(given.kills, 10)):
         before = everything()
         done("close", f"2026-08-{attempt + 1:02d}", "10-12", "room-1", "--yes")
@@ -279,8 +280,8 @@ def make_list(members, delimiter=","):
 
 
 STOPPER = f"""#!/bin/sh
-# This script replaces clubdesk, and counts the commands that the office gives. Before or after the Nth command, the script waits, so that the test
-# can kill the office's processes.
+# This script replaces clubdesk, and counts the office's commands. Before or after the Nth command, the script waits, so that the test can kill the
+# office's processes.
 case $1 in
     add-member | credit | add-key | rotate-key)
         number=$(($(cat {ROOM}/orders) + 1))
@@ -309,7 +310,7 @@ def count_commands(stop="0 never"):
 
 
 def import_stopped(*at):
-    """Runs an import, and kills it before or after one of the import's commands. Returns the import's status."""
+    """Runs an import. If `at` is given, kills the import before or after this command of the import. Returns the import's status."""
     count_commands(*at)
     command = begun("import", "members.csv", "--yes")
     while command.poll() is None and not (ROOM / "killed").exists():
@@ -319,7 +320,7 @@ def import_stopped(*at):
 
 
 def imported(what, members):
-    """Checks that each member exists once and got one credit. Each member must have a key, and a pass that shows the member's account."""
+    """Checks that each member exists once and got one credit. Each member must have a key, and a pass that the key's root signed."""
     found = rows("SELECT name, credited, quota, used FROM members ORDER BY rowid")
     same(f"{what}: the members", sorted(found), sorted((name, points, quota, 0) for _, quota, points, name in members))
     keys = rows("SELECT member, name, hex(root) FROM keys ORDER BY rowid")

@@ -1,17 +1,17 @@
 #!/usr/bin/env -S /usr/bin/python3 -B
-"""Each change of a club is copied to another machine within a minute, and a lost club can be restored.
+"""A service copies each change of a club to another machine within a minute, and a lost club can be restored.
 
-A service sends the copies by ssh, or writes them into a mounted folder. Each copy is tested at its destination. Needs root, because the test makes a
-temporary machine (tests/lib/office_room.sh).
+The service sends the copies by ssh, or writes them into a mounted folder. Each copy is tested at its destination. The test needs root, because
+it covers the machine's folders with temporary overlays (tests/lib/office_room.sh).
 
-- The service sends nothing if the club hasn't changed. The service keeps the copies that a rule in Python selects. `copies` lists the copies on the
-  other machine, and `restore` can restore each of them.
-- The test uses a host that is down, an interrupted transfer, a full disk on the other machine, and an unmounted folder. The service reports each
-  fault and retries, and the health check fails meanwhile.
-- deploy/check_health requests the club's public name, and checks how many days the certificate is still valid. deploy/metrics counts requests and
-  orders.
-- `clubdesk-setup --from` restores the club, the members' full names, a season's points, old years and clerks. If a booking was lost, the client
-  repeats the request and so makes the booking again.
+- The service sends nothing if the club hasn't changed. The service keeps exactly the copies that the test's own rule selects. The office's command
+  `copies` lists the copies on the other machine, and `restore` can restore each of them.
+- The test causes these faults: a host that is down, an interrupted transfer, a full disk on the other machine, and an unmounted folder. The
+  service reports each fault and retries, and the health check fails meanwhile.
+- deploy/check_health sends a request to the club's public name, and checks how many days the certificate is still valid. deploy/metrics counts
+  requests and the office's commands.
+- `clubdesk-setup --from` restores the club, the members' full names, the record of a season's points, old years' files, and the clerks. If a
+  booking was lost, the client repeats the request and so makes the booking again.
 """
 # pytestmark = [mark.package, mark.faults, mark.root, mark.needs("clubdesk passtool"),
 #     mark.wants("sudo sqlite3 openssl util-linux bsdutils iproute2 systemd python3-psutil openssh-server openssh-client curl")]
@@ -183,7 +183,8 @@ def within_a_minute(keeper):
 
 
 def beside():
-    """Next to the newest copy, an archive has exactly the configuration, the members' full names, the reasons, the season's points and the clerks."""
+    """The archive next to the newest copy contains the club's configuration, book, full names, reasons for closures, season's points and clerks, and
+    nothing else."""
     given = '{"name": "Amy Möller", "mail": "amy@example.org", "telephone": "+49 1"}'
     line = "sudo -n -u clubdesk /usr/bin/office --desk club set-person amy".split()
     same("a person", run_as("anna", *line, given=given)[0], 0)
@@ -264,7 +265,7 @@ def host_down(sshd, keeper):
 
 
 def health(status, **more):
-    """Runs check_health for the copies, and for the site if one is configured. Checks the exit status and returns the output."""
+    """Runs check_health for the desk and for the copies. Checks the exit status unless `status` is None. Returns the output."""
     line = ["env", *(f"{key}={value}" for key, value in {"CURL_CA_BUNDLE": f"{ROOM}/site.pem", **more}.items()), "/usr/lib/clubdesk/check_health", CLUB,
             str(server.port), "", "", "elsewhere:clubs/club"]
     found, out, errors = run_as("clubdesk", *line, folder="/")
@@ -285,7 +286,8 @@ def nobody_looks(keeper):
 
 
 def kept_by_rule():
-    """If a copy is made each minute, the service keeps exactly the copies that the rule in Python selects."""
+    """The test adds files with the names of copies from random moments of the last 420 days. The service keeps exactly the copies that the test's own
+    rule selects."""
     chance, now, made = random.Random(7), datetime.datetime.now(datetime.timezone.utc), set(copies())
     for back in range(0, 420):
         for _ in range(chance.choice((0, 1, 3)) if back < 20 else chance.choice((0, 0, 0, 1))):
@@ -500,8 +502,8 @@ echo "-- cursor: $(wc -l <{lines})"
 
 
 def brought_back():
-    """Deletes all data on the machine, and restores the club. If a booking was lost, the client repeats the request and so makes the booking
-    again."""
+    """Deletes the club's files, configuration and pages, and one clerk. Then restores the club. If a booking was lost, the client repeats
+    the request and so makes the booking again."""
     same("an old year", run_as("clubdesk", "/usr/lib/clubdesk/back_up", CLUB, HOME / "club-until-2025-12-31", folder="/")[0], 0)
     (CONF / "club.health").write_text("pass")
     run("chown", "root:clubdesk", CONF / "club.health")

@@ -1,4 +1,4 @@
-"""A part of office_holds.py: the configuration, the commands that the office hands on to clubdesk, passes, lists, and the book."""
+"""The part of office_holds.py that tests the configuration, passes, lists, the book, and the commands that the office passes on to clubdesk."""
 
 import fcntl
 import os
@@ -31,7 +31,8 @@ def before_there_is_a_club():
 
 
 def as_nobody_else():
-    """A clerk can give only the office's commands, and can't read the desk's files. The desk's user can't end services other than the desk."""
+    """A clerk can run only the office's commands as another user, and can't read the desk's files. The desk's user can't end services other than the
+    desk."""
     for user, line in (
         ("anna", "sudo -n -u clubdesk id"),
         ("anna", "sudo -n -u clubdesk /usr/bin/office club members"),
@@ -50,7 +51,7 @@ def as_nobody_else():
 
 
 def commands_and_looks():
-    """The office returns clubdesk's own statuses, lines and output."""
+    """The office returns clubdesk's exit status, and prints clubdesk's output."""
     for words in ("add-member amy 5", "credit amy 10000", "add-member bob 2", "credit bob 3000", "add-facility court-1 court 4 200 8 22",
                   "add-facility court-2 court 4 200 8 22", "add-facility boat-1 boat 2 50 6 20", f"close-slot court-1 {DAY} 09"):
         same(words, office(*words.split()), (0, "done\n", ""))

@@ -1,4 +1,5 @@
-"""A part of office_holds.py: a club's season, with lists of members, bookings by telephone, full names, undo, letters, and the files of old years."""
+"""The part of office_holds.py that tests a club's season: lists of members, bookings by telephone, full names, undo, letters, and old years'
+files."""
 
 import datetime
 import json
@@ -84,8 +85,8 @@ def for_callers(server, day):
 
 
 def for_hours(day):
-    """If a command names several hours, the office runs one command for each hour. First the office lists these commands. At the end, the office
-    prints the total, and the hours that failed."""
+    """If a command has several hours, the office runs one command for each hour. First the office lists these commands. At the end, the office
+    prints the total and the hours that aren't done."""
     def closed():
         return [hour for hour, in rows("SELECT hour FROM slots WHERE facility = 'boat-1' AND closed = 1 ORDER BY hour")]
 
@@ -177,7 +178,7 @@ def undone(server, day):
 
 
 def season(pages, day):
-    """Credits all members once under each name of a season, closes weekly hours with a reason, and replaces a lost pass."""
+    """Credits all members once per season, closes hours each week with a reason, and replaces a lost pass."""
     count = len(rows("SELECT name FROM members WHERE quota > 0"))
     done("set-quota", "oez-ali", "9", "--yes")
     copy = [it for it in lines("copies", "--csv") if "-set-quota" in it][-1].split(",")[0]
@@ -253,7 +254,8 @@ def letters_and_records(day):
 
 
 def spare_passes(lines_of):
-    """A second import of the same list makes spare passes for each member. The second half of the member's letter contains these passes."""
+    """A second import makes spare passes for members who have no spare passes yet. The second half of a member's letter contains the member's spare
+    passes."""
     configure(**lines_of, SPARES=2)
     run_as("anna", "sh", "-c", "head -n 3 season.csv >spares.csv")
     done("import", "spares.csv", "--quota", "5", "--points", "1000", "--passes", "season", "--yes")
@@ -270,7 +272,7 @@ def spare_passes(lines_of):
 
 
 def old_years(server):
-    """The office can only read an old year's file, not change it. The board's page also uses this file."""
+    """The office can only read an old year's file, not change it. The board's page for that year uses this file."""
     with_past = HOME / "club"
     year = datetime.date.today().year
     server.stop()

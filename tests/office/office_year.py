@@ -1,12 +1,12 @@
 #!/usr/bin/env -S /usr/bin/python3 -B
-"""`office CLUB new-year` keeps balances, keys and future slots. If it is killed, the club is the old or the new club.
+"""`office CLUB new-year` keeps balances, keys and future slots. A killed `new-year` leaves either the old club or the new club.
 
-Before the command `new-year`, the test fills a year with 1,500 requests. The server gives the same replies before and after this command. Needs root,
-because the test makes a temporary machine (tests/lib/office_room.sh).
+Before the command `new-year`, the test fills a year with 1,500 requests. The server gives the same replies before and after this command. The test
+needs root, because it covers the machine's folders with temporary overlays (tests/lib/office_room.sh).
 
-Some of the club's past and future bookings are cancelled. The old file stays unchanged, byte for byte. The test compares checksums of the balances,
-the points that each key has spent, the keys, the facilities, and the future slots. After the new year, each other command of a season works, and the
-service copies the old year's file to another disk.
+Some of the club's past and future bookings are cancelled. The command keeps the old file, with the same bytes, under another name. The test compares
+the balances, the points that each key has spent, the keys, the facilities, and the future bookings and slots. After the new year, the other commands
+of a season work, and the service copies the old year's file to another disk.
 """
 # pytestmark = [mark.package, mark.root, mark.needs("clubdesk passtool"),
 #     mark.wants("sudo sqlite3 openssl util-linux bsdutils iproute2 systemd python3-psutil")]
@@ -47,15 +47,15 @@ def make_club():
 
 
 def days():
-    """Returns moments of the year, each with the day that members book at this moment. Some of these days are still in the future when the year
-    ends."""
+    """Returns moments of the year, each with the day of the slots that members book at this moment. Some of these days are still in the future
+    when the year ends."""
     return [(f"2025-{month:02d}-{day:02d}T07:30", f"2025-{month:02d}-{day + 3:02d}") for month in range(1, 13) for day in (2, 12, 22)] + [
         ("2025-12-31T10:00", "2025-12-31"), ("2025-12-31T10:00", "2026-01-04"), ("2025-12-31T10:01", "2026-02-20")
     ]
 
 
 def live_a_year(texts):
-    """Makes bookings and cancellations of random keys at random slots, and closes slots. Ignores refusals."""
+    """Books random slots with random keys, cancels some of these bookings, and closes a slot of each day. Ignores refusals."""
     asked, numbers, made = days(), dict.fromkeys(texts, 0), 0
     for place, (moment, on) in enumerate(asked):
         server = Service(at=moment)
@@ -74,7 +74,8 @@ def live_a_year(texts):
 
 
 def requests(texts):
-    """Sends requests of every kind about future slots. Some requests repeat a booking or a cancellation. The last request uses a narrowed pass."""
+    """Returns requests of every kind. Their slots are on the last day of the year or later. Some requests repeat a booking or a cancellation. The
+    last request uses a narrowed pass."""
     asked = [(text, "GET", "/account") for text in texts.values()]
     for on in ("2025-12-31", "2026-01-04", "2026-02-20"):
         asked += [(texts["amy-1"], "GET", f"/slots/{facility}/{on}/{hour:02d}") for facility in FACILITIES for hour in range(24)]
@@ -130,7 +131,8 @@ def kept_files():
 
 
 def goes_on():
-    """After a new year, each command of a season works. Nobody can undo a new year. The service copies the old year's file to another disk."""
+    """After a new year, the commands of a season work. The command `undo` can't undo a new year. The service copies the old year's file to another
+    disk."""
     place, pages = ROOM / "away", ROOM / "pages"
     for folder in (place, pages):
         subprocess.run(["install", "-d", "-o", "clubdesk", folder], check=True)

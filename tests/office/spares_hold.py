@@ -1,9 +1,10 @@
 #!/usr/bin/env -S /usr/bin/python3 -B
-"""`office` makes each spare key for lending once, and makes as many as the configuration says.
+"""`office` makes as many spare keys for lending as the configuration says, and makes each key only once.
 
 An import, `add-member` and the menu's task for a new member make the spare keys, with the names from the configuration. The second half of a member's
 letter has the passes of the spare keys. Bookings under a spare key cost the member's points. For each key, the desk counts the points that this key
-has spent. A spare key can't cancel the bookings of other keys. Needs root, because the test makes a temporary machine (tests/lib/office_room.sh).
+has spent. A spare key can't cancel the bookings of other keys. The test needs root, because it covers the machine's folders with temporary overlays
+(tests/lib/office_room.sh).
 """
 # pytestmark = [mark.package, mark.root, mark.needs("clubdesk passtool"),
 #     mark.wants("sudo sqlite3 openssl util-linux bsdutils iproute2 systemd qrencode python3-psutil python3-pexpect")]
@@ -19,7 +20,7 @@ from office_room import NOON, Service, configure, done, leave, office, rows, run
 
 SITE = "https://desk.example.org"
 HOME = Path("/home/anna")
-LONG = "oberhuber-maximiliane"  # whose spare keys' names are cut to 24 letters
+LONG = "oberhuber-maximiliane"  # the names of her spare keys are cut to 24 letters
 
 
 def keys_of(member):
