@@ -1,15 +1,15 @@
 #!/usr/bin/env bats
-# `bin/proved` builds only stale programs, and an interrupted build leaves no program that counts as built.
+# `bin/proved` builds only stale programs, and repeats a build that was interrupted.
 #
 # To find stale programs, bin/proved compares the checksums of the sources. If bin/proved runs twice at the same time, each program is built once.
 #
 # The test uses four small crates and a stub of rt. The stub of rt records when it begins and when it ends. At most PROVED_AT_ONCE libraries are built
-# at the same time, each after its dependencies. If a source changes during a build, bin/proved builds again. If a signal stops bin/proved, it ends
-# each rt and removes its temporary folders. A program doesn't count as built if it is incomplete, or if its build was killed. If a build fails,
-# bin/proved shows the failure and exits with status 125.
+# at the same time, each after its dependencies. If a source changes during a build, bin/proved builds again. If a signal stops bin/proved, bin/proved
+# ends its rt processes and removes its temporary folders. A program doesn't count as built if it is incomplete, or if its build was killed. If a
+# build fails, bin/proved shows the failure and exits with status 125.
 # pytestmark = [mark.package, mark.wants("bats")]
 
-# A clone that was built.
+# Makes a clone and builds its program.
 setup() {
     bats_require_minimum_version 1.5.0
     cd "$BATS_TEST_TMPDIR"
@@ -60,7 +60,7 @@ edit() {
 }
 # most: prints the greatest number of rt processes that ran at the same time.
 most() { awk '/begin/ { n++ } /end/ { n-- } n > m { m = n } END { print m }' calls; }
-# wait_for LINE: waits until rt has written this line.
+# wait_for LINE: waits until the stub of rt has written this line into the file `calls`.
 wait_for() {
     for _ in $(seq 100); do ! grep -qx "$1" calls || return 0; sleep 0.1; done
     return 1

@@ -1,5 +1,5 @@
 #!/usr/bin/env bats
-# `bin/check` runs `rt ci` and `tests/run quick`, and names the parts that failed.
+# `bin/check` runs `rt ci` and `tests/run quick`, and prints which of these two parts failed.
 #
 # .ci/run runs the same two parts, and adds up their counts. If `rt ci` fails, .ci/run still runs the second part. A part that crashes or never ends
 # counts as a failure. bin/check refuses arguments, and fails if rt isn't in PATH.
@@ -29,7 +29,8 @@ stub() {
     chmod +x "$1"
 }
 both_ran() { printf 'gate ci, in clone\nscripts --built quick, in clone\n' | cmp - calls; }
-# fails COUNTS PARTS: checks that .ci/run calls both parts, names the parts that failed, prints the counts last, and exits with status 1.
+# fails COUNTS PARTS: checks that .ci/run calls both parts, and that it exits with status 1. The last line of standard output must be COUNTS, and the
+# last line of standard error must list the failed PARTS.
 fails() {
     rm -f calls
     run -1 --separate-stderr clone/.ci/run

@@ -1,10 +1,11 @@
 #!/usr/bin/env -S /usr/bin/python3 -B -m pytest -q -p no:cacheprovider
 """bash, zsh and fish complete exactly the commands, options and values of `--help`.
 
-The test compares bin/completions in real shells with the `--help` of both programs and of office.
-For each command, the shell offers the words that begin with the typed prefix. The shell also offers the
-command's options, the values of the options, and file names for FILE. The command line of office has a club
-before the command, so the shell also offers the configured clubs.
+bin/completions prints the completions of a program for a shell. In real shells, the test compares these
+completions with the `--help` of clubdesk, passtool and office. For each command, the shell offers the words
+that begin with the typed prefix. The shell also offers the command's options, the values of the options,
+and file names for FILE. The command line of office has a club before the command, so the shell also offers
+the configured clubs.
 """
 
 import os
@@ -26,7 +27,7 @@ CLUBS = {"rowing", "tennis"}
 
 
 class Shell:
-    """A shell that reads the file of completions. `offers` returns what the shell offers after these words."""
+    """A shell that reads the file of completions. `offers` returns the completions that the shell offers after these words."""
 
     def __init__(self, name, folder):
         self.name, self.folder = name, folder
@@ -49,7 +50,7 @@ class Fish(Shell):
 
 
 class Zsh(Shell):
-    """Runs an interactive shell at a pseudo-terminal. When the test sends a tab, the shell writes its offers to a file."""
+    """Runs an interactive shell at a pseudo-terminal. When the test sends a tab, the shell writes the offered words to a file."""
 
     def __init__(self, name, folder):
         super().__init__(name, folder)
@@ -93,12 +94,12 @@ def shorts(found):
 
 
 def names(found):
-    """Of files and folders."""
+    """Removes the slash at the end of a folder's name."""
     return {it.rstrip("/") for it in found}
 
 
 def hold_command(shell, before, text, files):
-    """Compares what the shell offers after these words with the command's help text."""
+    """Compares the words that the shell offers after a command with the command's help text."""
     options, words = options_of(text), words_of(text)
     assert longs(shell.offers(*before, "--")) == {f"--{it}" for it in options}, before
     for option, value in options.items():

@@ -1,13 +1,13 @@
 #!/usr/bin/env bats
 # `bin/demo` prints tests/package/demo.told, and always ends its server.
 #
-# If `curl` or `sqlite3` is missing, bin/demo installs it or names it. bin/demo ends its server after a signal, and also if the server doesn't
-# listen.
+# If `curl` or `sqlite3` is missing, bin/demo installs it as root with apt-get. If this isn't possible, bin/demo prints the names of the
+# missing commands. bin/demo ends its server after a signal, and also if the server doesn't listen.
 #
 # If bin/demo can't continue, it prints the reason and exits, for root and for another user.
 # pytestmark = [mark.pages, mark.needs("clubdesk passtool"), mark.wants("bats curl sqlite3")]
 
-# Makes a folder with this machine's commands, but without those that the tests take away or replace.
+# Makes a folder with this machine's commands, but without the commands that the tests remove or replace.
 setup() {
     bats_require_minimum_version 1.5.0
     load ../lib/serving.sh
@@ -21,14 +21,15 @@ setup() {
     export CLUBDESK PASSTOOL
 }
 
-# put NAME: adds a command with this name to the folder `some`. Standard input is the command's script. is_user NUMBER: sets the user's id.
+# put NAME: adds a command with this name to the folder `some`. Standard input is the command's script.
+# is_user NUMBER: adds an `id` command that prints this user id.
 put() { cat >"some/$1" && chmod +x "some/$1"; }
 is_user() { echo "echo $1" | put id; }
 demo() { "$here/../../bin/demo"; }
 demo_of_some() { PATH=$some demo; }
 
-# says_what_is_missing: checks that the demo prints nothing on standard output, and names the missing commands and the command line that installs
-# them.
+# says_what_is_missing: checks that the demo's standard output is empty. Standard error must have the missing commands and the command
+# line that installs them.
 says_what_is_missing() {
     run -1 --separate-stderr demo_of_some
     [ -z "$output" ]

@@ -1,5 +1,5 @@
-"""Compares the copies that OLD_COPIES keeps with a rule in Python, on each day of three years: jobs_hold.py OLD_COPIES FOLDER. jobs_hold.sh runs this
-program.
+"""Compares the copies that the script OLD_COPIES keeps with those that a rule in Python selects, on each day of three years: jobs_hold.py OLD_COPIES
+FOLDER. jobs_hold.sh runs this program.
 
 Each day, the program creates at most two empty files with the names of copies. Then the program removes the files that OLD_COPIES prints."""
 
@@ -12,11 +12,11 @@ import sys
 script, folder = sys.argv[1:]
 chance = random.Random(56)
 day = datetime.date(2023, 12, 20)
-made = []  # all that ever were, whatever was removed since
+made = []  # every copy that was made, including the removed copies
 open(os.path.join(folder, "notes"), "w").close()
 for step in range(1100):
     day += datetime.timedelta(days=1)
-    gap = 200 <= step < 260  # a machine that was off
+    gap = 200 <= step < 260  # the machine is off, so it makes no copies
     for at in sorted(chance.sample(range(86400), 0 if gap else chance.choice((0, 1, 1, 1, 1, 2)))):
         made.append(f"{day}T{at // 3600:02}{at // 60 % 60:02}{at % 60:02}Z")
         open(os.path.join(folder, made[-1]), "w").close()

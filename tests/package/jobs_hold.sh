@@ -1,11 +1,11 @@
 #!/bin/sh
-# The timers' jobs work: copies, the day sheet in four time zones, the health check, mail and reports.
+# The jobs of the timers work: copies, the day sheet in four time zones, the health check, mail, and reports of failures.
 #
-# The job copies a club while its server runs, and the test checks which copies the job keeps.
+# A job copies a club while the club's server runs. The test checks which copies the job keeps.
 #
-# The job refuses to copy a file that isn't a club. The test kills a job that copies, and runs two such jobs at the same time. On each day of three
-# years, the job keeps exactly the copies that a rule in Python selects. The test runs the health check for a desk that works, and for desks with
-# faults.
+# The job refuses to copy a file that isn't a club. The test kills this job during a copy, and runs two such jobs at the same time. On each day of
+# three years, the job keeps exactly the copies that a rule in Python selects. The test runs the health check for a desk that works, and for desks
+# with faults.
 #
 # The test runs the jobs without systemd, and with a stub of the mailer. After a job is killed, the next job works.
 # pytestmark = [mark.package, mark.needs("clubdesk passtool"), mark.wants("curl sqlite3 openssl procps")]
@@ -84,7 +84,7 @@ mkdir years
 /usr/bin/python3 "$here/jobs_hold.py" "$deploy/old_copies" years
 checks=$((checks + 1100))
 
-# ---- The day sheet: the job writes one sheet for each day in the club's time zone, after the configured hour.
+# ---- The day sheet. After the configured hour of a day in the club's time zone, the job writes one sheet for the day.
 for zone in UTC0 CET-1CEST,M3.5.0,M10.5.0/3 '<+13>-13' '<-11>11'; do
     there=$(TZ=$zone date +%F)
     ends "a sheet in $zone" 0 "$deploy/morning_sheet" club "$zone" 0 "sheets $zone"

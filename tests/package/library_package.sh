@@ -3,11 +3,11 @@
 #
 # Programs in C and in Python read, narrow and verify the pass of README.
 #
-# lintian finds no fault in the packages. debootstrap makes the Debian with a C compiler, pkg-config and Python. The test installs the packages there
-# with dpkg, in a chroot without a network. The programs are the examples in libclubpass-dev and python3-clubpass. The C example has at most 30 lines,
-# and is also linked statically. The Python example has at most ten lines. The test unpacks the wheel and imports it without an installed package.
-# When dpkg removes the packages, none of their files stays. Needs root and a Debian mirror. With DEBIAN=FOLDER, the test copies the Debian in this
-# folder, and needs no mirror.
+# lintian finds no fault in the packages. debootstrap makes a Debian with a C compiler, pkg-config and Python. In this Debian, the test installs the
+# packages with dpkg, in a chroot without a network. The programs are the examples in libclubpass-dev and python3-clubpass. The C example has at most
+# 30 lines, and is also linked statically. The Python example has at most ten lines. The test unpacks the wheel and imports it without an installed
+# package. When dpkg removes the packages, none of their files stays. The test needs root and a Debian mirror. With DEBIAN=FOLDER, the test copies the
+# Debian in this folder, and needs no mirror.
 # pytestmark = [mark.package, mark.root, mark.needs("passtool pass_c"),
 #     mark.wants("debootstrap lintian dpkg-dev xz-utils util-linux python3-build python3-setuptools python3-wheel")]
 # shellcheck disable=SC2016 # a shell of the fresh Debian reads what is quoted

@@ -2,12 +2,12 @@
 # Three commands set up a club on a fresh Debian behind caddy, and another machine can replace a lost machine.
 #
 # The club's desk answers within five minutes. Then the test destroys the machine and its disk. Within ten minutes, another machine serves the club.
-# Needs root.
+# The test needs root.
 #
 # debootstrap makes the Debian, and systemd-nspawn boots it with only a loopback network. The clerk uses only the menu. The test runs the command
 # lines that docs/RUNNING.md has under "Copies elsewhere" and "The machine is gone". While a client books, copies go to the ssh server of a third
-# Debian. The club loses the bookings of at most one minute, and the client makes each lost booking again by a repeated request. With DEBIAN=FOLDER,
-# the test copies the Debian in this folder, as package_lives.sh does.
+# Debian. The club loses the bookings of at most one minute, and the client makes each lost booking again by repeating the request. With
+# DEBIAN=FOLDER, the test copies the Debian in this folder, as package_lives.sh does.
 # pytestmark = [mark.package, mark.root, mark.needs("clubdesk passtool"),
 #     mark.wants("debootstrap systemd-container dpkg-dev xz-utils util-linux python3-pexpect openssl")]
 # shellcheck disable=SC2016 # a shell of the fresh Debian reads what is quoted
@@ -48,7 +48,7 @@ cp -a first second
 cp -a first elsewhere
 for name in first second elsewhere; do echo "$name" >"$name/etc/hostname"; done
 
-# The machine that keeps the copies. The machine has a user with a folder, and an ssh server.
+# The machine named elsewhere keeps the copies. It has an ssh server, and a user with a home folder.
 offline elsewhere sh -c 'apt-get install openssh-server sqlite3 && useradd --create-home --shell /bin/sh --password "*" backup-of-clubs' >apt.log 2>&1 </dev/null || fail "apt-get: $(tail apt.log)"
 there=$work/elsewhere/home/backup-of-clubs
 install -d -m 700 -o "$(stat -c %u "$there")" -g "$(stat -c %g "$there")" "$there/.ssh"
@@ -64,7 +64,7 @@ serve_ssh() {
 }
 serve_ssh
 
-# The command lines for root from the package's RUNNING.md, with the name of this test's ssh server.
+# Takes the command lines for root from the package's RUNNING.md, and replaces the user's name on the ssh server.
 dpkg-deb -x "packages/$deb" unpacked
 lines_for_root unpacked/usr/share/doc/clubdesk/docs/RUNNING.md
 sed -i 's/backup@elsewhere.example/backup-of-clubs@elsewhere.example/' running
@@ -163,8 +163,8 @@ if grep -q '^made' told; then fail "the setup, again: $(cat told)"; fi
 sums | diff before - >told || fail "the setup, again: $(cat told)"
 checks=$((checks + 1))
 
-# ---- Copies to the other machine, by the command lines of RUNNING.md. The command lines print an ssh key, and the other machine's administrator adds
-# this key.
+# ---- Copies to the other machine, with the command lines of RUNNING.md. The command lines print an ssh key, and the other machine's administrator
+# adds this key.
 blocks 'Copies elsewhere' >lines
 sed '/known_hosts\|accept-new/,$d' lines | gives 'Copies elsewhere'
 grep '^ssh-ed25519' told >key || fail "no key was printed: $(cat told)"
@@ -173,7 +173,7 @@ sed -n '/accept-new/,$p' lines | gives 'Copies elsewhere'
 copies() { find "$there/clubs/club" -maxdepth 1 -name '2*Z' -printf '%f\n' 2>/dev/null | sort; }
 has_copy() { [ -n "$(copies)" ]; }
 soon 60 'no copy elsewhere' has_copy
-# Requests by the public name. caddy's own certificate authority gives certificates that are valid for twelve hours.
+# Requests to the public name. caddy's own certificate authority gives certificates that are valid for twelve hours, so the health check fails.
 if inside systemctl start clubdesk-health@club 2>told; then fail 'health of a certificate of twelve hours'; fi
 is_asked() { inside journalctl -q -o cat -u clubdesk-health@club | grep -q 'the certificate of desk.example.org is good until .*: it is to be renewed'; }
 soon 10 'health by the public name' is_asked
@@ -233,7 +233,7 @@ head -n 1 lines | sed "s/clubdesk_[0-9.]*_amd64.deb/$deb/; s/caddy/& ca-certific
 sed -i 's/^\tauto_https disable_redirects/&\n\tlocal_certs\n\tskip_install_trust/' second/usr/share/doc/clubdesk/examples/Caddyfile
 tail -n 1 lines | gives 'The machine is gone, its second line'
 cat told
-# Members have their passes.
+# The members still have their passes.
 cp "$work/first/root/pass" second/root/pass
 trusts_authority
 is_back() { case $(by_name GET account) in '{"member":'*' 200') return 0 ;; *) return 1 ;; esac; }
@@ -242,8 +242,8 @@ took=$(($(date +%s) - began))
 [ "$took" -lt 600 ] || fail "the club was back after $took seconds"
 checks=$((checks + 1))
 
-# The restored club has each booking that was made more than a minute before the loss. The client repeats the requests of all later bookings, and so
-# books again what was lost.
+# The restored club has each booking that was made more than a minute before the loss. For each lost booking, the client repeats the request, and so
+# makes the booking again.
 inside sh -c 'rm -f /root/looked; /usr/lib/clubdesk/back_up /var/lib/clubdesk/club /root/looked' >told
 inside sqlite3 /root/looked 'SELECT number FROM bookings WHERE cancelled = 0' | sort >numbers
 lost=0

@@ -1,8 +1,8 @@
 #!/usr/bin/env -S /usr/bin/python3 -B -m pytest -q -p no:cacheprovider
-"""`mandoc` finds no fault in the manual pages, and they have the commands, options and statuses of `--help`.
+"""`mandoc` finds no fault in the manual pages, and the pages have the commands, options and statuses of `--help`.
 
-The manual pages have no other commands, options and statuses. The test checks office's page only with `mandoc`. Another test, office_holds.py, compares
-office's page with the `--help` of office. office's page refers to the manual pages of sudo, so sudo must be installed.
+The manual pages have no other commands, options or statuses. The test checks office's page only with `mandoc`. Another test, office_holds.py,
+compares office's page with the `--help` of office. office's page refers to the manual pages of sudo, so sudo must be installed.
 """
 
 import re
@@ -29,7 +29,7 @@ def by_help(program):
 
 
 def listed(page, heading, item):
-    """Returns the items of a list in the page, each without its first words."""
+    """Returns the items of the list under a heading, each without the words that match `item`."""
     return re.findall(rf"^\.It {item}(.*)", re.search(rf"^{heading}\n(.*?)^\.El", page, re.MULTILINE | re.DOTALL)[1], re.MULTILINE)
 
 

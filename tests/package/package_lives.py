@@ -1,4 +1,4 @@
-"""A client in the fresh Debian, called as client DAY. The client books and cancels until the file /root/enough exists, and retries while no desk
+"""A client that runs in the fresh Debian: client DAY. The client books and cancels until the file /root/enough exists, and retries while no desk
 answers. The file /root/field has the header field with the client's pass. package_lives.sh runs this program."""
 import json
 import os

@@ -3,12 +3,12 @@
 #
 # debootstrap makes the Debian, and systemd-nspawn boots it with its own systemd and only a loopback network. In this Debian, the test runs
 # docs/RUNNING.md's command lines for root, from the installation to the restore. The command lines set up the desk behind nginx with TLS, the timers
-# and their jobs, mail, and a second club in another time zone. The test also boots the machine again. A clerk without root does the work of her first
+# and their jobs, mail, and a second club in another time zone. The test also boots the machine again. A clerk without root does the work of a first
 # week, from the import of members to a restore. The test upgrades the package while a client books. The test also upgrades to a faulty package whose
 # clubdesk can't open a club. The test removes the package, installs it again, and purges it. No acknowledged booking is lost, and the clubs' files
-# stay. At the end the test checks the archive for other systems, whose files are below /usr/local. Needs root and a Debian mirror. DEBIAN=FOLDER
-# names an existing Debian, made by
-# `debootstrap --variant=minbase --include=systemd,systemd-sysv bookworm FOLDER`. The test copies this Debian.
+# stay. At the end the test checks the archive for systems without dpkg, whose files go below /usr/local. The test needs root and a Debian mirror.
+# With DEBIAN=FOLDER, the test copies the Debian in this folder. This command makes such a folder:
+# `debootstrap --variant=minbase --include=systemd,systemd-sysv bookworm FOLDER`.
 # pytestmark = [mark.package, mark.root, mark.needs("clubdesk passtool"),
 #     mark.wants("debootstrap systemd-container lintian dpkg-dev xz-utils util-linux")]
 # shellcheck disable=SC2016 # a shell of the fresh Debian reads what is quoted
@@ -44,7 +44,7 @@ for file in first/*; do same "$file, again" "$(sha256sum <"$file")" "$(sha256sum
 same 'what is made' "SHA256SUMS clubdesk-$version-amd64.tar.xz clubdesk_${version}_amd64.deb" "$(cd first && echo *)"
 (cd first && sha256sum --quiet -c SHA256SUMS)
 deb=clubdesk_${version}_amd64.deb
-# Lets root run lintian, which otherwise prints a warning.
+# The option --allow-root is necessary, because lintian otherwise prints a warning for root.
 holds lintian lintian --allow-root --fail-on error,warning --tag-display-limit 0 "first/$deb"
 same 'what lintian says' '' "$(cat told)"
 dpkg-deb -x "first/$deb" unpacked
@@ -52,8 +52,8 @@ same 'its completions' 'clubdesk office passtool _clubdesk _office _passtool clu
     "$(cd unpacked/usr/share && for folder in bash-completion/completions zsh/vendor-completions fish/vendor_completions.d; do ls $folder; done | xargs)"
 holds 'the packed clubdesk' cmp "$desk" unpacked/usr/bin/clubdesk
 holds 'the packed passtool' cmp "$tool" unpacked/usr/bin/passtool
-# Three newer versions of the package. The clubdesk of the second version can't open a club. other VERSION [COMMAND]: makes the package with this
-# version, after COMMAND has changed the package's tree.
+# Three newer versions of the package. The clubdesk of the second version can't open a club.
+# other VERSION [COMMAND]: makes the package with this version, after COMMAND has changed the package's tree.
 other() {
     rm -rf other
     dpkg-deb -R "first/$deb" other
@@ -77,7 +77,7 @@ cp "first/$deb" ./*.deb first/*.tar.xz "$root/root/"
 offline "$root" sh -c "apt-get update && apt-get install --download-only /root/$deb qrencode xz-utils" >apt.log 2>&1 </dev/null || fail "apt-get: $(tail apt.log)"
 boot
 
-# The command lines for root from the package's RUNNING.md.
+# Takes the command lines for root from the package's RUNNING.md.
 lines_for_root unpacked/usr/share/doc/clubdesk/docs/RUNNING.md
 
 # answers PORT: checks that the desk listens at this port within ten seconds, and that it refuses a request without a pass.
@@ -129,7 +129,7 @@ desk add-facility $c court-1 court 50 1 0 24
 openssl rand -hex 32 | desk add-key $c amy-1 amy --root-stdin >/root/amy-1
 LINES
 
-# ---- TLS. The test makes its own certificate, and its own name for the site.
+# ---- TLS. The test makes its own certificate for the site desk.example.org.
 gives 'a certificate' <<'LINES'
 mkdir -p /etc/ssl/clubdesk
 openssl req -x509 -newkey rsa:2048 -nodes -days 2 -subj /CN=desk.example.org -addext subjectAltName=DNS:desk.example.org \
@@ -167,7 +167,8 @@ blocks 'Is it well?' | gives 'Is it well?'
 soon 10 'what the check says' health_says ', and reads its file'
 same 'the pass of the check' '640 root clubdesk' "$(inside stat -c '%a %U %G' /etc/clubdesk/club.health)"
 
-# ---- A second club, whose time zone is half a day away. The second club's mail goes to a file. The first club has no mail address.
+# ---- A second club, whose time zone is about half a day ahead of the first club's. The second club's mail goes to a file. The first club has no mail
+# address.
 mkdir -p "$root/usr/sbin"
 printf '#!/bin/sh\n{ echo "== $*"; cat; } >>/var/mail/sent\n' >"$root/usr/sbin/sendmail"
 chmod 755 "$root/usr/sbin/sendmail"
@@ -200,8 +201,8 @@ same 'the mailed sheet' "== -i -t
 To: cox@example.org
 Subject: rowing: day sheet $today
 Day sheet $today" "$(inside grep -E '^(==|To|Subject|Day|Total)' /var/mail/sent)"
-# The back-up of a file that isn't a club fails. The desk's service mails one report of this failure, and none if the club's configuration has no mail
-# address.
+# The back-up of a file that isn't a club fails. A systemd service mails one report of this failure. If the club's configuration has no mail address,
+# the service mails none.
 gives 'a club that is broken' <<'LINES'
 : >/var/mail/sent
 echo broken >/var/lib/clubdesk/broken
@@ -243,7 +244,7 @@ for words in 'add-member eve 5' 'credit eve 1000' 'add-facility court-1 court 4 
     # shellcheck disable=SC2086 # a command's words
     holds "$words" office anna $words
 done
-# Requests the account. When the server has replied to a request with a pass, it has certainly opened the club's file.
+# Requests the account. A server that has replied to a request with a pass has certainly opened the club's file.
 account() { inside sh -c 'curl -sS -H "Authorization: Bearer $(cat /home/anna/eve-1)" http://127.0.0.1:8083/account'; }
 same 'the account before it' '{"member":"eve","balance":1000,"quota":5,"open":0,"spent":0}' "$(account)"
 pid_of() { inside systemctl show --value -p MainPID "$1"; }

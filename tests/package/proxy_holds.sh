@@ -1,12 +1,13 @@
 #!/bin/sh
-# docs/RUNNING.md's command lines for root about pages, certificates, TLS and several clubs work with nginx.
+# The command lines for root in docs/RUNNING.md set up pages, certificates, TLS and several clubs with nginx.
 #
-# The test runs the lines on a temporary machine (tests/lib/office_room.sh). Needs root.
+# The test needs root, because it covers the machine's folders with temporary overlays (tests/lib/office_room.sh).
 #
-# The lines are in the sections "A club", "The pages", "A certificate", "TLS" and "Several clubs". Certbot gets a certificate from the test's own
-# certificate authority (Let's Encrypt's pebble), and nginx answers the challenges of this authority. Certbot renews the certificate, and the site
-# then uses the new certificate. The test checks the desk's replies and the pages behind nginx with TLS, a slow client, and two clubs at one proxy.
-# nginx answers nothing but challenges at their port. A client that exceeds the limit of requests gets a message.
+# The test runs the lines of the sections "A club", "The pages", "A certificate", "TLS" and "Several clubs". Certbot gets a certificate from the
+# test's own certificate authority (Let's Encrypt's pebble), and nginx answers the challenges of this authority. Certbot renews the certificate,
+# and the site then uses the new certificate. Through nginx with TLS, the test requests the desk's replies and the pages. The test also runs a
+# slow client, and two clubs behind one proxy. At port 80, nginx answers only challenges. A client that exceeds the limit of requests gets a
+# message.
 # pytestmark = [mark.package, mark.root, mark.needs("clubdesk passtool"),
 #     mark.wants("sudo sqlite3 openssl util-linux bsdutils iproute2 systemd curl nginx-light certbot pebble qrencode tzdata")]
 set -eu
@@ -63,7 +64,7 @@ by_page() {
     echo "$1: $(wc -l <"$room/lines") lines run"
 }
 
-# ---- The first club, made by the command lines of RUNNING.md, with a member.
+# ---- The first club, made with the command lines of RUNNING.md, and a member.
 by_page 'A club'
 # Each club has its own folder for passes, because both clubs have a member amy.
 member_of() (
@@ -161,7 +162,8 @@ done
 same '/' "302 $site/book.html" "$(curl -o told -w '%{http_code} %{redirect_url}' $site/)"
 same "a pass of the other club" '{"fault":9,"text":"not verified"}' "$(seen rowing desk account)"
 
-# ---- The proxy passes the desk's replies on unchanged. The test compares the replies to requests that change nothing.
+# ---- The proxy passes the desk's replies on unchanged. For requests that change nothing, the test compares the desk's reply with the reply through
+# the proxy.
 same 'a booking behind TLS' '{"booking":"amy-1/8","charge":3,"left":1} 200' "$(asks $site PUT $slot/bookings/8 "$pass" '{"guests":2}')"
 by_both() { same "$1 $2 through the proxy" "$(asks $direct "$@")" "$(asks $site "$@")"; }
 for guests in 2 1; do by_both PUT $slot/bookings/8 "$pass" "{\"guests\":$guests}"; done
@@ -190,9 +192,9 @@ wait "$slow" || :
 # another pass. A second after the burst, the proxy also answers requests with the limited pass again. One address may send twice as many requests as
 # one pass.
 #
-# The function `flood NAME COUNT [WORD..]` sends a burst of COUNT requests, with the options WORD.. for curl. The requests ask for a file, because
-# nginx sends a file faster than the desk replies. The function counts the accepted requests in `passed`, and the refused requests in `limited`. The
-# sum of both must be COUNT.
+# The function `flood NAME COUNT [WORD..]` sends a burst of COUNT requests, with the options WORD.. for curl. NAME is a part of the output files'
+# names. The requests ask for a file, because nginx sends a file faster than the desk replies. The function counts the accepted requests in
+# `passed`, and the refused requests in `limited`. The sum of both must be COUNT.
 flood() {
     name=$1 count=$2
     shift 2

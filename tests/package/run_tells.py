@@ -1,5 +1,5 @@
 #!/usr/bin/env -S /usr/bin/python3 -B -m pytest -q -p no:cacheprovider
-"""`tests/run` reports which tests passed, failed, were skipped or were ended.
+"""`tests/run` reports which tests passed, failed or were skipped, and why.
 
 The test runs tests/run over a small tree of tests, with and without pytest. If a test takes too long, or if the run is ended, tests/run must end all
 processes of the test.
@@ -50,7 +50,8 @@ def tree(tmp_path):
 
 
 def run(tree, *words, **variables):
-    """Returns the exit status of tests/run, and each test's result with the reason. tests/run must install no package here."""
+    """Runs tests/run. Returns the exit status, each test's result with the reason, the line of counts, and the standard error. A stub of apt-get
+    keeps tests/run from installing packages."""
     without = {name: value for name, value in os.environ.items() if name not in ("CLUBDESK", "PASSTOOL")}
     path = tree / "path"
     path.mkdir(exist_ok=True)

@@ -1,9 +1,9 @@
 #!/bin/sh
 # The claims of docs/RUNNING.md about installations, systemd units, copies and a full disk are true.
 #
-# If an installation fails, it changes nothing. The systemd units allow each system call that the desk needs.
+# A failed installation changes nothing. The systemd units allow each system call that the desk needs.
 #
-# The test checks the units with systemd's own tools. Needs root.
+# The test checks the units with systemd's own tools. The test needs root.
 # pytestmark = [mark.pages, mark.package, mark.root, mark.needs("clubdesk passtool"),
 #     mark.wants("curl sqlite3 openssl strace systemd util-linux tzdata")]
 set -eu
@@ -114,7 +114,7 @@ holds 'its calls' /usr/bin/python3 "$here/running_holds.py" "$unit" state/calls
 same "a zone's rule" CET-1CEST,M3.5.0,M10.5.0/3 "$(tail -n 1 /usr/share/zoneinfo/Europe/Berlin)"
 grep -qxF "ZONE=$(tail -n 1 /usr/share/zoneinfo/Europe/Berlin)" club.conf || fail 'the example has another zone'
 
-# ---- Copies while a client makes and cancels 900 bookings. During this time, the desk also copies its write-ahead log into its file.
+# ---- Copies while a client makes and cancels 900 bookings. During this time, the desk also copies its write-ahead log into the club's file.
 make_club club
 serve club 100000 2026-04-20T12:00
 awk -v pass="$(cat pass)" -v port="$port" 'BEGIN { for (i = 1; i <= 900; i++) for (put = 1; put >= 0; put--) {
@@ -150,7 +150,7 @@ shown >wanted
 same 'a copy' 'backed up, with 901 bookings' "$(cat told)"
 asks PUT $second/bookings/1002 '{"guests":4}' >told
 stop
-# back_up makes a complete copy even if the desk copies its write-ahead log into its file while back_up runs.
+# back_up makes a complete copy even if the desk copies its write-ahead log into the club's file while back_up runs.
 copy club racing
 mkdir path
 cat >path/cp <<CP

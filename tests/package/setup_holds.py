@@ -1,11 +1,12 @@
 #!/usr/bin/env -S /usr/bin/python3 -B
-"""`deploy/clubdesk-setup` asks questions and sets up a club. Stops, repeats and wrong answers do no harm.
+"""`deploy/clubdesk-setup` asks questions and sets up a club. An interruption, a second run or a wrong answer does no harm.
 
-The test checks the modes and owners of files, and the setup's refusals. Needs root, because the test makes a temporary machine
-(tests/lib/office_room.sh).
+The test checks the modes and owners of files, and the setup's refusals. The test needs root, because it covers the machine's
+folders with temporary overlays (tests/lib/office_room.sh).
 
-There are five questions. The test stops the setup at each step and runs it again. No run changes an existing file. After the setup, the new clerk
-adds a member, and the member makes a first booking. If nginx is installed, the booking goes through nginx's site.
+The setup asks five questions. The test stops the setup at each step and runs it again. No run changes an existing file. After the setup, the new
+clerk adds a member, and the member makes a first booking. If nginx is installed, the test also makes a certificate. Then the setup enables the
+site, and nginx accepts its configuration.
 """
 # pytestmark = [mark.package, mark.root, mark.needs("clubdesk passtool"),
 #     mark.wants("sudo sqlite3 openssl util-linux bsdutils iproute2 systemd python3-psutil python3-pexpect nginx-light")]
@@ -34,7 +35,8 @@ def set_up(*words, line=SETUP):
 
 
 def everything():
-    """Returns each file that the setup makes, with its digest, mode and owner, and the club's rows."""
+    """Returns each file that the setup makes, with its digest, mode, owner and time. Also returns the club's rows, and the machine's users and
+    groups."""
     found = {}
     for top in (CONF, Path("/var/www"), Path("/etc/nginx/sites-available"), Path("/etc/nginx/sites-enabled")):
         for it in sorted(top.rglob("*")):
@@ -55,7 +57,7 @@ def refused():
 
 
 def by_questions():
-    """The setup asks five questions at a terminal. After a wrong answer, it asks again."""
+    """The setup asks five questions at a terminal. After a wrong answer, the setup asks the question again."""
     it = pexpect.spawn("clubdesk-setup", encoding="utf-8", timeout=120, cwd="/")
     for question, answer in (("name", "TC Übersee"), ("address", "desk"), ("is no address.*address", "desk.example.org"), ("zone", "Europe/Berlin"),
                              ("clerk", "doris"), ("mail address", "it@example.org")):
@@ -109,7 +111,8 @@ def again_and_again():
 
 
 def first_booking(port):
-    """The clerk adds the first member. The member books at the desk, and then through the site."""
+    """The clerk adds the first member, and the member books. If nginx is installed, the site gets a certificate, and nginx accepts the site's
+    configuration."""
     server = Service(port=int(port), club=CLUB)
     for words in ("add-facility court-1 court 4 200 8 22", "add-member amy 5", "credit amy 10000", "add-key amy-1 amy --to amy-1"):
         same(words, office(*words.split(), by="doris", club=CLUB)[0], 0)
