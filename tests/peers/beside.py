@@ -1,5 +1,5 @@
 #!/usr/bin/env -S /usr/bin/python3 -B
-"""Desks in C, Go and Python with SQLite's library reply as clubdesk does. The test compares the times.
+"""Desks in C, Go and Python with SQLite's library reply as clubdesk does. The test compares their times with clubdesk's.
 
 The test measures with 100 and with 100,000 bookings in the file. In both cases, the test measures requests of a member with 10,000 bookings, and of a
 member without bookings. The desk beside_c/desk.c has its own server. The desk beside_go uses net/http and database/sql. The desk beside_flask.py uses
@@ -42,7 +42,7 @@ from kinds import ACCOUNT, NOON, THREE, TWO, Row, key_pass, text
 
 MINUTE, MANY = 29_611_440, '{"guests":49}'
 ROOT, BIG_ROWS, KEYS_ASKED = b"0123456789abcdef", 10_000, 50
-MOST_OPEN = 98  # of a member's bookings, whose quota is 99
+MOST_OPEN = 98  # open bookings of a member, whose quota is 99
 KINDS = ["booking", "repeat", "account", "slot", "refused", "forged"]
 STATEMENTS = "KEY OLDER_ROOT MEMBER FACILITY SLOT BOOKING COSTS_UNDER_KEY OPEN ADD_BOOKING ADD_TAKEN CHARGE".split()
 OURS, PLAIN = "clubdesk", "plain"
@@ -174,7 +174,7 @@ def compare(kind, replies):
 
 
 def measure(clubdesk, path, askers, count, rounds, desks):
-    """Returns the median time of each round by asker, kind of request and server, and also the number of compared replies."""
+    """Returns the median times of the rounds for each asker, kind of request and server. Also returns the number of compared replies."""
     for name in (OURS, *desks):
         desk.copy(path, name)
     found = {title: {kind: defaultdict(list) for kind in KINDS} for title in askers}

@@ -3,7 +3,7 @@
 clubdesk. The desk has the same file, statements and replies as beside_c/desk.c. The desk uses the package tests/reference to read and verify passes,
 to read caveats, and to write refusals.
 
-  beside_flask.py FILE MOMENT < STATEMENTS      as beside.py says of each desk
+  beside_flask.py FILE MOMENT < STATEMENTS      beside.py explains these arguments
 """
 
 import json
@@ -71,7 +71,8 @@ def spent_by(key):
 
 
 def has_spent_above(key, member, most):
-    """Adds up the costs of the key's bookings only if the member has used more points than `most`."""
+    """Returns whether a key has spent more than `most` points. Adds up the costs of the key's bookings only if the member has used more than `most`
+    points."""
     return most < 0 or (row_of(MEMBER, member)[3] > most and spent_by(key) > most)
 
 

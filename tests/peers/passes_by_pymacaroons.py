@@ -1,10 +1,10 @@
 #!/usr/bin/env -S /usr/bin/python3 -B
-"""The desk replies to 1,500 requests by the rules in Python. pymacaroons narrowed half of the passes.
+"""The desk replies to 1,500 requests as the rules in Python demand. pymacaroons narrowed the passes of half of the requests.
 
 The passes are in V1, V2 and JSON.
 
 The rules are in tests/reference. As in tests/desk/hostile.py, a fixed seed determines the club, the requests and the caveats. passtool narrows the
-passes of the other requests, and pymacaroons reads and writes these passes.
+passes of the other requests. From each key's root, pymacaroons must also make the same pass as our programs.
 """
 # pytestmark = [mark.programs, mark.needs("clubdesk passtool"), mark.wants("python3-pymacaroons")]
 
@@ -91,7 +91,7 @@ class World(hostile.World):
         return [self.draw.choice(NOT_UNDERSTOOD) if self.draw.random() < 0.02 else self.caveat().decode() for _ in range(count)]
 
     def narrowed(self, text, form, by_pymacaroons):
-        """Returns the pass with random caveats. If the pass was also spoiled, returns the expected refusal, too."""
+        """Returns the pass with random caveats. Also returns the number of the expected fault if the test spoiled the pass, and None otherwise."""
         more = self.caveats()
         if not by_pymacaroons:
             return passtool("narrow", "--any", "--", *more, given=text) if more else text, None

@@ -22,7 +22,7 @@ vectors = json.load(open(sys.argv[1], encoding="utf-8"))
 
 
 def wrapped(text):
-    """The bytes that a text of a pass wraps, so far as they can be taken out of it."""
+    """Returns the bytes that a pass's text encodes, as far as the text can be decoded."""
     if text.startswith("{"):
         return text.encode()
     letters = "".join(it for it in text if it.isascii() and it.isalnum() or it in "-_").encode()

@@ -148,7 +148,7 @@ def go_program(room, source):
 
 
 def node_program(room, source):
-    if not (NODE / "node_api.h").exists():  # Node's own package for Debian has them, and Debian's has them in another
+    if not (NODE / "node_api.h").exists():  # Debian's package of Node.js has no headers
         subprocess.run(["apt-get", "install", "-y", "--no-install-recommends", "libnode-dev"], check=True, stdout=subprocess.DEVNULL)
     if not (room / "clubpass.node").exists():
         subprocess.run(["gcc", "-shared", "-fPIC", "-O1", "-Wall", "-Wextra", "-Werror", "-o", room / "clubpass.node", BINDINGS / "node" / "clubpass.c",
@@ -284,7 +284,7 @@ def test_pymacaroons_both_ways(clubpass):
 
 
 class Libmacaroons:
-    """Calls functions of Debian's libmacaroons, which reads and writes only V1, through ctypes."""
+    """Calls functions of Debian's libmacaroons through ctypes. This library reads and writes only V1."""
 
     def __init__(self):
         self.c = ctypes.CDLL("libmacaroons.so.0")
@@ -294,7 +294,7 @@ class Libmacaroons:
         self.fault = ctypes.c_int()
 
     def call(self, name, *arguments):
-        """Calls a function. Passes bytes as two arguments, their address and their length, and other values as addresses."""
+        """Calls a function. Passes a bytes object as an address and a length, and any other value as an address."""
         passed = []
         for it in arguments:
             passed += [it, ctypes.c_size_t(len(it))] if isinstance(it, bytes) else [ctypes.c_void_p(it)]

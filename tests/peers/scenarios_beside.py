@@ -1,11 +1,11 @@
 #!/usr/bin/env -S /usr/bin/python3 -B
-"""The desks in C and Go of `tests/peers/beside.py` reply to the requests that they know as the scenarios demand.
+"""The desks in C and Go of `tests/peers/beside.py` give the replies that the scenarios demand.
 
-The desks know views, bookings and accounts, with passes in V2 and four kinds of caveats.
+These desks support views, bookings and accounts, with passes in V2 and four kinds of caveats.
 
-The test runs each scenario up to the first line that the desks don't know, such as a cancellation. `clubdesk` carries out the scenario's commands and
-listings on the same file. The desk in C replies with the same bytes as clubdesk. The desk in Go writes the header lines in another order. If Go is
-missing, the test skips the desk in Go.
+The test runs each scenario up to the first line that the desks don't support, such as a cancellation. `clubdesk` carries out the scenario's commands
+and listings on the same file. The desk in C replies with the same bytes as clubdesk. The desk in Go writes the header lines in another order. If Go
+is missing, the test skips the desk in Go.
 
     tests/peers/scenarios_beside.py [FILE ..]
 """
@@ -36,7 +36,7 @@ STATEMENTS = "KEY OLDER_ROOT MEMBER FACILITY SLOT BOOKING COSTS_UNDER_KEY OPEN A
 
 
 def knows(event):
-    """Returns whether the desks know the request in this line of a scenario."""
+    """Returns whether the desks support the event in this line of a scenario."""
     if not isinstance(event, Request):
         return not isinstance(event, Crash) and not (isinstance(event, Reopen) and event.version)
     try:
@@ -51,7 +51,7 @@ def knows(event):
 
 
 def known(scenario):
-    """Returns the events before the first event that the desks don't know."""
+    """Returns the events before the first event that the desks don't support."""
     for number, event in enumerate(scenario.events):
         if not knows(event):
             return scenario.events[:number]

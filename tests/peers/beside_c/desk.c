@@ -1,8 +1,8 @@
 // A desk in C with SQLite's library. tests/peers/beside.py compares the times of this desk with those of clubdesk. The desk has the same file,
 // statements and replies as clubdesk, and serves one connection after the other. The desk reads the row of the key, then checks the signature, and
 // reads other rows only if the pass is signed. The desk understands only the caveats that beside.py writes: guests, until, spend, actions.
-//   desk FILE MOMENT < STATEMENTS      as beside.py says of each desk
-//   desk                               for each connection it reads once, writes 133 bytes and closes
+//   desk FILE MOMENT < STATEMENTS      beside.py explains these arguments
+//   desk                               runs the minimal server, which reads once, writes 133 bytes and closes the connection
 #include <arpa/inet.h>
 #include <nettle/base64.h>
 #include <nettle/hmac.h>

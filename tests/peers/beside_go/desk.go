@@ -1,7 +1,7 @@
 // A desk with net/http and SQLite's C library. tests/peers/beside.py compares the times of this desk with
 // those of clubdesk. The desk has the same file, statements and replies as beside_c/desk.c.
 //
-//	desk FILE MOMENT < STATEMENTS      as beside.py says of each desk
+//	desk FILE MOMENT < STATEMENTS      beside.py explains these arguments
 package main
 
 import (
@@ -92,7 +92,8 @@ func (d *desk) spentBy(key string) (spent int) {
 	return spent
 }
 
-// hasSpentAbove adds up the costs of the key's bookings only if the member has used more points than `most`.
+// hasSpentAbove returns whether a key has spent more than `most` points. It adds up the costs of the key's bookings only if the member
+// has used more than `most` points.
 func (d *desk) hasSpentAbove(key key, most int) bool {
 	_, _, used := d.memberOf(key.member)
 	return used > most && d.spentBy(key.name) > most

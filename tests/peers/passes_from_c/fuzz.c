@@ -1,8 +1,8 @@
 /*
- * Tests the library of passes with libFuzzer. tests/peers/passes_fuzzed.sh runs this program. The first byte of an input tells what the other bytes
- * are: a text, bytes to encode in base64, a caveat, or an object. The program aborts if a call doesn't do what clubpass.h describes. If the library
- * can read a text as a pass, the program writes this pass and reads it again. The result must be the same pass. A narrowed pass must be signed under
- * the root with which it was minted. After a fault, each object must be as clubpass.h describes.
+ * Tests the library of passes with libFuzzer. tests/peers/passes_fuzzed.sh runs this program. The first byte of an input determines what the other
+ * bytes are: a text, bytes to encode in base64, a caveat, or an object. The program aborts if a call doesn't do what clubpass.h describes. If the
+ * library can read a text as a pass, the program writes this pass and reads it again. The result must be the same pass. A narrowed pass must be
+ * signed under the root with which it was minted. After a fault, each object must be as clubpass.h describes.
  *
  * The library isn't compiled with libFuzzer's counters of branches. So this file has a branch for each fault, form, number of caveats and length, and
  * these branches guide libFuzzer. Each text is at the end of a page of memory, before an inaccessible page.
@@ -37,7 +37,7 @@ static const uint8_t *at_the_edge(const uint8_t *text, size_t len) {
     return memcpy(end_of_page - len, text, len);
 }
 
-/* Has a branch for each value of this number. */
+/* Has a branch for each value of this number from 0 to 71. */
 static void tell(unsigned number) {
     switch (number) {
 #define CASE(n) case n: seen += n; break;

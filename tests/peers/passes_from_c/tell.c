@@ -2,8 +2,9 @@
  * Calls the library for each line of standard input, and prints the results. Each word of a line is a string of bytes in hexadecimal. The word `-`
  * has no bytes.
  *
- *     pass ROOT TEXT         fault N, or form, location, identifier, caveats with commas, signature, its three texts, the signature of a
- *                            pass that is minted under the root and narrowed by the same caveats, and `signed` or `not signed`
+ *     pass ROOT TEXT         fault N, or form, location, identifier, caveats separated by commas, signature, the texts in V1, V2 and JSON,
+ *                            the signature of a pass that is minted under the root and narrowed with the same caveats, and `signed` or
+ *                            `not signed`
  *     caveat TEXT            yes, or no
  *     ask TEXT ACTION KIND MOMENT FACILITY DAY HOUR GUESTS OWED SPENT
  *                            `allows`, `denies N`, `not understood N`, or `no ask`. The words after TEXT aren't in hexadecimal.
@@ -44,7 +45,7 @@ static bool is_empty(const clubpass *pass) {
            clubpass_location(pass, byte, 0, &len) == CLUBPASS_OK && clubpass_identifier(pass, byte, 0, &len) == CLUBPASS_OK && len == 0;
 }
 
-/* Mints a pass with the same fields under this root, and narrows it by the same caveats. */
+/* Mints a pass with the same fields under this root, and narrows it with the same caveats. */
 static clubpass minted_again(const clubpass *pass, const uint8_t *root, size_t root_len) {
     static uint8_t identifier[CLUBPASS_ROOM];
     clubpass made = CLUBPASS_INIT;
