@@ -118,7 +118,7 @@ def test_files_and_names_are_there(page):
         if page.startswith("crates/") and re.match(r"(src|specs|proofs|must-fail)/", path):
             assert (Path(page).parent / path).exists(), f"no file {path}"
     if page in ("docs/PROMISES.md", "docs/COMPUTED.md", "docs/AUDIT.md"):
-        return  # promises are named within their crate, and held below; the audit is made of the sources, and names calls of libraries
+        return  # other tests check the promises; docs/AUDIT.md is generated, and mentions functions of libraries
     for word in words:
         if re.fullmatch(r"[A-Za-z_]+(::[A-Za-z_0-9]+)+", word):
             crate, *_, name = word.split("::")
@@ -127,8 +127,8 @@ def test_files_and_names_are_there(page):
 
 @pytest.mark.parametrize("page", [it for it in PAGES if it.startswith("crates/")])
 def test_bare_names_of_a_crate(page):
-    """A crate's page has no unknown plain names. A known name is a word of the crate's code, a file of its folder, another crate's definition, a
-    crate or a library."""
+    """A crate's page mentions no unknown plain names. A known name is a word of the crate's code, a file of its folder, another crate's
+    definition, a crate or a library."""
     folder = Path(page).parent
     crate, names = folder.name, {name for _, name in DEFINED}
     code = "\n".join(re.sub(r"//.*|^--.*", "", text, flags=re.MULTILINE) for file, text in CODE.items() if file.startswith(f"{folder}/"))
@@ -205,8 +205,8 @@ def test_tour():
 
 
 def test_audit_is_made_of_the_sources():
-    """docs/AUDIT.md is exactly the output of tests/audit.py. No clause of a function that carries a promise depends on a definition of
-    specs/computed/. In the second part of docs/TOUR.md, each step of a path cites the next step."""
+    """docs/AUDIT.md is exactly the output of tests/audit.py. If a function carries a promise, none of the function's clauses depends
+    on a definition of specs/computed/. In the second part of docs/TOUR.md, each step of a path cites the next step."""
     subprocess.run(["tests/audit.py", "--strict"], check=True, stdout=subprocess.DEVNULL)
 
 

@@ -1,8 +1,9 @@
 #!/bin/sh
 # pyflakes, shellcheck, gofmt and go vet find no faults except those that the code excuses with a stated reason.
 #
-# The shell scripts and bats files of tests/, bin/ and deploy/ are read by shellcheck. The program pyflakes reads the Python files of these folders, of
-# examples/ and of bindings/. If Debian's Go is installed, gofmt and go vet read the Go files of tests/, examples/ and bindings/.
+# The program shellcheck reads the shell scripts and bats files of tests/, bin/ and deploy/. The program pyflakes reads the Python files of these
+# folders, of examples/ and of bindings/. If gofmt is installed, gofmt reads the Go files of tests/, examples/ and bindings/. If Debian's packages for
+# the desk in Go are also installed, go vet reads the desk's files.
 #
 # pytestmark = [mark.quick, mark.wants("shellcheck pyflakes3")]
 set -eu

@@ -4,10 +4,10 @@
 The replies are the rows of the table in tests/lib/kinds.py. The file docs/openapi.yaml obeys the schema of OpenAPI 3.0, and each of its examples
 equals one of these replies.
 
-The schema comes from Debian's openapi-specification. The test runs the scenes of the table with a new server for each request. If a reply depends
-on earlier requests, the server must find their effects in the file. The bytes of a reply must equal those of the rules in Python. The status,
-fields and body of the reply must match the description and obey its schema. docs/openapi.yaml has the same faults and statuses as the table of
-docs/CLIENT.md.
+The schema comes from Debian's openapi-specification. A scene of the table is a list of requests and commands. The test runs each scene with a
+new server for each request. If a reply depends on earlier requests, the server must find their effects in the file. The bytes of a reply must
+equal those of the rules in Python. The status, fields and body of the reply must match the description and obey its schema. docs/openapi.yaml
+has the same faults and statuses as the table of docs/CLIENT.md.
 """
 
 import json

@@ -3,7 +3,7 @@
 
 The test runs the commands of a page's console blocks, and sends each request of the page's tables. The head of a table states the pass and the
 moment of the table's requests. The commands before the first table of a section make a club without bookings. The section's requests and later
-commands use a copy of this club. The test docs_hold.py runs the same blocks with the servers that the blocks start.
+commands use a copy of this club. Another test, docs_hold.py, runs the same blocks, including the commands that start servers.
 """
 
 import os

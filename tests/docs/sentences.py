@@ -55,7 +55,7 @@ def all_sentences(below):
 
 
 def context(file, line):
-    """Returns the lines around a line of a file, up to the next blank lines. Of a table in a page, returns the titles and the row."""
+    """Returns the lines around a line of a file, up to the next blank lines. In a page's table, returns the line of titles and the row."""
     lines = (ROOT / file).read_text(encoding="utf-8").splitlines()
     first = last = line - 1
     is_row = file.endswith(".md") and lines[first].lstrip().startswith("|")

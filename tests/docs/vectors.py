@@ -2,8 +2,8 @@
 """`passtool` and the server agree with docs/vectors.json about passes, invalid texts, caveats and replies.
 
 docs/vectors.json has each pass in each form, and other texts of one pass. docs/vectors.json also has the verdict of each caveat on each request,
-and each reply byte for byte. Between some requests, the office gives commands, and each command prints its expected lines. Python's standard
-library must compute the same signatures. pymacaroons must write the same V1 and V2 texts, for the passes that it can write.
+and each reply byte for byte. Between some requests, the test runs commands of the office, and each command prints its expected lines. Python's
+standard library must compute the same signatures. pymacaroons must write the same V1 and V2 texts, for the passes that it can write.
 """
 
 import contextlib
@@ -164,7 +164,7 @@ def command_of(step):
 @pytest.mark.parametrize("is_served", [False, True], ids=["file", "door"])
 @each(VECTORS["office"])
 def test_commands_between_requests(club, vector, is_served):
-    """Gives the commands to the file or to a running server. Sends each request to a new server."""
+    """Runs each command on the club's file, directly or while a server runs. Sends each request to a new server."""
     for step in vector["steps"]:
         with club.served() if is_served and "command" in step else contextlib.nullcontext():
             club.play([command_of(step) if "command" in step else row_of(step)])
