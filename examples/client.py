@@ -1,18 +1,17 @@
 #!/usr/bin/env python3
 """A client of the desk, written with Python's standard library.
 
-    client.py book FACILITY DAY HOUR GUESTS   books under a number that it draws
+    client.py book FACILITY DAY HOUR GUESTS   books under a new random number
     client.py cancel NUMBER                   cancels the booking with this number
     client.py repeat                          sends again each request that has no reply yet
     client.py list                            shows the bookings on record
     client.py show FACILITY DAY HOUR          shows a slot
     client.py account                         shows the account
 
-The variable DESK has the desk's address, which is http://127.0.0.1:8080 by default. The variable PASS names the file with the pass, which is pass by
-default. Before the client sends a booking or cancellation, it writes the request to the file RECORD (by default record). The client also writes the
-reply to this file. If no reply comes, the client sends the request again for PATIENCE seconds (by default 60). The client prints each
-reply. The client ends with status 1 after a refusal, and with status 3 if no reply came. After status 3, the command `repeat` finishes
-the request.
+The environment variable DESK is the desk's address (by default http://127.0.0.1:8080), and PASS is the path of the file with the pass (by default
+pass). Before the client sends a booking or cancellation, it writes the request to the file RECORD (by default record). The client also writes the
+reply to this file. If no reply comes, the client repeats the request for PATIENCE seconds (by default 60). The client prints each reply. The client
+exits with status 1 after a refusal, and with status 3 if no reply came. After status 3, the command `repeat` finishes the request.
 """
 import fcntl
 import json

@@ -1,6 +1,6 @@
 // Narrows passes in V1, V2 or JSON with the package macaroon.v2: narrow CAVEAT.. < passes
 //
-// Reads one pass per line. Prints each pass in the form that it had, with the new caveats after the old caveats. The program needs the Debian
+// Reads one pass per line. Prints each pass in its original form, with the new caveats after the old caveats. The program needs the Debian
 // packages golang-go and golang-gopkg-macaroon.v2-dev. Build the program with
 //
 //	GO111MODULE=off GOPATH=/usr/share/gocode go build narrow.go
@@ -18,7 +18,7 @@ import (
 	"gopkg.in/macaroon.v2"
 )
 
-// narrow returns a pass with more caveats.
+// narrow returns the pass with the new caveats.
 func narrow(text string, caveats []string) (string, error) {
 	var pass macaroon.Macaroon
 	isJSON := strings.HasPrefix(text, "{")
