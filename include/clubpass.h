@@ -2,10 +2,10 @@
  * clubpass: passes for C.
  *
  * A pass is a macaroon without third-party caveats. A pass has an identifier, caveats and a
- * signature. Each caveat narrows the requests that the pass allows. Making a pass needs the root.
- * Anybody who has a pass can add a caveat to the pass, and nobody can remove a caveat. This library
- * reads, writes and narrows passes in the three forms of libmacaroons. The library also tests
- * whether a root signed a pass.
+ * signature. Each caveat narrows the requests that the pass allows. Making a pass needs a secret,
+ * the root. Anybody who has a pass can add a caveat to the pass, and nobody can remove a caveat.
+ * This library reads, writes and narrows passes in the three forms of libmacaroons. The library
+ * also tests whether a root signed a pass.
  *
  *     #include <clubpass.h>
  *
@@ -21,15 +21,14 @@
  *   Don't read the members of an object.
  * - A call takes bytes as a pointer and a length. The pointer must not be NULL, even for a length
  *   of 0. A length must be below 2^63, and the caller must own the memory of the whole length.
- * - Memory that a call writes must not overlap memory that the same call reads or writes by
+ * - Memory that a call writes must not overlap memory that the same call reads or writes through
  *   another argument.
- * - No call keeps a pointer, has a state of its own, prints or aborts. Calls in different threads
- *   share no data. Two threads may use an object at the same time if both threads only read the
- *   object.
+ * - No call keeps a pointer or other state, prints or aborts. Calls in different threads share no
+ *   data. Two threads may use an object at the same time if both threads only read the object.
  * - Bytes may have any value, including 0. A text needs no NUL at its end, and the library writes
  *   no NUL.
- * - Only clubpass_read and clubpass_write use the heap. Both calls free their memory of the heap
- *   before they return.
+ * - Only clubpass_read and clubpass_write use the heap. Both calls free this memory before they
+ *   return.
  */
 #ifndef CLUBPASS_H
 #define CLUBPASS_H
@@ -182,8 +181,9 @@ CLUBPASS_CHECK
 clubpass_fault clubpass_narrow(clubpass *pass, const uint8_t *caveat, size_t caveat_len);
 
 /*
- * Returns whether a root signed the pass with all its caveats. The time of the call may depend on
- * the bytes. A signed pass allows only what each of its caveats allows: see clubpass_first_fault.
+ * Returns whether a root signed the pass with all its caveats. The duration of the call may depend
+ * on the bytes. A signed pass allows only what each of its caveats allows: see
+ * clubpass_first_fault.
  */
 CLUBPASS_CHECK
 bool clubpass_is_signed(const clubpass *pass, const uint8_t *root, size_t root_len);
@@ -212,7 +212,7 @@ typedef struct clubpass_ask {
     uint64_t spent;                /* the points that the key has spent before */
     uint32_t action;               /* CLUBPASS_VIEW to CLUBPASS_ACCOUNT */
     uint32_t kind;                 /* CLUBPASS_NO_KIND to CLUBPASS_ROOM_KIND */
-    uint32_t moment;               /* civil minutes since 1970-01-01T00:00, in 2000 to 2099 */
+    uint32_t moment;               /* minutes of local time since 1970, in 2000 to 2099 */
     uint16_t day;                  /* the slot's day: days since 1970-01-01, in 2000 to 2099 */
     uint8_t hour;                  /* the slot's hour, 0 to 23 */
     uint8_t guests;                /* the number of guests of a booking; 0 for any other action */

@@ -28,7 +28,7 @@ static bool buffers(napi_env env, napi_callback_info info, size_t count, napi_va
     return true;
 }
 
-/* Returns the object of an argument. The argument's memory must have the compiler's alignment. */
+/* Returns the object in an argument's memory. This memory must have the alignment of `clubpass`. */
 static clubpass *object_of(napi_env env, bytes of) {
     if (of.len == sizeof(clubpass) && (uintptr_t)of.at % _Alignof(clubpass) == 0)
         return (clubpass *)(void *)of.at;

@@ -71,7 +71,7 @@ class Pass {
 
   // Returns the first caveat that isn't understood or that denies a request, as { number, understood }. Returns null if there is no
   // such caveat. This method doesn't test the signature. A request is { action, moment }. If the request has a slot, add
-  // { facility, day, hour }. Add each of { kind, guests, owed, spent } that isn't 0. Moment and day are the club's local time, as
+  // { facility, day, hour }. The values { kind, guests, owed, spent } are optional. Moment and day are the club's local time, as
   // "2026-05-01T18:00" and "2026-05-01".
   firstFault({ action, moment, facility = "", day, hour = 0, kind, guests = 0, owed = 0, spent = 0 }) {
     const [fault, number] = library.firstFault(

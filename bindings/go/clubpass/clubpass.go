@@ -56,7 +56,7 @@ func (form Form) String() string {
 	return map[Form]string{V1: "v1", V2: "v2", JSON: "json"}[form]
 }
 
-// A Pass is a pass, with the form of the text that it was read from.
+// A Pass stores a pass, and the form of the text that the pass was read from.
 type Pass struct {
 	object C.clubpass
 }
@@ -120,7 +120,7 @@ func (pass *Pass) Text(form Form) (string, error) {
 // Form returns the form of the text that the pass was read from, or V2 for a new pass.
 func (pass *Pass) Form() Form { return Form(C.clubpass_form(&pass.object)) }
 
-// Location returns an unsigned hint about where the pass is valid.
+// Location returns a hint about where the pass is valid. The signature doesn't cover this hint.
 func (pass *Pass) Location() []byte {
 	out := make([]byte, C.CLUBPASS_ROOM)
 	var length C.size_t
@@ -128,7 +128,7 @@ func (pass *Pass) Location() []byte {
 	return out[:length:length]
 }
 
-// Identifier returns the name of the root.
+// Identifier returns the name of the root under which the pass was minted.
 func (pass *Pass) Identifier() []byte {
 	out := make([]byte, C.CLUBPASS_ROOM)
 	var length C.size_t
@@ -181,7 +181,7 @@ const (
 )
 
 // An Ask has the values of a request that caveats restrict. Without a facility there is no slot, and calls ignore Day and Hour.
-// Moment and Day are the club's local time. A call takes the local time of each value in the value's own zone.
+// Moment and Day are the club's local time. Calls ignore the time zones of Moment and Day.
 type Ask struct {
 	Action      Action
 	Kind        Kind

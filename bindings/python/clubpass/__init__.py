@@ -5,8 +5,8 @@
     lent = clubpass.Pass.parse(text).narrow("kind = court", "guests <= 1")
     print(lent, lent.verify(root))
 
-A Pass never changes: `narrow` returns a new Pass. Roots, signatures and the parts of a pass are bytes. A method that takes bytes also takes
-a str, and encodes it as UTF-8. Each fault of the library is an exception class of its own, a subclass of PassError.
+A Pass never changes: `narrow` returns a new Pass. Roots, signatures and the parts of a pass are bytes. Except for roots, a method that
+takes bytes also takes a str, and encodes it as UTF-8. If a call of the library fails, the method raises a subclass of PassError.
 """
 
 from __future__ import annotations
@@ -228,7 +228,8 @@ class Pass:
 
     @classmethod
     def mint(cls, root: bytes, identifier: Bytes, location: Bytes = b"") -> Pass:
-        """Makes a new pass without caveats, signed under a root. Raises NoRoom if its parts have more than 8,192 bytes."""
+        """Makes a new pass without caveats, signed under a root. Raises NoRoom if the location and the identifier together have more than 8,192
+        bytes."""
         if not isinstance(root, bytes):
             raise _not_a_root(root)
         place, name, made = _bytes(location), _bytes(identifier), _made(cls)
@@ -236,7 +237,8 @@ class Pass:
         return made
 
     def narrow(self, *caveats: Bytes) -> Pass:
-        """Returns the pass with these caveats added. Raises TooMany for more than 64 caveats. Else raises NoRoom if the parts have more than 8,192 bytes."""
+        """Returns the pass with these caveats added. Raises TooMany for more than 64 caveats, and NoRoom if the parts of the pass would have more
+        than 8,192 bytes."""
         made = _made(Pass)
         ctypes.memmove(made._at, self._at, _SIZE)
         for caveat in caveats:
