@@ -86,7 +86,7 @@ def killed(point, words):
 
 
 def killed_at_its_output(words):
-    """Runs a command whose output no program reads. Kills the command after the log has its line."""
+    """Runs a command whose output no program reads. Kills the command when the log has the command's line."""
     stop_at("0 never")
     reader, writer = os.pipe()
     os.set_blocking(writer, False)

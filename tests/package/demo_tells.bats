@@ -1,5 +1,5 @@
 #!/usr/bin/env bats
-# `bin/demo` prints tests/package/demo.told, and always ends its server.
+# `bin/demo` prints the text of tests/package/demo.told, and always ends its server.
 #
 # If `curl` or `sqlite3` is missing, bin/demo installs it as root with apt-get. If this isn't possible, bin/demo prints the names of the
 # missing commands. bin/demo ends its server after a signal, and also if the server doesn't listen.

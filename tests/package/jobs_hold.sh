@@ -56,7 +56,7 @@ chmod +x refuses
 ends 'a copy that clubdesk refuses' 1 env CLUBDESK="$work/refuses" "$deploy/keep_copies" club copies
 grep -q "clubdesk can't open the copy" said || fail "it doesn't say so: $(cat said)"
 same 'what is left of them' "$old $name" "$(find copies -mindepth 1 -printf '%f\n' | sort | xargs)"
-# The test kills the job while it copies. The next run removes the incomplete copy. If two jobs run at the same time, the second waits for the first.
+# The test kills the job during a copy. The next run removes the incomplete copy. If two jobs run at the same time, the second waits for the first.
 printf '#!/bin/sh\ntouch waits\nexec sleep 30\n' >waits.sh
 chmod +x waits.sh
 CLUBDESK=$work/waits.sh "$deploy/keep_copies" club copies >told 2>said &

@@ -262,7 +262,7 @@ same 'the health pass' '640 root clubdesk' "$(inside stat -c '%a %U %G' /etc/clu
 same 'the timers' 'clubdesk-back-up@club.timer clubdesk-health@club.timer clubdesk-sheet@club.timer' \
     "$(inside systemctl list-units --plain --no-legend --state=active 'clubdesk-*.timer' | cut -d ' ' -f 1 | sort | xargs)"
 
-# Until the machine with the copies has the new machine's ssh key, it refuses copies, and the health check fails.
+# Without the new machine's ssh key, the machine with the copies refuses new copies, and the health check fails.
 blocks 'Copies elsewhere' | grep -v OFFSITE= >lines
 sed '/accept-new/,$d' lines | gives 'Copies elsewhere, on the new machine'
 grep '^ssh-ed25519' told >key

@@ -52,7 +52,7 @@ def test_page_has_what_the_help_shows(name):
 
 
 def test_mandoc_has_nothing_to_say():
-    """mandoc runs in the folder of the manual pages, so that it finds the pages that they refer to. A warning about the machine's outdated index of
-    pages isn't a fault."""
+    """mandoc runs in the folder of the manual pages, so that mandoc finds the pages that these pages refer to. A warning about the machine's
+    outdated index of pages isn't a fault."""
     said = subprocess.run(["mandoc", "-T", "lint", "clubdesk.1", "passtool.1", "office.1"], cwd=MAN, capture_output=True, text=True, check=False)
     assert not [it for it in (said.stdout + said.stderr).splitlines() if "outdated mandoc.db" not in it]

@@ -22,7 +22,7 @@ boot() {
     start debian --private-network
     same 'units that failed at boot' '' "$(inside systemctl --failed --plain --no-legend)"
 }
-# Each shell that nsenter started must end first, because it would keep the machine from shutting down.
+# Each shell that nsenter started must end first, because a running shell would keep the machine from shutting down.
 halt() {
     [ -n "$machine" ] || return 0
     if [ -n "$client" ]; then { inside touch /root/enough && wait "$client"; } || :; fi

@@ -194,7 +194,7 @@ wait "$slow" || :
 #
 # The function `flood NAME COUNT [WORD..]` sends a burst of COUNT requests, with the options WORD.. for curl. NAME is a part of the output files'
 # names. The requests ask for a file, because nginx sends a file faster than the desk replies. The function counts the accepted requests in
-# `passed`, and the refused requests in `limited`. The sum of both must be COUNT.
+# `passed`, and the refused requests in `limited`. The sum of these two numbers must be COUNT.
 flood() {
     name=$1 count=$2
     shift 2

@@ -6,7 +6,7 @@ folders with temporary overlays (tests/lib/office_room.sh).
 
 The setup asks five questions. The test stops the setup at each step and runs it again. No run changes an existing file. After the setup, the new
 clerk adds a member, and the member makes a first booking. If nginx is installed, the test also makes a certificate. Then the setup enables the
-site, and nginx accepts its configuration.
+site, and nginx accepts the site's configuration.
 """
 # pytestmark = [mark.package, mark.root, mark.needs("clubdesk passtool"),
 #     mark.wants("sudo sqlite3 openssl util-linux bsdutils iproute2 systemd python3-psutil python3-pexpect nginx-light")]
