@@ -61,7 +61,7 @@ def slot_path(number):
 
 
 class Asker:
-    """Makes the requests of one member, whose keys take turns. In each round, the booking numbers and slots are new."""
+    """Makes the requests of one member, with each of the member's keys in turn. In each round, the booking numbers and slots are new."""
 
     def __init__(self, keys, first_number, first_slot):
         self.keys, self.first_number, self.slot, self.asked = keys, first_number, first_slot, 0
@@ -71,7 +71,7 @@ class Asker:
         self.forged = {key: it[:-2] + ("A" if it[-2] != "A" else "B") + it[-1] for key, it in self.passes.items()}
 
     def refused(self):
-        """Returns requests that the desk refuses, each for a different reason. The test sends them after the rounds."""
+        """Returns requests that the desk refuses, each for a different reason. The test sends these requests after the rounds."""
         key, slot = self.keys[0], slot_path(self.slot)
         whole, passed, book = key_pass(key, ROOT.hex()), self.passes[key], f"/bookings/{self.first_number + 900_000}"
         return [it.data for it in (
@@ -125,7 +125,7 @@ def built_in_go():
     return os.path.abspath("desk_in_go")
 
 
-# For each other desk, a function that builds it and returns its command line.
+# DESKS has a function for each other desk. The function builds the desk and returns the desk's command line.
 DESKS = {
     "c": lambda: [built("desk", "-lsqlite3", "-lnettle")],
     "go": lambda: [built_in_go()],

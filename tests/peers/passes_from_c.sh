@@ -53,8 +53,8 @@ same 'names of the shared library' "$(grep -o 'clubpass_[a-z_]*(' "$here/../../i
 same 'names of the static library' "$(nm -D --defined-only library/lib/libclubpass.so.0 | sed -n 's/.* T \([a-z_]*\)@.*/\1/p' | sort -u)" \
     "$(nm -g --defined-only library/lib/libclubpass.a | sed -n 's/.* [A-Z] //p' | sort -u)"
 
-# ---- In each run, another allocation fails. If the program itself needs this allocation to read a line of input, it prints fewer lines. Such a run
-# doesn't count.
+# ---- In each run, another allocation fails. If the program itself needs this allocation to read a line of input, the program prints fewer lines.
+# Such a run doesn't count.
 holds 'tell is built' gcc -g -O1 -o tell "$here/passes_from_c/tell.c" -I "$here/../../include" library/lib/libclubpass.a
 holds 'what refuses is built' gcc -shared -fPIC -O1 -o refused_memory "$here/../lib/refused_memory.c" -ldl
 cat >lines <<'LINES'

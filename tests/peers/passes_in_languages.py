@@ -59,7 +59,7 @@ def told(vector, form):
 
 
 def lines():
-    """Yields each line of the programs' input, with the line that the programs must print for it."""
+    """Yields each line of the programs' input, with the line that the programs must then print."""
     for vector in VECTORS["passes"]:
         for form in FORMS:
             if form in vector:

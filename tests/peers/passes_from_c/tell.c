@@ -45,7 +45,7 @@ static bool is_empty(const clubpass *pass) {
            clubpass_location(pass, byte, 0, &len) == CLUBPASS_OK && clubpass_identifier(pass, byte, 0, &len) == CLUBPASS_OK && len == 0;
 }
 
-/* Mints a pass with the same fields under this root, and narrows it with the same caveats. */
+/* Mints a new pass with the given pass's fields under this root, and adds the given pass's caveats. */
 static clubpass minted_again(const clubpass *pass, const uint8_t *root, size_t root_len) {
     static uint8_t identifier[CLUBPASS_ROOM];
     clubpass made = CLUBPASS_INIT;
