@@ -1,7 +1,7 @@
 // Keeps the pages and the club's list for when there is no network. They come from the network where it is there, so that a new page is
 // seen at once. Everything else is the desk's: it isn't touched, and no reply of it is kept. Made by bin/pages of web/src/worker.js.
 "use strict";
-const VERSION = "24d4d2de9d5b0989";
+const VERSION = "4cccc92c9edc498a";
 const CACHE = `pages ${VERSION}`;
 const PAGES = ["/book.html", "/pass.html", "/app.webmanifest", "/club.json"];
 const PATIENCE = 4000; // milliseconds, until what was kept is shown

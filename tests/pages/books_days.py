@@ -36,7 +36,7 @@ def books_and_cancels(page, passes):
     same_record(page, "amy-1")
     page.view("bookings")
     card = page.run("return byName('to-come').innerText")
-    has(card, "a booking in the list", "Court 1", "Booked", "3 persons", "600 points", "cancelling gives back all 600 points")
+    has(card, "a booking in the list", "Court 1", "Booked", "3 persons", "600 points", "cancelling gives back the whole charge of 600 points")
     page.cancelled_in_the_list("a cancellation", asked="Cancelling now gives back 600 points", words="600 points came back")
     page.when("byName('to-come').innerText.includes('Cancelled, 600 points came back')", "what is cancelled")
     # If a member cancels less than a day before the slot, she gets back half of the points.
@@ -388,7 +388,7 @@ def refusals_say_what_to_do(page, passes, between):
         page.go(day(6))
         between.fates["PUT"] = [f"answer {status} {body}"] * 50
         page.book("court-2", hour)
-        page.when(f"dialogText().includes(\"{words}\") && dialogText().includes('The page sends again, attempt')", "a booking", status)
+        page.when(f"dialogText().includes(\"{words}\") && dialogText().includes('The page sends the request again, attempt')", "a booking", status)
         between.fates.clear()
         page.comes("Booked.", "a booking at last")
         check([place[:3] for place in amounts("amy-1").values()].count(("court-2", day(6), hour)) == 1, "it is booked once", status)

@@ -33,7 +33,7 @@ def survives_failures(page, passes, between):
     # After a second, the page shows that it waits for the desk. After ten seconds, the page explains the delay.
     between.fates["PUT"] = ["silent"] * 12
     page.book("boat-1", 21)
-    page.when("dialogText().includes('The page sends again, attempt')", "sending again")
+    page.when("dialogText().includes('The page sends the request again, attempt')", "sending again")
     page.when("dialogText().includes('books nothing twice')", "a long wait")
     between.fates["PUT"] = []
     page.comes("Booked.", "a booking at last")
@@ -80,7 +80,7 @@ def pages_end(page, passes, between, server):
     page.go(day(8))
     server.kill()
     page.book("court-2", 16)
-    page.when("dialogText().includes('The page sends again')", "a desk that is away")
+    page.when("dialogText().includes('The page sends the request again')", "a desk that is away")
     server.start()
     page.comes("Booked.", "a desk that is back")
     same_record(page, "ends-1")
@@ -131,8 +131,8 @@ def lists_what_is_past(passes, front):
         check(page.run("return byName('to-come').children.length") == 0 and page.run("return byName('bookings-count').textContent") == "", "nothing to come")
         page.run("byName('past-part').open = true")
         cards = page.run("return [...byName('past').children].map((each) => each.innerText)")
-        check(len(cards) == 2 and "Double scull" in cards[0] and "According to a list: cancelled, 75 points came back" in cards[0] and "Court 1" in cards[1]
-              and "According to a list: booked" in cards[1] and "2 persons" in cards[1] and "400 points" in cards[1], "past bookings", cards)
+        check(len(cards) == 2 and "Double scull" in cards[0] and "According to an imported list: cancelled, 75 points came back" in cards[0] and "Court 1" in cards[1]
+              and "According to an imported list: booked" in cards[1] and "2 persons" in cards[1] and "400 points" in cards[1], "past bookings", cards)
         words = page.run("return [...byName('past').querySelectorAll('button')].map((each) => each.textContent)")
         check(words == ["Remove from the list"] * 2, "nothing can be done about them but that", words)
     print("past bookings are listed apart; the traps are named where they bite")

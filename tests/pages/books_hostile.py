@@ -37,10 +37,10 @@ def lists_send_nothing(page, passes, server):
         check(not unasked(server, before), "what a list sent by itself", unasked(server, before))
     page.when("byName('to-come').innerText.includes('fewer persons than the list shows')", "what the list names is looked up")
     text = page.run("return byName('to-come').innerText")
-    has(text, "what a list says", "According to a list: requested, but not answered yet", "According to a list: being cancelled", "According to a list: cancelled, 601 points came back",
-        "A list shows this booking as cancelled.")
+    has(text, "what a list says", "According to an imported list: booking requested, but not answered yet", "According to an imported list: cancellation requested", "According to an imported list: cancelled, 601 points came back",
+        "An imported list shows this booking as cancelled.")
     own_card = page.run("return [...byName('to-come').children].find((each) => each.innerText.includes(arguments[0])).innerText", f"Number {own['number']}")
-    check("Booked" in own_card and "According to a list" not in own_card and "may have" not in own_card, "a list can't show a standing booking as cancelled", own_card)
+    check("Booked" in own_card and "According to an imported list" not in own_card and "may have" not in own_card, "a list can't show a standing booking as cancelled", own_card)
     page.view("day")
     check("Yours, 1 person" in page.run("return cellAt('court-1', 9).button.innerText"), "its slot is hers")
     check("4 of 4 free" in page.run("return cellAt('court-1', 10).button.innerText"), "a slot that only a list names")

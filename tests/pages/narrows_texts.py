@@ -103,7 +103,7 @@ def faulty_texts():
         ("{" + S64 + "}", 2, "Field i is missing"), ("{" + SHORT + "x", 2, "more text after the end"),
         ('{"i":"keyid","s64":"fN7nklEcW8b1KEhYBd_psk54XijiqZMB-dcRxgnjjg"}', 2, "31 bytes, not 32"), ("\ufeff{" + SHORT, 2, "at position 1"),
         (unpadded(b'{"\xff'), 2, "isn't valid UTF-8"), ('{"i":"a\nb",' + S64 + "}", 2, "a quoted text without"),
-        ('{"i":"\\ud800",' + S64 + "}", 2, "half of a character"), (nested(127), 2, "more than 127 nested brackets"),
+        ('{"i":"\\ud800",' + S64 + "}", 2, "an incomplete character"), (nested(127), 2, "more than 127 nested brackets"),
         *((with_member('"v":' + it), 2, "isn't the whole number 2") for it in ("1", "2.0", "2e0", "-2", "null", '"2"')),
         (with_member('"v":1e999'), 2, "too large"), (with_member('"v":02'), 2, "a comma or }"), (with_member('"i64":"_w"'), 2, "i and field i64 are both there"),
         (with_member('"c":null'), 2, "isn't a list"), (with_member('"c":{}'), 2, "isn't a list"), (with_member('"c":["a"]'), 2, "Caveat 1 isn't an object"),

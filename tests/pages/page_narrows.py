@@ -64,8 +64,8 @@ SENTENCES = {
     "guests <= 1": "Only bookings with at most 1 guest.",
     "guests <= 12": "Only bookings with at most 12 guests.",
     "spend <= 0": "No bookings that cost points.",
-    "spend <= 1": "At most 1 point in all. Every booking ever made with this pass, or with a part of this pass, counts towards this limit.",
-    "spend <= 123456789": "At most 123,456,789 points in all. Every booking ever made with this pass, or with a part of this pass, counts towards this limit.",
+    "spend <= 1": "At most 1 point in all. Every booking ever made with this pass, or with a pass narrowed from it, counts towards this limit.",
+    "spend <= 123456789": "At most 123,456,789 points in all. Every booking ever made with this pass, or with a pass narrowed from it, counts towards this limit.",
     "actions = view,book": "The holder may only look at slots or book.",
     "actions = view,cancel,account": "The holder may only look at slots, cancel bookings or look at the account.",
     "shoe = red": "The desk doesn't understand this limit, so it refuses the pass.",
@@ -126,11 +126,11 @@ def half_a_date_is_no_date(page):
 
 
 NOTES = [
-    ([], ["It can cancel.", "It shows the account."]), (["actions = view,book"], []), (["actions = view,book,account"], ["It shows the account."]),
-    (["actions = view,book,account", "kind = court"], []), (["kind = court"], ["It can cancel."]),
-    (["weekday = sat", "spend <= 600"], ["It can cancel.", "Points count together."]),
-    (["until < 2026-05-01T18:00", "guests <= 1"], ["It can cancel.", "It shows the account."]), (["shoe = red", "spend <= 600"], ["The desk refuses it."]),
-    (["actions = view,view"], ["The desk refuses it."]),
+    ([], ["The new pass can cancel.", "The new pass shows the account."]), (["actions = view,book"], []), (["actions = view,book,account"], ["The new pass shows the account."]),
+    (["actions = view,book,account", "kind = court"], []), (["kind = court"], ["The new pass can cancel."]),
+    (["weekday = sat", "spend <= 600"], ["The new pass can cancel.", "Points count together."]),
+    (["until < 2026-05-01T18:00", "guests <= 1"], ["The new pass can cancel.", "The new pass shows the account."]), (["shoe = red", "spend <= 600"], ["The desk refuses the pass."]),
+    (["actions = view,view"], ["The desk refuses the pass."]),
 ]
 
 
@@ -142,7 +142,7 @@ def notes_say_what_matters(page):
     check("name that the desk can look up" in stranger["shown"], "a stranger's pass", stranger)
     check(stranger["facts"]["Identifier"] == "we used our secret key", "whose a stranger's pass is", stranger)
     text = page.run("return document.body.innerText")
-    for words in ["The desk counts every booking ever made with this pass", "narrow a spare pass or a separate pass",
+    for words in ["Every booking ever made with your pass, or with a pass narrowed from it", "narrow a spare pass or a separate pass",
                   "can also cancel bookings made with your pass", "Days and times are in the club's time zone"]:
         check(words in re.sub(r"\s+", " ", text), "the page doesn't say", words)
     print(f"{len(NOTES)} passes come with what matters of them")

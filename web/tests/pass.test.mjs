@@ -103,7 +103,7 @@ test("every line has a sentence in each language", () => {
     for (const line of lines) assert.match(sentenceOf(bytesOf(line)), /^[A-Z].*\.$/, line);
   }
   speak("en");
-  assert.equal(sentenceOf(bytesOf("spend <= 1000")), "At most 1,000 points in all. Every booking ever made with this pass, or with a part of this pass, counts towards this limit.");
+  assert.equal(sentenceOf(bytesOf("spend <= 1000")), "At most 1,000 points in all. Every booking ever made with this pass, or with a pass narrowed from it, counts towards this limit.");
   speak("de");
   assert.equal(sentenceOf(bytesOf("days = 2026-05-01..2026-05-01")), "Nur am Freitag, 1. Mai 2026.");
 });
