@@ -25,7 +25,7 @@ TEXTS = {
     "not confirmed": ("not confirmed; nothing changed", "nicht bestätigt; nichts geändert"),
     "is past": ("{day} is past.", "{day} ist vorbei."),
     "is far": (
-        "{day} is {ahead} days ahead. Bookings open 60 days ahead, so nobody can book that day yet.",
+        "{day} is {ahead} days ahead. Members can book at most 60 days ahead, so nobody can book that day yet.",
         "{day} ist erst in {ahead} Tagen: gebucht werden kann höchstens 60 Tage im Voraus.",
     ),
     "is much": (
@@ -45,7 +45,7 @@ TEXTS = {
     # The menu.
     "menu": ("The office of {club}, {day}", "Das Büro von {club}, {day}"),
     "menu ends": (
-        "Type a task's number or a word of its name. Enter ends. Ctrl-C goes back.",
+        "Type a task's number or a word of its name. Enter quits. Ctrl-C goes back.",
         "Nummer oder ein Wort davon; Enter beendet. Strg-C geht zurück, ändert nichts.",
     ),
     "task": ("Task: ", "Aufgabe: "),
@@ -81,7 +81,7 @@ TEXTS = {
     "task undo": ("undo the last correction", "letzte Korrektur zurücknehmen"),
     "task key": ("another key, for a device", "ein weiterer Schlüssel, für ein Gerät"),
     "task lost": ("a lost pass", "ein verlorener Pass"),
-    "task quota": ("how much a member may book", "wie viel ein Mitglied buchen darf"),
+    "task quota": ("a member's quota of open bookings", "wie viel ein Mitglied buchen darf"),
     "task leave": ("a member leaves", "ein Mitglied tritt aus"),
     "task bookings": ("what a member has booked", "was ein Mitglied gebucht hat"),
     "task cancel": ("cancel, all points back", "absagen, alle Punkte zurück"),
@@ -89,10 +89,10 @@ TEXTS = {
     "task debit": ("take points back", "Punkte zurücknehmen"),
     "task balances": ("balances of all", "alle Punktestände"),
     "task money": ("a member's points, summed up", "Punkte eines Mitglieds, summiert"),
-    "task facilities": ("all of them", "alle Anlagen"),
-    "task new facility": ("a new one", "eine Anlage anlegen"),
+    "task facilities": ("all facilities", "alle Anlagen"),
+    "task new facility": ("a new facility", "eine Anlage anlegen"),
     "task set facility": ("price, places or hours", "Preis, Plätze oder Zeiten"),
-    "task facility": ("who has booked one", "wer eine gebucht hat"),
+    "task facility": ("who has booked a facility", "wer eine gebucht hat"),
     "task close": ("close for a tournament", "sperren für ein Turnier"),
     "task rain": ("rain: all points back", "Regen: alle Punkte zurück"),
     "task closed": ("what is closed", "was gesperrt ist"),
@@ -114,8 +114,8 @@ TEXTS = {
     "ask hours": ("Hours, as 15-17", "Stunden, etwa 15-17"),
     "ask hour": ("Hours, as 15 or 15-17", "Stunden, etwa 15 oder 15-17"),
     "ask guests": ("How many come along", "Wie viele kommen mit"),
-    "ask label": ("A name for the credit, such as {example}; no member gets it twice", "Ein Name für die Gutschrift, etwa {example}: jede gibt es nur einmal"),
-    "ask why": ("Why, for the page", "Grund, den die Seite zeigt"),
+    "ask label": ("A name for the credit, such as {example}; no member gets the credit twice", "Ein Name für die Gutschrift, etwa {example}: jede gibt es nur einmal"),
+    "ask why": ("The reason, which the booking page shows", "Grund, den die Seite zeigt"),
     "ask points": ("Points", "Punkte"),
     "ask new name": ("Full name", "Vor- und Nachname"),
     "ask name": ("Full name [{now}]: ", "Vor- und Nachname [{now}]: "),
@@ -175,7 +175,7 @@ TEXTS = {
     "forgets member": ("removes the member {name}", "entfernt das Mitglied {name}"),
     "has member": ("brings back the member {name}", "stellt das Mitglied {name} wieder her"),
     "facility as was": ("changes the facility {facility} back to its earlier state", "setzt die Anlage {facility} zurück"),
-    "nothing to come": ("the restore changes nothing from now on", "für die Zeit ab jetzt ändert sich nichts"),
+    "nothing to come": ("the restore changes nothing, except perhaps past slots", "für die Zeit ab jetzt ändert sich nichts"),
     "forgets key": ("removes the key {key}: its passes are refused", "entfernt den Schlüssel {key}: seine Pässe gelten nicht mehr"),
     "has key": ("brings back the key {key} and its passes", "stellt den Schlüssel {key} und seine Pässe wieder her"),
     "rotated back": (
@@ -196,8 +196,8 @@ TEXTS = {
     "booked": ("booked {slot} for {member}, {persons}, {points} points: {booking}", "{slot} gebucht für {member}, {persons}, {points} Punkte: {booking}"),
     "called off": ("cancelled {slot} of {member}, {points} points back: {booking}", "{slot} von {member} abgesagt, {points} Punkte zurück: {booking}"),
     "booked before": ("{slot} is already booked for {member}: {booking}", "{slot} ist für {member} schon gebucht: {booking}"),
-    "booked in all": ("in all: {count} booked, {points} points", "zusammen: {count} gebucht, {points} Punkte"),
-    "called off in all": ("in all: {count} cancelled, {points} points back", "zusammen: {count} abgesagt, {points} Punkte zurück"),
+    "booked in all": ("slots booked in all: {count}, for {points} points", "zusammen: {count} gebucht, {points} Punkte"),
+    "called off in all": ("bookings cancelled in all: {count}, with {points} points back", "zusammen: {count} abgesagt, {points} Punkte zurück"),
     "not done": ("not done: {lines}", "nicht erledigt: {lines}"),
     # Persons.
     "to tell": ("To tell:", "Zu benachrichtigen:"),
@@ -210,13 +210,13 @@ TEXTS = {
         "Hallo {name},\n\ndas Büro musste deine Buchung absagen:\n\n{lines}\n\nDu bekommst {points} Punkte zurück.\n\n{club}\n",
     ),
     # A list.
-    "list read": ("read as {letters} with {sign} between the columns: {columns}", "gelesen als {letters} mit {sign} zwischen den Spalten: {columns}"),
-    "list over": ("; passed over: {columns}", "; übergangen: {columns}"),
+    "list read": ("the list was read as {letters} with {sign} between the columns: {columns}", "gelesen als {letters} mit {sign} zwischen den Spalten: {columns}"),
+    "list over": ("; ignored columns: {columns}", "; übergangen: {columns}"),
     "nothing to do": ("nothing to do", "nichts zu tun"),
     "import in all": ("in all: {count} of {rows} rows left to do, {points} points", "zusammen: {count} von {rows} Zeilen zu erledigen, {points} Punkte"),
     "spare pass": ("spare pass {key}", "Ersatzpass {key}"),
     "imported": (
-        "{done} of {rows} rows done, {there} rows already there; passes are in {folder}",
+        "{done} of {rows} rows done, {there} rows done before; passes are in {folder}",
         "{done} von {rows} Zeilen erledigt, {there} waren schon da; die Pässe sind in {folder}",
     ),
     "new": ("new", "neu"),
@@ -235,14 +235,14 @@ TEXTS = {
     "tested sum": ("same bytes", "gleiche Bytes"),
     "tested no": ("no", "nein"),
     # Lists.
-    "sums are right": ("the totals are the sums of the bookings", "die Summen stimmen mit den Buchungen überein"),
+    "sums are right": ("the stored totals match the sums of the bookings", "die Summen stimmen mit den Buchungen überein"),
     # The season's points.
     "credits all": (
         "credits {members} members with {points} points each, {total} in all, as {label}; members with quota 0 get no points",
         "schreibt {members} Mitgliedern je {points} Punkte gut, zusammen {total}, als {label}; wer nichts buchen darf, bekommt nichts",
     ),
     "points lost": ("the points of {label} are no longer credited: credit-all credits these points again", "{label} ist nicht mehr gutgeschrieben: credit-all schreibt es wieder gut"),
-    "credited before": ("{count} have them already", "{count} haben sie schon"),
+    "credited before": ("{count} members already have these points", "{count} haben sie schon"),
     "credited": ("{count} members credited with {points} points, as {label}", "{count} Mitgliedern {points} Punkte gutgeschrieben, als {label}"),
     # Undo.
     "undoes": ("undoes what was done on {moment}: {words}", "nimmt zurück, was am {moment} gemacht wurde: {words}"),
@@ -261,7 +261,7 @@ TEXTS = {
         "Dein Pass heißt {key}. Damit kannst du buchen und absagen, am Handy oder am Computer.",
     ),
     "letter step 1": (
-        "Point the camera of your phone at the code, or open the link below.",
+        "Point the camera of your phone at the QR code, or open the link below.",
         "Öffne die Kamera deines Handys und halte sie auf den QR-Code, oder öffne den Link darunter.",
     ),
     "letter step 2": (
@@ -277,14 +277,14 @@ TEXTS = {
         " einen Teil deines Passes verleihen, etwa die Plätze bis Freitag für 600 Punkte. Was damit gebucht wird, zählt für sich, und deine eigenen Buchungen kann damit niemand absagen.",
     ),
     "letter care": (
-        "Anyone who has this sheet can book with your points. Once you have kept the pass, throw the sheet away, or guard the sheet like a house key."
+        "Anyone who has this sheet can book with your points. Once your browser keeps the pass, throw the sheet away, or guard the sheet like a house key."
         " If somebody else needs a pass, the office makes a separate pass. If you lose this sheet or your phone, call the office.",
         "Wer dieses Blatt hat, kann mit deinen Punkten buchen. Wirf es danach weg, oder verwahre es wie einen Hausschlüssel. Für jemand anderen macht"
         " das Büro einen eigenen Pass. Hast du das Blatt oder das Handy verloren, ruf im Büro an.",
     ),
     "letters made": ("{count} sheets for {members} members are in {file}", "{count} Blätter für {members} Mitglieder sind in {file}"),
     # The board's page.
-    "report made in": ("the page is in {files}", "die Seite ist in {files}"),
+    "report made in": ("the report is in {files}", "die Seite ist in {files}"),
     "report until": ("{year} to {day} {month}", "{year} bis {day}. {month}"),
     "report made on": ("made on {day}", "erstellt am {day}"),
     "report totals": ("The year in numbers", "Das Jahr in Zahlen"),

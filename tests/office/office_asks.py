@@ -113,10 +113,10 @@ def week():
     same("opened slots", rows("SELECT facility, count(*) FROM slots WHERE closed = 1 GROUP BY facility"), [("court-1", 2)])
     task("price, places", ("Court", "court 2"), ("price", "250"), ("places", ENTER), ("opening", "7 bis 22"), ("Shall", "y"))
     same("a price", rows("SELECT price, opens, places FROM facilities WHERE name = 'court-2'"), [(250, 7, 4)])
-    task("may book", ("Member", "bob"), ("Open", "7"), ("Shall", "y"))
+    task("quota of", ("Member", "bob"), ("Open", "7"), ("Shall", "y"))
     same("a quota", rows("SELECT quota FROM members WHERE name = 'mueller-bob'"), [(7,)])
     for called, pairs, text in (("what a member has", [("Member", "karl")], "office club money baecker-karl"), ("balances of all", [], "mueller-bob"),
-                                ("what is closed", [], str(day)), ("are the sums", [], "the totals are the sums"), ("who comes", [], "day  hour"),
+                                ("what is closed", [], str(day)), ("are the sums", [], "the stored totals match the sums"), ("who comes", [], "day  hour"),
                                 ("what was done", [("A word", "bob")], "set-quota mueller-bob 7"), ("the copies", [], "before a correction")):
         task(called, *pairs).has(called, text)
 
@@ -162,7 +162,7 @@ def calls():
     day = TODAY + datetime.timedelta(2)
     shown = task("book for", ("Member", "bob"), ("Court", "court 2"), ("Day", "+2"), ("Hours", "15-17"), ("How many", "1"), ("Do it", ENTER))
     shown.has("a booking for a caller", f"office club book mueller-bob court-2 {day} 15-17 1", f"booked court-2 {day} 16:00 for mueller-bob, 2 persons",
-              "in all: 2 booked, 1000 points")
+              "slots booked in all: 2, for 1000 points")
     task("cancel for", ("Member", "bob"), ("Number", "1"), ("Do it", ENTER)).has("a cancellation for a caller", f"cancelled court-2 {day} 15:00 of mueller-bob")
     task("cancel, all", ("Member", "bob"), ("Number", "1"), ("Shall", "y")).has("all points back", "office club cancel mueller-bob-office 2", "done")
     same("nothing is booked", rows("SELECT count(*) FROM bookings WHERE cancelled = 0"), [(0,)])
@@ -176,7 +176,7 @@ def calls():
     task("another key", ("Member", "bob"), ("Do it", ENTER)).has("one more key", "the pass is in the file passes/mueller-bob-2", "are in letter-mueller-bob-2.html")
     task("the sheet", ("Day", "+2")).has("a sheet", "Day sheet", "mueller-bob-office")
     task("who has booked a day", ("Day", "+2")).has("a day", "mueller-bob-office")
-    task("who has booked one", ("Court", "court-2")).has("a court", "mueller-bob-office")
+    task("who has booked a facility", ("Court", "court-2")).has("a court", "mueller-bob-office")
     task("a member leaves", ("Member", "karl"), ("Shall", "y")).has("a member leaves", "renames member baecker-karl to 1")
 
 
@@ -196,16 +196,16 @@ def season_start():
     same("they have them", rows("SELECT credited FROM members WHERE name = 'ida-lund'"), [(800,)])
     task("the season's points", ("Points", "300"), ("A name", "season 2027")).has("once", "season-2027 was given already")
     first = TODAY + datetime.timedelta(7)
-    task("close slots each week", ("First", "+7"), ("Last", "+28"), ("Hours", "18-20"), ("Why", "Training"), ("Which", "court-1"), ("Shall", "y")).has(
+    task("close slots each week", ("First", "+7"), ("Last", "+28"), ("Hours", "18-20"), ("The reason", "Training"), ("Which", "court-1"), ("Shall", "y")).has(
         "training", f"office club close {first}..{TODAY + datetime.timedelta(28)} 18-20 court-1 --weekday {first:%A} --why Training".lower().replace("training", "Training"), "in all: 8 slots closed")
-    task("a new one", ("Short", "court-3"), ("Kind", "court"), ("Places", "2"), ("Points", "100"), ("Opening", "8-22"), ("Do it", ENTER)).has("a new court", "office club add-facility court-3 court 2 100 8 22")
+    task("a new facility", ("Short", "court-3"), ("Kind", "court"), ("Places", "2"), ("Points", "100"), ("Opening", "8-22"), ("Do it", ENTER)).has("a new court", "office club add-facility court-3 court 2 100 8 22")
     task("the page's list").has("the page's list", "club.json: done")
     task("the board's page").has("the board's page", f"report-{TODAY.year}.html")
     done("close", str(TODAY - datetime.timedelta(3)), "10", "court-3", "--yes")
     task("a new year", ("Shall", "n")).has("a new year that isn't confirmed", "not confirmed")
     task("a new year", ("Shall", "y")).has("a new year", "office club new-year", "copies the whole file to", "done")
     task("put a copy", ("Number", "1"), ("Shall", "n")).has("a restore that isn't confirmed", "not confirmed")
-    task("all of them").has("all courts", "court-3")
+    task("all facilities").has("all courts", "court-3")
 
 
 def what_is_odd():

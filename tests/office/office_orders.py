@@ -114,7 +114,7 @@ def lists(server, amy, bob):
     same("money", done("money", "amy", "--csv"), "member,credited,charged,refunded,balance\namy,10000,800,0,9200\n")
     same("money of all", len(lines("money")), 3)
     same("closed", done("closed", "--csv", *AT), f"facility,day,hour\ncourt-1,{DAY},9\n")
-    same("check", done("check"), "the totals are the sums of the bookings\n")
+    same("check", done("check"), "the stored totals match the sums of the bookings\n")
     for words, status in ((["keys", "nobody"], 1), (["bookings", "nobody"], 1), (["bookings", "2026-13-01"], 3), (["money", "x'y"], 3), (["keys", "a b"], 3)):
         refused(words, status, "refused" if status == 1 else "bad value")
     same("what a list leaves", [f for f in os.listdir(HOME) if f.startswith(".")], [])

@@ -31,7 +31,7 @@ def make_season_club():
     Path("/home/anna/season.csv").write_bytes(made.encode("latin-1"))
     out = done("import", "season.csv", "--quota", "5", "--points", "1000", "--passes", "season", "--yes").splitlines()
     same("how the list was read", " ".join(" ".join(out[:3]).split()).partition(" line ")[0],
-         "read as Latin-1 with ; between the columns: surname = Nachname, first name = Vorname, mail = E-Mail, telephone = Telefon; passed over: Straße")
+         "the list was read as Latin-1 with ; between the columns: surname = Nachname, first name = Vorname, mail = E-Mail, telephone = Telefon; ignored columns: Straße")
     configure(PAGES=pages, ZONE_NAME="Etc/UTC", TITLE='"Our club"', SITE="https://desk.example.org")
     server = Service(at=f"{today}T08:00")
     lines_of = {"PAGES": pages, "ZONE_NAME": "Etc/UTC", "TITLE": '"Our club"', "SITE": "https://desk.example.org", "PORT": server.port}
@@ -43,12 +43,12 @@ def lists_as_they_are_written():
     """The office can read a list with tabs, with a byte-order mark, in UTF-16, or with other column names. Before the import, the office prints how
     it reads the list."""
     for called, data, words, read in (
-        ("tabs.csv", "name\tquota\tpoints\nTab Ulator\t1\t5\n".encode(), [], "read as UTF-8 with tab between the columns: name = name, quota = quota, points = points"),
-        ("mark.csv", "\ufeffname,quota,points\nBörte Mark,1,5\n".encode(), [], "read as UTF-8 with , between the columns: name = name, quota = quota, points = points"),
-        ("dotless.csv", "name;quota;points\nYıldız, Çağrı;1;5\n".encode("utf-8-sig"), [], "read as UTF-8 with ; between the columns: name = name, quota = quota, points = points"),
-        ("wide.csv", "name;quota;points\nWíde Ünit;1;5\n".encode("utf-16"), [], "read as UTF-16 with ; between the columns: name = name, quota = quota, points = points"),
+        ("tabs.csv", "name\tquota\tpoints\nTab Ulator\t1\t5\n".encode(), [], "the list was read as UTF-8 with tab between the columns: name = name, quota = quota, points = points"),
+        ("mark.csv", "\ufeffname,quota,points\nBörte Mark,1,5\n".encode(), [], "the list was read as UTF-8 with , between the columns: name = name, quota = quota, points = points"),
+        ("dotless.csv", "name;quota;points\nYıldız, Çağrı;1;5\n".encode("utf-8-sig"), [], "the list was read as UTF-8 with ; between the columns: name = name, quota = quota, points = points"),
+        ("wide.csv", "name;quota;points\nWíde Ünit;1;5\n".encode("utf-16"), [], "the list was read as UTF-16 with ; between the columns: name = name, quota = quota, points = points"),
         ("map.csv", "Player,Balance,Team\nMap Ola,5,A\n".encode(), ["--columns", "name=Player,points=Balance", "--quota", "1"],
-         "read as UTF-8 with , between the columns: name = Player, points = Balance; passed over: Team"),
+         "the list was read as UTF-8 with , between the columns: name = Player, points = Balance; ignored columns: Team"),
     ):
         Path(f"/home/anna/{called}").write_bytes(data)
         out = done("import", called, *words, "--passes", "written", "--yes")
@@ -106,17 +106,17 @@ def for_hours(day):
     slots, key = [f"court-1 {day} {hour:02d}:00" for hour in range(24)], "oez-ali-office"
     shown = lines("book", "oez-ali", "court-1", str(day), "9-11")
     same("two bookings", [it.rsplit(" ", 1)[0] for it in shown[:2]], [f"booked {slots[hour]} for oez-ali, 1 person, 200 points: {key}" for hour in (9, 10)])
-    same("their sum", shown[2:], ["in all: 2 booked, 400 points"])
+    same("their sum", shown[2:], ["slots booked in all: 2, for 400 points"])
     same("their lines in the book", book_lines("book")[-2:], [f"anna 0 book oez-ali court-1 {day} {hour}" for hour in (9, 10)])
     refused(["book", "oez-ali", "court-1", str(day), "9-11"], 1, f"refused: {slots[9]} is already booked for oez-ali: {key}")
     shown = lines("book", "oez-ali", "court-1", str(day), "9-12")
     same("those that are booked aren't booked again", [it.rpartition(": ")[0] for it in shown[:2]], [f"{slots[hour]} is already booked for oez-ali" for hour in (9, 10)])
-    same("the others are", (shown[2].split(",")[0], shown[3:]), (f"booked {slots[11]} for oez-ali", ["in all: 1 booked, 200 points"]))
+    same("the others are", (shown[2].split(",")[0], shown[3:]), (f"booked {slots[11]} for oez-ali", ["slots booked in all: 1, for 200 points"]))
     status, out, errors = office("book", "oez-ali", "court-1", str(day), "12-16")
-    same("as far as the points go", (status, out.splitlines()[-1]), (1, "in all: 2 booked, 400 points"))
+    same("as far as the points go", (status, out.splitlines()[-1]), (1, "slots booked in all: 2, for 400 points"))
     same("and no further", ("refused: the desk says: " in errors, f"not done: {slots[14]}, {slots[15]}" in errors), (True, True))
     shown = lines("cancel-for", "oez-ali", "court-1", str(day), "9-14")
-    same("all cancelled", (len(shown), shown[-1]), (6, "in all: 5 cancelled, 1000 points back"))
+    same("all cancelled", (len(shown), shown[-1]), (6, "bookings cancelled in all: 5, with 1000 points back"))
     refused(["cancel-for", "oez-ali", "court-1", str(day), "9-11"], 1, f"not done: {slots[9]}, {slots[10]}")
     whole("several hours")
 
@@ -285,7 +285,7 @@ def old_years(server):
     whole("a past year")
     before = done("report", str(year - 1), "--to", "before.html")
     done("new-year", "--before", f"{year}-01-01", "--yes")
-    same("the page is in", before.split(",")[0].strip(), "the page is in before.html")
+    same("the report is in", before.split(",")[0].strip(), "the report is in before.html")
     done("report", str(year - 1), "--to", "after.html")
     first, second = (re.sub("<p class=\"note\">made on.*?</p>", "", run_as("anna", "cat", it)[1]) for it in ("before.html", "after.html"))
     same("the board's page of a year is the same after it left the file", second == first, True)

@@ -104,7 +104,7 @@ import pexpect
 line = ["-t", sys.argv[1], "-a", "--", "runuser", "-u", "anna", "--", "env", "-i", "PATH=/usr/bin:/bin", "LANG=C.UTF-8", "TERM=dumb", "HOME=/home/anna", "sh", "-c", "cd; exec office club"]
 it = pexpect.spawn("nsenter", line, encoding="utf-8", timeout=60, dimensions=(50, 80))
 for question, answer in (
-    ("Task: ", "a new one"), ("Short name", "court-1"), ("Kind", "court"), ("Places", "4"), ("Points per", "200"), ("Opening hours", "8-22"), ("Do it", ""), ("Enter for", ""),
+    ("Task: ", "a new facility"), ("Short name", "court-1"), ("Kind", "court"), ("Places", "4"), ("Points per", "200"), ("Opening hours", "8-22"), ("Do it", ""), ("Enter for", ""),
     ("Task: ", "a new member"), ("Full name", "Amy Möller"), ("Open bookings", "99"), ("Points", "100000"), ("Do it", ""), ("Enter for", ""), ("Task: ", ""),
 ):
     it.expect(question)

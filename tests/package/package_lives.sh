@@ -303,7 +303,7 @@ in all: 4 changes
 done' "$(cat told)"
 same 'a pass of before' '{"member":"mueller-bob","balance":3000,"quota":2,"open":0,"spent":0}' "$(asks passes/mueller-bob-1 GET account)"
 [ "$(pid_of clubdesk@tennis)" != "$before" ] || fail 'a restore beside a running desk'
-same 'the totals of her club' 'the totals are the sums of the bookings' "$(office anna check)"
+same 'the totals of her club' 'the stored totals match the sums of the bookings' "$(office anna check)"
 [ "$(office anna log | grep -c ' anna 0 ')" -ge 20 ] || fail "the book: $(office anna log)"
 same 'what a clerk reads of the clubs' '' "$(inside runuser -u anna -- sh -c 'cat /var/lib/clubdesk/* /var/backups/clubdesk/* 2>/dev/null' || :)"
 same 'what a clerk reads of the sheets' "$today" "$(inside runuser -u anna -- ls /var/spool/clubdesk/rowing)"
