@@ -1,1 +1,1 @@
-"""The office of a club. deploy/office runs these modules."""
+"""The modules of the program `office`, with which clerks manage a club. deploy/office runs these modules."""

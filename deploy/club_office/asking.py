@@ -100,7 +100,7 @@ def ask_day(prompt, today):
 
 
 def doubts(day, today):
-    """Returns a text which says that a day is past or far ahead, for a booking or a closure. Returns None if members can book the day."""
+    """Returns a warning if a day for a booking or a closure is past or far ahead. Returns None if members can book the day."""
     if day < today:
         return say("is past", day=day_text(day))
     if day > today + datetime.timedelta(BOOKABLE_DAYS):

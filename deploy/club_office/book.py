@@ -1,4 +1,4 @@
-"""Writes the book of commands, and lets only one command at a time change a club."""
+"""Writes the book, which is the log of a club's commands. Lets only one command at a time change a club."""
 
 import fcntl
 import io
@@ -16,23 +16,23 @@ from club_office.copies import clear_unnamed
 from club_office.faults import STORAGE, Fault, fault, storage_failed
 from club_office.texts import say
 
-# The number of seconds that a command waits until another command's turn ends, and the number of seconds that a line waits for the journal.
+# The greatest number of seconds that a command waits for its turn, and that the office waits until the journal accepts a line.
 WAITS_FOR_TURN = 60
 WAITS_FOR_JOURNAL = 2
 JOURNAL = "/run/systemd/journal/socket"
-# The greatest number of bytes in a line. The journal and the file accept a line of this length without truncation.
+# The greatest number of bytes in a line of the book. The journal and the file accept a line of this length without truncation.
 MOST_LINE = 8_000
 BEGUN = re.compile(r"(?s)20[0-9-]{8}T[0-9:]{8} \S+ \? .*")
-# A terminal sends these signals at Ctrl-Z, when it closes, and to background processes. These signals don't stop a command that has its turn.
+# A terminal sends these signals after Ctrl-Z, when it closes, and to background processes. A command ignores these signals during its turn.
 HELD_BACK = (signal.SIGTSTP, signal.SIGHUP, signal.SIGTTIN, signal.SIGTTOU)
 
 
 def clerk():
-    """Returns the name of the user who gives the command: sudo's caller, or root."""
+    """Returns the name of the user who gives the command: sudo's caller, the clerk in OFFICE_CLERK, or the user of this process."""
     return os.environ.get("SUDO_USER") or os.environ.get("OFFICE_CLERK") or pwd.getpwuid(os.getuid()).pw_name
 
 
-# ---- Lines of the book. A line goes to a file if the configuration names a file, if there is no journal, or if the journal doesn't take the line.
+# ---- Lines of the book. A line goes to a file if the configuration names a file, if there is no journal, or if the journal doesn't accept the line.
 
 
 def printable(text):
@@ -64,7 +64,7 @@ def write_line(club, line):
 
 
 def is_taken(club, line):
-    """Returns whether the journal took a line before the timeout."""
+    """Sends a line to the journal, and returns whether the journal accepted it before the timeout."""
     fields = {"MESSAGE": line, "PRIORITY": "6", "SYSLOG_IDENTIFIER": "clubdesk-office", "CLUBDESK_CLUB": club.name}
     with socket.socket(socket.AF_UNIX, socket.SOCK_DGRAM) as journal:
         journal.settimeout(WAITS_FOR_JOURNAL)
@@ -95,9 +95,9 @@ def add_line(path, line):
 class Turn:
     """The turn of a command that changes a club: a lock on FILE-orders. Only one command has the turn at a time.
 
-    While a command runs, FILE-orders has the command's line for the book, with a question mark as status. If FILE-orders has a line when a command
-    gets the lock, this line belongs to an interrupted command, and goes into the book unchanged. Lines for standard error wait until the command
-    releases the lock. So a terminal that takes no output, as after Ctrl-S, doesn't block other commands. """
+    While a command runs, FILE-orders has the command's line for the book, with a question mark as status. When a command gets the lock, FILE-orders
+    may still have the line of an interrupted command. This line goes into the book unchanged. Lines for standard error wait until the command
+    releases the lock. So a terminal that accepts no output, as after Ctrl-S, doesn't block other commands."""
 
     def __init__(self, club):
         self.club = club
@@ -135,8 +135,8 @@ class Turn:
         raise storage_failed("order under way", seconds=WAITS_FOR_TURN)
 
     def is_gained(self):
-        """Returns whether this process got the lock. The process blocks signals, so that no signal stops it after it takes the lock and before it
-        ignores the signals."""
+        """Tries to take the lock, and returns whether this process got it. The signals of HELD_BACK are blocked in the meantime, so that none stops
+        the process between taking the lock and ignoring the signals."""
         signal.pthread_sigmask(signal.SIG_BLOCK, HELD_BACK)
         try:
             fcntl.flock(self.file, fcntl.LOCK_EX | fcntl.LOCK_NB)

@@ -1,5 +1,6 @@
-"""Restores a club from its other place after the loss of its machine. Restores the configuration, the newest tested copy, persons, reasons, season
-points, and old years' files. The restore leaves existing files unchanged, so it can be run again after an interruption."""
+"""Restores a club from the place of its copies after the loss of its machine. Restores the configuration, the newest tested copy, the persons, the
+reasons for closures, the season points, the book, and the files of old years. The restore leaves existing files unchanged, so it can be run again
+after an interruption."""
 
 import grp
 import io
@@ -17,14 +18,14 @@ from club_office.places import BESIDE, NAME, OLD_YEAR, kept_in, place_of, given_
 from club_office.restoring import brought
 from club_office.texts import say
 
-# The name of a file in the archive: a part of the archive and the file's name in this part, or the list of clerks.
+# The name of a file in the archive. The name is a folder and a file name, such as conf/club.conf, or `clerks` for the list of clerks.
 MEMBER = re.compile(r"(conf|beside|titles|logo)/([A-Za-z0-9][A-Za-z0-9._-]{0,60})|clerks")
 MOST_BYTES = 50_000_000
 MOST_CLERKS = 100
 
 
 def read_beside(data):
-    """Returns the files of an archive by their names. Leaves out files that no club has."""
+    """Returns the contents of an archive's files, by their names. Skips names that no archive of a club has, and files that are too large."""
     found = {}
     try:
         with tarfile.open(fileobj=io.BytesIO(data)) as archive:
@@ -37,7 +38,8 @@ def read_beside(data):
 
 
 class Bringing:
-    """Restores a club from its other place. For each file, the restore calls `said` with the path, and with whether the restore created the file."""
+    """Restores a club from the place of its copies. For each file, the restore calls `said` with the path, and with False if the file already
+    existed."""
 
     def __init__(self, text, called, configurations, said):
         self.place = place_of(text)
@@ -52,7 +54,7 @@ class Bringing:
         beside = sorted(it.name for it in self.there if BESIDE.fullmatch(it.name))
         if not beside:
             raise refusal("place without conf", place=text)
-        # For an older copy, the restore uses the newest copy's archive, because the place keeps only the newest archive.
+        # An older copy usually has no archive of its own, because the place keeps only the newest archive. Then the restore uses that archive.
         self.files = read_beside(given_by(self.place, f"{self.copy}.tar" if f"{self.copy}.tar" in beside else beside[0], True))
         names = sorted(name.removeprefix("conf/").removesuffix(".conf") for name in self.files if re.fullmatch(r"conf/[a-z0-9][a-z0-9-]{0,23}\.conf", name))
         if len(names) != 1:
@@ -103,7 +105,8 @@ class Bringing:
                 self.put(path, b"" if os.path.lexists(path) else given_by(self.place, it.name, True), 0o600, owner)
 
     def bring_club(self, file):
-        """Returns the newest tested copy, or the copy with a given name, after clubdesk has opened it."""
+        """Fetches the newest tested copy, or the copy with the given name. Tests that clubdesk can open the copy, and then gives the copy the name of
+        the club's file."""
         if os.path.lexists(file):
             return self.said(file, False)
         made = f"{file}-brought"

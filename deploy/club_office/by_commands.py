@@ -1,4 +1,4 @@
-"""Makes corrections by commands of clubdesk while the server runs. Shows the correction, asks the clerk, and gives the commands one after the
+"""Makes corrections with commands of clubdesk while the server runs. Shows the correction, asks the clerk, and gives the desk one command after the
 other."""
 
 import contextlib
@@ -38,7 +38,7 @@ class RestDeclined(Fault):
 
 
 def correct(club, words, planned, then):
-    """Shows a correction and asks the clerk. Then gives the desk exactly the commands that the clerk saw. Calls `then` at the end of each turn."""
+    """Shows a correction, asks the clerk, and gives the desk the commands that the clerk saw. Calls `then` at the end of each turn."""
     wants_file(club)
     it = Correction(club, words, planned, then)
     try:
@@ -202,7 +202,7 @@ class Correction:
         raise fault(status, "command undone", order=" ".join(words), said=in_language(said) or f"status {done.returncode}")
 
     def look_again(self):
-        """Prints the bookings outside the new hours that members made after the correction's copy. The new hours stay."""
+        """Prints the bookings outside the new hours that members made after the correction copied the club. The new hours stay in force."""
         try:
             with snapshot(self.club) as db:
                 self.plan(db, None)
@@ -210,7 +210,7 @@ class Correction:
             print(say("booked meanwhile", slots=failure.why), file=sys.stderr)
 
     def give_names(self):
-        """Renames a leaving member and its keys in the file. If the member has booked in the meantime, returns the booked slots and changes
+        """Renames a leaving member and the member's keys in the file. If the member has booked in the meantime, returns the booked slots and changes
         nothing."""
         try:
             with contextlib.closing(file_taken(self.club)) as db:
@@ -236,7 +236,7 @@ class Correction:
 
 
 def refuse_unsound(rows):
-    """Refuses to make a total negative. A change by hand may have made the total too small."""
+    """Refuses to make a total negative. A total can be too small if somebody changed the file by hand."""
     for table, _, was, is_now in rows:
         if table == "slots" and is_now[TAKEN] < 0:
             raise refusal("nothing changed", why=say("taken off", facility=is_now[0], day=date_of(is_now[1]), hour=is_now[2], persons=-is_now[TAKEN]))

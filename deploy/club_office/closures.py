@@ -1,4 +1,5 @@
-"""Keeps the reasons for closed slots, which the page shows. Each line of a file next to the club has a facility, a day, hours and a reason."""
+"""Keeps the reasons for closed slots, which the page shows. The reasons are in a JSON file next to the club. Each entry has a facility, a day, hours
+and a reason."""
 
 import json
 import os
@@ -20,7 +21,7 @@ def reason(word):
 
 
 def reasons_of(club):
-    """Returns the file's lines, oldest first, or none if the file isn't readable."""
+    """Returns the entries of the file, oldest first. Returns no entries if the file is missing or isn't JSON."""
     try:
         with open(club.file + "-reasons", encoding="utf-8") as file:
             return json.load(file)
@@ -45,7 +46,8 @@ def add_reasons(club, words, today):
 
 
 def closures_of(db, reasons, today):
-    """Returns the closed hours from today on that have a reason, in the page's form. If an hour has several reasons, the newest reason counts."""
+    """Returns the closed hours from today on that have a reason, in the form that the page reads. If an hour has several reasons, the newest reason
+    applies."""
     why = {(it["facility"], it["day"], hour): it["why"] for it in reasons for hour in range(it["from"], it["until"])}
     found = []
     for facility, day, hour in db.execute("SELECT facility, day, hour FROM slots WHERE closed = 1 AND day >= ? ORDER BY facility, day, hour", [today]):

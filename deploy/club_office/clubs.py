@@ -19,11 +19,11 @@ from club_office.values import NAME, moment, moment_text
 # The program that the clerk started.
 SELF = os.path.realpath(sys.modules["__main__"].__file__ or "")
 class Club(collections.namedtuple("Club", "name file zone stop book back_ups settings")):
-    """A club on the machine. `settings` has the lines of the configuration, with their names in small letters."""
+    """A club on the machine. `settings` has the lines of the configuration, with their names in lower case."""
 
     @property
     def is_old(self):
-        """Returns whether the club's file is the file of an old year. It allows only lists."""
+        """Returns whether the club's file is the file of an old year. Only commands that print lists work with such a file."""
         return "@" in self.name
 
     @property
@@ -60,7 +60,7 @@ ENDINGS = ("-before", "-book", "-metrics", "-new", "-office", "-offsite", "-orde
 
 
 def is_beside(file, other):
-    """Returns whether clubdesk or the office makes a file of this path next to a club's file."""
+    """Returns whether `other` is a path at which clubdesk or the office makes a file next to the club's file `file`."""
     ending = other.removeprefix(file) if other.startswith(file) else ""
     return ending in ENDINGS or ending.startswith("-until-")
 
@@ -73,14 +73,15 @@ def clubs_of(folder):
 
 
 def refuse_files_of_others(file, folder):
-    """Refuses a club if one of its own files would overwrite another club's file."""
+    """Refuses a club if one of the files next to its own file would overwrite another club's file."""
     for other, path in clubs_of(folder):
         if is_beside(file, path):
             raise refusal("file of another", path=path, club=other)
 
 
 def club_named(called, is_at_desk=False):
-    """Returns the club with a name. NAME@YEAR names the club's file of an old year. After this call, the command's clock is in the club's zone."""
+    """Returns the club with this name. NAME@YEAR stands for the club with the file of an old year. After this call, the process's clock is in the
+    club's zone."""
     word, at, year = called.partition("@")
     if not NAME.fullmatch(word) or at and not re.fullmatch("20[0-9]{2}", year):
         raise bad_value("no club name", word=called)
@@ -102,8 +103,8 @@ def club_named(called, is_at_desk=False):
 
 
 def old_files(file):
-    """Returns the files of old years next to a club, oldest first, each with its last day. If two files have the same day, the file that was changed
-    later counts."""
+    """Returns the files of old years next to a club, oldest first, each with its last day. Of two files with the same day, returns only the file that
+    was changed later."""
     found = {}
     for path in sorted(glob.glob(glob.escape(file) + "-until-*"), key=lambda it: (os.stat(it).st_mtime_ns, it)):
         day = re.fullmatch(r".*-until-([0-9]{4}-[0-9]{2}-[0-9]{2})(-[0-9]+)?", path)
@@ -113,7 +114,7 @@ def old_files(file):
 
 
 def old_file(file, year):
-    """Returns the first file with the whole year, otherwise the last file with a part of the year."""
+    """Returns the first file that contains the whole year. If there is none, returns the last file that contains a part of the year."""
     found = old_files(file)
     whole = [path for day, path in found if day >= f"{year}-12-31"]
     part = [path for day, path in found if day.startswith(year)]
@@ -122,7 +123,7 @@ def old_file(file, year):
     return whole[0] if whole else part[-1]
 
 
-# The PATH of the desk's side, and the environment variables that the desk's side keeps.
+# The desk's side is the process that runs as the desk's user. It has this PATH, and keeps these environment variables.
 PATH = "/usr/local/sbin:/usr/local/bin:/usr/sbin:/usr/bin:/sbin:/bin"
 KEPT = ("LANG", "LC_ALL", "LC_CTYPE", "LOGNAME", "OFFICE_CLERK", "SUDO_USER", "TERM", "COLUMNS", "USER")
 
@@ -136,7 +137,7 @@ def forget_environment():
 
 
 def program(variable, called):
-    """Returns the path of a program. The path is in a variable; without the variable, the office searches the PATH."""
+    """Returns the path of a program from an environment variable. If the variable isn't set, searches the PATH."""
     found = os.environ.get(variable) or shutil.which(called, path=os.environ.get("PATH", "") + ":/usr/local/bin:/usr/bin")
     if not found:
         raise fault(STORAGE, "no program", path=called)
@@ -167,7 +168,7 @@ def refuse_to_come(words):
 
 
 def run_clubdesk(club, command, words, options=(), root=None, held=()):
-    """Starts a command of clubdesk on the club's file. Returns the process, which keeps the descriptors `kept` open."""
+    """Runs a command of clubdesk on the club's file, and returns the completed process. The command keeps the descriptors `held` open."""
     line = [program("CLUBDESK", "clubdesk"), command, *options, "--", club.file, *words]
     return subprocess.run(line, input=root, capture_output=True, check=False, stdin=None if root is not None else subprocess.DEVNULL, pass_fds=held)
 
@@ -181,9 +182,9 @@ def clubdesk(club, command, words, options=(), root=None):
 
 
 def ended_by_itself(line, given=None, **how):
-    """Waits until a command ends. Returns the command's status, and the output that the command wrote into a pipe. clubdesk itself handles Ctrl-C,
-    because a clerk's process can't end sudo's process. A command that only reads counts as interrupted after Ctrl-C. For any other command, the
-    status tells whether the command succeeded."""
+    """Runs a command, and waits until it ends, even after Ctrl-C. Returns the command's status, and the output that the command wrote into a pipe.
+    The command itself must handle Ctrl-C, because a clerk's process can't end sudo's process. After Ctrl-C, raises KeyboardInterrupt for a command
+    that only reads. For any other command, the status shows whether the command succeeded."""
     command = subprocess.Popen(line, **how)
     text, is_interrupted = given, False
     while True:
@@ -211,7 +212,7 @@ def wants_file(club):
 
 
 def desk_user(club):
-    """Returns the owner of the folder that contains the club's file."""
+    """Returns the owner of the folder that contains the club's file, or the user clubdesk if the owner can't be determined."""
     try:
         return pwd.getpwuid(os.stat(os.path.dirname(club.file)).st_uid)
     except (OSError, KeyError):

@@ -68,9 +68,9 @@ class ShowVersion(argparse.Action):
 
 
 Command = collections.namedtuple("Command", "kind words help does")
-# The kinds of commands. clubdesk itself carries out changes, listings and passes. A command of another kind is a correction or a function. A
-# function works on a copy of the club, on the club itself, or on the clerk's side. A command without a help text is internal: only the clerk's side
-# calls it.
+# The kinds of commands. clubdesk carries out a command of the kind ORDER, LOOK or PASS. A CORRECTION changes the club after a preview. The office's
+# own functions carry out the other kinds: LIST on a copy of the club, DESK on the club itself, and COUNTER on the clerk's side. A command without a
+# help text is internal: only the clerk's side calls it.
 ORDER, LOOK, PASS, LIST, CORRECTION, DESK, COUNTER = "order look pass list correction desk counter".split()
 
 # The greatest number of words of a command, including its name, and the greatest number of bytes of a word.
@@ -293,7 +293,7 @@ COMMANDS = {
 
 
 def words_of(given, is_desk):
-    """Parses a command line with the table of commands."""
+    """Parses a command line according to COMMANDS."""
     top = Words(prog="office", description="The office of a club, for clerks who are not root: office CLUB COMMAND [WORD ..].", epilog="office CLUB COMMAND --help shows the arguments of a command.")
     top.add_argument("--version", action=ShowVersion, nargs=0, help="print the program's name and version")
     top.add_argument("club", metavar="CLUB", help="a club that /etc/clubdesk/CLUB.conf describes")
@@ -358,7 +358,7 @@ def at_desk(given):
 
 
 def keep_outputs(club, words):
-    """Updates the files next to the club after a correction: the reasons for closed slots, and the page's list."""
+    """Updates two files after a correction: the reasons for closed slots, and the page's list."""
     if words.command == "close" and words.why:
         outputs.keep_reasons(club, words)
     if words.command in ("set-facility", "close", "reopen-slot", "undo"):
@@ -389,7 +389,7 @@ def look(club, words, command):
 
 @contextlib.contextmanager
 def old_year_copied(club):
-    """Yields the club, or a copy of an old year's file. The copy is necessary because clubdesk would change the file when it opens it."""
+    """Yields the club. For an old year, yields the club with a copy of the file, because clubdesk may change a file when it opens the file."""
     if not club.is_old:
         yield club
         return
@@ -410,7 +410,7 @@ def show_names(club, sheet):
 
 
 def refuse_too_much(given):
-    """Refuses a command with too many words or bytes, because the book has no room for it. No clerk needs such a command."""
+    """Refuses a command with too many words or bytes, because its line wouldn't fit into the book. No clerk needs such a command."""
     if len(given) > MOST_WORDS or any(len(os.fsencode(it)) > MOST_BYTES for it in given):
         raise bad_value("too many words", words=MOST_WORDS, bytes=MOST_BYTES)
 
@@ -443,14 +443,15 @@ def at_counter(given):
 
 
 def each_hour(given, words):
-    """Expands a command. A command of clubdesk that takes one hour becomes one command for each of several hours."""
+    """Returns the commands to run for a typed command. The commands close-slot and show-slot accept only one hour, so several hours become several
+    commands."""
     read = read_hours(words.hour) if words.command in ("close-slot", "show-slot") and not words.hour.isdigit() else None
     return [[*given[:2], words.facility, words.day, f"{hour:02d}"] for hour in range(*read)] if read else [given]
 
 
 def carry_out_each(club, commands):
-    """Runs several commands, and stops at the first command that fails. Lists the commands first, and at the end prints the commands that it didn't
-    carry out."""
+    """Runs several commands, and stops at the first command that fails. If the commands change the club, prints them first. At the end, prints the
+    commands that it didn't run."""
     lines, count = [shlex.join(["office", *it]) for it in commands], 0
     if COMMANDS[commands[0][1]].kind == ORDER:
         print(*lines, sep="\n", flush=True)
@@ -475,7 +476,7 @@ def carry_out(club, given):
 
 
 def read_at_counter(given):
-    """Returns a command's words in the form that the desk's side takes. At a terminal, asks the clerk about odd words."""
+    """Returns a command's words in the form that the desk's side expects. At a terminal, asks the clerk about odd input."""
     club, called, command = club_named(given[0]), given[1], COMMANDS[given[1]]
     reader = Reader(club, called)
     made = [*given[:2], *read_words(reader, command, given[2:])]
@@ -487,7 +488,7 @@ def read_at_counter(given):
 def main():
     given = sys.argv[1:]
     try:
-        # If a word isn't UTF-8, prints its invalid bytes as numbers.
+        # If a printed word isn't UTF-8, its invalid bytes appear as numbers.
         sys.stdout.reconfigure(errors="backslashreplace")
         refuse_too_much(given)
         if given[:1] == ["--desk"]:

@@ -1,4 +1,5 @@
-"""Makes copies of a club: copies in memory for lists, copies from before corrections, and copies byte for byte."""
+"""Makes copies of a club. Lists read a copy in memory. A correction first makes a copy in a folder. The command new-year copies the file byte for
+byte."""
 
 import contextlib
 import glob
@@ -18,7 +19,8 @@ from club_office.faults import storage_failed
 
 BACK_UPS_KEPT = 30
 MEMORY = "/dev/shm"
-# The number of free inodes that a copy in memory requires: for its folder, its file and its log, and a few more for other programs.
+# A copy in memory requires this number of free inodes. The copy needs inodes for its folder, its file and its log, and other programs need a few
+# more.
 FILES_FREE = 20
 
 
@@ -36,7 +38,8 @@ def begun_at(process):
 
 
 def clear_killed(home):
-    """Removes the folders that this user's ended processes left. The name of each folder contains the number of its process."""
+    """Removes the folders that ended processes of this user left behind. The name of each folder contains the number and the start time of its
+    process."""
     for stale in glob.glob(os.path.join(glob.escape(home), ".office-*")):
         owner = re.match(r"\.office-([0-9]+)-([0-9]+)-", os.path.basename(stale))
         with contextlib.suppress(OSError):
@@ -45,14 +48,14 @@ def clear_killed(home):
 
 
 def clear_left(club):
-    """Removes the copies that killed commands left."""
+    """Removes the temporary copies that killed commands left behind."""
     for home in {MEMORY, os.path.dirname(club.file)}:
         clear_killed(home)
 
 
 def homes(club, size=None):
-    """Returns the folders that may get copies of the club, or of a file of this size. The first folder is in memory if the memory has room, and the
-    last folder is the folder of the club's file."""
+    """Returns the folders in which a temporary copy of the club, or of a file of this size, can be. If the memory has room, the first folder is in
+    memory. The last folder is the folder of the club's file."""
     beside = os.path.dirname(club.file)
     if size is None:
         size = sum(os.path.getsize(club.file + it) for it in ("", "-wal") if os.path.exists(club.file + it))
@@ -68,7 +71,7 @@ def homes(club, size=None):
 
 @contextlib.contextmanager
 def scratch(club, home=None):
-    """Yields a folder, and removes it at the end. First removes the folders that killed commands left."""
+    """Yields a folder, and removes it at the end. First removes the folders that killed commands left behind."""
     clear_left(club)
     prefix = f".office-{os.getpid()}-{begun_at('self')}-"
     with tempfile.TemporaryDirectory(prefix=prefix, dir=home or homes(club)[0], ignore_cleanup_errors=True) as folder:
@@ -137,7 +140,7 @@ def name_new(made, path):
 
 def is_named(made, path):
     """Gives a file a name if no other file has the name. On a disk without hard links, the function first creates an empty file with the name. Then
-    the file replaces the empty file."""
+    the given file replaces the empty file. Returns whether the file got the name."""
     try:
         os.link(made, path)
     except FileExistsError:
@@ -154,7 +157,7 @@ def is_named(made, path):
 
 
 def clear_unnamed(club):
-    """Removes the unnamed copies that a killed command left. Wants the turn."""
+    """Removes the unfinished copies that a killed command left behind. The caller must have the turn."""
     folder = glob.escape(club.file)
     for stale in [*glob.glob(f"{folder}-before/.*.new*"), *glob.glob(f"{folder}-until-*.new")]:
         with contextlib.suppress(OSError):
@@ -170,15 +173,16 @@ def synced(path):
 
 
 def is_run(words):
-    """Returns whether another program succeeded. The program's lines go to this program's standard error, which waits until the turn ends."""
+    """Runs another program, and returns whether it succeeded. Its error messages go to this program's standard error, which waits until the turn
+    ends."""
     done = subprocess.run(words, check=False, stdin=subprocess.DEVNULL, stdout=subprocess.DEVNULL, stderr=subprocess.PIPE, text=True, errors="replace")
     print(done.stderr, end="", file=sys.stderr)
     return done.returncode == 0
 
 
 def copy_file(club, db, to):
-    """Copies the file and its log, byte for byte, in another process. If this process opened and closed the file, the process would lose its
-    locks."""
+    """Moves the log into the file, and copies the file byte for byte. Another process makes the copy, because this process would lose its locks if it
+    opened and closed the file."""
     if db.execute("PRAGMA wal_checkpoint(TRUNCATE)").fetchone()[0]:
         raise storage_failed("log uncopied")
     place = next(path for path in [to, *(f"{to}-{more}" for more in range(2, 1000))] if not os.path.exists(path))
@@ -189,7 +193,7 @@ def copy_file(club, db, to):
 
 
 def lost_name(club):
-    """Returns an unused name for a file that another file replaces."""
+    """Returns an unused name for a file that another file will replace."""
     called = f"{club.file}-lost-{time.strftime('%Y-%m-%dT%H-%M-%S')}"
     names = itertools.chain([called], (f"{called}-{more}" for more in itertools.count(2)))
     return next(it for it in names if not os.path.lexists(it) and not os.path.lexists(it + "-wal"))

@@ -1,4 +1,5 @@
-"""Makes corrections that need the file. Shows the correction, asks the clerk, and carries it out while no server has the file open."""
+"""Makes corrections that write into the club's file. Shows a correction, asks the clerk, and carries out the correction while no server has the file
+open."""
 
 import contextlib
 import sqlite3
@@ -49,8 +50,7 @@ def preview(club, words, planned):
 
 
 def carry_out(club, words, planned, plans, shown):
-    """Carries out a correction on the club. If the correction's effect differs from the shown effect, changes nothing. Adds the plan to the list of
-    plans."""
+    """Carries out a correction on the club. If the correction's effect differs from the shown effect, changes nothing. Adds the plan to `plans`."""
     try:
         with contextlib.closing(file_taken(club)) as db:
             plan = planned(db, words, now_of(words))
@@ -72,8 +72,9 @@ def carry_out(club, words, planned, plans, shown):
 
 
 def file_taken(club):
-    """Returns a connection to the file that excludes all other connections. If a server has the file, the club's service stops the server, and
-    restarts it after a second. The restarted server waits for the file until this connection ends, even if a signal kills this process."""
+    """Returns a connection to the file that excludes all other connections. If a server has the file open, this function stops the server, and the
+    club's service restarts the server after a second. The restarted server waits for the file until this connection ends, even if a signal kills this
+    process."""
     db = sqlite3.connect(address(club.file, "rw"), uri=True, timeout=0, isolation_level=None)
     try:
         db.execute("PRAGMA locking_mode = EXCLUSIVE")
@@ -107,7 +108,7 @@ def take(club, db):
 
 
 def ended(club):
-    """Stops the club's server. Returns the error message, for example if the service doesn't exist."""
+    """Stops the club's server. Returns the error message, for example if the service doesn't exist. Returns an empty text if there was no error."""
     try:
         done = subprocess.run(club.stop, stdin=subprocess.DEVNULL, capture_output=True, text=True, errors="replace", check=False, timeout=WAITS_FOR_FILE)
     except (OSError, subprocess.TimeoutExpired) as fault:

@@ -1,4 +1,4 @@
-"""The clerk's side of every command: runs commands as the desk's user by sudo, and reads and writes the clerk's own files."""
+"""The clerk's side of every command: runs commands as the desk's user through sudo, and reads and writes the clerk's own files."""
 
 import contextlib
 import heapq
@@ -22,13 +22,13 @@ from club_office.spares import PASSES
 from club_office.texts import say
 
 
-# A past minute, so that a rotated key's older root expires at once.
+# A past minute. With this minute, the old root of a rotated key expires at once.
 LONG_AGO = "2000-01-01T00:00"
 
 
 def desk_line(club, words):
-    """Returns the words that run a command as the desk's user, and the options for starting the process. `--own` means that the caller owns the
-    club."""
+    """Returns a command line that runs a command as the desk's user, and the options for starting the process. `--own` means that the caller is the
+    desk's user."""
     user = desk_user(club)
     if os.geteuid() == user.pw_uid:
         return [sys.executable, "-I", SELF, "--own", club.name, *words], {}
@@ -47,8 +47,8 @@ def as_desk(club, words, given=None):
 
 
 def make_pass(club, words):
-    """Runs add-key or rotate-key. An argument or standard input gives the root, otherwise the root is random. The pass goes to standard output, or
-    to a new file."""
+    """Runs add-key or rotate-key. The root comes from an argument or from standard input. Without either, the root is random. The pass goes to
+    standard output, or to a new file."""
     if words.command == "lost-pass":
         words.root, words.root_stdin, words.moment = None, False, LONG_AGO
     if words.root and words.root_stdin:
@@ -78,7 +78,8 @@ def make_pass(club, words):
 
 
 def lost_files(words):
-    """Returns the files that may contain the lost pass: the file `to`, and the file where letters look for the pass. Other commands lose none."""
+    """For lost-pass, returns the files that contain the lost pass. Checks the file of --to, and the file where letters look for the pass. For other
+    commands, returns no files."""
     found = []
     for path in (words.to, os.path.join(PASSES, words.key)) if words.command == "lost-pass" else ():
         with contextlib.suppress(OSError, ValueError, TypeError), open(path, encoding="ascii") as file:
@@ -96,7 +97,8 @@ def remove_lost(words, paths):
 
 
 def read_book(club, words):
-    """Returns the lines of the book. The lines are in the system's journal, from the desk's user, and in the file."""
+    """Prints the lines of the book, or only the lines that contain a word. The lines are in the book's file, and in the system's journal, where the
+    desk's user wrote them."""
     status, text = as_desk(club, ["show-book"])
     found = [text]
     if status == 0 and is_in_journal(club):
@@ -124,7 +126,7 @@ def show_book(club):
 
 
 def ask_person(club, words):
-    """Asks for a member's personal data. Passes the data to the desk's side by standard input, never in an argument."""
+    """Asks for a member's personal data. Passes the data to the desk's side through standard input, never in an argument."""
     status, text = as_desk(club, ["show-person", words.member])
     if status:
         return status
@@ -158,8 +160,8 @@ def write_report(club, words):
 
 
 def print_to_pdf(place):
-    """Prints the page as PDF with a browser of the machine. Returns None if the machine has no browser, if the browser fails, or if a file got the
-    PDF's name in the meantime."""
+    """Prints the page as PDF with a browser of the machine. Returns the PDF's path, or None if the machine has no browser, if the browser fails, or
+    if a file got the PDF's name in the meantime."""
     browser = shutil.which("chromium") or shutil.which("chromium-browser")
     made = os.path.splitext(place)[0] + ".pdf"
     if not browser or os.path.lexists(made):

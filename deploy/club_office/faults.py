@@ -6,7 +6,7 @@ REFUSED, USAGE, BAD_VALUE, STORAGE, OUTPUT = 1, 2, 3, 5, 7
 
 
 class Fault(Exception):
-    """Ends the command with a status and a line on standard error. `said` is the line without the prefix."""
+    """Ends the command with a status and a line on standard error. `why` is the line without the prefix."""
 
     def __init__(self, status, line, why=None):
         super().__init__(line)
@@ -15,7 +15,7 @@ class Fault(Exception):
 
 
 def fault(status, text, /, **values):
-    """Returns a fault whose line is a text of the tables of texts."""
+    """Returns a fault whose line comes from the office's table of texts."""
     return Fault(status, say(text, **values))
 
 
@@ -25,12 +25,12 @@ def refusal(text, /, **values):
 
 
 class NothingLeft(Fault):
-    """The refusal if an earlier command has already made the whole change. If a clerk repeats an interrupted command and gets this
+    """The refusal of a command because an earlier command has already made the whole change. If a clerk repeats an interrupted command and gets this
     refusal, the change is complete."""
 
 
 class Doubtful(Fault):
-    """The refusal to continue an interrupted command. If a clerk repeats the command, it starts from the beginning."""
+    """The refusal to continue an interrupted command. If a clerk repeats the refused command, it starts from the beginning."""
 
 
 def doubtful(text, /, **values):

@@ -38,10 +38,10 @@ def read_given():
 
 
 def import_row(club, words):
-    """Imports a row: member, credit, key and person. Adds only what is missing of these four. Prints the pass of a new key.
+    """Imports a row: member, credit, key and person. Adds only those of the four that are missing. Prints the pass of a new key.
 
-    Standard input has the person, and the roots that this import drew for the key. The newest root comes last. If the key already has one of these
-    roots, this import made the key, and nobody has a pass of the key yet. So the key gets the newest root.
+    Standard input has the person, and the roots that this import generated for the key. The newest root comes last. If the key already has one of
+    these roots, this import made the key, and nobody has a pass of the key yet. Then the key gets the newest root.
     """
     roots, person = read_given()
     passes = []
@@ -174,13 +174,13 @@ def state(row, members, keys, folder):
 
 
 def mark_of(folder, key):
-    """Returns the path of a key's mark: a file with the roots drawn for the key, and the digest of its pass. The import writes the mark before it
-    makes the key, and removes the mark when the file of the pass has its final name."""
+    """Returns the path of a key's mark: a file with the roots generated for the key, and the digest of the key's pass. The import writes the mark
+    before it makes the key, and removes the mark when the file of the pass has its final name."""
     return os.path.join(folder, f".{key}.roots")
 
 
 def read_mark(mark):
-    """Returns the roots in a mark, and the digest of the pass made from the last root. The digest is missing if no pass was made."""
+    """Returns the roots in a mark, and the digest of the pass made from the last root. The digest is empty if no pass was made."""
     words = []
     with contextlib.suppress(FileNotFoundError), open(mark, encoding="ascii") as file:
         words = file.read().split()
@@ -192,15 +192,15 @@ def write_mark(mark, roots, digest=None):
 
 
 def row_fault(status, row, text, **values):
-    """Raises a row's fault, with the line number if the row is from a list."""
+    """Returns a row's fault, with the line number if the row is from a list."""
     if row.line is None:
         return fault(status, text, **values)
     return refusal("at line", line=row.line, why=say(text, **values)) if status == REFUSED else fault(status, "at line", line=row.line, why=say(text, **values))
 
 
 def import_one(club, row, folder):
-    """Imports a row, and removes its mark when the file of the pass has its final name. If another program made a file of that name, leaves this
-    file."""
+    """Imports a row, and removes its mark when the file of the pass has its final name. If another program has made a file with that name, raises a
+    fault and keeps the file."""
     place, mark = os.path.join(folder, row.key), mark_of(folder, row.key)
     taken = row_fault(REFUSED, row, "other's file", path=place)
     roots, digest = read_mark(mark)

@@ -18,7 +18,7 @@ def table(heads, rows, as_csv):
 
 
 def aligned(heads, rows):
-    """Formats rows and column heads as lines. Numbers are aligned right."""
+    """Formats rows and column heads as lines. Numbers are right-aligned."""
     words = {"no", "yes", "none", "court", "boat", "room"}
     cells = [[head(it) for it in heads], *([head(cell) if cell in words else str(cell) for cell in row] for row in rows)]
     widths = [max(len(row[column]) for row in cells) for column in range(len(heads))]
@@ -133,7 +133,7 @@ def list_faults(db, _words, _now):
 
 
 def faults(db):
-    """Returns sentences about wrong totals, references and limits, or an empty set for a sound club."""
+    """Returns a sentence for each wrong total, wrong reference and exceeded limit. Returns an empty set for a sound club."""
     found = set()
     for member, used, spent in db.execute(
         """SELECT members.name, used, coalesce(sum(charge - refund), 0) AS spent

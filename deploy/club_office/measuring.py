@@ -1,6 +1,6 @@
-"""Writes metrics of a club's desk in Prometheus' text format. The metrics are the number of requests by status and time, the number of commands by
-status, the age of the copies, sizes, and the version. Counts the requests in the desk's log, and the commands in the book. FILE-metrics has the
-counts, and the positions of the last lines that the previous run read."""
+"""Writes metrics of a club's desk in Prometheus' text format. The metrics are the numbers of requests and commands by status, the times of requests,
+the age of the copies, the sizes of the club's files, and the version. The requests come from the desk's log, and the commands come from the book.
+FILE-metrics has the counts, and the positions in the log and in the book where the previous run stopped reading."""
 
 import json
 import os
@@ -66,7 +66,7 @@ def book_lines(club, counts):
             begin = counts["book"] if counts["book"] is not None and counts["book"] <= size else 0
             book.seek(begin)
             data = book.read()
-            # The next run reads a line that is still incomplete.
+            # If the last line is still incomplete, the next run reads it.
             whole = data[: data.rfind(b"\n") + 1]
             counts["book"] = begin + len(whole)
             found += whole.decode(errors="replace").split("\n")
@@ -94,7 +94,7 @@ def count(club, counts):
 
 
 def ages(club):
-    """Returns the ages of the newest copy on this machine and of the newest copy elsewhere, in seconds, by place."""
+    """Returns the ages of the newest copy on this machine and of the newest copy elsewhere, in seconds. The keys are `here` and `off-site`."""
     found = {}
     nights = [it.moment for it in copies_of(club) if it.kind == "back-up"]
     if nights:
@@ -122,7 +122,7 @@ class Text:
         self.club, self.lines = club.name, []
 
     def add(self, name, kind, about, *values):
-        """Adds a metric: its kind, its description, and its values. Each value has a suffix of the name, and labels."""
+        """Adds a metric with its kind, its description and its values. Each value comes with a suffix for the metric's name and with labels."""
         self.lines += [f"# HELP clubdesk_{name} {about}", f"# TYPE clubdesk_{name} {kind}"]
         for end, labels, value in values:
             named = "".join(f',{it}="{text}"' for it, text in labels.items())

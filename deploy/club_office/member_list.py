@@ -15,7 +15,7 @@ from club_office.values import MOST_CREDIT, name, number
 
 Row = collections.namedtuple("Row", "line written member quota points key person")
 MOST_BYTES = 2_000_000
-# The accepted column names, without accents and in small letters.
+# The accepted column names, without accents and in lower case.
 HEADS = {
     "name": ("name", "member", "mitglied", "full name", "anzeigename"),
     "surname": ("surname", "last name", "family name", "nachname", "familienname"),
@@ -54,7 +54,7 @@ def decoded(path, data, called):
 
 
 def columns_of(path, heads, given):
-    """Returns the meaning of each column. A column's name gives its meaning, or a map does, such as name=Player,points=Balance."""
+    """Returns the position of the column for each kind of value. Recognizes a column by its name, or by a map such as name=Player,points=Balance."""
     called = [plain(it) for it in heads]
     found = {}
     for what, names in HEADS.items():
@@ -79,7 +79,7 @@ def cells_of(text):
 
 
 def lacking(path):
-    """Returns which of the columns quota and points are missing. Checks for other faults first."""
+    """Returns which of the columns quota and points are missing. Returns an empty list if the list has another fault."""
     with contextlib.suppress(Fault, csv.Error):
         columns = columns_of(path, next(cells_of(text_of(path)[0])[1], []), None)
         return [it for it in ("quota", "points") if it not in columns]

@@ -30,14 +30,14 @@ Task = collections.namedtuple("Task", "group called words is_asked")
 
 
 class Office:
-    """A club, with the names in the club when the task began."""
+    """A club, with the names that the club had when the task began."""
 
     def __init__(self, club, names):
         self.club = club
         self.read = names
         self.names = None
         self.today = datetime.date.today()
-        # Asks for a new member's full name.
+        # Maps the name of a new member to the full name that the clerk typed.
         self.written = {}
 
     def begin(self):
@@ -71,7 +71,7 @@ class Office:
         return str(ask_number(say("ask points"), 1, most))
 
 
-# ---- The tasks: the questions of each task, and the commands that it makes of the answers.
+# ---- The tasks: the questions of each task, and the commands that it makes from the answers.
 
 
 def key_of(office):
@@ -112,14 +112,14 @@ def new_member_words(office):
 
 
 def key_words(office, member, spares=()):
-    """Makes a member's new key. Writes the key's pass to the file where letters look for it. If possible, also writes a letter with the spare
-    passes."""
+    """Returns the commands for a member's new key. The first command writes the key's pass to the file where letters look for it. If letters are
+    possible, a second command writes a letter that also has the spare passes."""
     key = free_key(office, member)
     return [["add-key", key, member, "--to", f"{PASSES}/{key}"], *letter_words(office, [key, *spares], f"letter-{key}")]
 
 
 def letter_words(office, keys, stem):
-    """Returns the command for a letter in a new file, or None if a part of the letter is missing."""
+    """Returns the command for a letter in a new file. Returns no command if the club has no site or the machine has no qrencode."""
     if not office.club.site or not shutil.which("qrencode"):
         return []
     names = itertools.chain([f"{stem}.html"], (f"{stem}-{number}.html" for number in itertools.count(2)))
@@ -131,7 +131,7 @@ def new_key_words(office):
 
 
 def lost_words(office):
-    """Makes a new pass in the file where letters look for it, and a letter with this pass."""
+    """Returns the commands for a new pass in the file where letters look for it, and for a letter with this pass."""
     key = key_of(office)
     return [["lost-pass", key, "--to", f"{PASSES}/{key}"], *letter_words(office, [key], f"letter-{key}-{office.today}")]
 
@@ -249,7 +249,8 @@ def restore_words(office):
 
 
 def log_words(office):
-    """Shows the whole book, or only the lines that contain a word. If the word is a part of just one member's name, it stands for that member."""
+    """Asks for a word, and returns the command that prints the book's lines with this word. An empty answer stands for all lines. If the word is a
+    part of just one member's name, the word stands for that member."""
     word = ask(say("ask word") + ": ")
     fits = found_members(word, office.names)
     return [["log", *(fits if len(fits) == 1 else [word] if word else [])]]
@@ -270,8 +271,8 @@ def with_points(command, most):
 
 # The statuses of a command that Ctrl-C interrupted.
 BROKEN_OFF = (130, -signal.SIGINT)
-# In a clerk's order. The last part of each entry tells whether the menu asks before the command. The menu asks if the command changes something and
-# has no question of its own.
+# The tasks, in the order in which clerks need them. The last part of each entry is True if the menu asks before it runs the command. The menu asks if
+# the command changes something and doesn't ask by itself.
 TASKS = [
     Task("group today", "task today", lambda office: [["bookings", str(office.today)]], False),
     Task("group today", "task sheet", lambda office: [["sheet", office.day()]], False),
@@ -316,7 +317,7 @@ TASKS = [
 
 
 def menu_lines():
-    """Prints the menu in two columns on a terminal of 80 columns. Each group is below its heading."""
+    """Returns the lines of the menu, with the tasks side by side in two columns. Each group is below its heading."""
     blocks = []
     for number, task in enumerate(TASKS, 1):
         if not blocks or blocks[-1][0] != say(task.group):

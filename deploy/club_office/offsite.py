@@ -1,7 +1,8 @@
 """Copies a club, and the files next to it, to another place within a minute of a change. So the club survives the loss of its machine.
 
-back_up makes a copy, and clubdesk opens it. Then the copy is sent to the place and tested there. FILE-offsite names the last copy. If copying fails,
-FILE-offsite also has the reason and the time of the first failure. deploy/check_health and deploy/metrics read this file."""
+The script back_up makes a copy, and clubdesk opens it as a test. Then the copy is sent to the place and tested there. FILE-offsite has the name of
+the last copy. If copying fails, FILE-offsite also has the reason and the time of the first failure. deploy/check_health and deploy/metrics read this
+file."""
 
 import glob
 import grp
@@ -33,7 +34,7 @@ def state_of(club):
 
 
 def read_state(club):
-    """Returns the lines of FILE-offsite, each by its first word."""
+    """Returns the lines of FILE-offsite. Maps the first word of each line to the rest of the line."""
     try:
         with open(state_of(club), encoding="utf-8") as file:
             return {word: rest for word, _, rest in (line.rstrip("\n").partition(" ") for line in file)}
@@ -60,11 +61,11 @@ def signature(paths):
     return ",".join(found)
 
 
-# ---- The files next to the club: its configuration, persons, reasons, season points, and the clerks' names.
+# ---- The files next to the club: its configuration, persons, reasons, season points, book, and the clerks' names.
 
 
 def beside_paths(club):
-    """Returns the path of each file that the archive takes, by the file's name in the archive."""
+    """Returns the path of each file for the archive, by the file's name in the archive."""
     folder = os.environ.get("OFFICE_CONF", "/etc/clubdesk")
     found = {f"conf/{os.path.basename(path)}": path for path in sorted(glob.glob(os.path.join(glob.escape(folder), f"{club.name}.*"))) if os.path.isfile(path) and os.access(path, os.R_OK)}
     found |= {f"beside/{end[1:]}": club.file + end for end in BESIDE_FILES if os.path.isfile(club.file + end)}
@@ -83,7 +84,7 @@ def clerks():
 
 
 def beside_of(club):
-    """Returns an archive of these files. The same files always make the same bytes."""
+    """Returns an archive of the files next to the club. The same files always make the same bytes."""
     made = io.BytesIO()
     with tarfile.open(fileobj=made, mode="w", format=tarfile.USTAR_FORMAT) as archive:
         files = {name: open(path, "rb").read() for name, path in beside_paths(club).items()}
@@ -109,15 +110,15 @@ def made_copy(club, folder):
 
 
 def too_old(names, day):
-    """Returns the names of copies to remove. The rules for nightly copies apply. Of each past hour, only the last copy stays."""
+    """Returns the names of copies to remove, according to the rules of deploy/old_copies for copies that may be a minute apart."""
     rules = os.path.join(os.path.dirname(back_up_program()), "old_copies")
     done = subprocess.run([rules, "-", day], input="".join(f"{it}\n" for it in names), capture_output=True, text=True, check=True)
     return done.stdout.split()
 
 
 def made_together(club):
-    """Makes a copy of the club, and an archive of the files next to it from the same time. Tries again if a file next to the club has changed in the
-    meantime."""
+    """Makes a copy of the club, and an archive of the files next to the club from the same time. Tries again if a file next to the club has changed
+    in the meantime."""
     for _ in range(TRIES):
         beside = beside_of(club)
         with scratch(club, homes(club)[0]) as folder:
@@ -128,8 +129,8 @@ def made_together(club):
 
 
 def copy_now(club, place, state):
-    """Copies the club and the files next to it, if the place doesn't have them. Returns the message about the copy. Stores the archive at the place
-    before the copy of the same name. So a copy always has its archive."""
+    """Copies the club and the files next to it, if the place doesn't have them. Returns messages about what it copied and removed. Stores the archive
+    at the place before the copy of the same name. So a copy always has its archive."""
     refuse_own_disk(place, club.file)
     data, beside = made_together(club)
     digest, beside_digest = (hashlib.sha256(it).hexdigest() for it in (data, beside))
@@ -168,7 +169,7 @@ def keep_in_order(club, place, newest):
 
 def look(club, state, is_first):
     """Checks the club once, and copies it if it has changed. Returns whether the place has the current club. Prints a fault at the first check, and
-    again when it differs from the last fault."""
+    later only if the fault differs from the last one."""
     where = club.settings["offsite"]
     seen = f"{where} " + signature([club.file, club.file + "-wal", *beside_paths(club).values()]) + f" {','.join(clerks())}"
     if state.get("of") == seen and "failing" not in state:
@@ -194,7 +195,7 @@ def look(club, state, is_first):
 
 
 def watch(club, named, is_once=False):
-    """Looks again and again. `named` reads the configuration again, so that a changed configuration has an effect."""
+    """Checks the club repeatedly. Calls `named` after each check to read the configuration again, so that a changed configuration has an effect."""
     noted, before = 0.0, None
     state = read_state(club)
     while True:

@@ -1,4 +1,5 @@
-"""Prints a key's bookings in the page's form, the page's list of the club, or the board's page. The desk's side makes all three from a copy."""
+"""Makes a key's bookings in the form that the page reads, the page's list of the club, and the board's page. The desk's side makes all three from a
+copy of the club."""
 
 import datetime
 import os

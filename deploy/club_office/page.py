@@ -78,7 +78,7 @@ PICTURES = {".svg": "svg+xml", ".png": "png", ".jpg": "jpeg", ".jpeg": "jpeg", "
 
 
 def more_of(given):
-    """Returns contact, imprint, privacy page and logo from the settings. The setting of the logo names a file."""
+    """Returns contact, imprint, privacy page and logo from the settings. The logo's setting is the path of a file."""
     found = {it: given[it] for it in MORE if given.get(it)}
     for it, value in found.items():
         if not value.isprintable() or len(value.encode("utf-16-le")) > 2 * MOST_SENTENCE:

@@ -27,7 +27,7 @@ def people_of(club):
 
 
 def read_people(club):
-    """Returns each person by the member's name. Returns no person if there is no file."""
+    """Returns the persons by the names of the members. Returns no person if there is no file."""
     with contextlib.suppress(FileNotFoundError), open(people_of(club), encoding="utf-8", newline="") as file:
         rows = csv.DictReader(file)
         return {row["member"]: Person(*(row.get(it) or "" for it in Person._fields)) for row in rows if row.get("member")}
@@ -47,7 +47,7 @@ def write_people(club, people):
 
 
 def person_of(values):
-    """Makes a person from typed or imported values. Refuses a value of several lines."""
+    """Makes a person from typed or imported values. Joins the lines of a value, and refuses a value that is too long or unprintable."""
     found = Person(*(" ".join(str(values.get(it) or "").split()) for it in Person._fields))
     for it in found:
         if len(it) > MOST_LETTERS or not it.isprintable():
@@ -81,14 +81,14 @@ def set_person(club, words):
 
 
 def keep_person(club, member, person):
-    """Wants the turn."""
+    """The caller must have the turn."""
     people = read_people(club)
     people[member] = person
     write_people(club, {it: about for it, about in people.items() if about != NOBODY})
 
 
 def forget_person(club, member):
-    """Removes the person of a leaving member. Wants the turn."""
+    """Removes the person of a leaving member. The caller must have the turn."""
     people = read_people(club)
     if people.pop(member, None):
         write_people(club, people)
@@ -116,8 +116,8 @@ def show_concerned(club, members):
 
 
 def mail_concerned(club, bookings, slot_text, record):
-    """Mails each affected person the person's cancellations, with the machine's mailer. Prints which persons have no address, and which mails
-    failed. If the record names a person as mailed, the person gets no second mail."""
+    """Sends each affected person a mail about the person's cancellations, with the machine's mailer. Prints which persons have no address, and which
+    mails failed. A person who already got the mail according to the record gets no second mail."""
     people, of_member = read_people(club), collections.defaultdict(list)
     for it in bookings:
         of_member[it.member].append(it)

@@ -19,7 +19,7 @@ from club_office.plans import slot_text
 from club_office.texts import in_language, say
 from club_office.values import date_of
 
-# The number of seconds that the office waits for the desk's reply, and the number of retries.
+# The number of seconds that the office waits for the desk's reply, and the number of tries.
 PATIENCE = 15
 TRIES = 5
 OFFICE_KEY = "-office"
@@ -46,7 +46,7 @@ def asked(club, method, path, text, body=None):
 
 
 def answer(found):
-    """Returns the body of a reply to a served request, or raises the refusal."""
+    """Returns the body of a reply with status 200. For any other status, raises a refusal with the reply's text."""
     status, body = found
     if status != 200:
         raise refusal("desk says", text=in_language(body.get("text")))
@@ -83,7 +83,7 @@ def path_of(words, hour, number=None):
 
 
 def book(club, words):
-    """Books a slot for a member in each of these hours. Skips slots that the office has already booked for the member."""
+    """Books a slot for a member in each of the command's hours. Without --again, skips slots that the office has already booked for the member."""
     wants_file(club)
     with said_at_the_end() as lines, Turn(club) as turn:
         key = make_key(club, turn, words.member, words.facility)
@@ -126,7 +126,7 @@ def said_at_the_end():
 
 
 def each_hour(turn, words, hours, lines, act, total):
-    """Runs a command for each hour, until the desk refuses an hour. `does` returns the points of an hour. If there are several hours, also prints the
+    """Runs a command for each hour, until the desk refuses an hour. `act` returns the points of an hour. If there are several hours, also prints the
     sum of the points, and the hours that the desk didn't book or cancel."""
     points = []
     try:
@@ -164,15 +164,15 @@ def put(club, words, hour, key, lines):
 
 
 def cancel_for(club, words):
-    """Cancels a member's bookings in these hours, each booking under the key that made the booking. The refund is the same as for a cancellation by
-    the member."""
+    """Cancels a member's bookings in the command's hours, each booking under the key that made the booking. The member gets the same refund as after
+    cancelling on the page."""
     wants_file(club)
     with said_at_the_end() as lines, Turn(club) as turn:
         return each_hour(turn, words, list(range(*words.hour)), lines, lambda hour: delete(club, words, hour, lines), "called off in all")
 
 
 def delete(club, words, hour, lines):
-    """Cancels one hour, and returns its refund."""
+    """Cancels the booking of one hour, and returns its refund."""
     slot = slot_text(words.facility, words.day, hour)
     with snapshot(club) as db:
         wants_row(db, "members", words.member)

@@ -1,5 +1,6 @@
-"""Stores copies away from the club's disk, in a folder on another machine that ssh reaches, or in a mounted folder. A place can store a complete
-file and test it, list its files, and return a file. A place needs a shell and sha256sum, and sqlite3 to test a copy."""
+"""Stores copies away from the club's disk, at a place. A place is a folder on another machine, which ssh reaches, or a mounted folder. This module
+can store and test a file at a place, list the files there, and fetch or remove a file. The machine of a place needs a shell and sha256sum, and
+sqlite3 to test a copy."""
 
 import collections
 import os
@@ -15,7 +16,7 @@ Place = collections.namedtuple("Place", "text host folder")
 # `no` if there was no test.
 Kept = collections.namedtuple("Kept", "name size sum tested")
 NAME = re.compile(r"20[0-9]{2}-[0-9]{2}-[0-9]{2}T[0-9]{6}Z")
-# The archive of the files next to the club. The archive is from the same time as the copy of the same name.
+# The name of an archive of the files next to the club. The archive is from the same time as the copy with the same name.
 BESIDE = re.compile(NAME.pattern + r"[.]tar")
 OLD_YEAR = re.compile(r"until-[0-9]{4}-[0-9]{2}-[0-9]{2}(-[0-9]{1,3})?")
 # The greatest number of seconds to wait for a silent host, and for the transfer of a file.
@@ -24,8 +25,8 @@ OPTIONS = (f"ConnectTimeout={PATIENCE}", "ServerAliveInterval=5", "ServerAliveCo
 # ssh asks for the password once, because later calls share the connection of the first call.
 ASKS = ("ControlMaster=auto", "ControlPersist=60", "ControlPath=~/.clubdesk-%C")
 
-# In each script, $1 is the folder. A file has a temporary name until it is complete and tested. The script adds the file's line to the list before it
-# gives the file its final name.
+# In each script, $1 is the folder. A file has a temporary name until it is complete and tested. TAKE adds the file's line to the list `tested` before
+# it gives the file its final name.
 TAKE = """set -eu
 umask 077
 [ "$5" = mounted ] || mkdir -p -- "$1"
@@ -67,7 +68,7 @@ mv -f .new.tested tested
 
 
 def place_of(text):
-    """A place: HOST:FOLDER, or an absolute path."""
+    """Parses the text of a place: HOST:FOLDER, or an absolute path."""
     host, _, folder = ("", "", text) if text.startswith("/") else text.partition(":")
     if not folder or not folder.isprintable() or folder.startswith("-") or not text.startswith("/") and not re.fullmatch(r"[A-Za-z0-9_][A-Za-z0-9_.@-]*", host):
         raise bad_value("no place", text=text)
@@ -75,7 +76,8 @@ def place_of(text):
 
 
 def refuse_own_disk(place, file):
-    """An unmounted folder would be on the club's own disk, so a copy in it wouldn't survive the loss of that disk."""
+    """Refuses a folder on the club's own disk or on the system's disk, such as an unmounted folder. A copy there wouldn't survive the loss of the
+    disk."""
     if place.host is None:
         try:
             is_own = os.stat(place.folder).st_dev in (os.stat(os.path.dirname(file)).st_dev, os.stat("/").st_dev)
@@ -86,8 +88,8 @@ def refuse_own_disk(place, file):
 
 
 def run_there(place, script, *words, given=None, asks=False):
-    """Runs a script at the place, with the place's folder and further arguments. Returns the script's output. If `asks` is true, ssh may ask for a
-    password at the terminal."""
+    """Runs a script at the place. The script's arguments are the place's folder and `words`. Returns the script's output. If `asks` is true, ssh may
+    ask for a password at the terminal."""
     line = ["sh", "-c", script, "sh", place.folder, *words]
     if place.host:
         line = [program("SSH", "ssh"), *(it for option in (*OPTIONS, *(ASKS if asks else ("BatchMode=yes",))) for it in ("-o", option)), place.host, shlex.join(line)]

@@ -18,8 +18,8 @@ Edit = collections.namedtuple("Edit", "table key sets adds", defaults=({}, {}))
 
 
 class Plan:
-    """A correction: the lines that the clerk sees, and the clubdesk commands that carry out the correction. Instead of commands, a correction of the
-    file has SQL statements, each with its values and the number of rows that it changes."""
+    """A correction: the lines that the clerk sees, and the clubdesk commands that carry out the correction. A correction that writes into the file
+    has SQL statements, each with its values and the number of rows that it changes."""
 
     def __init__(self):
         self.lines = []
@@ -31,7 +31,7 @@ class Plan:
         self.new_name = None
         # The path of a copy made before the correction, or None.
         self.copy_to = None
-        # What the summary counts.
+        # The summary counts these cancelled bookings, closed slots, opened slots and undone changes.
         self.cancelled, self.closed, self.opened, self.undone = [], 0, 0, 0
 
     @property
@@ -62,7 +62,7 @@ class Plan:
         self.changes.append((rows, sql, values))
 
     def cancel(self, bookings):
-        """Plans to cancel bookings with the whole refund. The cancellations free the places."""
+        """Plans to cancel bookings with a full refund. The cancellations free the booked places."""
         for it in bookings:
             self.tell("cancels", slot=slot_text(it.facility, it.day, it.hour), persons=persons_text(it), points=it.charge, key=it.key, number=it.number, member=it.member)
             self.cancelled.append(it)
@@ -121,7 +121,8 @@ def plan_debit(db, words, _now):
 
 
 def plan_rest_of_debit(db, words, left):
-    """Plans the rest of an interrupted debit, from the member's row in the debit's record. Only the office changes the credits of a member."""
+    """Plans the rest of an interrupted debit. The rest follows from the member's row in the debit's record, because only the office changes the
+    credits of a member."""
     wants_row(db, "members", words.member)
     (credited,) = db.execute("SELECT credited FROM members WHERE name = ?", [words.member]).fetchone()
     (was, is_now), = [[row[1] for row in rows] for table, _, *rows in left["rows"] if table == "members"]
@@ -131,7 +132,7 @@ def plan_rest_of_debit(db, words, left):
 
 
 def debit(db, member, points):
-    """Takes points back with as many commands as necessary."""
+    """Plans to take points back from a member, with as many commands as necessary."""
     plan = Plan()
     (balance,) = db.execute("SELECT max(credited - used, 0) FROM members WHERE name = ?", [member]).fetchone()
     if points > balance:
@@ -167,8 +168,8 @@ def plan_facility(db, words, now):
 
 
 def refuse_unfit(db, facility, places, opens, shuts, now):
-    """The new hours must include every future booking. The facility must also have enough places for each past slot, because no slot of a sound club
-    has more persons than places."""
+    """Refuses new hours that exclude a future booking. Also refuses too few places for the persons in a slot, even a past slot, because no slot of a
+    sound club has more persons than places."""
     for it in bookings_of(db, "facility = ? AND day * 1440 + hour * 60 > ?", facility, now):
         if not opens <= it.hour < shuts:
             raise refusal("is booked at", key=it.key, number=it.number, day=date_of(it.day), hour=it.hour)
@@ -265,8 +266,8 @@ def plan_rain(db, words, _now):
 
 
 def plan_leave(db, words, now):
-    """Revokes a member's keys, cancels its future bookings and sets its quota to 0 by commands. Then SQL statements rename the member and its
-    keys."""
+    """Plans the commands that revoke a member's keys, cancel the member's future bookings and set the member's quota to 0. Then SQL statements rename
+    the member and the keys."""
     if not is_row(db, "members", words.member):
         raise nothing_left("no row members", name=words.member)
     plan = Plan()
@@ -292,14 +293,15 @@ def plan_leave(db, words, now):
 
 
 def free_number(db):
-    """Returns a name for a member who left. The name is a number that is no member's name, and no key's name begins with it."""
+    """Returns a number as the new name of a member who left. No member or key has a name that is this number, or that begins with this number and a
+    hyphen."""
     taken = {row[0].split("-")[0] for row in db.execute("SELECT name FROM members UNION ALL SELECT name FROM keys")}
     return next(str(candidate) for candidate in range(1, 10**9) if str(candidate) not in taken)
 
 
 def plan_new_year(db, words, now, club):
-    """Removes the bookings of all days before a given day from the file. For each key, one cancelled booking with the total cost replaces the removed
-    bookings."""
+    """Plans to remove the bookings and slots of all days before a given day from the file. For each key, cancelled bookings with the same total cost
+    replace the removed bookings."""
     before = now // 1440 if words.before is None else words.before
     if before > now // 1440:
         raise refusal("is to come", day=date_of(before))
@@ -328,8 +330,8 @@ def plan_new_year(db, words, now, club):
 
 
 def carry_forward(db, before):
-    """Returns rows for a key, which make the cost of the key's removed bookings still count as spent. The rows are cancelled bookings without a
-    refund, under the highest free numbers."""
+    """Returns rows that keep the cost of the removed bookings in the sums of spent points. Each row is a cancelled booking without a refund, under
+    one of the highest free numbers of its key."""
     rows = []
     for key, cost, facility in db.execute(
         "SELECT pass_key, sum(charge - refund), min(facility) FROM bookings WHERE day < ? GROUP BY pass_key HAVING sum(charge - refund) > 0"

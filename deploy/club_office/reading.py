@@ -1,5 +1,5 @@
-"""Parses a clerk's input: parts of names, days, hours, several facilities. Each parser returns a value for the commands, or None if it can't parse
-the input."""
+"""Parses a clerk's input: parts of names, days, hours, several facilities. Each parser returns a value for the commands. A parser returns None or an
+empty list if it can't parse the input."""
 
 import collections
 import datetime
@@ -18,13 +18,13 @@ Facility = collections.namedtuple("Facility", "kind opens shuts places price")
 
 
 def plain(text):
-    """Returns the text in the form of names: in small letters without accents."""
+    """Returns the text in the form of names: in lower case and without accents."""
     text = "".join(LETTERS.get(letter, letter) for letter in unicodedata.normalize("NFC", text.strip()).lower())
     return "".join(letter for letter in unicodedata.normalize("NFKD", text) if not unicodedata.combining(letter))
 
 
 def fitted(text, most):
-    """Makes a name of small letters, digits and hyphens from a text. The name has at most `most` characters."""
+    """Makes a name from a text. The name consists of lower-case letters, digits and hyphens, and has at most `most` characters."""
     return re.sub(r"[^a-z0-9]+", "-", plain(text)).strip("-")[:most].strip("-")
 
 
@@ -43,8 +43,8 @@ def found(typed, names):
     whole = "-".join(parts)
     if whole in names:
         return [whole]
-    # First compares the names with the typed text, in which a plain vowel also stands for an umlaut. If no name matches, a typed umlaut also stands
-    # for a plain vowel.
+    # In the first round, a typed plain vowel also matches an umlaut in a name. If no name matches, a typed umlaut also matches a plain vowel in the
+    # second round.
     for made in (lambda text: text, loose):
         fits = [it for it in names if all(made(part) in made(it) or part in loose(it) for part in parts)]
         if fits:
@@ -147,8 +147,8 @@ def is_group(word):
 
 
 def read_facilities(text, facilities):
-    """Returns the facilities that a text means. The text is `all`, a kind such as `courts`, or parts of names with commas or spaces between them.
-    Returns a list of matches for each part. If a list has several matches, the caller chooses one."""
+    """Finds the facilities that a text means. The text is `all`, a kind such as `courts`, or parts of names with commas or spaces between them.
+    Returns a list of matching facilities for each part. If a list has several facilities, the caller chooses one."""
     words = [it for it in re.split(r"[\s,]+", text.strip()) if it]
     if all(plain(it) in ALL for it in words) and words:
         return [[it] for it in facilities]

@@ -1,4 +1,4 @@
-"""The office's refusals in English and German, as a table with a line for each text."""
+"""The office's refusals in English and German, as a table with an entry for each text."""
 
 REFUSALS = {
     "refused": ("refused: {why}", "abgelehnt: {why}"),
@@ -305,7 +305,7 @@ REFUSALS = {
     "limit reference": ("reference to nothing: {row}", "Verweis auf nichts: {row}"),
 }
 
-# Fixed texts of clubdesk about a command, and fixed texts of the desk about a request.
+# German translations of clubdesk's fixed texts about a command, and of the desk's fixed texts about a request.
 GERMAN = {
     "refused: exists": "abgelehnt: gibt es schon",
     "refused: unknown": "abgelehnt: gibt es nicht",

@@ -1,5 +1,5 @@
-"""The board's page compares the use of a club's courts, boats and rooms in a year with the year before. The page is one HTML file without scripts.
-The office makes it from a copy of the club and from the club's files of old years."""
+"""Makes the board's page, which compares the use of a club's courts, boats and rooms in a year with their use in the year before. The page is one
+HTML file without scripts. The office makes the page from a copy of the club and from the club's files of old years."""
 
 import collections
 import contextlib
@@ -28,9 +28,9 @@ class Use:
         self.bookings, self.facilities, self.closed = [], {}, set()
 
     def add(self, db, since, until):
-        """Adds the bookings and offered slots of a file, for the days after `since` and up to `last`. Skips days outside the span."""
+        """Adds the bookings and offered slots of a file, for the days after `since` and up to `until`. Skips days outside the span of this object."""
         least, most = (number_of(max(self.first, since + datetime.timedelta(1))), number_of(min(self.last, until)))
-        # Facts about a facility in a newer file replace the facts in an older file.
+        # The club's current file is added first, so its facts about a facility stay.
         for name, *about in db.execute("SELECT name, kind, opens, shuts FROM facilities ORDER BY rowid"):
             self.facilities.setdefault(name, Facility(*about))
         for facility, day, *rest in db.execute(
@@ -126,7 +126,7 @@ def table(heads, rows):
 
 
 def period(use):
-    """Returns the text of a year. If the year isn't over, the text includes the last counted day."""
+    """Returns the name of a year for the page. If the year isn't over, the name includes the last counted day."""
     if (use.last.month, use.last.day) == (12, 31):
         return str(use.first.year)
     return say("report until", year=use.first.year, day=use.last.day, month=MONTHS[language()][use.last.month - 1])
@@ -200,7 +200,8 @@ def facilities_table(use, before):
 
 
 def members_table(use, has_names):
-    """Returns the members with the most bookings that took place. If the page leaves names out, returns only the members' ranks."""
+    """Returns the table of the members with the most bookings that took place. If the page must not show names, the table has the members' ranks
+    instead."""
     count, points = collections.Counter(it.member for it in use.held()), collections.Counter()
     for it in use.bookings:
         points[it.member] += it.charge - it.refund

@@ -59,7 +59,7 @@ def copies_off_site(club):
 
 
 def moment_of(called):
-    """Returns the time in a copy's name, which is in UTC, or None for a name without such a time."""
+    """Returns the UTC time in a copy's name, or None if the name has no such time."""
     try:
         return calendar.timegm(time.strptime(called, "%Y-%m-%dT%H%M%SZ"))
     except ValueError:
@@ -94,7 +94,7 @@ def copy_named(club, called):
 
 
 def brought(place, called, path, asks=False):
-    """Fetches a copy to a path. The copy's digest must be the digest that was sent with the copy."""
+    """Fetches a copy from a place into a file. If the place has noted the copy's digest, the fetched copy must have the same digest."""
     kept = next(it for it in kept_in(place, asks) if it.name == called)
     data = given_by(place, called, asks)
     if kept.sum and hashlib.sha256(data).hexdigest() != kept.sum:
@@ -106,7 +106,7 @@ def brought(place, called, path, asks=False):
 
 @contextlib.contextmanager
 def copy_opened(club, called):
-    """Yields a copy in memory, after checking the totals in the copy. clubdesk has opened the copy, which may update the copy's tables."""
+    """Yields a copy in memory. Before that, opens the copy with clubdesk, which may update the copy's tables, and checks the totals in the copy."""
     memory = sqlite3.connect(":memory:", isolation_level=None)
     found = copy_named(club, called)
     with scratch(club, homes(club, found.size)[0]) as folder:
@@ -204,8 +204,8 @@ def preview_of_copy(club, words):
 
 
 def put_in_place(club, words, lines, shown, lost):
-    """Replaces the club with a copy. If the changes differ from the shown changes, does nothing. Adds the changes to `lines`, and the points that
-    the restore takes away to `lost`."""
+    """Replaces the club with a copy. If the changes differ from the shown changes, does nothing. Adds the changes to `lines`, and the season's
+    credits that the restore takes away to `lost`."""
     try:
         with copy_opened(club, words.copy) as copy:
             lost |= points_lost(club, copy)
@@ -234,7 +234,8 @@ def write_over(club, words, copy, lines, shown):
 
 
 def keep_or_put_away(club, db, words, copy, lines, shown):
-    """Keeps the current club before a restore, in a copy like the copy before a correction. If the club is damaged, makes this copy byte for byte."""
+    """Copies the current club before a restore, as the office does before a correction. If the club is damaged, copies the file and its log byte for
+    byte instead."""
     try:
         lines += what_changes(copy, db, now_of(words))
         if shown is not None and lines != shown:
@@ -253,7 +254,7 @@ def keep_or_put_away(club, db, words, copy, lines, shown):
 
 
 def put_new_file(club, copy):
-    """Gives another name to a file that SQLite can't open, and to its log. Then gives the name of the damaged file to a copy."""
+    """Renames a file that SQLite can't open, and the file's log. Then gives the file's old name to a copy."""
     made = club.file + "-new"
     with contextlib.suppress(FileNotFoundError):
         os.unlink(made)

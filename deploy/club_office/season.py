@@ -1,6 +1,7 @@
-"""Credits the season's points. Every member gets the credit under a given name only once.
+"""Credits the season's points. A credit has a name, and each member gets the credit with a given name only once.
 
-The office writes a line of FILE-seasons before and after each member's credit. So an interrupted run continues where it stopped."""
+The office writes a line to the ledger FILE-seasons before and after each member's credit. So a repeated command continues where the interrupted run
+stopped."""
 
 import collections
 import contextlib
@@ -22,7 +23,7 @@ def ledger_of(club):
 
 
 def steps_of(club, label):
-    """Returns each member's last step for the credit of this name, and the steps for all members together."""
+    """Returns the last step of each member for the credit with this name. An entry for WHOLE means that all members have the credit."""
     found = {}
     try:
         with open(ledger_of(club), encoding="ascii") as lines:
@@ -40,8 +41,8 @@ def note(club, label, member, points, before, state):
 
 
 def wanted(club, words):
-    """Returns the members who still need the credit, each with its current total. A quota of 0 marks members who left, and members that exist only
-    for a screen."""
+    """Returns the members who still need the credit, each with the sum of the member's credits. Also returns the number of all members who may book.
+    Members with a quota of 0 have left the club, or exist only for a screen."""
     steps = steps_of(club, words.label)
     if WHOLE in steps:
         raise refusal("given already", label=words.label, points=steps[WHOLE].points, members=steps[WHOLE].before)
@@ -118,7 +119,7 @@ def labels_of(club):
 
 
 def forget_points(club, lost):
-    """Removes from the ledger the credits that a restore took away, so that the office can give them again. Wants the turn."""
+    """Removes from the ledger the credits that a restore took away, so that the office can give them again. The caller must have the turn."""
     if not lost:
         return
     labels, made = {label for label, _ in lost}, ledger_of(club) + ".new"

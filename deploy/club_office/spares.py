@@ -1,4 +1,5 @@
-"""Members' spare keys. The page lends the passes of these keys. The configuration sets the number and the names of a member's spare keys."""
+"""Finds the names of members' spare keys. On the page, members lend the passes of these keys. The configuration sets the number and the names of a
+member's spare keys."""
 
 from club_office.faults import STORAGE, Fault, fault
 from club_office.values import name, number
@@ -9,7 +10,7 @@ LONGEST_NAME = 24
 
 
 def spare_keys(club, member):
-    """Returns the names of a member's spare keys, such as amy-lend-1. The configuration has the number of spare keys in SPARES. SPARE_NAME is the
+    """Returns the names of a member's spare keys, such as amy-lend-1. In the configuration, SPARES is the number of spare keys. SPARE_NAME is the
     word in the spare keys' names, `lend` by default."""
     try:
         count, called = number(0, MOST_SPARES)(club.settings.get("spares") or "0"), name(club.settings.get("spare_name") or "lend")

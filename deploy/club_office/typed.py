@@ -1,5 +1,5 @@
-"""Converts a clerk's typed words to the desk's form. A word may be a day, hours, or several facilities. At a terminal, a word may also be a part of a
-name."""
+"""Converts a clerk's typed words to the form that the desk's side expects. A word may be a day, hours, or several facilities. At a terminal, a word
+may also be a part of a name."""
 
 import contextlib
 import datetime
@@ -118,24 +118,24 @@ class Reader:
             raise refusal("not confirmed") from None
 
     def echoed(self, word, read, text=None):
-        """Prints how the office read a word, if the result differs from the typed word. The command itself prints all other output."""
+        """At a terminal, prints how the office read a word if the result differs from the typed word. Uses standard error, so that standard output
+        has only the command's output."""
         if read != word and is_terminal():
             print(f"{word}: {text or read}", file=sys.stderr)
         return read
 
 
-# A kind of word, with its name and its converter.
+# Maps the name of each kind of word to its converter.
 READS = {
     "MEMBER": Reader.member, "KEY": Reader.key, "FACILITY": Reader.facility, "FACILITIES": Reader.facilities, "DAY": Reader.day, "DAYS": Reader.days,
     "HOURS": Reader.hours, "HOUR": Reader.hour, "MEMBER|DAY|FACILITY": Reader.what,
 }
-# In a command that makes a key, the new name is taken literally.
+# These commands accept only a complete key name, and don't search for a part of a name.
 MAKES_A_KEY = ("add-key", "letters")
 
 
 def places_of(command):
-    """Returns the kinds of the words of a command that aren't options, in order. Also returns whether the last kind may repeat, and which options
-    take a value."""
+    """Returns the kinds of a command's positional words, in order. Also returns whether the last kind may repeat, and which options take a value."""
     called, is_repeated, takes_value = [], False, set()
     for place, how in command.words:
         if place.startswith("-"):
@@ -147,7 +147,7 @@ def places_of(command):
 
 
 def read_words(reader, command, words):
-    """Returns a command's words in the desk's form. Among the values of options, converts only days."""
+    """Returns a command's words in the form that the desk's side expects. Among the values of options, converts only days."""
     called, is_repeated, takes_value = places_of(command)
     made, place, option, is_over = [], 0, None, False
     for word, following in zip(words, [*words[1:], ""]):
@@ -185,8 +185,8 @@ def without_options(command, words):
 
 
 def confirms_odd(reader, command, words, is_order):
-    """Asks the clerk about odd input if the command itself doesn't ask. Odd input is a past day, a day far ahead, many points, or a guessed name.
-    If a word means several days, checks only the first day."""
+    """Asks the clerk to confirm odd input: a past day, a day far ahead, many points, or a guessed name. A guessed name counts as odd only if
+    `is_order` is true. If a word means several days, checks only the first day."""
     odd, called = [], reader.called
     plain = without_options(command, words)
     with contextlib.suppress(KeyError, IndexError, ValueError):

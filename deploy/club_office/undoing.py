@@ -1,5 +1,5 @@
-"""Records the rows that the last correction changes, in a file next to the club, before the correction begins. So `undo` can restore the rows that
-have not changed since the correction. The record also lets an interrupted correction continue."""
+"""Records the rows that the last correction changes, in a file next to the club, before the correction takes effect. So `undo` can restore these
+rows, if they have not changed since the correction. With the record, the office can also continue an interrupted correction."""
 
 import contextlib
 import json
@@ -15,7 +15,7 @@ from club_office.values import MOST_CREDIT
 TABLES = ("members", "facilities", "keys", "slots", "bookings", "old_roots")
 # The number of key columns in each of these tables. In every other table the first column is the key.
 KEYS = {"slots": 3, "bookings": 2}
-# The columns of the tables that commands change.
+# The columns of each table in which a command can undo a correction.
 COLUMNS = {"members": ("name", "credited", "quota", "used"), "facilities": ("name", "kind", "places", "price", "opens", "shuts")}
 # A clerk can't undo a correction that changes more rows than this. Nor can a clerk undo a new year, which copies the club's file, then changes the
 # original in place.
@@ -62,8 +62,8 @@ def row_of(db, table, key):
 
 
 def rows_edited(db, edits):
-    """Returns the rows of a copy that the edits of commands change. These rows have the same form as the result of `rows_changed`. A slot without a
-    row has no rowid."""
+    """Returns the rows of a copy that the edits of commands change, in the same form as `rows_changed`. For a slot that has no row yet, the rowid is
+    None."""
     found = {}
     for it in edits:
         columns, place = columns_of(db, it.table), (it.table, *it.key)
@@ -79,7 +79,7 @@ def rows_edited(db, edits):
 
 
 def attach_before(db, copy):
-    """Attaches the copy made before a correction. Nobody changes that copy."""
+    """Attaches the copy made before a correction as `before`. SQLite may treat the copy as immutable, because nobody changes it."""
     db.execute("ATTACH ? AS before", [address(copy, "ro") + "&immutable=1"])
 
 
@@ -120,7 +120,7 @@ def write(club, content):
 
 
 def add(file, line):
-    """Adds a line to a record, even if a newer correction's record has replaced it."""
+    """Adds a line to a record, even if the record of a newer correction has replaced this record."""
     file.write(line + "\n")
     file.flush()
     os.fsync(file.fileno())
@@ -180,8 +180,8 @@ class Record:
 
 
 def with_sums(row, cancelled):
-    """Returns the row with corrected old sums, because members may have booked between the two runs: the current sums plus the sums of the cancelled
-    bookings."""
+    """Returns the row with corrected old sums, because members may have booked between the two runs. The old sums are the current sums plus the sums
+    of the cancelled bookings."""
     table, rowid, was, is_now = row
     if table == "slots":
         persons = sum(it[5] + 1 for it in cancelled if it[2:5] == is_now[:3])
@@ -193,7 +193,7 @@ def with_sums(row, cancelled):
 
 
 def row_place(row):
-    """Returns the table of a row with the row's key. If the key may change, the row's rowid replaces the key."""
+    """Returns the table of a row with the row's key. In a table whose keys may change, the rowid replaces the key."""
     table, rowid, was, is_now = row
     return (table, *(was or is_now)[: KEYS[table]]) if table in KEYS else (table, rowid)
 
@@ -251,7 +251,7 @@ def is_undo(content):
 
 
 def order_between(table, now, then):
-    """Returns the command that turns one row into another, with the command's edit. Returns None if no single command can do so."""
+    """Returns the command that changes a row from `now` to `then`, with the command's edit. Returns None if no single command can do so."""
     columns = COLUMNS.get(table) if now and then else None
     changed = {it: after for it, before, after in zip(columns or (), now or (), then or ()) if before != after}
     if changed.keys() == {"quota"}:
@@ -275,7 +275,7 @@ def row_undone(content):
 
 
 def is_by_command(club):
-    """Returns whether a command can undo the last correction, or continue an interrupted undo of it."""
+    """Returns whether a command can undo the last correction, or continue an interrupted undo of that correction."""
     return row_undone(read(club)) is not None
 
 
@@ -300,7 +300,7 @@ def plan_undo_by_command(db, club):
 
 
 def row_text(table, values):
-    """Returns a name for the row that clerks know."""
+    """Describes a row in words that clerks know."""
     if table == "slots":
         return say("row slots", row=f"{values[0]} {time.strftime('%Y-%m-%d', time.gmtime(values[1] * 86400))} {values[2]:02d}:00")
     if table == "bookings":
