@@ -1,21 +1,20 @@
 #!/usr/bin/env python3
-"""docs/AUDIT.md, docs/COMPUTED.md, the paths of docs/TOUR.md, and the contracts that docs/PROMISES.md cites are up to date.
+"""docs/AUDIT.md is up to date, and the citations in docs/PROMISES.md, docs/COMPUTED.md and docs/TOUR.md hold.
 
-The test checks that the cited contracts exist, and that they depend on only four computing definitions. The test also checks that the rules in
-Python agree with docs/vectors.json.
+The test also checks that the rules in Python (`tests/reference`) give the answers of docs/vectors.json.
 
-AUDIT lists the definitions that a reader must trust for each promise. The test checks that each contract that PROMISES cites exists. A cited
-contract may depend on no computing definition except the four that PROMISES names. The value of a ghost may depend on no other computing
-definition either. Each contract in COMPUTED must depend on a computing definition. The rules in Python (`tests/reference`) must agree with
-docs/vectors.json. AUDIT marks the definitions that these vectors show. Each step of a path in TOUR must cite the next step. Without an option, the
-program writes docs/AUDIT.md.
+AUDIT lists the definitions that a reader must trust for each promise. AUDIT also marks the definitions that the vectors exercise. Each contract that
+PROMISES cites must exist. A computing definition computes what another definition states. PROMISES names the few computing definitions that its
+contracts may depend on. Neither a contract that PROMISES cites nor the value of a ghost may depend on any other computing definition. A ghost is a
+value that only contracts use. Each contract that COMPUTED cites must depend on a computing definition. Each step of a path in TOUR must cite the next
+step. Without an option, the program writes docs/AUDIT.md.
 
-The program reads the promises in docs/PROMISES.md, the clauses that carry these promises, and the definitions that the clauses cite.
+The program reads the promises in docs/PROMISES.md, the clauses that state these promises, and the definitions that the clauses cite.
 tests/lib/definitions.py reads the definitions.
 
     tests/audit.py                  writes docs/AUDIT.md
-    tests/audit.py --check          says whether it is current
-    tests/audit.py --strict         the same, and fails if a contract or a ghost depends on a computing definition that PROMISES doesn't name
+    tests/audit.py --check          checks whether docs/AUDIT.md is current
+    tests/audit.py --strict         also fails if a contract or a ghost depends on a computing definition that PROMISES doesn't name
     tests/audit.py --below NAME     prints the definitions below a definition, or below all clauses of a function (Desk::ask), in reading order
 """
 # pytestmark = [mark.quick("--strict")]
@@ -41,19 +40,19 @@ from spec_files import COMPUTED, OF_SPECS, ROOT
 PAGE = ROOT / "docs" / "AUDIT.md"
 PROMISES = ROOT / "docs" / "PROMISES.md"
 TOUR = ROOT / "docs" / "TOUR.md"
-# The words with which a comment names the source of a definition.
+# Patterns for the sources that a comment may cite for a definition.
 SOURCES = (r"RFC \d+", r"FIPS [\d-]+", r"NDSS \d+", r"libmacaroons")
-# Methods that types of std also have, so that the name of a method doesn't determine its type.
+# Methods that types of std also have. The name of such a method doesn't determine the type.
 OF_STD = set("len is_empty push iter next clone as_slice as_bytes as_str into_iter map unwrap unwrap_or ok_or expect write read remove".split())
 
 
 class Fault(Exception):
-    """Explains why the page can't be made."""
+    """Raised with the reason why the page can't be made."""
 
 
 def clauses_of(book, function, labels=()):
-    """Yields (file, function, label, text, place) for each clause that has one of the labels. Without labels, yields all clauses of the
-    function."""
+    """Returns (file, function, label, text, place) for each precondition of the function, and for each clause with one of the labels. Without labels,
+    returns all clauses of the function."""
     *before, name = function.split("::")
     owner = next((it for it in before if it[0].isupper()), None)
     crate = before[0] if before and before[0] in book.crates else "club_gate"
@@ -83,13 +82,13 @@ def below_all(book, function):
 
 
 class Promise:
-    """A promise of docs/PROMISES.md, with its title and the clauses that carry it. `fields` has the record fields that the promise names."""
+    """A promise of docs/PROMISES.md, with its title and the clauses that state it. `fields` has the record fields that the promise names."""
 
     def __init__(self, book, number, line):
         self.book, self.number = book, number
         self.title = re.match(r"\d+\. \*\*(.*?)\.\*\*", line)[1]
         self.fields = [it for group in re.findall(r"\((`\w+`(?:, `\w+`)*)\)", line) for it in re.findall(r"`(\w+)`", group)]
-        # A function, a colon, and the function's clauses: `Desk::ask`: `lawful`.
+        # Matches a function, a colon, and clauses of the function, as in "`Desk::ask`: `lawful`".
         self.carriers = [(function, re.findall(r"`(\w+)`", labels))
                          for function, labels in re.findall(r"`([\w:]+)`: (`\w+`(?:, `\w+`)*)", line)]
         self.clauses = [it for function, labels in self.carriers for it in clauses_of(book, function, labels)]
@@ -98,7 +97,8 @@ class Promise:
         self.below += [it for it in heads if it not in self.below]
 
     def read(self):
-        """Returns the words that the clauses cite. If a promise names fields of a record, the other fields of this record don't count."""
+        """Returns the definitions that the clauses cite, and the records whose fields the promise names. For such a record, returns only the
+        definitions that the named fields cite."""
         cited, heads, used = [], [], set()
         for file, _, _, text, start in self.clauses:
             found, unknown = file.cited_by(start, text)
@@ -119,7 +119,7 @@ class Promise:
 
     @property
     def words(self):
-        """Returns the words with which the page names the clauses of the promise."""
+        """Returns the promise's functions, clauses and fields as the page prints them."""
         carriers = [f"`{function}`" + (f": `{'`, `'.join(labels)}`" if labels else "") for function, labels in self.carriers]
         return "; ".join(carriers) + (f" (`{'`, `'.join(self.fields)}`)" if self.fields else "")
 
@@ -130,7 +130,7 @@ def promises_of(book):
 
 
 def named_as_computing():
-    """Returns the computing definitions that promises rest on, according to docs/PROMISES.md."""
+    """Returns the names of the computing definitions that promises depend on, according to docs/PROMISES.md."""
     found = re.search(r"Promises rest on \w+ computing functions: (.*?)\.", PROMISES.read_text(encoding="utf-8"))
     return set(re.findall(r"`(\w+)`", found[1])) if found else set()
 
@@ -210,12 +210,12 @@ class Audit:
         yield f"| together | | {len(plain)} | {sum(it.lines for it in plain)} | {len(specs) - len(plain)} | {len(types)} |"
 
     def functions(self):
-        """Returns the functions that have a clause that carries a promise."""
+        """Returns the functions whose clauses state the promises."""
         return list(dict.fromkeys(function for promise in self.promises for function, _ in promise.carriers))
 
     def beside(self):
-        """Returns the computing definitions that no clause of a promise needs, but another clause of these functions or the value of a cited ghost
-        needs."""
+        """Returns further computing definitions, which no promise depends on. Other clauses of the promises' functions depend on these definitions,
+        or cite ghosts whose values depend on them."""
         found = {id(it): it for function in self.functions() for it in below_all(self.book, function)}
         for ghost in [it for it in found.values() if it.kind == "ghost"]:
             found.update((id(it), it) for *_, below in self.book.standing_for(ghost) for it in below)
@@ -226,7 +226,7 @@ class Audit:
         return sorted((it for it in self.every.values() if it.is_computed and it.kind in OF_SPECS), key=lambda it: (it.module, it.line))
 
     def first_computed(self):
-        """Returns each computing definition that a clause or a non-computing definition cites, with the names of these clauses and definitions."""
+        """Returns a dict from the id of each computing definition to the names of the clauses and non-computing definitions that cite it."""
         found = defaultdict(set)
         for it in self.every.values():
             if not it.is_computed:
@@ -255,8 +255,8 @@ class Audit:
         return "; ".join(f"{', '.join(names)} in `{file}`" for file, names in by_file.items())
 
     def definitions_of(self, crate):
-        """Returns a crate's definitions by file. Neighbouring definitions with the same promises and the same mark share an item. If a file has
-        only one item, the item is on the line of the file."""
+        """Yields the page's lines about a crate's definitions, file by file. Neighbouring definitions with the same promises and the same mark share
+        a list item. If a file has only one item, the item follows the file's name on the same line."""
         listed = [it for it in self.every.values() if it.crate == crate and it.kind in OF_SPECS and not it.is_computed]
         for file in in_reading_order(self.book, [self.book.specs[module] for module in {it.module for it in listed}]):
             own = sorted((it for it in listed if it.module == file.module), key=lambda it: it.line)
@@ -299,12 +299,12 @@ class Audit:
     # ---- other trusted parts
 
     def libraries_below(self, promise):
-        """Returns the crates whose code the functions of a promise call: the functions' own crates and the crates that these depend on."""
+        """Returns the crates whose code the functions of a promise may call: the crates of these functions, and all crates below them."""
         own = {file.crate for file, *_ in promise.clauses}
         return own | crates_below(own)
 
     def calls(self):
-        """Returns the names of the calls that our crates make to each library, with the promises that depend on these calls."""
+        """Returns the names of the functions that our crates call in each library, and the promises that depend on these calls."""
         page = subprocess.run(["rt", "doc"], capture_output=True, text=True, check=False).stdout if shutil.which("rt") else ""
         kit = Path(page.strip() or "/none").parent / "rattle"
         if not kit.is_dir():
@@ -333,7 +333,7 @@ class Audit:
         return found, promises
 
     def words_of(self):
-        """Returns, for each library, the words of its specs that our definitions cite, and the promises that depend on these words."""
+        """Returns, for each library, the names in its specs that our definitions cite, and the promises that depend on these names."""
         found, promises = defaultdict(set), defaultdict(set)
         for promise in self.promises:
             for it in promise.of("library"):
@@ -424,14 +424,13 @@ class Audit:
     # ---- what pages cite
 
     def named(self):
-        """Returns the names of the computing definitions in docs/PROMISES.md, and of the computing definitions that these depend on."""
+        """Returns the names of the computing definitions that docs/PROMISES.md names, and of the computing definitions that they depend on."""
         first = named_as_computing()
         return first | {it.name for it in closure([it for it in self.computed() if it.name in first]) if it.is_computed and it.kind in OF_SPECS}
 
     def citing(self):
-        """Returns the faults in the tables of the pages. A citation that can't be read is a fault. In docs/PROMISES.md, a contract is a fault if it
-        depends on a computing definition that the page doesn't name. In docs/COMPUTED.md, a contract is a fault if it depends on no computing
-        definition."""
+        """Yields the faults in the tables of docs/PROMISES.md and docs/COMPUTED.md. A citation that can't be read is a fault. In PROMISES, no
+        contract may depend on a computing definition that the page doesn't name. In COMPUTED, each contract must depend on a computing definition."""
         contracts, named = Contracts(self.book), self.named()
         for page in (PROMISES, COMPUTED):
             for citation in citations(page.read_text(encoding="utf-8")):
@@ -448,7 +447,7 @@ class Audit:
     # ---- paths
 
     def paths(self):
-        """Returns the faults in the paths of the tour's second part. Each step must be a clause or a definition that the previous step cites."""
+        """Yields the faults in the paths of the tour's second part. Each step must be a clause, or a definition that the previous step cites."""
         text = TOUR.read_text(encoding="utf-8").partition("\n# ")[2]
         for question in re.split(r"^## ", text, flags=re.MULTILINE)[1:]:
             title, cited = question.splitlines()[0], None

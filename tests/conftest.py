@@ -1,7 +1,7 @@
 """Fixtures for the tests that pytest runs: the programs, clubs in files, and a separate server for each request.
 
-The files are in memory, where a sync costs no time. With the option `--scripts`, pytest imports no test file, but runs each program of tests/ as a
-test, by tests/lib/scripts.py. The runner tests/run calls pytest with `--scripts`."""
+The files are in a file system in memory, where a sync costs no time. With the option `--scripts`, pytest imports no test file. pytest then runs
+programs of tests/ as tests, through tests/lib/scripts.py. The runner tests/run calls pytest with `--scripts`."""
 
 import json
 import shutil
@@ -62,7 +62,7 @@ class Script(pytest.Item):
 
 
 class ScriptFile(pytest.File):
-    """A program in tests/, with its runs."""
+    """A program in tests/. Each run of the program is a test."""
 
     def collect(self):
         asked = self.config.option.scripts.split(",")
@@ -77,7 +77,7 @@ def pytest_collect_file(file_path, parent):
 
 
 def pytest_runtest_logreport(report):
-    """If a worker ends before its test, the report has no result, and the test counts as failed."""
+    """Records the result of a test. If a worker process dies during its test, the report has no result, and the test counts as failed."""
     config = report_to.get("config")
     found = dict(report.user_properties).get("found")
     if config and (found and report.when == "call" or not found and report.failed):
@@ -107,13 +107,13 @@ def pytest_sessionfinish(session):
 
 
 class Club:
-    """A club in a separate file."""
+    """A club in a file of its own, with the program that runs commands on the file."""
 
     def __init__(self, program, file):
         self.program, self.file = program, file
 
     def command(self, *words):
-        """Runs a command of `clubdesk` with the club as its file. Returns the command's status, its output and its standard error."""
+        """Runs a command of `clubdesk` on the club's file. Returns the command's status, its output and its standard error."""
         command, *rest = words
         return desk.command(self.program, command, self.file, *rest)
 
@@ -126,7 +126,7 @@ class Club:
         return printed.rstrip("\n")
 
     def balance(self, key):
-        """Returns the points of the member who owns a key, by the command show-account."""
+        """Returns the balance of the key's member, which the command show-account prints."""
         return int(dict(line.split(" ", 1) for line in self.does(f"show-account {key} --at {kinds.NOON}").splitlines())["balance"])
 
     def sql(self, statement):
@@ -134,7 +134,7 @@ class Club:
             return database.execute(statement).fetchall()
 
     def served(self, *words, count=None, at=kinds.NOON, **more):
-        """Starts a server on the club. The server ends after `count` connections, or at the end of the block."""
+        """Starts a server on the club. The server ends after `count` connections, or at the end of the `with` block."""
         return desk.Server(self.program, self.file, count, "--at", at, *words, **more)
 
     def ask(self, data, at=kinds.NOON, **more):
@@ -143,7 +143,7 @@ class Club:
             return Reply(it.exchange(data))
 
     def play(self, steps):
-        """Runs the steps of a scene, compares the answers, and returns the replies."""
+        """Runs the steps of a scene (tests/lib/kinds.py), compares each answer with the expected answer, and returns the server's replies."""
         replies = []
         for step in steps:
             if isinstance(step, kinds.Sql):
@@ -168,7 +168,7 @@ def clubdesk():
 
 @pytest.fixture(scope="session")
 def passtool():
-    """Runs passtool. Returns passtool's status, and passtool's output followed by its standard error."""
+    """Returns a function that runs passtool. The function returns the status, and the output followed by the standard error."""
     program = desk.program("passtool")
 
     def run(*words, given=""):
@@ -186,7 +186,7 @@ def library(tmp_path_factory):
 
 @pytest.fixture(scope="session")
 def new_club(clubdesk, tmp_path_factory):
-    """Makes a club by commands."""
+    """Returns a function that makes a club with the given commands of clubdesk."""
 
     def made_by(*commands):
         club = Club(clubdesk, tmp_path_factory.mktemp("made") / "club")
@@ -198,7 +198,7 @@ def new_club(clubdesk, tmp_path_factory):
 
 @pytest.fixture(scope="session")
 def made(new_club):
-    """Each test gets a copy of this club. A test file may define a fixture with the same name and a different club."""
+    """Returns the club that the fixture `club` copies for each test. A test file may define its own fixture `made`, with a different club."""
     club = new_club()
     club.play(kinds.COMMANDS)
     return club

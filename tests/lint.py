@@ -1,27 +1,27 @@
 #!/usr/bin/env -S /usr/bin/python3 -B
-"""Finds names defined twice, lines past their limits, unused files, misspelt words and foreign English.
+"""Finds names defined twice, lines that are too long, unused files, misspelt words and unidiomatic English.
 
-The program also finds functions, files and crates that exceed their limits, numbers without units, and differing versions. The program checks the
-English only in added lines.
+The program also finds functions, files and crates that are too large, numbers without units, and versions that differ. The program checks the English
+only in added lines.
 
-The program prints each slip with its place. The status is 1 if there is a slip.
+The program prints each slip with its place. The status is 1 if there is a slip. These are slips:
 - Two modules in specs/ define the same name, and TWINS doesn't list the name.
 - A line is too long. The limit is 100 columns for code, comments and clauses, and 160 for imports, specs and proofs.
-- The code exceeds a limit of CONTRIBUTING.md: 40 lines for a function's body, 800 for a file of code, 400 for a proof, and 100 functions for a
-  crate.
-- A public docstring has a number and no word that is a unit.
+- A function's body has 40 lines or more, a file of code has 800 or more, or a file of proofs has 400 or more.
+- A crate has more than 100 functions.
+- A public docstring has a number but no unit.
 - The version in the newest heading of CHANGELOG.md differs from the code's version.
-- No file imports a module in specs/ or proofs/, no `mod` names a file of code, or no page names a script.
+- A module in specs/ or proofs/ is never imported, a file of code has no `mod` line, or no page names a script.
 - A crate's proofs/Common re-exports a name that none of the crate's proofs imports.
-- The old text of an edit doesn't appear exactly once in its file, or a crate has two edits of the same name.
+- The old text of a mutant's edit doesn't appear exactly once in its file, or a crate has two edits of the same name.
 - A planted fault (tests/planted.py) replaces bytes that its file no longer contains.
 - A page or a text of web/ has a word that neither aspell nor tests/lib/words.txt knows.
 - A sentence on an added line breaks a rule of tests/lib/prose.py, for example because it has more than 30 words.
-- The subject of an added commit has no area, or is longer than 60 letters.
+- The subject of an added commit has no area, isn't an imperative, or is longer than 60 letters.
 Added lines and commits are those that this clone has and its upstream branch doesn't have.
-  tests/lint.py                  every crate, the pages, and the change
-  tests/lint.py club_core ..     these crates, and what the change adds to them
-  tests/lint.py --since COMMIT   the same for the lines and commits since a commit
+  tests/lint.py                  checks all crates, the pages, and the added lines and commits
+  tests/lint.py club_core ..     checks these crates and the lines added to them
+  tests/lint.py --since COMMIT   regards the lines and commits since COMMIT as added
 """
 # pytestmark = [mark.quick, mark.wants("aspell aspell-en aspell-de")]
 
@@ -42,7 +42,7 @@ from spec_files import spelled_out
 
 ROOT = Path(__file__).resolve().parent.parent
 os.chdir(ROOT)
-# Names that two specs modules define with the same meaning, each with the reason.
+# Names that two modules in specs/ may define, each with the reason.
 TWINS = {
     "◌>>=◌": "the bind of `do`, which each kind of result has",
     "Entry table_of": "points in a reply and tables of SQL, and a row of a program's table of commands",
@@ -54,8 +54,8 @@ TWINS = {
 }
 UNITS = re.compile("byte|bit|character|letter|digit|column|line|caveat|pass|place|person|guest|booking|point|day|hour|minute|second|moment|year|name|fault"
                    "|status|connection|port|version|row|request|key|field|case|number|memory|count|length", re.IGNORECASE)
-# A line that begins with a string literal, or with a field and its string literal, may be longer, so that a search finds a known pass. An attribute
-# may be longer because it can't be broken.
+# A line that begins with a string literal, or with a field and its string literal, may be longer. Then a search for a long text, such as a pass,
+# finds the line. An attribute may be longer because it can't be broken.
 LITERAL = r' *([a-z_]+: )?b?"'
 FN = re.compile(r"( *)(?:pub(?:\([a-z]+\))? )?(?:const )?(?:extern \"C\" )?fn (\w*)")
 
@@ -68,7 +68,7 @@ FILES = texts_below("crates", ".rt", ".antt")
 
 
 def of_crate(crate, part, ending):
-    """Returns the files below a folder of a crate."""
+    """Returns the texts of the files with this ending below a folder of a crate."""
     return {it: text for it, text in FILES.items() if it.parts[1:3] == (crate, part) and it.suffix == ending}
 
 
@@ -97,7 +97,7 @@ def too_long(crate):
 
 
 def too_large(crate):
-    """Yields a slip for each limit of CONTRIBUTING.md that is exceeded. The body of a function is the text between its braces."""
+    """Yields a slip for each size limit of CONTRIBUTING.md that the crate exceeds. The body of a function is the text between its braces."""
     code = of_crate(crate, "src", ".rt")
     for file, text in code.items():
         name, start = "", 0

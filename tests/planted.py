@@ -182,7 +182,7 @@ def spoil(path, old, new):
 def plant(name, folder):
     """Makes a copy of the tree and plants a fault in it. Returns the environment variables with the paths of the copy's programs."""
     file, old, new = PLANTS[name][:3]
-    folder.chmod(0o755)  # for tests with other users
+    folder.chmod(0o755)  # so that tests can use the folder as other users
     copied_tree(folder)
     variables = {}
     for program in PROGRAMS:
@@ -190,11 +190,11 @@ def plant(name, folder):
         copy.parent.mkdir(parents=True)
         shutil.copy(desk.program(program), copy)
         variables[program.upper()] = str(copy)
-    for archive in desk.ROOT.glob("crates/pass_c/out/libpass_c-*.a"):  # from which bin/library makes the library
+    for archive in desk.ROOT.glob("crates/pass_c/out/libpass_c-*.a"):  # bin/library makes the library from these archives
         copy = folder / archive.relative_to(desk.ROOT)
         copy.parent.mkdir(exist_ok=True)
         shutil.copy(archive, copy)
-    for built in desk.ROOT.glob("crates/pass_[fm]*/out/rlib") if name == "field_outlives_bytes" else ():  # what checks have kept
+    for built in desk.ROOT.glob("crates/pass_[fm]*/out/rlib") if name == "field_outlives_bytes" else ():  # the results of earlier checks
         shutil.copytree(built, folder / built.relative_to(desk.ROOT))
     spoil(Path(variables[file.upper()]) if file in PROGRAMS else folder / file, old, new)
     if file.startswith("web/src/"):

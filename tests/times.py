@@ -1,13 +1,13 @@
 #!/usr/bin/env python3
-"""Measures the processor seconds that the gate needs for the proof, the tests and the edits of each crate.
+"""Measures the processor seconds that the gate needs for the proof, the tests and the mutants of each crate.
 
-Runs `rt ci` in a scratch clone of HEAD. Adds up the processor seconds of the compiler's processes for three parts of each crate. The parts are the proof
-with the build of a program, the proof with the build of the tests, and the must-fail edits. At the end, it prints the sums, the elapsed time, and the last
-line of the gate's output. The status is the gate's status.
-  tests/times.py                 the whole gate
-  tests/times.py club_core ..    `rt ci club_core ..`: these crates, and those below them
-The program reads the times from /proc once a second, so it may miss the last second of each process. The times don't include the runs of programs
-and tests. The times of two measurements may differ by about 25 percent, depending on the other work of the machine.
+The program runs `rt ci`, the gate, in a scratch clone of HEAD. The program adds up the processor seconds of the compiler's processes for three parts
+of each crate. The parts are the proof with the build of a program, the proof with the build of the tests, and the mutants in must-fail/. At the end,
+the program prints the sums, the elapsed time, and the last line of the gate's output. The status is the gate's status.
+  tests/times.py                 measures the whole gate
+  tests/times.py club_core ..    measures these crates and all crates that they depend on
+The program reads the times from /proc once a second, so it may miss the last second of each process. The times don't include the runs of programs and
+tests. Two measurements may differ by about 25 percent, because other programs use the machine too.
 """
 # pytestmark = [mark.proofs, mark.alone, mark.timeout(36000)]
 
@@ -27,8 +27,8 @@ TICKS = os.sysconf("SC_CLK_TCK")
 
 
 def process(pid):
-    """Returns a process's parent, its start time, and its processor time in ticks. The time includes that of ended children that the process has
-    waited for."""
+    """Returns a process's parent, its start time, and its processor time in ticks. The processor time includes the time of ended children that the
+    process has waited for."""
     fields = Path(f"/proc/{pid}/stat").read_text(encoding="utf-8", errors="replace").rpartition(")")[2].split()
     return int(fields[1]), fields[19], sum(map(int, fields[11:15]))
 
@@ -41,7 +41,7 @@ def task(pid, work):
     folder = os.readlink(f"/proc/{pid}/cwd")
     if not folder.startswith(f"{work}/"):
         return None
-    # the gate checks each edit in a separate folder
+    # the gate checks each mutant's edit in a separate folder
     is_edit = re.search(r"/rt-edit-[^/]*(/|$)", folder)
     return words[words.index("--crate-name") + 1], "edits" if is_edit else "tests" if "--test" in words else "proof"
 
@@ -59,13 +59,13 @@ def sample(spent, work):
         while found[top][0] in found:
             top = found[top][0]
         totals[top, found[top][1], found[top][3]] += ticks
-    spent |= totals  # of both the larger one
+    spent |= totals  # keeps the larger value of each
 
 
 def run_gate(work, names):
     """Runs the gate. Returns the gate's status, and the ticks of each compiling process."""
     spent = Counter()
-    # TMPDIR puts the folders of the edits below the scratch folder. The measured times include the edits of this run, but no other runs on the
+    # TMPDIR puts the folders of the mutants below the scratch folder. So the measured times include the mutants of this run, but no other run on the
     # machine.
     with open(work / "log", "wb") as log, subprocess.Popen(["rt", "ci", *names], cwd=work / "clone", stdin=subprocess.DEVNULL, stdout=log, stderr=log,
                                                           env={**os.environ, "TMPDIR": str(work / "rooms")}, start_new_session=True) as gate:
@@ -93,7 +93,7 @@ def show(crates, spent):
 def main(names):
     with TemporaryDirectory() as folder:
         work, begun = Path(folder).resolve(), time.monotonic()
-        work.chmod(0o755)  # As root, rt runs programs and tests as nobody, who has to get in.
+        work.chmod(0o755)  # If root calls rt, rt runs programs and tests as the user nobody, who must be able to enter the folder.
         subprocess.run(["git", "clone", "-q", ROOT, work / "clone"], check=True)
         (work / "rooms").mkdir()
         status, spent = run_gate(work, names)

@@ -3,12 +3,13 @@
 
     tests/desk/arguments_as_before.py BEFORE NOW
 
-Run this test after a change to the code that reads arguments, if the change must not affect the programs' behaviour. BEFORE and NOW are paths that
-end in the name of the program. The test runs about 400 command lines. Some lines ask for help or the version. Other command lines have correct,
-wrong, repeated or missing arguments, several faults together, words after `--`, or bytes that aren't text. Each command line of `clubdesk` runs in
-a new folder. A `serve` line names a folder as its database, so that the server ends immediately. The test compares status, standard output and
-standard error byte for byte. The test prints each command line whose answers differ, and finally the counts. The status is 1 if any answers differ.
-`tests/run` doesn't run this test, because the repository contains no old program."""
+Run this test after a change to the code that reads arguments, if the change must not affect the programs' behaviour. BEFORE and NOW are the paths of
+the old and the new program. The last part of each path is `passtool` or `clubdesk`. The test runs about 450 command lines of `passtool`, or about 800
+of `clubdesk`. Some command lines ask for help or the version. Other command lines have correct, wrong, repeated or missing arguments, several faults
+together, words after `--`, or bytes that aren't text. Each command line runs in a new folder. A `serve` line names a folder as its database, so that
+the server ends immediately. The test compares status, standard output and standard error byte for byte. The test prints each command line whose
+answers differ, and finally the counts. The status is 1 if any answers differ. `tests/run` doesn't run this test, because the repository contains no
+old program."""
 
 import subprocess
 import sys
@@ -50,7 +51,7 @@ PATIENCES = [["--patience", "1"], ["--patience=0"], ["--patience", "3601"], ["--
 
 
 def texts(commands):
-    """Arguments that ask for help or the version, and arguments that name no command."""
+    """Yields arguments that ask for help or the version, and arguments that name no command."""
     first, second = commands[:2]
     yield from ([], [""], ["--help"], ["-h"], ["--version"], ["-V"], ["-hV"], ["-Vh"], ["help"], ["help", "help"], ["help", "none"],
                 ["help", first, second], ["none"], [first.title()], [first[:3]], ["--"], ["--", second], ["-"], ["-x"], ["--root", ROOT],
@@ -79,7 +80,7 @@ def mints():
 
 
 def readers():
-    """The commands that read a pass."""
+    """Yields command lines of the commands that read a pass."""
     for caveats, flag in product(CAVEATS, ([], ["--any"], ["--any", "--any"], ["--any=true"], ["--any="])):
         yield ["narrow", *flag, *caveats]
         yield ["narrow", *caveats, *flag]
@@ -90,7 +91,8 @@ def readers():
 
 
 def orders():
-    """Each command of clubdesk with good and bad arguments, and each command that takes a root with its options."""
+    """Yields each command of clubdesk with good and bad arguments. Also yields the commands that take a root, with the options for the root and for
+    the form of the pass."""
     for command, (good, bad) in WORDS.items():
         options = ["--port=0", "--count=1"] if command == "serve" else []
         yield from ([command, *options, *good[:n]] for n in range(len(good) + 1))
@@ -105,7 +107,7 @@ def orders():
 
 
 def clocks():
-    """The commands of clubdesk that need a clock."""
+    """Yields command lines of the clubdesk commands that need a clock."""
     yield from (["serve", FOLDER, *port, *count] for port, count in product(PORTS, COUNTS))
     for clock in CLOCKS:
         yield from (["show-account", FOLDER, "amy-1", *clock], ["show-account", "club.db", "Amy", *clock], ["show-slot", FOLDER, *clock])
@@ -113,7 +115,7 @@ def clocks():
 
 
 def runs():
-    """Command lines that use a database. Each line gets a new database."""
+    """Yields command lines that use a database. Each command line gets a new database."""
     for command, (good, bad) in WORDS.items():
         if command != "serve":
             yield from ([command, "club.db", *good[1:]], [command, "club.db", *bad[1:]])

@@ -1,11 +1,11 @@
 #!/usr/bin/env -S /usr/bin/python3 -B -m pytest -q -p no:cacheprovider
 """Although the test kills servers while clients book, each acknowledged booking is in the file exactly once.
 
-If the test sends the same requests again, they get the same replies.
+When the test sends the same requests again, it gets the same replies.
 
-A fixed seed determines the times of the kills. sqlite3, the day sheets and GETs find each acknowledged booking. A booking that was in progress may
-be in the file too, but only as a whole. The file's totals are the sums of its bookings. At the end the file has all 200 bookings, each once.
-ROUNDS=N kills N servers.
+A fixed seed determines the times of the kills. The test finds each acknowledged booking in the rows, in the day sheets and in the replies to GET
+requests. A booking that was in progress may be in the file too, but never in part. The file's totals are the sums of its bookings. At the end the
+file has all 200 bookings, each once. With ROUNDS=N in the environment, the test kills N servers.
 """
 
 import os
@@ -33,7 +33,8 @@ GETS = [Row("GET", path, passed=KEYS[0]).data for path in SLOTS] + [ACCOUNT.unde
 
 
 class Desk(Both):
-    """Four members with a key each, and a court with 4 places for 7 points. Each member has 10,000 points, which are enough for all bookings."""
+    """A club with four members, who have one key each, and a court with 4 places for 7 points. Each member has 10,000 points, which are enough for
+    all bookings."""
 
     def __init__(self, program, file):
         super().__init__(program, file)
@@ -59,7 +60,7 @@ class Desk(Both):
         self.asks(GETS)
 
     def killed_after(self, seconds):
-        """Returns the replies of a server. The test kills the server the given number of seconds after the first request began."""
+        """Sends the requests to a server, and kills the server after the given number of seconds. Returns the server's replies."""
         replies = []
         with self.server() as it:
             client = threading.Thread(target=lambda: replies.extend(it.exchange(data) for data in PUTS))

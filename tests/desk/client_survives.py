@@ -1,12 +1,12 @@
 #!/usr/bin/env -S /usr/bin/python3 -B -m pytest -q -p no:cacheprovider
-"""Even if its server is killed or its proxy fails, `examples/client.py` books nothing twice and loses no booking.
+"""`examples/client.py` books nothing twice and loses no booking, even if the server is killed or a proxy fails.
 
 The test kills the server and starts it again 100 times. No acknowledged booking or cancellation is lost.
 
 Every fifth time, the test also kills the client. The client requests each slot once, and cancels most of its bookings. At the end the file has
-exactly the bookings on the client's record, each once. The bookings have the charges, places and refunds that the server acknowledged. The file's
-totals are the sums of its bookings. Then the test runs each command of client.py and compares the command's output. Meanwhile, a proxy between the
-client and the server fails in several ways. KILLS=N kills N servers.
+exactly the bookings in the client's record, each once. The bookings have the charges, places and refunds that the server acknowledged. The file's
+totals are the sums of its bookings. Then the test runs each command of client.py and compares the command's output. Finally, the client books and
+cancels through a proxy that fails in several ways. With KILLS=N in the environment, the test kills N servers.
 """
 
 import multiprocessing
@@ -36,7 +36,7 @@ SLOTS = [(f"court-{it % 10}", f"2026-05-{1 + it // 10 % 30:02}", f"{8 + it // 30
 
 
 class Counting(Client):
-    """Writes a line for each request that got no reply and is sent again."""
+    """A client that writes a line whenever a request gets no reply."""
 
     def __init__(self, folder, port, key, file=None):
         super().__init__(f"http://127.0.0.1:{port}", (folder / f"pass.{key}").read_text().strip(), Record(folder / f"record.{key}"))
@@ -51,7 +51,7 @@ class Counting(Client):
 
 
 def work(folder, port):
-    """Books each slot that isn't on record yet. Cancels ten of eleven bookings, so that no member reaches the quota of 99."""
+    """Books each slot that isn't in the client's record yet. Cancels ten of eleven bookings, so that no member reaches the quota of 99."""
     with open(folder / "acknowledged", "a", encoding="utf-8") as file:
         clients = [Counting(folder, port, key, file) for key in KEYS]
         for client in clients:
@@ -89,7 +89,7 @@ def killed_and_killed(club, folder):
 
 
 def recorded(folder, port):
-    """Finishes the client's unfinished requests, and returns the client's record of each booking."""
+    """Finishes the unfinished requests of all keys. Returns the recorded bookings as rows of the table `bookings`."""
     rows = {}
     for key in KEYS:
         client = Counting(folder, port, key, sys.stderr)
@@ -127,12 +127,12 @@ def test_servers_and_clients_that_are_killed(new_club, tmp_path):
 
 @pytest.fixture
 def own(new_club, tmp_path):
-    """A club with the member amy, and amy's client."""
+    """Returns a club with the member amy, and a function that runs amy's client."""
     club = new_club("add-facility court-1 court 4 200 8 22", "add-member amy 2", "credit amy 10000")
     (tmp_path / "pass").write_text(club.does(f"add-key amy-1 amy {ROOT}"))
 
     def prints(port, words, patience=0):
-        """Returns the client's status, its output with N in place of the booking number, and the booking number."""
+        """Runs a command of the client. Returns the status, the output with N in place of the booking number, and the booking number."""
         ended = subprocess.run([desk.ROOT / "examples" / "client.py", *words.split()], cwd=tmp_path, check=False, stdout=subprocess.PIPE, text=True,
                                env={**os.environ, "DESK": f"http://127.0.0.1:{port}", "PATIENCE": str(patience)})
         drawn = re.search(r"amy-1/(\d+)", ended.stdout)
@@ -158,7 +158,7 @@ def test_commands(own):
             assert prints(it.port, words)[:2] == (wanted, text)
         for _ in range(2):
             prints(it.port, "account")
-    # If no server listens, the request stays on record. The client finishes the request when a server runs again.
+    # If no server listens, the request stays in the record. The client finishes the request when a server runs again.
     assert prints(it.port, "book court-1 2026-05-02 18 0")[:2] == (3, "")
     with club.served(count=1) as it:
         assert prints(it.port, "repeat")[:2] == (0, '{"booking":"amy-1/N","charge":200,"left":3}\n')
@@ -166,7 +166,7 @@ def test_commands(own):
 
 
 def test_proxy_that_fails(own):
-    """The proxy fails in a different way at each request."""
+    """Each time the client sends the request, the proxy fails in a different way."""
     club, prints = own
     number = ""
     for method, words, reply in (("PUT", "book court-1 2026-05-03 18 0", '{"booking":"amy-1/N","charge":200,"left":3}\n'),

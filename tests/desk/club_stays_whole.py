@@ -1,15 +1,16 @@
 #!/usr/bin/env -S /usr/bin/python3 -B -m pytest -q -p no:cacheprovider
-"""Even if memory is refused, storage is full or a kill comes, each command of `clubdesk` is done or leaves the club unchanged.
+"""Each command of `clubdesk` is done or leaves the club unchanged, even if memory or storage runs out or the command is killed.
 
-The test refuses each allocation of a command once, including those for the printing of passes. After a fault the command has printed nothing, and
-the club is unchanged. After a kill the club is unchanged or the command is done.
+The test refuses each allocation of a command once, including the allocations for printing passes. If a command fails, it has printed nothing, and the
+club is unchanged. After a kill the club is unchanged or the command is done.
 
-After each fault or kill, sqlite3 finds no damage in the file, and clubdesk can read the file.
-- The test repeats the command and refuses another allocation each time. The command ends with status 4, or with status 2 if the parser clap needed
-  the refused allocation. If the command didn't need the refused allocation, it ends as with ample memory.
+After each failure or kill, sqlite3 finds no damage in the file, and clubdesk can read the file.
+- The test repeats the command and refuses another allocation each time. With STEP=N in the environment, the test refuses only each Nth allocation,
+  which is faster. The command ends with status 4, or with status 2 if clap, the parser of the arguments, needed the refused allocation. If the
+  command didn't need the refused allocation, it ends as with ample memory.
 - The test limits the size of the file to various numbers of blocks. The command ends with status 5 if it needs more blocks. If the command needs no
   more blocks, it ends as with ample storage.
-- The test kills the command after various numbers of milliseconds. STEP=N refuses only each Nth allocation, which is faster.
+- The test kills the command after various numbers of milliseconds.
 """
 
 import contextlib
@@ -49,13 +50,14 @@ COMMANDS = {
     "cancel-booking amy-1 7":
         "UPDATE bookings SET cancelled = 1, refund = charge; UPDATE slots SET taken = 0; UPDATE members SET used = 0",
 }
-# The request that a member sends before the test gives the command.
+# The request that a member sends before the test runs the command.
 BOOKED_BEFORE = {"cancel-booking amy-1 7": kinds.book(7, kinds.TWO, passed=kinds.text(kinds.key_pass("amy-1", OTHER)))}
 TABLES = ("desk", "members", "facilities", "keys", "old_roots", "slots", "bookings")
 
 
 def rows(club):
-    """Returns all rows. Returns no rows if a kill interrupted the creation of the tables, because clubdesk completes the tables later."""
+    """Returns the rows of each table. If a kill interrupted the creation of the tables, returns the rows of an empty club, because clubdesk completes
+    the tables later."""
     try:
         assert club.sql("PRAGMA integrity_check") == [("ok",)] and not club.sql("PRAGMA foreign_key_check")
         return [sorted(club.sql(f"SELECT * FROM {table}")) for table in TABLES]
@@ -65,7 +67,7 @@ def rows(club):
 
 
 class Command:
-    """A command, with the states in which it may leave a club. The test gives the command repeatedly, each time to a new copy of the club."""
+    """A command, with the club's rows before and after the command. The test runs the command repeatedly, each time on a new copy of the club."""
 
     def __init__(self, before, words):
         self.before, self.words, self.found = before, words.split(), {}
@@ -79,13 +81,14 @@ class Command:
 
     @contextlib.contextmanager
     def copy(self):
-        """Yields a copy of the club, and the words that give the command to the copy."""
+        """Yields a copy of the club, and the command line that runs the command on the copy."""
         with tempfile.TemporaryDirectory(dir=self.before.file.parent) as folder:
             club = self.before.copied_to(Path(folder, "club"))
             yield club, [club.program, self.words[0], club.file, *self.words[1:]]
 
     def keeps_a_club(self, club, *wanted):
-        """Checks that the file and its log represent one of these states, and that clubdesk can read the file. Checks the same bytes only once."""
+        """Checks that the file and its log have the rows of one of the `wanted` states, and that clubdesk can read the file. Reads files with the
+        same bytes only once."""
         state = hashlib.sha256(b" log ".join(it.read_bytes() for it in (club.file, Path(f"{club.file}-wal")) if it.exists())).digest()
         if state not in self.found:
             self.found[state] = rows(club.copied_to(club.file.with_name("copied")))
@@ -95,15 +98,16 @@ class Command:
         assert found in wanted
 
     def given(self, limits=None, **variables):
-        """Gives the command to a copy of the club, and returns how the command ended. After a fault the club must be unchanged."""
+        """Runs the command on a copy of the club. Returns the status, the output and the standard error. If the command fails, the club must be
+        unchanged."""
         with self.copy() as (club, words):
             ended = desk.command(*words, env={**os.environ, **variables}, preexec_fn=limits, restore_signals=False)
             self.keeps_a_club(club, self.rows if ended[0] else self.after)
         return ended
 
     def fails(self, ended, fault, *statuses):
-        """Returns whether the command failed. A failed command must end with one of the given statuses and no output. Any other command must end as
-        with ample memory and storage."""
+        """Returns whether the command failed. A failed command must end with one of the given statuses and no output. A command that doesn't fail
+        must end as with ample memory and storage."""
         assert ended == self.whole or ended[0] in statuses and ended[1] == "" and (ended[0] == 2 or ended[2] == fault), ended
         return ended != self.whole
 

@@ -1,14 +1,14 @@
 #!/usr/bin/env python3
-"""`clubdesk` answers random requests, most of them wrong, and random commands as the rules in Python do.
+"""`clubdesk` answers random requests and commands, many of them invalid, in the same way as the rules in Python.
 
-The rules are those of `tests/reference`. The test also compares all rows and totals of the club. With `--self-test`, the test checks that it finds
-faults planted in the rules.
+`tests/reference` has these rules. The test also compares all rows and totals of the club. With `--self-test`, the test checks that it finds faults
+planted in the rules.
 
-The test compares replies byte for byte. The test compares rows and totals each time a server has ended. The rules in Python come only from the
-pages on the desk, passes and caveats, and not from the desk's code. A seed determines the requests. The passes have three forms, and are signed
-under current, older and unknown roots. Some passes are truncated, or have one changed byte. Other passes have caveats with values at a limit. Some
-passes have a third-party caveat. Heads and bodies vary in letters, line ends, lengths, fields and paths. The test runs many servers one after the
-other, each with its clock at a random moment. The office gives its commands before each server starts.
+The test compares replies byte for byte. The test compares rows and totals each time a server has ended. The rules in Python come only from the pages
+on the desk, passes and caveats, and not from the desk's code. A seed determines the requests. The passes have three forms, and are signed with
+current, older and unknown roots. A root is the secret of a key. Some passes are truncated, or have one changed byte. Other passes have caveats with
+values at a limit. Some passes have a third-party caveat. Heads and bodies vary in the case of letters, line ends, lengths, fields and paths. The test
+runs many servers one after the other, each with its clock at a random moment. Before each server starts, the test runs commands of the office.
 
     tests/desk/hostile.py [--seed N] [--count M] [--plant FAULT | --self-test]
 """
@@ -57,7 +57,8 @@ class World(Both):
         return draw.choice(FACILITIES), min(max(self.moment // 1440 + ahead, caveats.FIRST_DAY), caveats.LAST_DAY), hour
 
     def booked(self):
-        """Draws a key and the number of one of its bookings, which may be cancelled. Returns None if the key has no booking."""
+        """Draws a key and one of its bookings, which may be cancelled. Returns the key, the booking's number and the booking. Returns None if the key
+        has no booking."""
         key = self.draw.choice(KEYS)
         rows = self.club.bookings.get(key)
         if not rows:
@@ -103,7 +104,7 @@ class World(Both):
     # ---- passes
 
     def caveat(self):
-        """Draws a caveat, often with a value at a limit. The desk doesn't understand one caveat in eight."""
+        """Draws a caveat, often with a value at a limit. In about one case in eight, draws a caveat that the desk doesn't understand."""
         draw = self.draw
         day = self.moment // 1440
         first, last = (spelled_day(day + it) for it in sorted(draw.choices((0, 1, 11, 60, 1000), k=2)))
@@ -254,7 +255,7 @@ class World(Both):
     # ---- rounds
 
     def round(self, count):
-        """Gives commands, sends requests to a server at a random moment, and compares the rows of the file."""
+        """Runs commands, sends requests to a server whose clock shows a random moment, and compares the rows of the file."""
         self.moment = NOON + self.draw.choice((0, 0, 1, 360, 361, 1440, 11 * 1440, 30_000)) + self.draw.randrange(3)
         for _ in range(COMMANDS_BETWEEN):
             self.give(self.words_of_command())

@@ -1,14 +1,14 @@
 #!/usr/bin/env -S /usr/bin/python3 -B -m pytest -q -x -s -p no:cacheprovider
 """500 commands of two offices and 5,000 simultaneous requests of four clients get the right answers and leave the right totals.
 
-The answers and totals are also right if clients are slow, or if the test kills programs, leaves stale doors or moves files. The test prints how
-long commands and requests took.
+The answers and totals are also right if clients are slow, or if the test kills programs, leaves stale doors or moves files. A door is the Unix socket
+through which a server receives the office's commands. The test prints how long commands and requests took.
 
-The test uses real processes. When the server has stopped, sqlite3 finds that each total is the sum of its rows. Then the test kills 20 servers or
-commands. One client is silent while another client sends a byte a second. The test also tries a stale door, a door that another program has, and a
-second server. The test also tries links to the file and its folder, and a file that is moved, replaced or removed. The test also gives commands as
-another user, and checks the modes of the files and the lines of the log. The test measures the times with and without commands, and with 300,000
-more bookings.
+The test uses real processes. When the server has stopped, sqlite3 finds that each total is the sum of its rows. Then the test kills ten servers and
+ten commands. One client is silent while another client sends a byte a second. The test also tries a stale door, a folder at the door's path, and a
+second server. The test uses links to the file and its folder, and moves, replaces and removes the file. The test also runs a command as another user,
+and checks the modes of the files and the lines of the log. The test measures the times of requests with and without commands, and with 300,000 more
+bookings.
 """
 
 import contextlib
@@ -72,8 +72,8 @@ class Times(list):
 
 
 def asked_by(place):
-    """Yields a client's 1,250 requests, with their replies. In each of ninety rounds the client makes a booking, repeats it, and gets the slot and
-    the account. In every third round the client also cancels the booking. The remaining requests get the account."""
+    """Yields a client's 1,250 requests, with the expected replies. In each of ninety rounds the client makes a booking, repeats it, and gets the slot
+    and the account. In every third round the client also cancels the booking. The remaining requests get the account."""
     spent = opened = 0
     for number in range(1, 91):
         day, hour, is_cancelled = f"{1 + number // 14:02}", 8 + number % 14, number % 3 == 0
@@ -92,7 +92,7 @@ def asked_by(place):
 
 
 def given_by(place):
-    """Yields 250 commands with their answers. The commands add members, credit points, close slots, revoke keys and show slots."""
+    """Yields 250 commands with the expected answers. The commands add members, credit points, close slots, revoke keys and show slots."""
     for n in range(1, 51):
         day = f"2026-{6 + n // 29:02}-{1 + n % 28:02}"
         for words in (f"add-member o{place}-{n} 5", f"credit o{place}-{n} {100 * n}", f"close-slot room-{place} {day} 10", f"revoke-key old-{place}"):
@@ -101,7 +101,7 @@ def given_by(place):
 
 
 def beside(club, server, count):
-    """Runs four clients, and two offices if the test has commands. Compares each reply and answer with the expected one."""
+    """Runs four clients, and also two offices unless `count` is 0. Compares each reply and each answer with the expected text."""
     bookings, others, commands = Times(), Times(), Times()
 
     def client(place):
@@ -127,8 +127,8 @@ def beside(club, server, count):
 
 
 def test_door_has_a_mode_and_commands_have_lines(club):
-    """Gives 500 commands while clients send 5,000 requests. Then gives three commands with a root. The server refuses one of the three commands.
-    Another one of these commands reads the root from standard input. The log contains no root."""
+    """Runs 500 commands while clients send 5,000 requests. Then runs three commands that take a root. The server refuses one of the three commands.
+    Another of the three commands reads the root from standard input. The log contains no root."""
     with club.served("--log") as server:
         assert stat.filemode(os.stat(f"{club.file}-office").st_mode) == "srw-------"
         beside(club, server, 500)
@@ -151,8 +151,8 @@ def ends(wanted, most, *words):
 
 
 def test_what_others_meet_beside_a_server(club):
-    """Starts a second server on the file, and gives commands through links to the file and to its folder. Moves the file, and gives a command at
-    the file's old path. Gives a command as another user who may read the file."""
+    """Starts a second server on the file. Runs commands through links to the file and to its folder. Moves the file, and runs a command with the
+    file's old path. Runs a command as another user who may read the file."""
     folder, moved = club.file.parent, club.file.with_name("moved")
     with club.served():
         ends(FAILED, 15, club.program, "serve", club.file, "--port", "0", "--count", "1")
@@ -254,7 +254,7 @@ def test_commands_beside_four_clients_of_which_two_dawdle(club):
 @pytest.mark.parametrize("dawdle", [lambda _: None, DRIP], ids=["silent", "a byte a second"])
 def test_client_that_dawdles_keeps_no_command(club, dawdle):
     """The server carries out each command within 0.9 seconds, while it still waits for the slow client. The server cuts off the slow client after
-    the server's patience of four seconds."""
+    four seconds, the value of the option `--patience`."""
     commands = Times()
     with club.served("--patience", "4") as server, socket.create_connection(("127.0.0.1", server.port), 60) as client:
         begun, dawdling = time.monotonic(), threading.Thread(target=dawdle, args=[client])
@@ -272,7 +272,7 @@ def test_client_that_dawdles_keeps_no_command(club, dawdle):
 
 @pytest.mark.parametrize("number", range(1, 21))
 def test_killed_command_or_server(club, number):
-    """The status of a command states whether the server has carried out the command, or that this is unknown. The totals agree with the status."""
+    """The status of a command states whether the server carried out the command, or that the outcome is unknown. The totals agree with the status."""
     with club.served() as server:
         before = club.balance("k1")
         command = subprocess.Popen([club.program, "credit", club.file, "m1", "1"], stdout=subprocess.DEVNULL, stderr=subprocess.DEVNULL)

@@ -1,13 +1,14 @@
 #!/usr/bin/env -S /usr/bin/python3 -B -m pytest -q -p no:cacheprovider
 """A running desk carries out each complete command once, and nothing else that reaches its door.
 
-The test sends truncated, slow and invalid commands. The test also runs senders and servers that misbehave. The real server must go on serving.
+The door is the Unix socket through which the desk's server receives the office's commands. The test sends truncated, slow and invalid commands. The
+test also runs senders and servers that misbehave. The real server must go on serving.
 
-The test sends each prefix of a command, commands of 70,000 bytes, and commands that state a wrong number of words. Some commands have arguments
-that aren't UTF-8, have an unknown name, or have the name `serve`. Some senders close the connection before the greeting, are silent, or never read
-the answer. Some servers don't greet or answer, are stopped for longer than a timeout, or end before they greet. Then the test gives 50 simultaneous
-commands, and root gives a command to another user's desk. Some doors are stale, belong to root or to a stranger, or are behind a link. Other doors
-are in a folder that a server can't write to, or on a full disk. The parts with other users and disks need root.
+The test sends each prefix of a command, commands of 70,000 bytes, and commands that state a wrong number of words. Some commands have an unknown
+name, the name `serve`, or arguments that aren't UTF-8. Some senders close the connection before the greeting, are silent, or never read the answer.
+Some servers don't greet or answer, are suspended for longer than a timeout, or end before they greet. Then the test runs 50 simultaneous commands,
+and runs a command as the user root on another user's desk. Some doors are stale, belong to root or to a stranger, or are behind a link. Other doors
+are in a folder that a server can't write to, or on a full disk. The parts with other users or a full disk must run as root.
 """
 
 import contextlib
@@ -43,7 +44,7 @@ needs_root = pytest.mark.skipif(os.geteuid() != 0, reason="wants root")
 
 @pytest.fixture
 def serving(club):
-    """Yields a server of the club, which runs until the end of the test."""
+    """Yields a server of the club. The server runs until the end of the test."""
     with club.served() as it:
         yield it
 
@@ -152,7 +153,7 @@ def test_a_sender_that_takes_no_answer(club):
 
 
 def test_a_server_that_does_not_greet(club, serving):
-    """The test stops the server until the command's timeout is over. When the server continues, it doesn't carry out the command."""
+    """The test suspends the server until the command's timeout is over. When the server continues, it doesn't carry out the command."""
     os.kill(serving.process.pid, signal.SIGSTOP)
     began = time.monotonic()
     assert club.command("credit", "amy", "1") == FAILED
@@ -164,7 +165,7 @@ def test_a_server_that_does_not_greet(club, serving):
 
 @contextlib.contextmanager
 def stopped(server):
-    """Stops a server until the end of the block, as if the machine were asleep."""
+    """Suspends a server until the end of the `with` block, as if the machine were asleep."""
     os.kill(server.process.pid, signal.SIGSTOP)
     yield
     os.kill(server.process.pid, signal.SIGCONT)
@@ -172,7 +173,7 @@ def stopped(server):
 
 @pytest.mark.parametrize("length, wanted", [(len(WHOLE), (0, "done\n")), (len(WHOLE) - 1, (2, ""))])
 def test_a_server_that_is_stopped_while_a_command_comes(club, serving, length, wanted):
-    """A command arrives while the server is stopped. When the server continues, it carries out the command if the command is complete."""
+    """A command arrives while the server is suspended. When the server continues, it carries out the command if the command is complete."""
     with visitor(club) as it:
         with stopped(serving):
             it.sendall(WHOLE[:length])
@@ -183,13 +184,13 @@ def test_a_server_that_is_stopped_while_a_command_comes(club, serving, length, w
 
 
 def test_a_server_that_is_stopped_while_a_client_sends(club):
-    """A request arrives while the server is stopped for longer than the server's patience. When the server continues, it replies to a complete
+    """A request arrives while the server is suspended for longer than the server's patience. When the server continues, it replies to a complete
     request and cuts off an incomplete one."""
     whole = kinds.account().data
     with club.served("--patience", "1") as server:
         for data, begins in ((whole, b"HTTP/1.1 200 "), (whole[:-1], b"")):
             with socket.create_connection(("127.0.0.1", server.port), 30) as it:
-                time.sleep(0.3)  # it is accepted
+                time.sleep(0.3)  # the server accepts the connection
                 with stopped(server):
                     it.sendall(data)
                     time.sleep(2)
@@ -199,11 +200,11 @@ def test_a_server_that_is_stopped_while_a_client_sends(club):
 
 @pytest.mark.parametrize("is_followed", [False, True], ids=["by nobody", "by another server"])
 def test_a_server_that_ends_before_it_greets(club, clubdesk, is_followed):
-    """The client has sent no byte of the command, so the client opens the file itself or connects to the next server."""
+    """When the server ends, the client has sent no byte of the command. Therefore the client opens the file itself or connects to the next server."""
     with club.served() as server:
         os.kill(server.process.pid, signal.SIGSTOP)
         with subprocess.Popen([clubdesk, "credit", club.file, "amy", "1"], stdout=subprocess.PIPE, stderr=subprocess.PIPE, text=True) as command:
-            time.sleep(0.5)  # it waits for the greeting
+            time.sleep(0.5)  # the command waits for the greeting
             server.kill()
             with club.served() if is_followed else contextlib.nullcontext():
                 assert (*reversed(command.communicate()), command.returncode) == ("", "done\n", 0)
@@ -235,8 +236,8 @@ def test_what_a_server_may_send(club, greeting, reply, wanted):
 
 
 def test_a_server_that_closes_after_it_greeted(club):
-    """The server closes the connection when it has read at most a part of the command, so this server can't carry out the command. The next server
-    carries out the command."""
+    """The server closes the connection before it has read the whole command, so this server can't carry out the command. The next server carries out
+    the command."""
     with socket.socket(socket.AF_UNIX) as door:
         door.bind(f"{club.file}-office")
         door.listen()
@@ -288,7 +289,7 @@ def test_a_command_of_root(of_another):
 
 @needs_root
 def test_a_stale_door_of_root(of_another, clubdesk):
-    """After someone kills a server of root, the club's owner can still give commands and start a server."""
+    """After someone kills a server that root started, the club's owner can still give commands and start a server."""
     with of_another.served() as server:
         server.kill()
     door = of_another.file.with_name("club-office")
@@ -321,7 +322,7 @@ with socket.socket(socket.AF_UNIX) as door:
 @needs_root
 def test_a_door_of_a_stranger(club, clubdesk):
     """A stranger's program listens at the door's path, in a folder that everybody can write to. The stranger's program gets no command and no root,
-    and no server replaces its socket."""
+    and no server replaces the stranger's socket."""
     for parent in club.file.parents:
         if parent.stat().st_mode & 0o5 != 0o5:
             parent.chmod(0o755)

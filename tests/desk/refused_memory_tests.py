@@ -1,16 +1,17 @@
 #!/usr/bin/env -S /usr/bin/python3 -B
-"""If an allocation is refused, each call in the tests still returns the right result, or reports out of memory and changes nothing.
+"""If an allocation is refused, each call in the chosen tests returns the right result, or reports "out of memory" and changes nothing.
 
-The chosen tests read and write the known passes in each form, and open new and existing stores. The chosen tests also give each command of the
-office, and make the known booking by `Desk::ask`, `Desk::run` and `answer`.
+The chosen tests read and write example passes in each form, and open new and existing stores. The chosen tests also run each command of the office,
+and make an example booking with `Desk::ask`, `Desk::run` and `answer`.
 
-The program fails if a test is missing, fails with ample memory, or makes no allocation. The program first proves and builds tests that are missing
-or older than their sources.
+The program fails if a chosen test doesn't exist, fails with ample memory, or makes no allocation. If the built tests of a crate are missing or older
+than their sources, the program first proves and builds them.
 
-Name only tests that accept out of memory in place of the right result. A test that expects another fault fails when memory is refused.
-  tests/desk/refused_memory_tests.py                                                          the tests in the list below
-  tests/desk/refused_memory_tests.py club_gate_tests                                          the listed tests of a crate
-  tests/desk/refused_memory_tests.py club_gate_tests store::shown::shows_what_a_key_sees ..   any tests of a crate
+On the command line, name only tests that accept "out of memory" in place of the right result. A test that expects another fault fails when memory is
+refused.
+  tests/desk/refused_memory_tests.py                                                          runs the tests in TESTS
+  tests/desk/refused_memory_tests.py club_gate_tests                                          runs the tests of this crate in TESTS
+  tests/desk/refused_memory_tests.py club_gate_tests store::shown::shows_what_a_key_sees ..   runs the named tests of this crate
 """
 # pytestmark = [mark.proofs, mark.timeout(36000), mark.wants("gcc libc6-dev")]
 
@@ -40,7 +41,7 @@ ROOM = tempfile.TemporaryDirectory(dir=desk.IN_MEMORY)
 
 
 def built(crate):
-    """Returns the tests of a crate. Proves and builds the tests if they are missing or older than their sources."""
+    """Returns the path of the program with a crate's tests. Proves and builds the program if it is missing or older than its sources."""
     if not (desk.ROOT / "crates" / crate / "src").is_dir():
         sys.exit(f"there is no crate {crate}")
     program, begun = desk.ROOT / "crates" / crate / "out" / f"{crate}_tests", time.time()
@@ -54,13 +55,13 @@ def built(crate):
             sys.exit("\n".join([*ran.stdout.splitlines()[-20:], f"{crate}: its tests could not be proved and built, or failed"]))
         if not program.exists():
             sys.exit(f"{crate} has no tests")
-        os.utime(program, (begun, begun))  # an edit during the build is newer than the program, so the next call builds again
+        os.utime(program, (begun, begun))  # so that a source edited during the build is newer than the program
     return program
 
 
 def ends_without_memory(output):
-    """Returns whether a test failed because a call reported out of memory. The value that the test returned or got must be this fault alone,
-    perhaps within an `Err`. If the fault appears elsewhere, such as in an expected value, the test failed for another reason."""
+    """Returns whether a test failed because a call reported "out of memory". The value that the test returned or got must be only this fault, perhaps
+    inside an `Err`. If the fault appears elsewhere, such as in an expected value, the test failed for another reason."""
     def has_line(head):
         return any(re.fullmatch(head + FAULT, line) for line in output.splitlines())
 

@@ -1,15 +1,15 @@
 #!/usr/bin/env -S /usr/bin/python3 -B
 """Each line of a scenario (docs/SCENARIOS.md) gets its stated answer from the rules in Python and from `clubdesk`.
 
-The rules in Python are those of `tests/reference`. The club of `clubdesk` is in a file, and requests reach its server over a socket. The test tries
+`tests/reference` has the rules in Python. For `clubdesk`, the club is in a file, and a server receives the requests over a socket. The test tries
 passes in all three forms. With `--self-test`, the test checks that it finds eight faults planted in the rules.
 
-The reader refuses a file if a line can't be read or has no answer, or if the commands for a club fail. A file without a line is refused, too. The test
-prints the place of each fault. The self-test tries faulty files of all these kinds.
+The test refuses a file if a line can't be read or has no answer, or if the commands that make a club fail. The test also refuses a file without any
+line. The test prints the place of each fault. The self-test tries faulty files of all these kinds.
 
-    tests/desk/scenarios.py [--player rules|programs] [FILE ..]     plays all files, or those of these names
-    tests/desk/scenarios.py --self-test                             plays odd files, and plants each fault of the rules
-    tests/desk/scenarios.py --fill FILE                             prints the file, and fills in missing answers by the rules in Python
+    tests/desk/scenarios.py [--player rules|programs] [FILE ..]     plays all files, or the named files
+    tests/desk/scenarios.py --self-test                             reads faulty files, and plants each fault in the rules
+    tests/desk/scenarios.py --fill FILE                             prints the file, with missing answers filled in from the rules in Python
     tests/desk/scenarios.py --counts                                writes how many clubs and lines each file has into crates/scenarios/stdout
 """
 # pytestmark = [mark.programs, mark.quick, mark.programs("--self-test"), mark.needs("clubdesk")]
@@ -31,7 +31,7 @@ from scenario_lines import AGAIN, Crash, Fault, Listing, Office, Request, inner
 from scenario_players import Difference, Programs, Rules, run_as_test, status_of
 
 
-COLUMN = 64  # where a filled-in reply begins in its line
+COLUMN = 64  # the column at which a filled-in reply begins
 STDOUT = lines.FOLDER.parent / "stdout"
 
 
@@ -60,7 +60,7 @@ def write_counts():
 
 
 def play_file(path, player, prints):
-    """Runs the scenarios of a file, and prints the counts."""
+    """Runs the scenarios of a file in each form of passes. Prints the counts if `prints` is true. Returns the number of lines with an answer."""
     scenarios = whole(path)
     for scenario in scenarios:
         for form in scenario.forms:
@@ -71,8 +71,8 @@ def play_file(path, player, prints):
 
 
 def played(paths, player, jobs, prints=True):
-    """Runs the scenarios of several files at the same time. Returns the number of lines, and a text for each wrong answer and each fault of a
-    file."""
+    """Runs the scenarios of several files at the same time. Returns the number of lines with an answer. Also returns a text for each file with a
+    wrong answer or a fault."""
     count, faults = 0, []
     with ThreadPoolExecutor(jobs) as pool:
         for it in [pool.submit(play_file, path, player, prints) for path in paths]:
@@ -121,7 +121,7 @@ def reply_in(data):
 
 CLUB = "club  members amy 5 100; court-1 court 4 200 8-22; keys amy-1\nat  2026-04-20T12:00\n"
 ACCOUNT = 'amy-1  GET account  200 {"member":"amy","balance":100,"quota":5,"open":0,"spent":0}'
-# Faulty files: the text after CLUB, the line of the fault, and words of the fault. If the line is None, the file is valid. The texts of
+# Faulty files: the text after CLUB, the line of the fault, and words of the message. If the line is None, the file is valid. The texts of
 # FAULTY_CLUBS are complete files, so CLUB isn't added to them.
 FAULTY = (
     ("", 2, "no expectation"), ("amy-1", 3, "not understood"), ("amy-1  GET", 3, "a request has"), ("offce  revoke-key amy-1  done", 3, "is unknown"),

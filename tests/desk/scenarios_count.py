@@ -1,12 +1,12 @@
 #!/usr/bin/env -S /usr/bin/python3 -B
-"""Finds the facts that rows of the test crates state and no scenario states.
+"""Finds the facts that rows of the test crates state, but that no scenario states.
 
 A fact consists of a question, the state of the club that the answer depends on, and the answer. READERS has a reader for each table whose rows a
-scenario can state. STAYS has the reasons why scenarios can't state the rows of the other tables. The last printed line has the counts. The status
-is 1 if no scenario states a row that a scenario could state.
+scenario can state. STAYS has the reasons why scenarios can't state the rows of the other tables. Such rows stay in the test crates. The last printed
+line has the counts. The status is 1 if a scenario could state a row, but no scenario states it.
 
     tests/desk/scenarios_count.py             prints the missing rows, and the counts
-    tests/desk/scenarios_count.py --leaves    also prints each table whose rows the files state, and how many of its rows stay
+    tests/desk/scenarios_count.py --leaves    also prints each table with a reader, and how many of its rows stay
     tests/desk/scenarios_count.py --stays     also prints how many rows stay for each reason
 """
 
@@ -72,7 +72,7 @@ def reason(module, name):
 
 
 def modules():
-    """Yields the name of each module of the test crates, and its file with the tables."""
+    """Yields the name of each module of the test crates, and the module's file as tests/lib/rust_tables.py reads it."""
     for crate in TESTS:
         top = CRATES / crate / "src"
         for path in sorted(top.rglob("*.rt")):

@@ -3,10 +3,10 @@
 
 The clients that come after a slow client get their replies. Some clients send far more than a request before they read the reply.
 
-The server has a patience of two seconds. One client sends nothing, another sends only the beginning of its request, and a third sends a byte a
-second. A fourth client never reads its reply, and a fifth stays connected after its request. Then clients send 1,000 requests, each followed by 1
-to 100,000 more bytes, and 1,000 heads of 100,000 bytes. Half of these requests and heads come in two pieces. Then clients send requests in three,
-four and six pieces, with a length or with chunks. During 100 more requests, the test stops the server and continues it.
+The server has a patience, or timeout, of two seconds. One client sends nothing, another sends only the beginning of its request, and a third sends a
+byte a second. A fourth client never reads its reply, and a fifth stays connected after its request. Then clients send 1,000 requests, each followed
+by 1 to 100,000 more bytes, and 1,000 heads of 100,000 bytes. Half of these requests and heads come in two pieces. Then clients send requests in
+three, four and six pieces, with a Content-Length or in chunks. During 100 more requests, the test suspends and resumes the server.
 
 Each client sends all its bytes before it reads, as Python's HTTP clients do. A client gives up if it can't send its bytes.
 """
@@ -67,7 +67,7 @@ def test_client_behind_one_that_dawdles(patient, dawdle, least, most):
 
 
 def test_client_of_a_byte_a_second_is_cut_off(patient):
-    """The server cuts off the client when the patience is over, although the client is never silent for long."""
+    """The server cuts off the client when the server's patience is over, although the client is never silent for long."""
     with patient(2) as server:
         with connected(server) as client:
             began = time.monotonic()
@@ -104,7 +104,7 @@ def test_requests_in_pieces(patient, count):
 
 
 def test_server_that_is_stopped_and_goes_on(patient):
-    """In the middle of each of 100 requests, the test stops the server and continues it."""
+    """In the middle of each of 100 requests, the test suspends and resumes the server."""
     with patient(100) as server:
         for _ in range(100):
             with connected(server) as client:

@@ -1,10 +1,10 @@
 #!/usr/bin/env -S /usr/bin/python3 -B -m pytest -q -p no:cacheprovider
-"""The shell sqlite3 reads the file of `clubdesk`, and the SQL for lists and corrections in docs/RUNNING.md works.
+"""The sqlite3 shell reads a file of `clubdesk`, and the SQL for lists and corrections in docs/RUNNING.md works.
 
-If a file has no club, or a row outside the limits, `clubdesk` reports that storage failed.
+If a file is damaged, or has wrong tables or a row outside the limits, `clubdesk` reports that storage failed.
 
-The file has the columns, keys, references and limits of docs/TABLES.md. clubdesk shows the changes that sqlite3 makes within these limits. If
-clubdesk refuses a file, it doesn't change a byte of the file.
+A file of clubdesk has the columns, keys, references and limits of docs/TABLES.md. clubdesk shows the changes that sqlite3 makes within these limits.
+If clubdesk refuses a file, it doesn't change a byte of the file.
 """
 
 import re
@@ -28,7 +28,7 @@ LIMITS = [(table, *limit) for table, columns in re.findall(r"^CREATE TABLE (\w+)
           for limit in re.findall(r"CHECK \((\w+) BETWEEN (\d+) AND (\d+)\)", columns)]
 ROOT = "30313233343536373839616263646566"
 AMY = text(key_pass("amy-1", ROOT))
-FORGED = text(key_pass("amy-1", "00" * 16))  # under another root, so the desk looks for an older one
+FORGED = text(key_pass("amy-1", "00" * 16))  # signed with another root, so the desk looks for an older root
 UNAVAILABLE = '{"fault":22,"text":"unavailable"}'
 LINE_7 = "court-1                  18:00 amy-1                            7  3    600\n"
 LINE_9 = "court-1                  18:00 amy-1                            9  1    200\n"
@@ -36,8 +36,8 @@ NO_BOOKINGS = command(f"sheet {DAY}", printed=f"Day sheet {DAY}\nNo bookings.\n"
 
 
 def tells(taken, balance, opened, spent, quota=5, sheet=LINE_7 + "Total bookings 1, persons 3, charge 600\n", nine=True, room=False):
-    """Returns requests for three slots and the account, and a command for the day sheet, with the expected answers. `nine` and `room` tell whether
-    the court's slot at 9:00 and the room's slot are closed."""
+    """Returns requests for three slots and the account, and a command for the day sheet, with the expected answers. `nine` is true if the court's
+    slot at 9:00 is closed, and `room` is true if the room's slot is closed."""
     rows = [shown(0, 9, nine), shown(taken), view(ROOM).serves(facility="room-1", day=DAY, hour=18, kind="room", price=601, places=1, taken=0, closed=room),
             ACCOUNT.serves(member="amy", balance=balance, quota=quota, open=opened, spent=spent)]
     return [*(it.under(AMY) for it in rows), command(f"sheet {DAY}", printed=f"Day sheet {DAY}\n{sheet}")]
@@ -58,13 +58,13 @@ def made(new_club):
 
 @pytest.fixture
 def club(made, tmp_path):
-    """Copies the club's file without its log. The file alone contains the whole club."""
+    """Copies the club's file without its write-ahead log. The file alone contains the whole club."""
     shutil.copy(made.file, tmp_path / "club")
     return Club(made.program, tmp_path / "club")
 
 
 def shell(club, *words, given=None):
-    """What sqlite3 prints."""
+    """Runs the sqlite3 shell on the club's file, and returns the output."""
     return subprocess.run(["sqlite3", "-bail", club.file, *words], input=given, capture_output=True, check=True, text=True).stdout
 
 
@@ -112,7 +112,7 @@ def statements(texts):
 
 
 def test_columns_keys_references_and_limits(club):
-    """The statements have exactly the words of docs/TABLES.md. No column may be null, and all tables are STRICT."""
+    """The CREATE statements have exactly the words of docs/TABLES.md. No column may be null, and all tables are STRICT."""
     found = [it for it, in club.sql("SELECT sql FROM sqlite_schema WHERE sql NOT NULL")]
     assert statements(found) == statements(it for it in SCHEMA.split(";\n") if it.startswith("CREATE "))
     assert club.sql("""SELECT count(*) FROM pragma_table_list t, pragma_table_info(t.name) c
@@ -121,7 +121,7 @@ def test_columns_keys_references_and_limits(club):
 
 
 def test_what_sqlite3_writes_is_told(club):
-    """clubdesk shows rows that sqlite3 has changed within the limits, even if clubdesk left a log next to the file."""
+    """clubdesk shows rows that sqlite3 has changed within the limits, even if clubdesk left a write-ahead log next to the file."""
     club.does(f"sheet {DAY}")
     sql(club, """UPDATE members SET credited = credited + 5, quota = 99, used = used + 200; DELETE FROM slots;
         INSERT INTO slots VALUES ('room-1', 20574, 18, 1, 0), ('court-1', 20574, 9, 0, 0), ('court-1', 20574, 18, 0, 4);
@@ -136,12 +136,12 @@ def test_what_sqlite3_writes_is_told(club):
 
 
 def by_recipe(club, heading):
-    """Returns the shell's output for the block under a heading of the page."""
+    """Runs the SQL block under a heading of docs/RUNNING.md in the sqlite3 shell, and returns the output."""
     return shell(club, given=re.search(rf"^### {heading}\n[^#]*?```sql\n(.*?)^```", RUNNING, re.MULTILINE | re.DOTALL)[1])
 
 
 def sound(club):
-    """Checks the expected totals."""
+    """Checks the totals with the SQL under "Afterwards" in docs/RUNNING.md, and the integrity of the file."""
     assert by_recipe(club, "Afterwards") + sql(club, "PRAGMA integrity_check") == "0\n0\n0\nok\n"
 
 
@@ -167,7 +167,7 @@ def test_lists(club):
 
 
 def test_corrections(club):
-    """After each correction, the desk answers as if the club had always been in the corrected state."""
+    """After the corrections, the desk answers as if the club had always been in the corrected state."""
     corrected(club, "A credit that was too high", 1)
     corrected(club, "Another quota", 1)
     corrected(club, "A slot that is open again", 0)
@@ -188,7 +188,7 @@ def test_corrections(club):
 
 @pytest.mark.parametrize("before", [None, "", "CREATE TABLE notes (text TEXT); INSERT INTO notes VALUES ('a')"], ids=["none", "empty", "of others"])
 def test_file_that_becomes_a_club(clubdesk, tmp_path, before):
-    """A table of others stays."""
+    """clubdesk makes a club in a new file, in an empty file, and in a file with another program's table. The other table stays."""
     club = Club(clubdesk, tmp_path / "new")
     if before is not None:
         club.file.touch()
@@ -210,8 +210,8 @@ def test_file_of_before_is_migrated(club, change):
 
 
 def refused(club):
-    """Checks that clubdesk reports a storage fault for a day sheet, or for a request if the sheet can be read. The file and its rows must stay
-    unchanged."""
+    """Checks that clubdesk reports a storage fault for a day sheet. If clubdesk can read the day sheet, one of several requests must get the reply
+    "unavailable". The file and its rows must stay unchanged."""
     before = club.file.read_bytes(), dump(club)
     status, _, fault = club.command("sheet", DAY)
     if (status, fault) != (5, "storage failed\n"):
@@ -236,8 +236,8 @@ def test_command_that_is_refused_changes_nothing(club):
 
 @pytest.mark.parametrize("table, column, least, most", LIMITS, ids=map(" ".join, LIMITS))
 def test_limit(club, table, column, least, most):
-    """The desk accepts the least and the greatest value of each column. sqlite3 refuses values outside these limits. If sqlite3 ignores the limits,
-    the desk refuses values outside the limits."""
+    """sqlite3 accepts the least and the greatest value of each column, and refuses values outside these limits. If sqlite3 ignores the limits and
+    writes such a value, the desk refuses the file."""
     sql(club, "INSERT INTO old_roots VALUES ('amy-1', zeroblob(16), 20000000)")
     kept = club.copied_to(club.file.with_name("kept"))
     for value in (int(least) - 1, int(least), int(most), int(most) + 1):
@@ -251,7 +251,7 @@ def test_limit(club, table, column, least, most):
             kept.copied_to(club.file)
 
 
-# SQL lines that spoil a club, so that the desk must refuse the file.
+# Lines of SQL. Each line spoils a club, so that the desk must refuse the file.
 RENAMED = ("old_roots until", "members quota", "members used", "facilities price", "keys root", "slots closed", "slots taken", "bookings remains")
 SPOILED = [
     *(f"UPDATE desk SET version = {it}" for it in (9, 0, -1, 1, 3)), *(f"DROP TABLE {it}" for it in TABLES),

@@ -1,12 +1,13 @@
 #!/usr/bin/env python3
 """During a simulated year with kills and both changes of summer time, `clubdesk` answers as the rules in Python do.
 
-The rules are those of `tests/reference`. The test compares each reply, each command's answer and each day sheet. Once a month the test compares all
-rows and totals. With `--self-test`, the test checks that it finds faults planted in the rules.
+`tests/reference` has these rules. The test compares each reply, each command's answer and each day sheet. Every 30 days the test compares all rows
+and totals. With `--self-test`, the test checks that it finds faults planted in the rules.
 
-Members use narrowed passes, and the office gives each of its commands. tests/lib/set_clock.c sets the clock of each server. The server converts the
-clock's time to the club's civil time by the zone's rule. The test converts the clock's time by Python's zoneinfo. After a kill, the test sends the
-request or command again. The answer must be the answer of the rules, no matter whether the killed program had carried out the first try.
+Members use narrowed passes, and the office uses each of its commands. tests/lib/set_clock.c sets the clock of each server. The server converts the
+clock's time to the club's civil time with the zone's POSIX rule. The test converts the clock's time with Python's zoneinfo. After a kill, the test
+sends the request or command again. The second answer must match the rules, whether or not the killed program carried out the first try. A repeated
+command may also report that its key exists already.
 
     tests/desk/year.py [--seed N] [--days N] [--requests N] [--self-test]
 """
@@ -50,8 +51,8 @@ class Year(Both):
         super().__init__(desk, Path(folder) / "club", plant)
         self.draw = random.Random(seed)
         self.clock = programs.library("set_clock", folder)
-        self.passes = {}  # of each key: the passes that somebody holds
-        self.booked = []  # requests that were served, to be repeated or cancelled
+        self.passes = {}  # the passes in use, by key
+        self.booked = []  # booking requests that may be repeated or cancelled later
         self.next_key = self.kills = self.commands = 0
 
     # ---- the office
@@ -93,7 +94,7 @@ class Year(Both):
                 self.add_key(member)
 
     def work_of_office(self, day, moment):
-        """Gives the office's commands of a day."""
+        """Draws the office's commands of a day, and runs them."""
         draw = self.draw
         if day % 30 == 0:
             for member in MEMBERS:
@@ -127,8 +128,8 @@ class Year(Both):
             self.give_and_kill(("add-key", f"k{self.next_key}", draw.choice(MEMBERS), draw.randbytes(16)))
 
     def give_and_kill(self, command):
-        """Kills the command after a random delay of at most 30 ms. Then gives the killed command again. The second command must succeed, or report
-        that the key exists already. After that, the club must match the reference."""
+        """Runs a command that adds a key, and kills it after a random delay of at most 30 ms. Then runs the command again. The second try must
+        succeed, or report that the key exists already."""
         self.next_key += 1
         process = subprocess.Popen([self.desk, *map(str, self.words_of(command))], stdout=subprocess.DEVNULL, stderr=subprocess.DEVNULL)
         time.sleep(self.draw.random() * 0.03)
@@ -165,7 +166,7 @@ class Year(Both):
     def bytes_of(self, moment, method, key, path, body=b""):
         given = self.draw.choice(self.passes[key][-6:])
         if self.draw.random() < 0.03:
-            # adds a caveat that makes the pass end at this minute or at the next minute
+            # Adds a caveat with which the pass expires at this minute or at the next minute.
             until = f"until < {spelled_moment(moment + self.draw.choice((0, 1)))}"
             given = passes.text_of(passes.read(given).narrowed(until.encode()), "v2")
         length = b"Content-Length: %d\r\n" % len(body) if body else b""
@@ -178,7 +179,8 @@ class Year(Both):
         return programs.Server(self.desk, self.file, count, "--zone", RULE, variables=variables)
 
     def served(self, instant, count):
-        """Sends requests to a server whose clock shows this instant. Kills one server in nine, chosen at random, during a request."""
+        """Sends requests to a server whose clock shows this instant. Kills about one server in nine during a request, and sends the remaining
+        requests to a new server."""
         moment = civil_minute(instant)
         kill_at = self.draw.randrange(count) if self.draw.randrange(KILLS_ONE_IN) == 0 else count
         asked = [self.request(moment) for _ in range(count)]
@@ -193,7 +195,7 @@ class Year(Both):
                     self.ask(server, data, moment)
 
     def cut_off(self, server, data):
-        """Sends a request, and kills its server during the request or shortly after it."""
+        """Sends a request, and kills the server while the server carries out the request or shortly afterwards."""
         with socket.create_connection(("127.0.0.1", server.port), 30) as client:
             client.sendall(data)
             time.sleep(self.draw.choice((0, 0.0001, 0.0005, 0.002)))
@@ -201,7 +203,8 @@ class Year(Both):
         self.kills += 1
 
     def pass_day(self, day, requests):
-        """Simulates a day of the club: two or three servers, commands of the office between them, and the day sheet."""
+        """Simulates a day of the club: first the office's commands, then two or three servers, and finally the day sheet. On days near a change of
+        summer time, runs six more servers."""
         draw = self.draw
         instants = sorted(NEW_YEAR + timedelta(days=day, minutes=draw.randrange(16 * 60)) for _ in range(draw.choice((2, 3))))
         if day in DAYS_OF_SUMMER_TIME:

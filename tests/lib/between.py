@@ -16,7 +16,7 @@ CUT_AT = {"swallowed": 0, "head-cut": 40, "body-cut": -5}  # of the desk's reply
 
 
 def request_from(client):
-    """Reads the head of a request, and the body, whose length the head states."""
+    """Reads the head of a request, and then the body. The head states the length of the body."""
     with client.makefile("rb") as come:
         head = b"".join(iter(come.readline, b"\r\n")) + b"\r\n"
         length = re.search(rb"(?i)content-length: (\d+)", head)
@@ -24,8 +24,8 @@ def request_from(client):
 
 
 class Between:
-    """Forwards connections to the desk. For each method, `fates` lists how the next requests fail, in their order. `most` is the greatest number
-    of simultaneous connections so far."""
+    """Forwards connections to the desk. For each method, `fates` lists how the next requests with this method fail, in order. `most` is the greatest
+    number of simultaneous connections so far."""
 
     def __init__(self, desk_port):
         self.desk_port, self.fates = desk_port, {}
@@ -65,5 +65,5 @@ class Between:
         elif kind != "silent":
             time.sleep(float(detail) if kind == "slow" else 0)
             reply = desk.exchange(self.desk_port, request) or b""
-            time.sleep(float(detail) if kind == "late" else 0)  # it is carried out, and the reply comes late
+            time.sleep(float(detail) if kind == "late" else 0)  # the desk carries out the request, but the reply comes late
             client.sendall(reply[:CUT_AT.get(kind)])

@@ -1,5 +1,4 @@
-"""The parts of page_books.py share this module. This module makes the club, runs the club's desk behind nginx, and drives book.html in a
-browser."""
+"""Makes a club, runs the club's desk behind nginx, and drives book.html in a browser. The parts of page_books.py share this module."""
 
 import atexit
 import base64
@@ -28,8 +27,8 @@ os.environ["PATH"] = f"/usr/sbin:/sbin:{os.environ['PATH']}"
 os.chdir(ROOM.name)
 ROOT = "00112233445566778899aabbccddeeff"
 draw = random.Random(20260501)
-# The club's zone is chosen so that the club's clock shows about noon now, because the tests need past and future hours today. The names of Etc
-# zones and the POSIX rules have the offset with the opposite sign.
+# The club's zone is chosen so that the club's clock shows about noon now, because the tests need past and future hours today. The names of Etc zones
+# and POSIX rules state the offset with the opposite sign.
 AHEAD = 12 - datetime.now(timezone.utc).hour
 ZONE = f"Etc/GMT{-AHEAD:+d}" if AHEAD else "Etc/GMT"
 RULE = f"<{AHEAD:+03d}>{-AHEAD}" if AHEAD else "GMT0"
@@ -52,7 +51,7 @@ def day(count=0):
 
 
 class Server(desk.Server):
-    """The server of clubdesk on the file `club`. A test can kill this server and start it again at the same port."""
+    """A server of clubdesk for the file `club`. A test can kill this server and start it again at the same port."""
 
     start = desk.Server.__enter__
 
@@ -108,7 +107,7 @@ def printed(*words, given=None):
 
 
 def refused(fault, *words, given=None, **variables):
-    """Checks that the office refuses a command with a line on standard error, and prints no output."""
+    """Checks that a command ends with status 1, prints no output, and writes a line on standard error that matches `fault`."""
     found = desk.command(*words, text=given, env={**os.environ, **variables})
     check(found[:2] == (1, "") and re.search(fault, found[2]), "what is refused", words, given, variables, found)
 
@@ -128,7 +127,7 @@ def fetched(front, path, *words):
 
 
 def rows(question, *values):
-    """Returns rows of the club from a copy that deploy/back_up makes."""
+    """Runs an SQL query on a copy of the club that deploy/back_up makes, and returns the rows."""
     pathlib.Path("copy").unlink(missing_ok=True)
     printed(f"{TOP}/deploy/back_up", "club", "copy")
     with desk.opened("copy") as club:
@@ -155,7 +154,7 @@ def make_club():
 
 
 def club_list(titles):
-    """Makes the club's list of facilities with these titles."""
+    """Returns the club's list of facilities, which deploy/club_json makes with these titles."""
     pathlib.Path("titles").write_text(titles)
     return printed("env", f"RULE={RULE}", "CLUB=Rowing & tennis", "TITLES=titles", f"{TOP}/deploy/club_json", "club", ZONE)
 
@@ -208,7 +207,7 @@ class BookingPage(Browser):
         self.when(condition, *what)
 
     def enter(self, text, ahead=None, keeps=None):
-        """Enters a pass. If `keeps` is given, presses the button with this text. If `ahead` is given, opens the day that is `ahead` days after
+        """Enters a pass. If `keeps` is given, presses the button with the text `keeps`. If `ahead` is given, opens the day that is `ahead` days after
         today."""
         self.visit(f"#{text}", "isShown('day') && dayIsThere()", "the day of a pass")
         if keeps:
@@ -232,7 +231,7 @@ class BookingPage(Browser):
         super().press(*keys)
 
     def book(self, facility, hour, guests=0):
-        """Books a slot by the page's dialog, and doesn't wait for the result."""
+        """Books a slot with the page's dialog, and doesn't wait for the result."""
         self.offer(facility, hour)
         for _ in range(guests):
             self.press("One guest more")
@@ -260,12 +259,12 @@ class BookingPage(Browser):
         return self.booked(*what)
 
     def cancelled_at(self, entry, facility):
-        """Cancels a booking by a request to the desk, as another browser with the same pass would."""
+        """Cancels a booking with a request to the desk, as another browser with the same pass would."""
         text = self.run("return state.text")
         fetched(self.front, f"/slots/{facility}/{entry['day']}/{entry['hour']:02}/bookings/{entry['number']}", "-X", "DELETE", "-H", f"Authorization: Bearer {text}")
 
     def cancelled_in_the_list(self, *what, asked="", words="came back"):
-        """Cancels the first future booking. The dialog must ask and answer with these words."""
+        """Cancels the first future booking in the page's list. The dialog's question must contain `asked`, and its answer must contain `words`."""
         self.view("bookings")
         self.run("[...byName('to-come').querySelectorAll('.booked button, .listed button')].find((each) => each.textContent === 'Cancel').click()")
         check(asked in self.run("return dialogText()"), *what, self.run("return dialogText()"))
@@ -334,12 +333,12 @@ def curl(page, method, path, text, body=None):
 
 
 def unasked(server, before):
-    """Returns the requests that the desk has got since the count `before`, except GETs."""
+    """Returns how often the desk got each request after the count `before`. Omits GET requests."""
     return {each: count for each, count in (server.asked() - before).items() if each[0] != "GET"}
 
 
 def cancel_by_office(server, entry, key, member):
-    """Cancels a booking in the file with the whole refund, as deploy/office does."""
+    """Cancels a booking in the file and refunds the whole charge, as deploy/office does."""
     server.kill()
     with contextlib.closing(sqlite3.connect("club")) as club:
         club.executescript(f"""
@@ -374,7 +373,7 @@ def goes_to(engine, wanted):
 
 
 def engines():
-    """Yields Firefox and WebKitGTK, with the functions that the tests call in the page."""
+    """Starts Firefox and then WebKitGTK. Yields the number of each browser, and the browser with the functions that the tests call in the page."""
     import page_engines
     for place, engine_of in enumerate((page_engines.Firefox, page_engines.WebKit)):
         with engine_of() as engine:

@@ -3,7 +3,7 @@
 import desk as programs
 from reference import caveats, club as rules, passes, wire
 
-# For each command with other values than words and numbers, the kinds of all its values.
+# The kinds of all values of a command. Omits commands whose values are all words or numbers.
 KINDS_OF_VALUES = {"add-key": ("word", "word", "root"), "rotate-key": ("word", "root", "moment"), "close-slot": ("word", "day", "hour"),
                    "open-slot": ("word", "day", "hour")}
 
@@ -43,7 +43,7 @@ class Both:
     def __init__(self, desk, file, plant=None):
         self.desk, self.file = desk, file
         self.club = rules.Club(plant)
-        self.roots = {}  # of each key, all that it had
+        self.roots = {}  # all roots that each key has had
 
     def words_of(self, command):
         """Returns a command as words of a command line."""
@@ -70,7 +70,7 @@ class Both:
         expect(f"order {command}", found, self.answer_of(command))
 
     def ask(self, server, data, moment):
-        """Sends a request's bytes to the program and to the reference. Compares the replies, and returns the reply."""
+        """Sends a request's bytes to the program and to the reference. Compares the replies, and returns the program's reply."""
         found = programs.exchange(server.port, data)
         expect(data, found, wire.exchange(self.club, data, moment))
         return found

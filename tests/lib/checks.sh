@@ -1,4 +1,5 @@
-# Checks for the test scripts in the neighbouring folders. Source this file after serving.sh. `checks` is the number of checks so far.
+# Checks for the test scripts in the neighbouring folders. Source this file after serving.sh. `checks` is the number of checks so far. WHAT describes
+# a check in the message about its failure.
 checks=0
 trap 'exit 1' INT TERM HUP
 
@@ -7,7 +8,7 @@ fail() {
     exit 1
 }
 
-# same WHAT WANTED FOUND
+# same WHAT WANTED FOUND: checks that the text FOUND is the text WANTED.
 same() {
     checks=$((checks + 1))
     [ "$2" = "$3" ] || fail "$1: wanted and found

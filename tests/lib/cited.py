@@ -1,9 +1,10 @@
-"""Reads the contracts that the tables of a page, such as docs/PROMISES.md, cite. Finds the computing definitions on which these contracts depend.
+"""Reads the contracts that the tables of a page, such as docs/PROMISES.md, cite. Finds the definitions on which these contracts depend.
 
-The second cell of a row has groups, with `;` between them. Each group has the form `NAME, .. : CLAUSE, .. by DEFINITION, ..`. A NAME is a function
-of the section's crate, an implementation of a trait (`Log for LogLines`), a type or a trait. If a group has no CLAUSE, all clauses of its NAME
-count. The clauses cite the DEFINITIONs. A DEFINITION is in the section's crate, or in the crate that its name states before `::`. The module or
-type of the first NAME also applies to later NAMEs that have no module or type."""
+Each section of the page is about a crate. The second cell of a row has groups, with `;` between them. Each group has the form `NAME, .. : CLAUSE, ..
+by DEFINITION, ..`. A NAME is a function of the section's crate, an implementation of a trait (`Log for LogLines`), a type or a trait. If a group has
+no CLAUSE, the group cites all clauses of its NAMEs. A DEFINITION is in the section's crate, or in the crate that its name states before `::`. The
+module or type of a NAME also applies to the next NAMEs that have no module or type. A ghost is a value that a trait declares for contracts, and that
+implementations define."""
 
 import re
 from dataclasses import dataclass
@@ -15,7 +16,7 @@ FUNCTION = r"^ *(?:pub(?:\([a-z]+\))? )?(?:final )?(?:const )?(?:extern \"C\" )?
 
 @dataclass
 class Citation:
-    """A group of a row."""
+    """A group in a row of a table."""
 
     line: int
     crate: str
@@ -25,7 +26,7 @@ class Citation:
 
 
 def citations(text):
-    """Yields the groups in a page's tables. Each section of the page is about a crate."""
+    """Yields the groups in a page's tables."""
     crate = ""
     for number, line in enumerate(text.splitlines(), 1):
         if line.startswith("## "):
@@ -50,11 +51,11 @@ class Contracts:
 
     def __init__(self, book):
         self.book = book
-        self.unknown = []  # what a clause has that wasn't understood
+        self.unknown = []  # names and words that weren't understood
 
     def below(self, citation):
-        """Yields each cited clause and definition, with the definitions on which it depends. The result includes definitions that the values of
-        cited ghosts cite."""
+        """Yields the name of each cited clause or definition, with all definitions on which the clause or definition depends. These include the
+        definitions that the values of cited ghosts cite."""
         above = None
         if citation.labels and not citation.names:
             self.unknown.append(f"no function of {' '.join(citation.labels)}")
@@ -96,8 +97,8 @@ class Contracts:
         return specs or [file.types[name] for file in self.files(crate) if name in file.types]
 
     def texts(self, crate, name, above, labels):
-        """Returns (file, place, label, text) for each clause of a contract, or None if there is no such contract. For the implementation of a
-        trait, also returns the values that it gives to the trait's ghosts."""
+        """Returns (file, place, label, text) for each clause of a contract, or None if there is no such contract. For the implementation of a trait,
+        also returns the values that the implementation gives to the trait's ghosts."""
         if " for " in name:
             return self.texts_of_implementation(crate, name)
         last = name.split("::")[-1]
@@ -121,13 +122,13 @@ class Contracts:
         return found
 
     def behind_alias(self, crate, name):
-        """If a `type` alias has this name, returns the type behind it. Otherwise returns the name."""
+        """If a `type` alias has this name, returns the name of the aliased type. Otherwise returns the name itself."""
         found = [it[1] for file in self.files(crate) for it in re.finditer(rf"^pub type {name}\b[^=]*= (\w+)", file.text, re.MULTILINE)]
         return found[0] if found else name
 
     @staticmethod
     def clauses(file, start):
-        """Returns (label, text) of the clauses that follow a function's head."""
+        """Yields (label, text) for each clause after a function's head."""
         inner = file.block_around(start)[0]
         body = file.text.find("\n    {\n" if inner else "\n{\n", start)
         following = re.compile(f"{FUNCTION}\\w", re.MULTILINE).search(file.text, file.text.find("(", start))

@@ -1,7 +1,7 @@
-"""Reads specs/*.antt and the clauses in src/*.rt, and finds which definition cites which.
+"""Reads specs/*.antt and the clauses in src/*.rt, and finds the definitions that each definition and each clause cites.
 
-The reader knows declarations, imports and binders, and proves nothing. `Definition.unknown` has the words that are neither bound nor imported nor
-built in, so that callers see which words the reader didn't understand."""
+The reader understands declarations, imports and binders, and proves nothing. `Definition.unknown` has the words that are neither bound nor imported
+nor built in. Callers can report these words."""
 
 import re
 from functools import cached_property
@@ -63,7 +63,7 @@ class CodeFile:
 
     def scope_at(self, at):
         """Returns the names that clauses may use at a place. These are the imports of the file and of the block around the place, and the ghosts of
-        the trait around the place. Rust's names of types and constants are among them."""
+        the trait around the place. Also returns the file's Rust names of types and constants."""
         head, block = self.block_around(at)
         scope = Scope(self.book, imports_in(self.text, "ghost use"))
         # The imports of the block replace imports of the file with the same name.
@@ -93,7 +93,7 @@ class CodeFile:
         return {**dict.fromkeys(self.types), **dict.fromkeys(self.uses), **dict.fromkeys(constants)}
 
     def rust_type(self, name):
-        """Returns the type of a Rust name in this file."""
+        """Returns the definition of the type or constant with this Rust name in this file."""
         if name in self.types:
             return self.types[name]
         if name in self.uses:
@@ -136,7 +136,7 @@ class CodeFile:
         return bounds
 
     def cited_by(self, at, text):
-        """Returns the names that a clause cites, and the names that the reader doesn't know."""
+        """Returns the definitions that a clause cites, and the words that the reader doesn't know."""
         scope = self.scope_at(at)
         bounds = self.generics_at(at)
         walk = Walk(scope)
@@ -159,7 +159,7 @@ class CodeFile:
 
 
 def flat(text, before=()):
-    """Returns the names that a `use` imports, as (crate, name, name in this file)."""
+    """Yields (crate, name, name in this file) for each name that a `use` imports."""
     text = text.strip()
     brace = text.find("{")
     if brace < 0:
@@ -200,7 +200,7 @@ class Book:
                 self.resolve_type(file, it)
 
     def look(self, module, name):
-        """Returns the definition that a name has in a module."""
+        """Returns the definition of a name in a module."""
         if module == "rust":
             crate, place, here = name.split("/")
             return self.code[f"{crate}/{place}"].rust_type(here)
@@ -223,7 +223,7 @@ class Book:
         return None
 
     def declared(self, module, name):
-        """Returns the type, the variant or the constant of the code that a name in a generated module stands for."""
+        """Returns the type, the variant or the constant of the code that a name in a generated module refers to."""
         crate, _, place = module.partition(".specs.declared.")
         parts = place.split(".")
         start = next((at for at, part in enumerate(parts) if part[0].isupper()), len(parts))
@@ -272,8 +272,7 @@ class Book:
         return it
 
     def standing_for(self, ghost):
-        """Yields (type, file, value, definitions) for each of our own types that gives the ghost a value. The definitions are those that the value
-        depends on."""
+        """Yields (type, file, value, definitions) for each of our own types that gives the ghost a value. The value depends on these definitions."""
         trait, name = ghost.name.split(".")
         for key, file in self.code.items():
             if key.split("/")[0].endswith("_tests") or key.split("/")[0] in ("test_kit", "club_bench"):
@@ -285,7 +284,8 @@ class Book:
                     yield found[1], file, value[1], closure(file.cited_by(found.start() + value.start(), value[1])[0])
 
     def resolve_type(self, file, it):
-        """Adds to a type the definitions that it cites: those of its value in contracts, or otherwise the types of its fields."""
+        """Finds the definitions that a type cites. If `Model` gives the type a value in contracts, these are the definitions in this value.
+        Otherwise, these are the types of the fields."""
         if it.rust_kind == "trait":
             return
         model = re.search(rf"^impl(?:<[^>]*>)? Model for {it.name}\b[^{{]*\{{", file.text, re.MULTILINE)

@@ -1,7 +1,7 @@
 """Runs the built programs for tests: finds their paths, starts a server for a `with` block, sends requests, and runs commands.
 
-The variables CLUBDESK and PASSTOOL have the paths of the programs. If a variable is unset, and its program is missing or out of date, the wrapper
-in bin/ proves and builds the program first."""
+The environment variables CLUBDESK and PASSTOOL have the paths of the programs. If a variable is unset, the wrapper in bin/ runs first. The wrapper
+proves and builds the program if it is missing or out of date."""
 
 import contextlib
 import errno
@@ -27,7 +27,7 @@ AS_ANOTHER = ("setpriv", f"--reuid={ANOTHER}", f"--regid={ANOTHER}", "--clear-gr
 
 
 def program(name):
-    """Returns the path of the program itself, so that a signal reaches the program and not a shell."""
+    """Returns the path of the program itself, not of its wrapper, so that a signal reaches the program."""
     given = os.environ.get(name.upper())
     if given:
         return given
@@ -44,8 +44,9 @@ def library(name, folder):
 
 
 def refused_in_turn(run, folder, step=1):
-    """Calls `run` once to count the allocations of its program. Then calls `run` once for each allocation, or for every `step`th one, with this
-    allocation refused. Returns the results. `run` passes its keyword arguments to the program as environment variables."""
+    """Calls `run` once to count the allocations of the program that `run` starts. Then calls `run` again for each allocation, with this allocation
+    refused. If `step` is greater than 1, refuses only every `step`th allocation. Returns the results of these calls. `run` passes its keyword
+    arguments to the program as environment variables."""
     counted, preload = Path(folder, "counted"), {"LD_PRELOAD": library("refused_memory", folder)}
     run(ALLOCATIONS_COUNTED=str(counted), **preload)
     with ThreadPoolExecutor(len(os.sched_getaffinity(0))) as pool:
@@ -59,13 +60,13 @@ def limit_files(size):
 
 
 class Server:
-    """A server of `clubdesk` over a file, as a context manager. When the `with` block begins, the server listens at `port`. After the block, the
+    """A server of `clubdesk` for a file, as a context manager. When the `with` block begins, the server listens at `port`. After the block, the
     server has ended.
 
     `words` are additional options, and `by` is a command that runs the server. `variables` are additional environment variables, and `given` is the
-    file that the server has as its standard input. `file_limit` is the greatest size of the server's files, in bytes. After a block without an
-    exception, the server's status must be `status`, unless the test killed the server. If `count` is None, the end of the block kills the server.
-    The file `log` has the server's standard error. If the block ends with an exception, the log is printed."""
+    file that the server gets as its standard input. `file_limit` is the greatest size of the server's files, in bytes. After a block without an
+    exception, the server's status must be `status`, unless the test killed the server. If `count` is None, the end of the block kills the server. The
+    file `log` has the server's standard error. If the block ends with an exception, the context manager prints the log."""
 
     killed_by = signal.SIGKILL
 
@@ -139,13 +140,13 @@ def drip(client, data):
 
 
 def read(client):
-    """Reads until the server ends its output, and returns the bytes."""
+    """Reads until the server closes its side of the connection, and returns the bytes."""
     with client.makefile("rb") as come:
         return come.read()
 
 
 def exchange(port, data, seconds=30):
-    """Sends bytes, and then the end of the input. Returns the bytes of the reply, or None if the connection is lost."""
+    """Sends bytes, and then closes the sending side of the connection. Returns the bytes of the reply, or None if the connection is lost."""
     try:
         with socket.create_connection(("127.0.0.1", port), seconds) as client:
             client.sendall(data)
@@ -158,7 +159,7 @@ def exchange(port, data, seconds=30):
 
 
 def command(desk, *words, text=None, **more):
-    """Runs a command of `clubdesk` with `text` as its input. Returns the status, the output, and the line on standard error."""
+    """Runs `clubdesk`, or another program, with `text` as its input. Returns the status, the output and the standard error."""
     done = subprocess.run([desk, *map(str, words)], capture_output=True, input=text, text=True, check=False, **more)
     return done.returncode, done.stdout, done.stderr
 
@@ -185,7 +186,8 @@ def rows(file, statement):
         return database.execute(statement).fetchall()
 
 
-# The SQL query that finds wrong rows of a file by the sums in docs/TABLES.md.
+# An SQL query that finds rows with wrong totals, according to the sums in docs/TABLES.md. The query also reports missing slots, broken references and
+# damage.
 SUMS = """
 SELECT 'used', name FROM members WHERE used <> (SELECT total(charge - refund) FROM bookings JOIN keys ON keys.name = pass_key WHERE member = members.name)
 UNION ALL SELECT 'taken', facility || day || ' ' || hour FROM slots s WHERE taken <> (SELECT total(guests + 1) FROM bookings b WHERE cancelled = 0
@@ -197,7 +199,7 @@ UNION ALL SELECT 'integrity', integrity_check FROM pragma_integrity_check WHERE 
 
 
 def unsound(file):
-    """Returns the wrong rows of a file."""
+    """Returns the rows of the query SUMS for a file. A sound file has none."""
     return rows(file, SUMS)
 
 
@@ -226,7 +228,7 @@ def paced(whole, step, what):
 
 
 def serve(program, file, count, moment, *words):
-    """Runs a server for a shell script, and prints the server's port. Ends after `count` connections or at a signal."""
+    """Runs a server for a shell script, and prints the server's port. The server ends after `count` connections, or when this script gets SIGTERM."""
     with Server(program, file, int(count), "--at", moment, *words) as it:
 
         def end(*_):

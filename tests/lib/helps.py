@@ -1,4 +1,4 @@
-"""Reads the `--help` output of one of our programs or of deploy/office: the commands, their options and their words."""
+"""Reads the `--help` output of one of our programs or of deploy/office: the names of commands, options and arguments."""
 
 import os
 import re

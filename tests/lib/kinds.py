@@ -1,7 +1,7 @@
 """The table of all kinds of replies: requests to a club, each with its pass, its moment and the bytes of its reply.
 
-A scene is a list of steps on the club that COMMANDS make. A Row is a request to a new server. A Command is a command of the office, and Sql is an
-SQL statement for sqlite3. tests/reference computes the passes and the bytes of the replies."""
+A scene is a list of steps. Each scene begins with the club that COMMANDS make. A Row is a step that sends a request to a new server. A Command is a
+command of the office, and an Sql is an SQL statement for sqlite3. tests/reference computes the passes and the bytes of the replies."""
 
 import itertools
 from dataclasses import dataclass, replace
@@ -29,7 +29,8 @@ AMY, BOB, CY, DI = (key_pass(f"{name}-1") for name in ("amy", "bob", "cy", "di")
 
 @dataclass(frozen=True)
 class Row:
-    """A request and its reply. If `raw` is given, it is the bytes of the request. If `passed` is None, the request has no Authorization field."""
+    """A request and its expected reply. If `raw` is given, the request consists of these bytes. If `passed` is None, the request has no Authorization
+    field."""
 
     method: str = ""
     path: str = ""
@@ -38,7 +39,7 @@ class Row:
     moment: str = NOON
     fields: tuple = ()
     raw: bytes | None = None
-    file_limit: int | None = None  # the bytes that a file of the server may have
+    file_limit: int | None = None  # the greatest size of the server's files, in bytes
     wanted: bytes = b""
 
     def at(self, moment):
@@ -151,8 +152,8 @@ SCENES["what is not verified"] = [
         text(key_pass("zed-1")), CHANGED, text(passes.minted(bytes.fromhex(ROOT), b"amy-1")), text(key_pass("amy-1", ROOT + "00")))),
     command("revoke-key amy-1"), ACCOUNT.gets(10), ACCOUNT.under(CHANGED).gets(9)]
 
-# Amy gets the same replies in three clubs. In the first club, no other member does anything. In the second club, other members do much. In the
-# third club, bob has a place in Amy's slot.
+# Amy gets the same replies in three clubs. In the first club, no other member does anything. In the second club, other members are busy. In the third
+# club, bob has a place in Amy's slot.
 TOLD = [account(9400, 1), CANCEL]
 SCENES["others are absent"] = [BOOK, *TOLD]
 SCENES["others are busy"] = [
@@ -206,7 +207,7 @@ SCENES["third-party caveats, and many"] = [ACCOUNT.under(it).gets(fault) for it,
     (unsigned_v2(FOREIGN), 7), (FOREIGN_V1, 7), (FOREIGN_JSON, 7), (unsigned_v2(guests(64)), 9), (unsigned_v2(guests(65)), 8),
     (unsigned_v2(guests(64) + FOREIGN), 7), (unsigned_v2(guests(65), b"x"), 6))] + [shown(0).under(text(AMY, *["guests <= 1"] * 64))]
 
-# Known passes of other programs. The form of these passes is valid, but the club has no key with their identifier and root.
+# Example passes of other programs. The form of these passes is valid, but the club has no key with their identifier and root.
 BANK = ("MDAxY2xvY2F0aW9uIGh0dHA6Ly9teWJhbmsvCjAwMjZpZGVudGlmaWVyIHdlIHVzZWQgb3VyIHNlY3JldCBrZXkKMDAxNmNpZCB0ZXN0ID0gY2F2ZWF0CjAw"
         "MmZzaWduYXR1cmUgGXusegRK8zMyhluSZuJtSTvdZopmDkTYjOGpmMI9vWcK")
 EXAMPLE = "AgETaHR0cDovL2V4YW1wbGUub3JnLwIFa2V5aWQAAAYgfN7nklEcW8b1KEhYBd_psk54XijiqZMB-dcRxgnjjvc"
@@ -229,7 +230,7 @@ SCENES["methods that are none"] = [
     for path, allow, passed in (("/account", "GET", text(AMY)), (slot(), "GET", None), (slot() + "/bookings/7", "PUT, DELETE", text(AMY)))
     for method in ("GET", "HEAD", "POST", "PUT", "DELETE", "OPTIONS", "PATCH") if method not in allow]
 
-# Refusals that each action can get: those that come before the desk reads the pass, and those that the pass causes.
+# Refusals of each action: for a bad request, an unknown facility, a refused pass, a caveat, a revoked key, and a damaged row.
 ACTIONS = {"a view": view(), "a booking": book(7, THREE), "a cancellation": cancel(7), "an account": ACCOUNT}
 for name, row in ACTIONS.items():
     SCENES[f"{name} that is refused"] = [
@@ -240,8 +241,8 @@ for name, row in ACTIONS.items():
         *(row.under(text(AMY, caveat)).gets(fault, 1) for caveat, fault in (("shoe = red", 11), (f"until < {NOON}", 12))),
         command("revoke-key amy-1"), row.gets(10), Sql("UPDATE keys SET revoked = 0, root = x'00'"), row.gets(22)]
 
-# The server's files may have at most 512 bytes. The server can open its log, but can't write a booking. The server refuses the first request and
-# books nothing. The next server, without this limit, carries out the same request.
+# In the first step, the server's files may have at most 512 bytes. The server can open its log, but can't write a booking. The server refuses the
+# request and books nothing. In the last step, a server without this limit carries out the same request.
 SCENES["no storage"] = [BOOK.but(file_limit=512).gets(22), account(), BOOK]
 
 ROWS = [it for it in itertools.chain(*SCENES.values()) if isinstance(it, Row)]

@@ -1,5 +1,5 @@
 #!/usr/bin/env python3
-"""Tries the mutants of crates/NAME/must-fail/ and crates/NAME/more-edits.txt, and prints how each is refused (see more_edits.sh).
+"""Tries the mutants of crates/NAME/must-fail/ and crates/NAME/more-edits.txt, and prints how each mutant is refused (see more_edits.sh).
 
 Most edits change the body of a single function. The proof of a function depends only on its own body and on the contracts of the functions that it
 calls. Therefore, one check can try edits of several functions together. If this check gives no verdict on one of the functions, the program tries
@@ -18,11 +18,12 @@ from typing import NamedTuple
 ROOT = Path(__file__).resolve().parents[2]
 FOLDER, FILE = "must-fail", "more-edits.txt"
 WORDS = ("false", "goal", "names", "test", "proved", "limit", "bad")
-# The crate whose tests are the files in its folder data/.
+# The crate whose tests are files in its folder data/.
 SCENARIOS = "scenarios"
-# The crate and name of the test that must fail on an edit that no contract refuses.
+# An edit's line with the crate and the name of a test. If no contract refuses the edit, this test must fail.
 TEST = re.compile(r"^test: (\w+) ([\w:]+)$", re.MULTILINE)
-# The message of rattle about a goal with a counterexample. The message is on the line that reports the goal or the missing answer.
+# The message of the compiler, rattle, about a goal with a counterexample. The message is on the line that reports the goal, or on the line that
+# reports a missing answer, which is a handwritten proof.
 FALSE = re.compile(r"the facts known there allow values at which this goal is false|may be false: the known facts allow")
 # The messages of rattle about a proof file with an unknown name, and about proofs that depend on this file.
 NAMES = re.compile(r"has no field|is not in scope|has no `|was not admitted|no item `")
@@ -34,13 +35,13 @@ HEAD = re.compile(r"(?:pub )?([^\s:]+) : ")
 # The first line of a function, and of a block that contains functions, in the layout of `rt fmt`.
 FUNCTION = re.compile(r"(?P<indent> {4})?(?:pub(?:\([^)]*\))? )?(?:const )?(?:extern \"C\" )?fn (?P<name>\w+)")
 BLOCK = re.compile(r"(?:impl(?:<.*?>)? |(?:pub(?:\([^)]*\))? )?trait )(?:(?:\w+::)*(?P<trait>\w+)(?:<.*?>)? for )?(?:\w+::)*(?P<type>\w+)")
-AT_ONCE = 10  # edits that one check tries at most
+AT_ONCE = 10  # the most edits that one check tries
 # The message of rattle when it reaches its own limit and gives no verdict.
 LIMIT = re.compile(r"antt ran out of (stack|the (steps|memory) that the check of one declaration may)|outgrew the memory limit|stopped at the step limit")
 
 
 class NoVerdict(Exception):
-    """The result and the reason for an edit that the check gives no verdict on."""
+    """Raised with a result and a reason if the check gives no verdict on an edit."""
 
 
 class Edit(NamedTuple):
@@ -117,7 +118,7 @@ def edited_function(crate, edit):
 
 
 def groups_of(crate, edits):
-    """Groups the edits. No two edits of a group change the same function. An edit that changes more than one function body is alone in its
+    """Groups the edits. No two edits of a group change the same function. An edit that doesn't change exactly one function body is alone in its
     group."""
     groups = []
     for edit in edits:
@@ -176,14 +177,14 @@ def without_answers(crate, lines):
 
 
 def open_goal(lines, gone):
-    """Returns the line of a goal that is open for another reason than a missing name. Either the answer for the goal fails, or the goal has no
-    answer and its proof file hasn't lost any."""
+    """Returns the line of a goal that is open for another reason than a missing name. An answer is a handwritten proof of a goal. Either the goal's
+    answer fails, or the goal has no answer although no answer was removed from its file."""
     failing = {line for line, path, _, is_error, is_name in faults_in(lines) if path.startswith("proofs/") and is_error and not is_name}
     return next((line for line in lines if line in failing or (wanted := WANTED.search(line)) and wanted[1] not in gone), None)
 
 
 def lines_of(crate, path, function, lines):
-    """Returns the lines of a check that are about this function. If a method is in another file than its type, rt names the method by the type's
+    """Returns the lines of a check that are about this function. If a method is in another file than its type, rt names the method after the type's
     module."""
     words, first, last = function
     before, own = (r"(\w+/)*", words[-2:]) if words[-2:][0][0].isupper() else ("", words)
@@ -257,7 +258,7 @@ class Trial:
             elif left := open_goal(own, set()):
                 told[edit] = "goal", left
         if not told and len(group) > 3:
-            # One of these edits may have stopped the check, so each half of the group is tried.
+            # One of these edits may have stopped the check, so the program tries each half of the group.
             items = list(group.items())
             middle = len(items) // 2
             told = self.told_together(dict(items[:middle])) | self.told_together(dict(items[middle:]))
@@ -272,12 +273,12 @@ class Trial:
         lines, proved = check(self.crate)
         if proved:
             return "proved", "the crate is proved with this edit"
-        # If the edited code names something unknown, the edit can't be tried.
+        # If the edited code uses an unknown name, the check can't try the edit.
         for line, path, _, is_error, is_name in faults_in(lines):
             if (path in texts or path.startswith("src/")) and is_error and is_name:
                 raise NoVerdict("bad", line)
         gone = set()
-        # Each round removes answers with unknown names. Other answers may name a removed answer, and are removed in the next round.
+        # Each round removes answers with unknown names. Other answers may use a removed answer. The next round removes these too.
         for _ in range(4):
             if false := next(filter(FALSE.search, lines), None):
                 return "false", false

@@ -1,5 +1,5 @@
-"""The parts of page_narrows.py share this module. This module opens the page pass.html in a browser, asks passtool for the right answers, and draws
-random passes and caveats."""
+"""Opens the page pass.html in a browser, asks passtool for the right answers, and draws random passes and caveats. The parts of page_narrows.py share
+this module."""
 
 import base64
 import json
@@ -25,7 +25,7 @@ PASSES, SPOILED, CAVEATS = 1000, 2000, 2000
 FORMS = list(passes.FORMS)
 FAULTS = {"This text is too long for a pass.": 1, "This text isn't a complete pass.": 2, "This pass has a third-party caveat.": 3,
           "This pass has too many limits.": 4}
-# The names of the page's choices, in the order of the caveats that the page adds for them.
+# The names of the page's choices, in the order in which the page adds their caveats.
 CHOICES = ["kind", "facility", "actions", "days", "weekday", "hours", "until", "guests", "spend"]
 AMY = "AgEJY2x1Yi1kZXNrAglrZXk6YW15LTEAAAYgDsU-vMVpq3Ex5_BQk6D5VX6TimC0IfCk7Dn6nv7TIJk"
 draw = random.Random(20260501)
@@ -51,7 +51,7 @@ def amys(form, *caveats):
 
 
 def tool(*words, given):
-    """Runs passtool. Returns the status, and the output or, if passtool fails, its line on standard error."""
+    """Runs passtool. Returns the status and the output. If passtool fails, returns its line on standard error in place of the output."""
     status, printed, fault = desk.command(TOOL, *words, text=given)
     return status, fault if status else printed
 
@@ -129,7 +129,7 @@ class NarrowingPage(Browser):
     helpers = HELPERS
 
     def narrow(self, text, *fields):
-        """Enters the text of a pass, and (name, value) for each choice. Returns the page's answer."""
+        """Enters the text of a pass, and makes a choice for each (name, value) in `fields`. Returns the page's answer."""
         return self.each("narrow", [(text, fields)])[0]
 
     def visit(self, text=""):
@@ -148,7 +148,7 @@ def drawn_bytes(most):
     if kind == 0:
         return draw.randbytes(size)
     if kind == 1:
-        mark = draw.choice(["", "", "", "\ufeff"])  # a byte order mark is a character like any other
+        mark = draw.choice(["", "", "", "\ufeff"])  # the page must treat a byte order mark as an ordinary character
         return (mark + "".join(draw.choices('é"\\/\n\t\x00\x1f\x7f\u2028😀 aä€', k=size))).encode()
     return "".join(draw.choices("abcdefgh :/-=<0123456789", k=size)).encode()
 
@@ -205,7 +205,7 @@ def drawn_pass():
 
 
 def drawn_spelling(form, drawn):
-    """Draws a text that readers accept as this pass. Most of the drawn texts differ from the text that our programs write."""
+    """Draws a text that readers accept as this pass. Many of the drawn texts differ from the text that our programs write."""
     text = written(form, drawn)
     if form == "json":
         names = json.loads(text)

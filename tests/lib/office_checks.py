@@ -1,11 +1,12 @@
-"""Functions for the parts of office_holds.py. They check refused commands, send requests to the desk, and read the office's book."""
+"""Functions for the parts of office_holds.py. The functions check refused commands, send requests to the desk, and read the office's log, which is
+called the book."""
 
 import json
 
 from office_room import HOME, NOON, begun, done, everything, office, same
 
 DAY = "2026-05-01"
-# A line of the office's book, which records a command.
+# A line of the book, which records one command of the office.
 LINE = r"20\d\d-\d\d-\d\dT\d\d:\d\d:\d\d [a-z]+ [0-9] [ -~]+"
 AT = ["--at", NOON]
 YES = ["--yes", *AT]

@@ -1,8 +1,9 @@
-"""Fixtures for the tests of the office: a separate machine, a manager of services, clerks, requests, and checks of a club's file.
+"""Functions for the tests of the office, which run in a room that imitates a machine. The functions imitate a service manager, run commands as
+clerks, send requests, and check a club's file.
 
-If a script that imports this module isn't in such a machine, tests/lib/office_room.sh makes the machine and runs the script again in it. The
-manager restarts a server a second after each end, as deploy/clubdesk@.service does (Restart=always, RestartSec=1). A file in the room's folder
-`services` has the process id of each server, so that the room's systemctl can end the server.
+If a script imports this module outside a room, tests/lib/office_room.sh makes the room and runs the script again in it. When a server ends, the
+service manager restarts it a second later, as deploy/clubdesk@.service does (Restart=always, RestartSec=1). For each server, a file in the room's
+folder `services` has the process id, so that the room's systemctl can end the server.
 """
 
 import contextlib
@@ -45,7 +46,7 @@ def leave():
 
 
 def run_as(user, *line, given=None, folder=None):
-    """Runs a command as a user, in the user's home folder. Returns the status, the output and the standard error."""
+    """Runs a command as a user, in `folder` or in the user's home folder. Returns the status, the output and the standard error."""
     return command("runuser", "-u", user, "--", *line, text=given, cwd=folder or f"/home/{user}")
 
 
@@ -66,7 +67,7 @@ def desk(command, *words):
 
 
 class Service:
-    """A server that the manager restarts a second after each end."""
+    """A server that the service manager restarts a second after the server has ended."""
 
     def __init__(self, port=0, at=NOON, club="club"):
         self.port, self.is_wanted, self.starts = port or free_port(), True, 0
@@ -100,7 +101,8 @@ class Service:
         self.named.unlink()
 
     def answer(self, text, method, path, body=None):
-        """Repeats a request under a pass until the server gives a complete reply with a status below 500. Returns the reply's status and body."""
+        """Repeats a request with the pass `text` until the server gives a complete reply with a status below 500. Returns the reply's status and
+        body."""
         for _ in range(200):
             with contextlib.closing(http.client.HTTPConnection("127.0.0.1", self.port, timeout=30)) as client:
                 with contextlib.suppress(OSError, http.client.HTTPException):
@@ -159,7 +161,7 @@ def whole(what):
 
 
 def everything():
-    """Returns all rows of the club."""
+    """Returns all rows of the club as SQL statements."""
     with copied() as database:
         return list(database.iterdump())
 

@@ -1,8 +1,9 @@
 # Makes the room: a mount namespace in which overlays cover the machine's folders, so that tests of the office leave the machine unchanged. The room
-# has the programs and the files of deploy/ and web/ where bin/package puts them. The lines of docs/RUNNING.md under "The clerks" make the clerk
-# anna. ben is also a clerk, and carl isn't. The room's `systemctl` knows only the command `kill`, which ends a server of the service manager in
-# tests/lib/office_room.py. Needs root. If `room_net` is set and not empty, the room also has a separate network namespace. If a caller runs this
-# script and doesn't source it, the script runs the command in its arguments. The variable ROOM then has the path of the room's folder.
+# has the programs and the files of deploy/ and web/ at the paths where the package installs them. The commands of docs/RUNNING.md under "The clerks"
+# make the clerk anna. ben is also a clerk, and carl is not a clerk. The room's `systemctl` knows only the command `kill`, which ends a server of the
+# service manager in tests/lib/office_room.py. Needs root. If `room_net` is set and not empty, the room also has a separate network namespace. If a
+# caller runs this script and doesn't source it, the script runs the command in its arguments. The variable ROOM then has the path of the room's
+# folder.
 set -eu
 PATH=/usr/sbin:/sbin:$PATH
 [ "$(id -u)" = 0 ] || { echo "$0 wants root, for other users and folders of its own" >&2; exit 2; }
@@ -18,7 +19,7 @@ chmod 755 "$work"
 room=/mnt
 mount -t tmpfs tmpfs "$room"
 
-# over FOLDER: covers the folder with an overlay, so that the room keeps everything that a program writes to the folder.
+# over FOLDER: covers the folder with an overlay, so that everything that a program writes to the folder stays in the room.
 over() {
     called=$(echo "$1" | tr / _)
     mkdir "$room/$called" "$room/$called.work"
@@ -47,7 +48,7 @@ find "$top/deploy" -maxdepth 1 -type f -perm -100 ! -name office ! -name clubdes
 install -m 644 -t /usr/share/doc/clubdesk/examples "$top"/deploy/*.conf "$top/deploy/Caddyfile"
 find "$top/web" -maxdepth 1 -type f -exec install -m 644 -t /usr/share/clubdesk/web {} +
 
-# page_block HEADING: prints the lines for root under this heading of docs/RUNNING.md, except those that install Debian packages.
+# page_block HEADING: prints the command lines for root under this heading of docs/RUNNING.md. Omits lines that install Debian packages.
 page_block() {
     awk -v heading="## $1" '
         /^## / { here = $0 == heading; next }

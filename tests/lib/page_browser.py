@@ -1,4 +1,4 @@
-"""Runs a page in chromium for the tests of pass.html and book.html. Checks the contrast of texts, the size of buttons and links, and the names for
+"""Runs a page in chromium for the tests of pass.html and book.html. Checks the contrast of texts, the height of buttons and fields, and the names for
 screen readers.
 
 page_narrows.py and page_books.py use this module. Needs Debian's chromium, chromium-driver and python3-selenium."""
@@ -19,9 +19,10 @@ def check(holds, *what):
 
 
 class Browser:
-    """A chromium that resolves host names only by `rules`. The browser runs the script `before` before the page's own script."""
+    """A chromium that resolves host names only according to `rules`. If `before` is given, the browser runs this script in each page ahead of the
+    page's own script."""
 
-    helpers = ""  # functions for the scripts that `run` and `each` run
+    helpers = ""  # JavaScript functions for the scripts that `run` and `each` execute
     batch = 25  # how many items go to the page in one call
 
     def __init__(self, rules="MAP * ~NOTFOUND", before="", language="en-US", words=(), letters=16):
@@ -81,14 +82,14 @@ class Browser:
         self.command("Emulation.setDeviceMetricsOverride", width=width, height=height, deviceScaleFactor=1, mobile=width < 600)
 
     def fits(self, width, scheme, height=900, *what):
-        """Nothing scrolls sideways."""
+        """Checks that the page doesn't scroll sideways at this width."""
         self.sees(width, scheme, height)
         across = self.run("return document.documentElement.scrollWidth")
         check(across <= width, "sideways scrolling", width, across, *what)
 
     def is_legible(self, *what):
-        """Checks that each visible text has a contrast of at least 4.5, and that buttons, links and fields are large enough. Returns the number of
-        visible texts."""
+        """Checks that each visible text has a contrast of at least 4.5, and that buttons, fields and the labels of options are at least 44 pixels
+        high. Returns the number of visible texts."""
         count, faint = self.run(CONTRASTS)
         check(not faint, "faint texts", *what, *faint)
         small = self.run(SMALL_TARGETS)
@@ -96,8 +97,8 @@ class Browser:
         return count
 
     def is_named(self, roles, live, *what):
-        """Checks that each focusable element, and each element with one of these roles, has a name for screen readers. The elements `live` must
-        announce their changes to screen readers. Returns the nodes of the page's accessibility tree."""
+        """Checks that each focusable element, and each element with one of these roles, has a name for screen readers. The elements with the ids
+        `live` must announce their changes to screen readers. Returns the nodes of the page's accessibility tree."""
         tree = [node for node in self.command("Accessibility.getFullAXTree")["nodes"] if not node["ignored"]]
         for node in tree:
             properties = {each["name"]: each["value"].get("value") for each in node.get("properties", [])}
@@ -108,30 +109,31 @@ class Browser:
         return tree
 
     def is_audited(self, *what):
-        """Checks the elements of a page by axe-core's rules, except the rules about names, contrasts and targets."""
+        """Checks the elements of a page with the script AUDIT, which implements a selection of axe-core's rules."""
         found = self.run(AUDIT)
         check(not found, "what an audit finds", *what, *found)
 
     def cuts_nothing_off(self, width, *what):
-        """Checks that no word extends beyond an edge, and that only the intended elements scroll sideways."""
+        """Checks that the page doesn't scroll sideways, and that no text extends beyond the right edge. Texts in elements that may scroll sideways
+        are exempt."""
         across = self.run("return document.documentElement.scrollWidth")
         check(across <= width, "sideways scrolling", *what, across)
         cut = self.run(CUT_OFF)
         check(not cut, "words that are cut off", *what, *cut)
 
     def breaks_no_word(self, *what):
-        """Checks that no word of less than ten letters is broken across lines."""
+        """Checks that no word of fewer than ten letters is broken across lines."""
         broken = self.run(BROKEN_WORDS)
         check(not broken, "words that are broken", *what, *broken)
 
     def focus_is_seen(self, *what):
-        """Checks that the focused element has an outline. A date field needs none, because the browser marks a part of the date."""
+        """Checks that the focused element has an outline. A date field needs no outline, because the browser marks a part of the date."""
         outline = self.run("""const style = getComputedStyle(document.activeElement);
             return document.activeElement.type === "date" || [style.outlineStyle, style.outlineWidth];""")
         check(outline in (True, ["solid", "3px"]), "a focus that can't be seen", *what, self.focused(), outline)
 
     def side_by_side(self, pictures, width, height):
-        """One picture of several."""
+        """Returns a picture that shows several pictures side by side."""
         self.open("about:blank")
         self.sees(width, "light", height)
         self.driver.execute_script("""document.body.style.cssText = "margin: 0; display: flex; gap: 20px; background: #c9d0ca";
@@ -147,7 +149,7 @@ class Browser:
         return self.command("Page.captureScreenshot", captureBeyondViewport=True, clip=clip)["data"]
 
     def sent_nothing(self, page):
-        """Checks that the browser loaded only the page, and that the console has no errors."""
+        """Checks that the browser loaded only the page, and that the console has no messages."""
         check(self.run("return performance.getEntriesByType('resource').length") == 0, "the page loads something")
         messages = [json.loads(entry["message"])["message"] for entry in self.driver.get_log("performance")]
         asked = [each["params"]["request"]["url"] for each in messages if each["method"] == "Network.requestWillBeSent"]
@@ -158,8 +160,9 @@ class Browser:
 
 
 def policy_holds(page, more, calls, *links):
-    """Checks that the page's policy admits only the hashes of its own script and style, and lets the page load nothing else. The script must use
-    none of the calls `calls`."""
+    """Checks that the page's Content-Security-Policy admits the page's own script and style by their hashes, and lets the page load nothing else.
+    `more` has further directives that the policy must have. The page may link only to `links` and to `data:` addresses, and must use none of the
+    calls `calls`."""
     text = page.read_text(encoding="utf-8")
     policy = re.search('http-equiv="Content-Security-Policy" content="([^"]*)"', text)[1]
     rules = dict(rule.strip().split(" ", 1) for rule in policy.split(";"))

@@ -28,7 +28,7 @@ WIDTH, HEIGHT = 400, 820
 
 
 class Engine:
-    """The common interface of the browsers: it opens an address, runs a script in the page, and presses a button."""
+    """The common interface of the browsers. Its methods open an address, run a script in the page, and press a button."""
 
     helpers = ""  # functions for the scripts
     name = host = ""
@@ -50,11 +50,11 @@ class Engine:
             time.sleep(0.1)
 
     def code(self, place):
-        """Scrolls to an element, and returns the text of the QR code on the screen."""
+        """Scrolls to an element, and returns the text of the QR code on the screen, or an empty text."""
         self.run("document.getElementById(arguments[0]).scrollIntoView({ block: 'center' })", place)
         with tempfile.NamedTemporaryFile(suffix=".png") as file:
             for _ in range(20):
-                time.sleep(0.2)  # what was scrolled to is drawn soon after
+                time.sleep(0.2)  # the browser draws the element soon after the scrolling
                 Path(file.name).write_bytes(self.picture())
                 text = subprocess.run(["zbarimg", "-q", "--raw", file.name], capture_output=True, text=True, check=False).stdout.strip()
                 if text:
@@ -191,7 +191,7 @@ class WebKit(Engine):
         options.binary_location = MINI_BROWSER
         options.add_argument("--automation")
         options.set_capability("acceptInsecureCerts", True)
-        os.environ.update(DISPLAY=f":{number}", WEBKIT_DISABLE_SANDBOX_THIS_IS_DANGEROUS="1")  # which the driver hands on
+        os.environ.update(DISPLAY=f":{number}", WEBKIT_DISABLE_SANDBOX_THIS_IS_DANGEROUS="1")  # the driver passes these variables to the browser
         self.driver = webdriver.WebKitGTK(executable_path="/usr/bin/WebKitWebDriver", options=options)
         self.version = self.driver.capabilities.get("browserVersion", "")
         self.driver.set_window_size(WIDTH, HEIGHT)

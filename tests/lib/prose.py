@@ -1,8 +1,9 @@
 """Finds the sentences of the repository, and the patterns in a sentence that make an English reader stop. tests/lint.py and tests/docs/sentences.py
 use this module.
 
-A paragraph is a list of (line number, text). A paragraph comes from a paragraph, a list item or a table cell of a page, a docstring, a comment, a
-help text, or a text of web/src/words. The text contains no markup for links, no tags, and CODE in place of inline code.
+This module represents a paragraph as a list of (line number, text). Paragraphs, list items and table cells of pages are paragraphs. So are the
+paragraphs of docstrings, comments and help texts, and the texts of web/src/words. Their texts have no markup and no tags, and have CODE in place of
+inline code.
 
 CONTRIBUTING.md has the rules of wording. PATTERNS and FIRST have the rules that a regular expression can check, each with a remedy. EXCEPTIONS has
 the texts that may break a rule, each with its reason."""
@@ -31,7 +32,7 @@ FIRST = [(re.compile(pattern), remedy) for pattern, remedy in (
     (r"(What|Whatever|Whoever|Whichever|Who|How) (?!.*\?$)", "begin with a noun, not a clause"),
     (r"That (an?|the|its?|they|each|every|no|nobody|all|there|this|what|some|those|" + CODE + r")\b", "begin with a noun, not a clause"),
 )]
-# Maps (file, words of a sentence) to the reason why the sentence stays.
+# Maps (file, words of a sentence) to the reason why the sentence may break a rule.
 EXCEPTIONS = {
     ("CONTRIBUTING.md", "exactly if"): "names the wording to avoid",
     ("CONTRIBUTING.md", "so many"): "names the wording to avoid",
@@ -42,7 +43,7 @@ EXCEPTIONS = {
 }
 # Files that this module doesn't read: generated pages, data, and texts that tests compare byte for byte.
 LEFT_OUT = re.compile(r"docs/(AUDIT|RUNS)\.md|.*/more-edits\.txt|.*\.(told|png|svg|lock|toml|edit)|.*/stdout|tests/lib/words\.txt|docs/vectors\.json|web/[a-z]+\.(html|js|webmanifest)")
-# The areas that the subject of a commit may have in place of a crate.
+# The areas with which the subject of a commit may begin, apart from the crates.
 AREAS = {"docs", "tests", "web", "deploy", "bin", "ci", "man", "examples"}
 IMPERATIVE = re.compile(r"[a-z]\S*(?<![^su]s)(?<!ed)(?<!ing)\b|(pass|process|discuss|compress|express|need|feed|bring|embed|seed|speed)\b")
 PAGES = ["README.md", "CONTRIBUTING.md", "CHANGELOG.md", "SECURITY.md"]

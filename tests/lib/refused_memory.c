@@ -1,7 +1,7 @@
 // Refuses the allocation whose number is in the variable REFUSED_ALLOCATION. The first allocation has number 1. If the variable ALLOCATIONS_COUNTED
-// names a file, a program that ends by itself writes its number of allocations to this file. If the variable CALLS_TOLD names a file, each call
-// that ends a commit or sends a reply adds a line to this file. The line has `sync` or `send`, and the number of allocations before the call.
-// Loaded before the C library.
+// names a file, a program that exits normally writes its number of allocations to this file. If the variable CALLS_TOLD names a file, each call of
+// fdatasync, fsync or send adds a line to this file. The line has `sync` or `send`, and the number of allocations so far. LD_PRELOAD must load this
+// library before the C library.
 #define _GNU_SOURCE
 #include <dlfcn.h>
 #include <errno.h>
@@ -11,7 +11,7 @@
 #include <sys/socket.h>
 #include <unistd.h>
 
-// Declares `next`, the function of this name in the C library.
+// Declares `next`, a pointer to the C library's function with this name.
 #define NEXT(name) \
     static __typeof__(name) *next; \
     if (!next) next = dlsym(RTLD_NEXT, #name)

@@ -1,5 +1,5 @@
 """Reads constants and tables in Rust source as Python values, for example the rows of a test's `static`. The reader understands literals, tuples,
-arrays, structs, enum variants, references, sums, and the names that a file defines or imports by `use`."""
+arrays, structs, enum variants, references, sums, and the names that a file defines or imports with `use`."""
 
 import re
 from dataclasses import dataclass
@@ -14,7 +14,7 @@ BOUNDS = {"u8::MAX": 2**8 - 1, "u16::MAX": 2**16 - 1, "u32::MAX": 2**32 - 1, "u6
 
 
 class NotRead(Exception):
-    """An expression that this reader doesn't support."""
+    """Raised for an expression that this reader doesn't support."""
 
 
 @dataclass(frozen=True)
@@ -77,7 +77,7 @@ class Expression:
         return value
 
     def called(self):
-        """Reads a value, and calls of methods on the value."""
+        """Reads a value and the method calls after it."""
         value = self.one()
         while self.peek() == ".":
             self.take()

@@ -2,7 +2,7 @@
 part of the club's state that the answer depends on.
 
 The decision about a booking depends on the facility's numbers, the places taken in the slot, the member's account, and the time until the slot
-begins. The decision doesn't depend on names, days and booking numbers. Two rows that differ only in names, days or booking numbers state the same
+begins. The decision doesn't depend on names, days or booking numbers. Two rows that differ only in names, days or booking numbers state the same
 decision, but the bytes of their replies are different facts."""
 
 import re
@@ -30,7 +30,7 @@ class Fact(NamedTuple):
 
 
 def answer_of(reply, action):
-    """Returns a reply as an answer, without the name of the booking."""
+    """Returns the answer of a fact for a reply. The answer omits the booking's name."""
     if isinstance(reply, rules.Refused):
         return (reply.fault, reply.caveat) if reply.caveat else reply.fault
     body = {name: value for name, value in reply.body.items() if name != "booking"}
@@ -113,7 +113,7 @@ def recorded(request, booking, minutes):
 
 
 def asked_facts(club, text, request, moment, reply):
-    """Returns the facts about a request under a pass and its reply. The club must be in the state before the request."""
+    """Returns the facts about a request, its pass and its reply. The club must be in the state before the request."""
     try:
         given = passes.read(text)
     except passes.NoPass as fault:
@@ -141,7 +141,8 @@ def signed_facts(club, name, texts, request, moment, reply):
 
 
 def plain_bytes(data):
-    """Removes two parts of a request that don't affect the answer: the field Host, and the text of the pass if it is one word."""
+    """Removes the field Host and a Content-Length of 0 from a request, and replaces the text of the pass with `P`. These parts don't affect the facts
+    about the bytes."""
     return PLAIN_PASS.sub(lambda it: (it[1] or it[2]) + b"P", NO_FIELD.sub(b"", data))
 
 

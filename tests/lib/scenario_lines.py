@@ -10,7 +10,7 @@ from reference import caveats, club as rules, passes, wire
 
 ROOT = Path(__file__).resolve().parents[2]
 FOLDER = ROOT / "crates" / "scenarios" / "data"
-PAGE = ROOT / "docs" / "SCENARIOS.md"  # whose example is played too
+PAGE = ROOT / "docs" / "SCENARIOS.md"  # the example on this page is a scenario too
 FIRST_ROOT = "00112233445566778899aabbccddeeff"
 NAME = caveats.NAME
 MOST_CREDIT = 1_000_000  # points of one command
@@ -119,22 +119,22 @@ class Request(Event):
 
 @dataclass(frozen=True)
 class Office(Event):
-    """A command of the office, with its words and its outcomes. If a crash stops the command, a second outcome is possible when the command is
-    given again: the desk has carried it out already."""
+    """A command of the office, with its words and its outcomes. After a crash, the test runs the command again. If the desk had already carried out
+    the command before the crash, the second run has the second outcome."""
 
     words: tuple
     outcomes: tuple
 
     @property
     def command(self):
-        """The command in the form that the rules in Python take."""
+        """Returns the command in the form that the rules in Python expect."""
         name, *values = self.words
         return (name, *(READERS[kind](value) for kind, value in zip(COMMANDS[name], values)))
 
 
 @dataclass(frozen=True)
 class Listing(Event):
-    """A command that lists something for the office, with its words, and with the lines that it prints or its refusal."""
+    """A command that prints a listing for the office. `lines` has the expected lines or refusal."""
 
     words: tuple
     lines: tuple | None
@@ -379,7 +379,7 @@ class Reader:
         return found
 
     def with_part(self, given, part):
-        """Returns a pass with the change that a part of the line's brackets describes."""
+        """Returns a pass with the change that one part of the line's brackets describes."""
         word, _, rest = part.partition(" ")
         if part == "unknown":
             return given
@@ -486,7 +486,7 @@ def unquoted(text):
 
 
 def made(scenario, plant=None):
-    """Makes the club of a scenario by the rules in Python, and returns the club."""
+    """Makes the club of a scenario with the rules in Python, and returns the club."""
     club = rules.Club(plant)
     for command in scenario.commands:
         try:

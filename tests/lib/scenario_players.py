@@ -1,5 +1,5 @@
-"""Plays scenarios, either by the rules in Python or by `clubdesk` over a file and a socket. If an answer is wrong, the player raises a Difference
-with the file and the line."""
+"""Plays scenarios, either with the rules in Python or with `clubdesk`. The server of `clubdesk` uses a file, and gets requests over a socket. If an
+answer is wrong, the player raises a Difference with the file and the line."""
 
 import copy
 import random
@@ -18,7 +18,7 @@ from both import spelled_moment
 from reference import caveats, club as rules, passes, wire
 from scenario_lines import Crash, Fault, Listing, Office, Reopen, Request
 
-KILLS = 4  # of the line after `crash`, each at another moment
+KILLS = 4  # how often the test kills the program for a line after `crash`
 # The SQL that changes the tables to their format of version 1, which had no older roots and no index of bookings by key.
 AS_VERSION_1 = "DROP TABLE old_roots; DROP INDEX IF EXISTS bookings_by_key; UPDATE desk SET version = 1"
 
@@ -50,13 +50,14 @@ def printed(event):
 
 
 def wanted_of(event, number=0):
-    """Returns the first outcome of a command. If `number` is 1, returns the outcome when the desk has already carried out the command."""
+    """Returns the expected answer to a command. If `number` is 1, returns the answer that is expected if the desk has already carried out the
+    command."""
     outcome = event.outcomes[min(number, len(event.outcomes) - 1)]
     return printed(event) if outcome == "done" else outcome.removeprefix("prints ")
 
 
 class Rules:
-    """The rules in Python."""
+    """Plays scenarios with the rules in Python."""
 
     name = "the rules in Python"
 
@@ -92,8 +93,8 @@ class Rules:
         return listing(self.club, event)
 
     def crashes(self, event):
-        """Plays two cases: the crash comes after the desk has carried out the event, or before. After the crash, the event is repeated in both
-        cases. Both cases must lead to the same club."""
+        """Plays two cases: the desk crashes after or before it carries out the event. In both cases, repeats the event after the crash. Both cases
+        must lead to the same club."""
         before = copy.deepcopy(self.club)
         compare(event, self.wanted(event), self.found(event))
         compare(event, self.wanted(event, 1), self.found(event))
@@ -104,7 +105,7 @@ class Rules:
 
 
 def listing(club, event):
-    """Returns the lines of a listing for the office."""
+    """Returns the lines of a listing for the office, or the refusal."""
     command, *words = event.words
     if command == "sheet":
         rows = club.sheet(caveats.day_of(words[0]))
@@ -128,7 +129,7 @@ def listing(club, event):
 
 
 class Programs:
-    """Plays scenarios by `clubdesk`. Commands change a file, and a server of this file gets the requests over a socket."""
+    """Plays scenarios with `clubdesk`. Commands change a file, and a server of this file gets the requests over a socket."""
 
     name = "clubdesk over a file and a socket"
 
@@ -157,12 +158,12 @@ class Programs:
         if not whole.exists():
             begun = Path(tempfile.mkdtemp(dir=self.folder))
             self.make(scenario, begun / "club")
-            with suppress(OSError):  # another made it meanwhile
+            with suppress(OSError):  # another thread has made the same club meanwhile
                 begun.rename(whole)
         return whole / "club"
 
     def make(self, scenario, file):
-        """Makes the club by commands. If a member has more points than one command can credit, adds the points by SQL."""
+        """Makes the club with commands. If a member has more points than one command can credit, sets the points with SQL."""
         points = Counter()
         self.carry_out(scenario, file, ("sheet", "2000-01-01"))
         for command in scenario.commands:

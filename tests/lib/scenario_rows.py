@@ -1,5 +1,6 @@
 """Turns rows of the test crates into facts (tests/lib/scenario_facts.py). A reader gets a table as tests/lib/rust_tables.py reads it, and returns
-the facts of each row. If no scenario can state a row, the reader returns the reason. The rules in Python must agree with each row."""
+the facts of each row. If no scenario can state a row, the reader returns the reason in place of the facts. The rules in Python must agree with each
+row."""
 
 import rust_tables
 import scenario_facts as facts

@@ -1,9 +1,9 @@
 """Finds the test programs in tests/, and runs them, for tests/run and tests/conftest.py.
 
 A test program has a list `pytestmark`. In a script that pytest doesn't import, the list is a comment. tests/pytest.ini describes the marks. If the
-mark of a group has arguments, these are the words of a separate run of the program. The mark may also state needs and packages for this run. The
-run without words has the name of the program. A separate run in the group `quick` has the name NAME-quick. The name of any other separate run ends
-in its first word, as in hostile-self-test."""
+mark of a group has arguments, these are the command-line arguments of a separate run of the program. The mark may also state needs and packages for
+this run. The run without arguments has the name of the program. A separate run in the group `quick` has the name NAME-quick. The name of any other
+separate run ends in the run's first argument, as in hostile-self-test."""
 
 import ast
 import configparser
@@ -27,10 +27,10 @@ OUT = ROOT / "out" / "tests"
 # Debian's Python, which has the packages that tests need.
 PYTHON = "/usr/bin/python3" if Path("/usr/bin/python3").exists() else "python3"
 SKIPPED, TOOK_TOO_LONG = 77, 124
-SECONDS = 3600  # that a run may take, where its marks say nothing else
+SECONDS = 3600  # the timeout of a run whose marks state no timeout
 SECONDS_OF_QUICK = 600
 SECONDS_TO_CLEAR_UP = 30
-SECONDS_TO_INSTALL = 360  # to download what is missing
+SECONDS_TO_INSTALL = 360  # the limit for downloading missing packages
 # The files that a build of each program makes. `rt ci` builds only the first two programs.
 BUILT = {
     "clubdesk": ["crates/clubdesk/out/clubdesk"],
@@ -56,7 +56,7 @@ GROUPS = groups()
 
 @dataclass
 class Test:
-    """A run of a test program: the program, its words, and the groups that this run is in."""
+    """A run of a test program: the program, the arguments, and the groups that this run is in."""
 
     name: str
     path: Path
@@ -67,7 +67,7 @@ class Test:
     packages: list
     seconds: float
     plant: str = ""
-    own: bool = False  # whether its words were given on the command line
+    own: bool = False  # whether the arguments come from the command line of tests/run
 
     def __str__(self):
         words = f": {' '.join(self.words)}" if self.words else ""
@@ -103,7 +103,7 @@ def shown_by(head):
 
 @functools.cache
 def tests_of(path):
-    """The runs of a program."""
+    """Returns the runs of a program."""
     _, marks = head_of(path)
     given = {name: values[0] for name, values, _ in marks if name in ("needs", "wants", "timeout")}
     others = {name for name, *_ in marks if name in ("alone", "root")}
@@ -145,7 +145,7 @@ def planted_tests():
 
 
 def missing(packages):
-    """Returns those of the Debian packages that aren't installed. Without dpkg-query, returns all the packages."""
+    """Returns the Debian packages that aren't installed. If dpkg-query is missing, returns all packages."""
     if not packages or not shutil.which("dpkg-query"):
         return list(packages)
     found = subprocess.run(["dpkg-query", "-Wf", "${Package} ${db:Status-Status}\n", *packages], capture_output=True, text=True, check=False).stdout
@@ -153,8 +153,7 @@ def missing(packages):
 
 
 def prepare(packages):
-    """Installs those of the packages that are missing, if the caller is root and apt-get is there. Stops downloading after SECONDS_TO_INSTALL
-    seconds."""
+    """Installs the missing packages, if the caller is root and the system has apt-get. Stops downloading after SECONDS_TO_INSTALL seconds."""
     OUT.mkdir(parents=True, exist_ok=True)
     (OUT / "apt.conf").write_text('DPkg::Lock::Timeout "600";\nAcquire::Retries "1";\nAcquire::http::Timeout "20";\n', encoding="utf-8")
     if os.geteuid() != 0 or not shutil.which("apt-get"):
@@ -194,7 +193,7 @@ def processes():
 
 
 def begun_by(leader):
-    """Returns (process, start time) for the processes of a leader's session and for all their children, which may be in other sessions."""
+    """Returns (process, start time) for the processes in the session of `leader`, and for all their children, even in other sessions."""
     every = processes()
     found = {it for it, (_, session, _) in every.items() if session == leader}
     while more := {it for it, (parent, _, _) in every.items() if parent in found} - found:
@@ -227,7 +226,7 @@ def lacks(test, is_built):
 
 
 def status_of(test, output, root, variables, seconds):
-    """Runs a test in a new session, and returns its status. If the test takes too long, ends all processes of the session."""
+    """Runs a test in a new session, and returns its status. If the test takes too long, ends the test and all processes that it began."""
     environment = {**os.environ, "APT_CONFIG": str(OUT / "apt.conf"), "DEBIAN_FRONTEND": "noninteractive", "PYTHONDONTWRITEBYTECODE": "1", **variables}
     with subprocess.Popen([root / test.path.relative_to(ROOT), *test.words], cwd=root, stdin=subprocess.DEVNULL, stdout=output, stderr=output,
                           env=environment, start_new_session=True) as process:

@@ -1,9 +1,8 @@
-# Scripts in the neighbouring folders source this file to run the desk's server. This file finds the programs, makes a temporary folder for the
-# test, and
-# has functions that start and end a server.
+# Scripts in the neighbouring folders source this file to run the desk's server. This file finds the programs, and makes a temporary folder for the
+# test. Its functions start and end a server.
 here=${BATS_TEST_DIRNAME:-$(CDPATH='' cd -P -- "$(dirname -- "$0")" && pwd)}
 
-# The variables CLUBDESK and PASSTOOL have the paths of the programs. If a variable is unset, the wrapper in bin/ proves and builds its program,
+# The variables CLUBDESK and PASSTOOL have the paths of the programs. If a variable is unset, the wrapper in bin/ proves and builds the program,
 # unless the program is up to date. The script then runs the program without the wrapper, so that a signal reaches the server.
 desk=${CLUBDESK-}
 tool=${PASSTOOL-}
@@ -23,9 +22,9 @@ trap leave EXIT
 cd "$work" || exit 2
 mkfifo listening
 
-# serve FILE COUNT MOMENT [WORD..]: starts a server with additional options (tests/lib/desk.py). When the function returns, the server listens at
-# $port. If the server fails, the file `fault` has the reason. FILE.log has the server's standard error. The function `finish` waits until the
-# server ends.
+# serve FILE COUNT MOMENT [WORD..]: starts a server through tests/lib/desk.py. Each WORD is an additional option of the server. When the function
+# returns, the server listens at $port. If the server fails, the file `fault` has the reason. FILE.log has the server's standard error. The function
+# `finish` waits until the server ends.
 serve() {
     /usr/bin/python3 -B "$here/../lib/desk.py" "$desk" "$@" >listening 2>fault &
     server=$!

@@ -1,8 +1,8 @@
-"""Finds out which definitions docs/vectors.json shows, by running the reference in Python (tests/reference) on the vectors.
+"""Finds out which definitions the vectors in docs/vectors.json exercise, by running the reference in Python (tests/reference) on the vectors.
 
-Each function of the reference computes in Python what some definitions in specs/ state. `WRITTEN` names these definitions for each function. The
-mark of a definition is `all` if the vectors run each line of its functions, `part` if they run only some lines, and `none` if they run no line.
-Lines of planted faults don't count."""
+Each function of the reference computes in Python what some definitions in specs/ state. `WRITTEN` lists these definitions for each function. The mark
+of a definition is `all` if the vectors run each line of its functions, `part` if they run only some lines, and `none` if they run no line. Lines of
+planted faults don't count."""
 
 import ast
 import copy
@@ -19,8 +19,7 @@ ROOT = Path(__file__).resolve().parents[2]
 REFERENCE = ROOT / "tests" / "reference"
 VECTORS = ROOT / "docs" / "vectors.json"
 
-# Each key is one or more functions of the reference. The value of a key lists the definitions of these functions by module, as `CRATE.FILE: NAME
-# ..`.
+# Each key is one or more functions of the reference. The value lists the definitions of these functions by module, as `CRATE.FILE: NAME ..`.
 WRITTEN = {
     "passes.sign": "pass_mac.Hmac: block_len short_key key_block masked_block hmac",
     "passes.chain": "pass_mac.Chain: derivation_key derived_key extended_signature chain",
@@ -146,7 +145,7 @@ def check_passes(vectors):
         expect(vector["what"], passes.read(vector["text"].encode()), pass_of(vectors["passes"][2]))
 
 
-# The desk's fault for the words of each passtool fault. passtool numbers its faults differently.
+# The number of the desk's fault for the text of each passtool fault. passtool numbers these faults differently.
 FAULTS = {"too long": passes.TOO_LONG, "malformed": passes.MALFORMED, "third-party caveat": passes.THIRD_PARTY, "too many caveats": passes.TOO_MANY}
 
 

@@ -1,4 +1,4 @@
-"""Reads specs/*.antt: the definitions of a file, the words in each definition, and the definition that each name stands for."""
+"""Reads specs/*.antt: the definitions of a file, and the definitions that each of them cites."""
 
 import re
 from dataclasses import dataclass, field
@@ -10,12 +10,12 @@ CRATES = ROOT / "crates"
 
 WORD = r"""[^\s(){};,."λ]+(?:\.[^\s(){};,."λ]+)*"""
 TOKEN = re.compile(rf'"(?:\\.|[^"\\])*"|(?<=[)}}])\.{WORD}|λ|{WORD}|[(){{}};,.]')
-# Keywords and built-in names of both languages, and the signs in types and propositions.
+# Keywords and built-in names of specs/ and of clauses, and the signs in types and propositions.
 BUILT_IN = set("""
     : = | → ← × Type Unit Bool tt refl record data if then else let in do where of by pub abbrev unfoldable opaque module ⊥ ⊤ ¬ ∥ ∥₁ _ λ ↔ ≡
     now old new entry result self Self true false fields
 """.split())
-# The page that lists the definitions that compute, and the functions whose contracts use them.
+# The page that lists the computing definitions, and the functions whose contracts use these definitions.
 COMPUTED = ROOT / "docs" / "COMPUTED.md"
 # The kinds of definitions in specs/.
 OF_SPECS = ("definition", "record", "data")
@@ -37,19 +37,20 @@ def computing():
 
 @dataclass(eq=False)
 class Definition:
-    """A definition in specs/, a type or constant of the code, a ghost of a trait, or a word of a library. Only a word of a library has no file."""
+    """A definition in specs/, a type or constant of the code, a ghost of a trait, or a definition of a library. Only a library's definition has no
+    file."""
 
     module: str
     name: str
-    kind: str  # definition, record, data, type, ghost; constructor and library are of others
+    kind: str  # definition, record, data, constructor, type, ghost or library
     path: Path = None
     line: int = 0
     text: str = ""
     comment: str = ""
-    owner: "Definition" = None  # of a constructor
+    owner: "Definition" = None  # the data type, if this is a constructor
     cited: list = field(default_factory=list)
     unknown: list = field(default_factory=list)
-    parts: dict = field(default_factory=dict)  # of a record: what each field cites
+    parts: dict = field(default_factory=dict)  # for each field or constructor, the definitions that it cites
 
     def __repr__(self):
         return f"{self.module}.{self.name}"
@@ -81,7 +82,7 @@ def indent_of(line):
 
 
 def names_of(path, lead=""):
-    """Returns the names that the path of an import names, as (module, name). A list in the path may contain names, paths and nested lists."""
+    """Returns (module, name) for each name in the path of an import. A list in the path may contain names, paths and nested lists."""
     head, brace, inner = path.partition("{")
     if not brace:
         module, _, name = (lead + path).rpartition(".")
@@ -95,7 +96,7 @@ def names_of(path, lead=""):
 
 @cache
 def spelled_out(text):
-    """Returns the text without nested imports. Replaces an import that has paths in its list by one import for each module."""
+    """Returns the text without nested imports. Replaces an import that has paths in its list with one import for each module."""
 
     def flat(line):
         modules = {}
@@ -172,8 +173,8 @@ class Walk:
             self.unknown.append(word)
 
     def pattern(self, tokens):
-        """Reads the left side of an equation. Each word that isn't a constructor is a variable, except a library's function at the beginning of a
-        bracket, which is applied."""
+        """Reads the left side of an equation. Each word that isn't a constructor is a variable. The exception is a library's function at the
+        beginning of a bracket, which is applied to the words after it."""
         for at, token in enumerate(tokens):
             if token in "(){},;_":
                 continue
@@ -252,7 +253,7 @@ def tokens_of(text):
 
 
 def top_level(tokens, sign):
-    """Returns the place of the first token `sign` outside all brackets, or None if there is no such token."""
+    """Returns the position of the first token `sign` outside all brackets, or None if there is no such token."""
     depth = 0
     for at, token in enumerate(tokens):
         depth += (token in "({") - (token in ")}")
@@ -280,7 +281,7 @@ class SpecsFile:
 
     @cached_property
     def head(self):
-        """Returns the comment at the head of the file, in one line."""
+        """Returns the comment at the head of the file as one line."""
         lines = []
         for line in self.raw.splitlines():
             if not line.startswith("-- "):
@@ -293,7 +294,7 @@ class SpecsFile:
         module's parameters."""
         lines = self.text.splitlines()
         raw = self.raw.splitlines()
-        outer = []  # (indent, telescope, indent of what is within)
+        outer = []  # the modules around this line: (indent, parameters, indent of the contents)
         at, last = 0, None
         while at < len(lines):
             line = lines[at]
@@ -348,7 +349,7 @@ class SpecsFile:
         return scope
 
     def resolve(self, it):
-        """What a definition cites."""
+        """Finds the definitions that a definition cites."""
         if it.kind in ("record", "data"):
             self.resolve_record(it)
             return

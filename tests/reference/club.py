@@ -1,4 +1,4 @@
-"""The club and its rules: the reply to a request under a pass, and the effect of an office command (docs/DESK.md)."""
+"""The club and its rules: the reply to a request with a pass, and the effect of an office command (docs/DESK.md)."""
 
 import re
 from dataclasses import dataclass, replace
@@ -35,7 +35,7 @@ class Key:
     member: str
     root: bytes
     is_revoked: bool = False
-    older: tuple | None = None  # a root, and the moment before which it is good
+    older: tuple | None = None  # the root before the last rotation, and the moment when it expires
 
 
 @dataclass
@@ -83,9 +83,9 @@ class Club:
             raise ValueError(plant)
         self.plant = plant
         self.members, self.facilities, self.keys = {}, {}, {}
-        self.bookings = {}  # of each key: its bookings by their numbers
+        self.bookings = {}  # the bookings of each key, by their numbers
         self.closed = set()
-        self.taken_in = {}  # persons by slot, of bookings that aren't cancelled
+        self.taken_in = {}  # the number of persons in each slot, without cancelled bookings
 
     # ---- sums
 
@@ -115,7 +115,7 @@ class Club:
     # ---- a request under a pass
 
     def ask(self, text, request, moment):
-        """Carries out a request under the pass in `text`, and returns the reply."""
+        """Carries out a request with the pass in `text`, and returns the reply."""
         try:
             given = passes.read(text)
         except passes.NoPass as fault:

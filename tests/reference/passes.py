@@ -9,12 +9,12 @@ from dataclasses import dataclass, field
 
 MOST_BYTES = 8192  # of a text
 MOST_CAVEATS = 64
-DEEPEST = 127  # arrays and objects in one another
-NO_JSON = (ValueError, RecursionError)  # what `json_value` raises
+DEEPEST = 127  # the deepest nesting of arrays and objects
+NO_JSON = (ValueError, RecursionError)  # the exceptions that `json_value` may raise
 
 
 class NoPass(Exception):
-    """The reason why a text is not a pass. `fault` is the number of the desk's refusal."""
+    """Raised if a text is not a pass. `fault` is the number of the desk's refusal."""
 
     def __init__(self, fault):
         super().__init__(fault)
@@ -25,12 +25,12 @@ TOO_LONG, MALFORMED, THIRD_PARTY, TOO_MANY = 5, 6, 7, 8
 
 
 class Malformed(Exception):
-    """The bytes don't encode a pass."""
+    """Raised if the bytes don't encode a pass."""
 
 
 @dataclass
 class Pass:
-    """Four values of bytes."""
+    """A pass without third-party caveats. All its values are bytes."""
 
     location: bytes
     identifier: bytes
@@ -187,7 +187,7 @@ class Fields:
 
 def read_v2(data):
     fields = Fields(data)
-    fields.byte()  # 2, by which the form was found
+    fields.byte()  # the byte 2, which identifies the form V2
     location = fields.take_if(LOCATION) or b""
     identifier = fields.take(IDENTIFIER)
     fields.end()
@@ -228,7 +228,7 @@ def v2_bytes(it):
 
 
 def whole_number(text):
-    """Reads a JSON number without fraction and exponent as serde_json does. Returns an int if the number is from 0 to 2^64 - 1, otherwise a
+    """Reads a JSON number without fraction and exponent as Rust's serde_json does. Returns an int if the number is from 0 to 2^64 - 1, otherwise a
     float."""
     number = finite(text)
     return int(text) if not text.startswith("-") and int(text) < 2**64 else number
@@ -246,7 +246,7 @@ def refused_constant(text):
 
 
 def depth(text):
-    """Returns how deep arrays and objects are nested in a JSON text."""
+    """Returns how deeply arrays and objects are nested in a JSON text."""
     deepest = level = 0
     for sign in re.sub(r'"(?:\\.|[^"\\])*"', "", text):
         level += (sign in "[{") - (sign in "]}")
