@@ -1,12 +1,13 @@
-// Keeps the pages and the club's list for when there is no network. They come from the network where it is there, so that a new page is
-// seen at once. Everything else is the desk's: it isn't touched, and no reply of it is kept. Made by bin/pages of web/src/worker.js.
+// A service worker that caches the pages and the club's list, so that they open without a network. If there is a network, the worker loads them from
+// the server, so that the browser shows a new page immediately. The worker neither handles other requests nor caches the desk's replies. bin/pages
+// makes this file from web/src/worker.js.
 "use strict";
-const VERSION = "4cccc92c9edc498a";
+const VERSION = "f22a41878d49ca5a";
 const CACHE = `pages ${VERSION}`;
 const PAGES = ["/book.html", "/pass.html", "/app.webmanifest", "/club.json"];
-const PATIENCE = 4000; // milliseconds, until what was kept is shown
+const PATIENCE = 4000; // milliseconds that the worker waits for the network before it uses the cache
 
-// The club's list may be missing: the page says so itself.
+// If a file is missing, such as the club's list, the worker caches the other files. The page itself tells the user about a missing list.
 async function keepAll() {
   const cache = await caches.open(CACHE);
   await Promise.all(PAGES.map(async (path) => keepIn(cache, path, await fetch(path, { cache: "no-cache" }).catch(() => null))));
@@ -24,12 +25,12 @@ async function dropOthers() {
 
 async function fetched(event, path) {
   const response = await fetch(event.request);
-  const copy = response.clone(); // before the page takes the body
+  const copy = response.clone(); // a body can be read only once, and the page reads the body of `response`
   event.waitUntil(caches.open(CACHE).then((cache) => keepIn(cache, path, copy)).catch(() => {}));
   return response;
 }
 
-// What the network has, or after a while what was kept.
+// Returns the response from the network. If the network fails or takes too long, returns the cached response if there is one.
 async function answer(event, path) {
   const come = fetched(event, path);
   come.catch(() => {});

@@ -1,4 +1,4 @@
-// The account, the pass, and the transfer of the record between devices.
+// The view of the account and of the pass in use. The view also transfers the record of bookings between devices.
 import { titleOf } from "./club.mjs";
 import { hourText, isDate } from "./dates.mjs";
 import { ask } from "./desk.mjs";
@@ -127,7 +127,7 @@ async function importText(text, place) {
   put(place, words, ...(read.key === state.key ? [] : [" ", say("import-other-key", { key: read.key })]));
 }
 
-// Adds a record from a link to this browser's record, but only after the member agrees.
+// Adds the bookings from a link to this browser's record, but only after the member agrees.
 export async function offerRecord(text, whenDone) {
   const read = readRecord(text, Date.now());
   if (state.store === null) return;
@@ -141,7 +141,7 @@ export async function offerRecord(text, whenDone) {
   whenDone();
 }
 
-// ---- A booking with a known number and slot
+// ---- Adding a booking whose number and slot the member knows
 
 function fillFacilities() {
   const field = byName("lost-facility");
@@ -161,11 +161,12 @@ function lostFault(number, day) {
   return null;
 }
 
-// Returns whether the key has used a number. The function asks the desk to cancel a booking at a slot that can't exist. The desk's reply tells
-// whether the key has used the number, and no booking changes.
+// Returns whether the key has used a number, or true if the page can't find out. The function asks the desk to cancel a booking with this number at a
+// slot that can't exist. The desk's reply shows whether the key has used the number, and no booking changes.
 async function isUsed(number) {
   const nowhere = { facility: "none-such", day: "2000-01-01", hour: 0 };
-  if (denial("cancel", nowhere) > 0) return true; // the pass doesn't allow the question
+  // The pass doesn't allow this request.
+  if (denial("cancel", nowhere) > 0) return true;
   try {
     const reply = await ask(state.text, "cancel", { ...nowhere, key: state.key, number });
     return reply.fault === undefined || reply.fault === NUMBER_USED || reply.fault === NO_SUCH_BOOKING || reply.fault < NUMBER_USED;

@@ -1,5 +1,5 @@
-// The actions on a booking, except the cancellation. These actions add the booking to the calendar, invite somebody to it, repeat it a week later, or
-// change it.
+// The actions on a booking, except the cancellation. They add the booking to a calendar, invite somebody, book the same hour a week later, or change
+// the booking.
 import { offerBooking, slotText } from "./booking_dialog.mjs";
 import { calendarText } from "./calendar.mjs";
 import { facilityOf, hoursOf, titleOf, whyClosed } from "./club.mjs";
@@ -15,9 +15,10 @@ import { NotStored } from "./sender.mjs";
 import { canSend, clubMoment, denial, state } from "./state.mjs";
 import { say } from "./words.mjs";
 
-// The buttons below "More" on a booking's card.
+// Makes the buttons below "More" on a booking's card.
 export function moreOf(entry, whenDone) {
-  const isKnown = state.club !== null; // the list has the zone, which gives the beginning of a slot
+  // The page needs the club's time zone to know when a slot begins.
+  const isKnown = state.club !== null;
   const isOwn = isKnown && entry.key === state.key && state.pass !== null && canSend();
   const buttons = [];
   if (["booked", "listed"].includes(stateOf(entry))) {
@@ -46,7 +47,7 @@ function saveForCalendar(entry) {
   setTimeout(() => URL.revokeObjectURL(link.href), 60000);
 }
 
-// The invitation has the day, hour and place, but neither the booking's number nor the pass.
+// The invitation contains the day, hour and place, but neither the booking's number nor the pass.
 async function invite(entry) {
   const words = placeText() === "" ? "invite-text" : "invite-text-at";
   const text = say(words, { facility: titleOf(state.club, entry.facility), time: slotText(entry), club: placeText() });
@@ -59,7 +60,8 @@ async function invite(entry) {
   }
 }
 
-// Returns the desk's reply about a slot, or null if the pass doesn't show the slot. Shows a fault to the member.
+// Returns the desk's reply about a slot as `view`. If the pass doesn't allow viewing the slot, `view` is null. If the request fails, the function
+// tells the member why, and returns null.
 async function lookedUp(slot, title) {
   try {
     const reply = denial("view", slot) > 0 ? null : await ask(state.text, "view", slot, 2);
@@ -91,7 +93,7 @@ function whyNot(slot, view) {
   return view !== null && view.taken >= view.places ? say("cell-full") : null;
 }
 
-// ---- Changing a booking: makes a new booking, and then cancels the old booking
+// ---- Changing a booking. The page first makes a new booking, and then cancels the old booking
 
 function offerChange(entry, whenDone) {
   const facility = facilityOf(state.club, entry.facility);
@@ -120,7 +122,8 @@ function offerChange(entry, whenDone) {
   ], whenDone);
 }
 
-// Before the page sends a request, it shows the cost, the refund, and what happens if one of the two requests fails.
+// Shows the cost of the new booking, the refund of the old booking, and what happens if one of the two requests fails. The page sends these requests
+// only after the member presses the button.
 async function confirmChange(entry, slot, guests, whenDone) {
   const title = say("change-title", { facility: titleOf(state.club, entry.facility) });
   const found = await lookedUp(slot, title);

@@ -1,4 +1,4 @@
-// Uses a service worker, so that the page works without a network. If the browser has no service workers, the page needs a network.
+// Registers a service worker, so that the page works without a network. If the browser has no service workers, the page needs a network.
 
 let isAtHand = false;
 
@@ -7,7 +7,7 @@ export function opensOffline() {
   return isAtHand;
 }
 
-// The page's policy allows only this script as a worker.
+// The page's Trusted Types policy allows no other worker script than worker.js.
 function workerAddress() {
   const policy = globalThis.trustedTypes?.createPolicy("worker", { createScriptURL: () => "worker.js" });
   return policy === undefined ? "worker.js" : policy.createScriptURL("");
@@ -21,6 +21,6 @@ export async function keepPage(whenKept) {
     isAtHand = true;
     whenKept();
   } catch {
-    // Without the worker the page needs a network, and tells the member so under Account.
+    // Without the worker, the page needs a network. The view "Account" tells the member so.
   }
 }

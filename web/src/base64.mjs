@@ -1,5 +1,5 @@
-// Base64. Reads both alphabets of base64, but refuses a text that mixes them. Writes URL-safe text
-// without padding.
+// Reads and writes base64. The reader accepts both alphabets of base64, but refuses a text that mixes them. The writer makes URL-safe text without
+// padding.
 import { characters, quoted } from "./bytes.mjs";
 import { malformed } from "./pass_faults.mjs";
 
@@ -7,7 +7,7 @@ export function base64Of(bytes) {
   return btoa(characters(bytes)).replaceAll("+", "-").replaceAll("/", "_").replaceAll("=", "");
 }
 
-// `subject` names the text in the message of a fault.
+// A fault's message refers to the text as `subject`.
 export function bytesOfBase64(text, subject) {
   refuseStrayCharacters(text, subject);
   const letters = text.replace(/=+$/, "");

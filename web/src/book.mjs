@@ -1,4 +1,4 @@
-// The page of a club.
+// The booking page of a club.
 import { startPage } from "./booking_page.mjs";
 
 startPage();

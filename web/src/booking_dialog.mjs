@@ -1,4 +1,5 @@
-// The dialogs for booking and cancelling. Each dialog shows the cost, has one button to press, and shows the result.
+// The dialogs for booking and cancelling. A dialog first shows the cost or the refund. After the member presses the button, the dialog shows the
+// result.
 import { facilityOf, titleOf, whyClosed } from "./club.mjs";
 import { hourText, startOf } from "./dates.mjs";
 import { closeDialog, isDialogOpen, openDialog } from "./dialog.mjs";
@@ -31,7 +32,7 @@ function closedText(slot) {
   return why === "" ? say("closed") : say("closed-why", { why });
 }
 
-// A note on a booking whose slot the office closed later. The desk refuses to close a slot in use, so the office has cancelled the booking.
+// Makes a note for a booking whose slot is closed. The desk refuses to close a booked slot, so the office must have cancelled the booking before.
 export function closedOwn(slot) {
   return element("p", "note", element("strong", "", closedText(slot)), " ", say("closed-own"));
 }
@@ -55,7 +56,7 @@ function mostGuests(slot, view) {
 
 // ---- Booking
 
-// `view` is the desk's reply about the slot, or null if the pass doesn't show the slot.
+// `view` is the desk's reply about the slot, or null if the pass doesn't allow viewing the slot.
 export function offerBooking(slot, view, whenDone) {
   const own = ownAt(slot, view);
   const mine = own.length > 0 ? own : liveAt(slot);
@@ -124,7 +125,7 @@ function offerFirst(slot, view, title, isMeant, whenDone) {
   openDialog(title, [element("p", "slot-time", slotText(slot)), ...(about === "" ? [] : [element("p", "hint", about)]), places, stepper, facts, ...endNote(slot), outcome, element("div", "buttons", press)], whenDone);
 }
 
-// If the pass ends before the slot begins, the member can cancel the booking only until the pass ends.
+// Makes a note if the pass ends before the slot begins. In this case, the member can cancel the booking only until the pass ends.
 function endNote(slot) {
   const end = endOf(state.pass);
   if (end === null || end > startOf(slot)) return [];
@@ -147,7 +148,8 @@ function costFacts(view, guests) {
   return facts;
 }
 
-// Offers to send a listed booking to the desk if the browser doesn't know the desk's answer. The request has the booking's own number and guests.
+// Offers to request a booking that the browser knows only from a list, without the desk's answer. The request has the number and the guests that the
+// list states.
 export function offerListed(entry, view, whenDone) {
   const facts = element("dl", "cost", ...costFacts(view, entry.guests));
   const outcome = element("div", "outcome-box");
@@ -183,7 +185,8 @@ function waitingWords(outcome) {
   return () => clearInterval(timer);
 }
 
-// `book` records the request. `again` enables the button again after a refusal, and `done` removes the choices.
+// `book` records the request. After a refusal or an error, the function calls `again`, which may enable the button again. After any other result, the
+// function calls `done`, which removes the member's choices.
 async function sendBooking({ book, slot, view, outcome, press, whenDone, again, done }) {
   const end = waitingWords(outcome);
   try {
@@ -214,7 +217,7 @@ async function sendBooking({ book, slot, view, outcome, press, whenDone, again, 
   }
 }
 
-// From now on, a press on the button closes the dialog.
+// Replaces the pressed button with a button that closes the dialog.
 function finish(press) {
   const close = button("main wide-button", say("close"), closeDialog);
   const hadFocus = document.activeElement === press || document.activeElement === document.body;
@@ -281,7 +284,7 @@ function outcomeOfCancellation(entry) {
   return [element("p", "done", ...words), ...unsavedNote()];
 }
 
-// Formats the last moment for a full refund, such as "Fri 1 May, 18:00".
+// Returns the last moment for a full refund as a day and a time, such as "Friday 1 May" and "18:00".
 export function fullRefundUntil(entry) {
   const until = new Date(Date.parse(`${startOf(entry)}Z`) - 86400000).toISOString();
   return { day: dayText(until.slice(0, 10)), time: until.slice(11, 16) };

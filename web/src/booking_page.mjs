@@ -91,8 +91,8 @@ function go(wanted) {
   }
 }
 
-// The page calls this function after the record has changed, in this tab or in another tab. If the desk answered a request,
-// the account has also changed.
+// The page calls this function after the record has changed in this tab or in another tab. If the desk has answered a request since the last call,
+// the function also requests the account again.
 async function refresh() {
   const open = openRequests();
   if (state.sender !== null) state.entries = await state.sender.entries();
@@ -113,7 +113,7 @@ function openRequests() {
 
 // ---- The pass
 
-// The page calls this function when it has a pass: the earlier pass or a new pass.
+// Shows the view of the day. The page calls this function when the pass in use may have changed.
 function begin() {
   view = "day";
   show();
@@ -134,10 +134,10 @@ function reportTrouble(fault) {
   throw fault;
 }
 
-// ---- What is loaded
+// ---- Loading
 
-// Loads the club's list. If the load fails, keeps the old list. Returns the key of the fault's text, or "" if the
-// load succeeds.
+// Loads the club's list. If this fails, the page keeps the old list, and the function returns the key of the text that explains the failure.
+// Otherwise, the function returns "".
 async function fetchClub() {
   if (location.protocol === "file:" && !isToTry()) return "club-missing";
   try {
@@ -173,7 +173,7 @@ async function openStore() {
   }
 }
 
-// The sender pauses with this function. The pause ends early when the network returns.
+// Pauses the sender. The pause ends early if the network returns.
 function pauseUntilOnline(milliseconds) {
   return Promise.race([paused(milliseconds), new Promise((done) => window.addEventListener("online", done, { once: true }))]);
 }

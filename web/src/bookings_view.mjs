@@ -1,5 +1,4 @@
-// My bookings: the future and past bookings in the record of the pass's key, with the actions on
-// each booking.
+// The view of the member's bookings. It shows the future and past bookings that the record has for the pass's key, and the actions on each booking.
 import { moreOf } from "./again.mjs";
 import { closedOwn, fullRefundUntil, offerCancellation, offerListed, slotText } from "./booking_dialog.mjs";
 import { titleOf } from "./club.mjs";
@@ -33,8 +32,10 @@ export function showBookings(whenDone) {
   put("bookings-count", ...(count > 0 ? [String(count)] : []));
 }
 
-// The number of spent points that the desk reports shows whether the list is complete.
-let doubtful = new Set(); // bookings that may have been cancelled elsewhere
+// The page compares the points of the listed bookings with the spent points that the desk reports. A difference shows that the
+// list is incomplete or outdated.
+// The numbers of bookings that may have been cancelled elsewhere.
+let doubtful = new Set();
 
 function showComparison(own, moment) {
   const found = state.account === null || moment === null ? null : compared(own, state.account.spent, moment);
@@ -80,7 +81,7 @@ function stateText(entry) {
   return now === "listed" ? listedText(entry) : say("state-booked");
 }
 
-// Returns a text which says that the state of the booking is only a list's claim.
+// Returns the text about a booking whose state is only a list's claim.
 function listedText({ guests, listed }) {
   if (listed.refund !== undefined) return say("listed-cancelled", { count: listed.refund });
   if (listed.cancel) return say("listed-cancelling");
@@ -112,7 +113,7 @@ function whatCanBeDone(entry, whenDone) {
   return [...words, ...(buttons.length > 0 ? [element("div", "buttons", ...buttons)] : [])];
 }
 
-// Before a request that costs points, the page asks the desk for the current points.
+// Asks the desk for the slot's current price before the page offers to send the booking.
 async function askAbout(entry, whenDone) {
   try {
     const reply = denial("view", entry) > 0 ? null : await ask(state.text, "view", entry, 2);
@@ -155,9 +156,11 @@ function noteSlot(name, { taken, closed }) {
   else state.closed.delete(name);
 }
 
-let lookRound = 0; // numbers each check of the slots: results of an older check are dropped
+// The number of the latest check of the slots. The page drops the results of older checks.
+let lookRound = 0;
 
-// Checks for each of these bookings whether its slot still includes the booking's persons.
+// Requests the slots of the future bookings, as far as the pass allows viewing them. The number of taken places shows whether a slot still includes
+// the persons of its booking.
 export async function lookAfterBookings(whenDone) {
   const moment = clubMoment();
   if (moment === null || state.pass === null) return;

@@ -13,7 +13,7 @@ export function textOf(bytes) {
   }
 }
 
-// Returns a text with a character for each byte, so that patterns can match arbitrary bytes.
+// Returns a text with one character for each byte, so that patterns can match arbitrary bytes.
 export function characters(bytes) {
   return Array.from(bytes, (byte) => String.fromCharCode(byte)).join("");
 }

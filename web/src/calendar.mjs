@@ -23,7 +23,7 @@ function escaped(text) {
   return text.replace(/[\\;,]/g, "\\$&").replace(/\r?\n/g, "\\n");
 }
 
-// Folds a line into pieces of at most 75 bytes. It never splits a character.
+// Folds a line into pieces of at most 75 bytes, without splitting a character.
 function folded(line) {
   const pieces = [""];
   for (const letter of line) {
@@ -34,7 +34,7 @@ function folded(line) {
   return pieces.join("\r\n ");
 }
 
-// `title` is the title of the booking, `place` its place, and `host` the page's host. `now` is the current time in milliseconds.
+// `title` is the booking's title, `place` is the booking's place, and `host` is the page's host. `now` is the current time in milliseconds.
 export function calendarText({ entry, zone, title, place, host, now }) {
   const begins = instantOf(zone, startOf(entry));
   return [

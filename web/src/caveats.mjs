@@ -1,5 +1,5 @@
-// Each line that the desk understands as a caveat, with its values and the requests that it allows. Each such line is far shorter than the limit of
-// 256 bytes.
+// The caveats that the desk understands. Each caveat is a line of text. The module reads the values of a line, and decides which requests the
+// line allows. Every line that the module accepts is shorter than the desk's limit of 256 bytes.
 import { characters } from "./bytes.mjs";
 import { isDate, WEEKDAYS, weekdayOf } from "./dates.mjs";
 
@@ -9,7 +9,7 @@ const DATE = "20[0-9]{2}-[0-9]{2}-[0-9]{2}";
 export const KINDS = ["court", "boat", "room"];
 export const ACTIONS = ["view", "book", "cancel", "account"];
 
-// Each kind of line has a pattern, and a function that turns a match into the line's values or null.
+// Each kind of line has a pattern, and a function that returns the line's values. The function returns null if the values are wrong.
 const LINES = {
   facility: [`facility = (${NAME}(?:,${NAME}){0,7})`, (names) => ({ facilities: [...new Set(names.split(","))] })],
   kind: [`kind = (${KINDS.join("|")})`, (kind) => ({ kind })],
@@ -23,7 +23,7 @@ const LINES = {
 };
 const PATTERNS = Object.entries(LINES).map(([name, [pattern, values]]) => ({ name, pattern: new RegExp(`^${pattern}$`), values }));
 
-// Matches a list of one or more of these words, in the given order, with commas between the words.
+// Reads a list of known words with commas between them. Returns null if the list has another word, or if the words aren't in the order of `known`.
 function chosenWords(text, known) {
   const words = text.split(",");
   const inOrder = known.filter((word) => words.includes(word));
@@ -46,9 +46,10 @@ export function readCaveat(bytes) {
   return null;
 }
 
-// Returns whether a caveat allows a request. Each request has an action and a moment. A request for a slot also has a facility, its kind, a day and
-// an hour. The kind is null if the club doesn't have the facility. A request to book also has the number of guests, the cost in points, and the
-// points that the key has spent. A value that the page doesn't know is undefined, and is never a reason to deny, because the desk decides.
+// The test for each kind of caveat returns whether the caveat allows a request. Each request has an action and a moment. A request for a slot also
+// has a facility, its kind, a day and an hour. The kind is null if the club doesn't have the facility. A request to book also has the number of
+// guests, the cost (`owed`), and the points that the key has spent. If the page doesn't know one of these three numbers, the test uses 0, because the
+// desk decides.
 const TESTS = {
   facility: (caveat, { slot }) => slot !== undefined && caveat.facilities.includes(slot.facility),
   kind: (caveat, { slot }) => slot !== undefined && slot.kind === caveat.kind,

@@ -1,4 +1,5 @@
-// The club's list is the file club.json, which deploy/club_json makes. The replies of the desk contain neither the club's zone nor its hours.
+// The club's list is the file club.json, which deploy/club_json makes. The page needs the list because the desk's replies contain neither the club's
+// time zone nor the opening hours.
 import { isName, KINDS } from "./caveats.mjs";
 import { isDate, isZone } from "./dates.mjs";
 
@@ -25,7 +26,7 @@ function sentenceOr(value, otherwise = "") {
   return typeof value === "string" && value.length <= LONGEST_SENTENCE ? value : otherwise;
 }
 
-// Returns the address if it is safe to link to, otherwise "".
+// Returns the web address if the page can safely link to it, otherwise "".
 function addressOr(value) {
   return typeof value === "string" && /^https:\/\/[^\s"'<>\\]{1,300}$/.test(value) ? value : "";
 }
@@ -34,8 +35,9 @@ function pictureOr(value) {
   return typeof value === "string" && value.length <= LONGEST_LOGO && /^data:image\/(?:png|jpeg|webp|svg\+xml);base64,[A-Za-z0-9+/=]+$/.test(value) ? value : "";
 }
 
-// Reads a club from JSON. Returns null if the value isn't a club. The club needs a zone and facilities. The other parts are titles with sentences,
-// reasons for closed slots, contact, imprint page, privacy page and logo. If one of these parts is invalid, it counts as missing.
+// Reads a club from JSON. Returns null unless the value has a time zone and valid facilities, each with a different name. The other parts are the
+// club's name, a sentence about each facility, reasons for closed slots, the contact, links to an imprint and a privacy page, and a logo. An invalid
+// part counts as missing.
 export function readClub(value) {
   if (typeof value !== "object" || value === null || !isZone(value.zone) || !Array.isArray(value.facilities)) return null;
   if (!value.facilities.every(isFacility)) return null;

@@ -6,8 +6,7 @@ export function linkTo(address, words) {
   return Object.assign(element("a", "", words), { href: address, rel: "noopener noreferrer", target: "_blank" });
 }
 
-// `club` may be null. If `isOnWall` is true, the page writes each address in words, because nobody can
-// press a link on a wall screen.
+// `club` may be null. If `isOnWall` is true, each link also shows its address, because nobody can press a link on a wall screen.
 export function showClub(club, isOnWall = false) {
   const { logo = "", contact = "", imprint = "", privacy = "" } = club ?? {};
   byName("club-logo").hidden = logo === "";

@@ -1,5 +1,5 @@
 // Days, hours and minutes on the club's wall clock. A day is a text YYYY-MM-DD, and a moment is a text YYYY-MM-DDTHH:MM. The functions use UTC only
-// to count days and minutes. Only `momentIn` uses time zones.
+// to count days and minutes. Only `momentIn` converts a time to a time zone.
 
 export const WEEKDAYS = ["mon", "tue", "wed", "thu", "fri", "sat", "sun"];
 
@@ -31,7 +31,8 @@ export function startOf(slot) {
   return `${slot.day}T${hourText(slot.hour)}:00`;
 }
 
-const clocks = new Map(); // formatters by zone: making one is slow
+// There is one formatter for each zone, because making a formatter is slow.
+const clocks = new Map();
 
 function clockOf(zone) {
   if (!clocks.has(zone)) {
@@ -42,7 +43,7 @@ function clockOf(zone) {
   return clocks.get(zone);
 }
 
-// Returns the moment that the zone's wall clock shows at an instant, which is given in milliseconds.
+// Returns the moment that the zone's wall clock shows at an instant. The instant is in milliseconds.
 export function momentIn(zone, instant) {
   const parts = clockOf(zone).formatToParts(instant);
   const value = Object.fromEntries(parts.map((each) => [each.type, each.value]));

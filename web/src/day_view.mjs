@@ -1,5 +1,5 @@
-// The table of a day has a column for each facility and a row for each hour. The page sends a request for each slot, at most six at a time. A
-// narrow screen shows one facility, and the page requests that facility's slots first.
+// The table of a day has a column for each facility and a row for each hour. The page sends a request for each slot, at most six at the same time. A
+// narrow screen shows only one facility, and the page requests the slots of this facility first.
 import { facilityOf, hoursOf, titleOf, whyClosed } from "./club.mjs";
 import { offerBooking, offerClosed } from "./booking_dialog.mjs";
 import { firstDenial } from "./caveats.mjs";
@@ -18,11 +18,14 @@ import { dateText, dayText, say } from "./words.mjs";
 const SWIPE = 50; // pixels
 
 let day = null;
-let chosen = null; // the facility of a narrow screen
+// The facility that a narrow screen shows.
+let chosen = null;
 let isFinding = false; // whether the page shows the search over a week
 let isEarlierShown = false; // whether today's past hours are shown
-let cells = new Map(); // by facility and hour: the slot, its button, and its last reply
-let round = 0; // numbers each load of a day: replies to an older load are dropped
+// For each facility and hour, the slot, its button, and the desk's last reply.
+let cells = new Map();
+// The number of the latest load of a day. The page drops replies to older loads.
+let round = 0;
 let lookedAt = 0;
 let waiting = []; // the cells whose slots aren't requested yet
 
@@ -76,7 +79,7 @@ export function showDay(wanted = day) {
   look();
 }
 
-// Hides today's past hours, unless the member has a booking in these hours.
+// Hides each past hour of today, unless the member has a booking in that hour or has asked for the past hours.
 function foldEarlier() {
   const moment = clubMoment();
   let count = 0;
@@ -211,7 +214,7 @@ export function showCells() {
   for (const cell of cells.values()) showCell(cell);
 }
 
-// The page draws changes a few times a second, instead of after each reply.
+// The page collects changes for a short time and draws them together, instead of drawing after each reply.
 const DRAWN_EVERY = 80; // milliseconds
 const changed = new Set();
 
@@ -251,7 +254,7 @@ function press(cell) {
 
 // ---- Looking
 
-// Requests each slot of the day that isn't over and that the pass allows the member to see.
+// Requests the slots of the day that the pass allows viewing, except slots that have begun or are too far ahead.
 export async function look() {
   round += 1;
   const mine = round;
@@ -261,7 +264,8 @@ export async function look() {
   const all = waiting.length;
   let done = 0;
   if (!navigator.onLine) {
-    lookedAt = 0; // so the day is loaded again once the network returns
+    // This makes the page load the day again when the network returns.
+    lookedAt = 0;
     waiting = [];
     showProgress(0, 0);
     put("looked", say("looked-offline"));
@@ -280,8 +284,8 @@ export async function look() {
   showLooked();
 }
 
-// The page first requests the slots of the facility that a narrow screen shows, even if the member chooses this facility while the page requests
-// other slots.
+// Moves the waiting slots of the chosen facility to the front, because a narrow screen shows only this facility. The member may choose another
+// facility while the page loads the day.
 function chosenFirst() {
   waiting.sort((a, b) => (b.slot.facility === chosen) - (a.slot.facility === chosen));
 }
@@ -315,7 +319,7 @@ async function lookAt(cell, mine) {
   if (mine === round) showSoon(cell);
 }
 
-// A refusal of one slot appears in the slot's cell. A refusal of the pass appears for the whole day.
+// A refusal that concerns one slot appears in the slot's cell. A refusal that concerns the pass appears once for the whole day.
 function refused(cell, reply) {
   cell.state = "denied";
   if (reply.fault === CAVEAT_DENIES || reply.fault > CAVEAT_DENIES) return;

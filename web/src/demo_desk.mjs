@@ -1,5 +1,5 @@
-// A trial club. A small desk inside the page answers its requests, and the page sends nothing. The page stores the trial club's data under other
-// names than a real club's data.
+// A trial club. A small desk inside the page answers the page's requests, so the page sends nothing over the network. In the browser's storage, the
+// trial club's data has other names than a real club's data.
 import { daysLater, hourText, momentIn } from "./dates.mjs";
 import { withName } from "./place.mjs";
 import { writePass } from "./pass.mjs";
@@ -10,7 +10,8 @@ import { chain, SmallDesk } from "./small_desk.mjs";
 const ZONE = "Europe/Berlin";
 const KEPT = "club to try";
 const ROOTS = { "anna-1": 1, "anna-lend-1": 2, "anna-lend-2": 3, others: 4 };
-const OTHERS_ASK = 60; // bookings of other members, spread over the days
+// The number of bookings of other members.
+const OTHERS_ASK = 60;
 const FACILITIES = [
   ["court-1", "Court 1", "court", 4, 200, 8, 22, "Clay"], ["court-2", "Court 2", "court", 4, 200, 8, 22, "Clay"], ["court-3", "Court 3 (indoor)", "court", 4, 300, 7, 23, ""],
   ["boat-1", "Double scull", "boat", 2, 150, 6, 21, "Bring your own life jacket"], ["room-1", "Club room", "room", 1, 600, 8, 23, ""],
@@ -31,7 +32,7 @@ function momentNow() {
   return momentIn(ZONE, Date.now());
 }
 
-// Other members have booked some hours. These hours are the same on each day.
+// Other members have booked some hours of today and of the next nine days. These hours depend only on the number of days from today.
 function othersBookings() {
   const today = momentNow().slice(0, 10);
   return Array.from({ length: OTHERS_ASK }, (_, place) => {
@@ -55,7 +56,7 @@ function keepBookings(bookings) {
   try {
     localStorage.setItem(KEPT, JSON.stringify(bookings));
   } catch {
-    // The trial club is lost when the member closes the page.
+    // Without storage, the trial club's bookings are lost when the member closes the page.
   }
 }
 
@@ -69,13 +70,13 @@ function deskToTry() {
   });
 }
 
-// The office has closed some hours of every second day.
+// The trial club's office has closed two hours of court-2 on three days.
 function closures() {
   const today = momentNow().slice(0, 10);
   return [1, 3, 5].map((count) => ({ facility: "court-2", day: daysLater(today, count), from: 16, until: 18, why: "Youth training" }));
 }
 
-// A ball.
+// The logo shows a ball.
 const LOGO = "data:image/svg+xml;base64,PHN2ZyB4bWxucz0iaHR0cDovL3d3dy53My5vcmcvMjAwMC9zdmciIHZpZXdCb3g9IjAgMCAyMCAyMCI+PGNpcmNsZSBjeD0iMTAiIGN5PSIxMCIgcj0iOSIgZmlsbD0iI2M4ZDk0YSIvPjxwYXRoIGQ9Ik0zIDVhOSA5IDAgMDEwIDEwTTE3IDVhOSA5IDAgMDAwIDEwIiBmaWxsPSJub25lIiBzdHJva2U9IiNmZmYiIHN0cm9rZS13aWR0aD0iMS41Ii8+PC9zdmc+";
 
 const CLUB = {
@@ -97,7 +98,7 @@ function replyOf(status, body) {
   return new Response(JSON.stringify(body), { status, headers: { "Content-Type": "application/json", Date: new Date().toUTCString() } });
 }
 
-// Answers the requests that the page sends to its own origin.
+// Returns a replacement for fetch(), which passes the page's requests to the small desk.
 function answerHere(desk) {
   return async (path, options = {}) => {
     if (path === "club.json") return replyOf(200, CLUB);

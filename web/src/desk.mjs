@@ -15,8 +15,8 @@ export const REQUESTS = {
   account: () => ["GET", "/account"],
 };
 
-// The time of the server's clock minus the time of this browser's clock, in milliseconds. The proxy puts the server's time into each reply. Null
-// until one came.
+// The server's time minus this browser's time, in milliseconds. The proxy puts the server's time into each reply. Before the first reply, the value
+// is null.
 let clockLead = null;
 
 export function serverTime() {
@@ -29,10 +29,11 @@ export function clockDifference() {
 
 export function noteClock(response) {
   const date = Date.parse(response.headers.get("Date") ?? "");
-  if (!Number.isNaN(date)) clockLead = date + 500 - Date.now(); // the field has whole seconds
+  // The Date field has only whole seconds, so the page assumes half a second more.
+  if (!Number.isNaN(date)) clockLead = date + 500 - Date.now();
 }
 
-// Asks once. Throws NoReply if no reply of the desk comes.
+// Sends a request once. Throws NoReply if no reply from the desk comes.
 export async function exchange(pass, action, asked) {
   const [method, path, body] = REQUESTS[action](asked);
   const stop = new AbortController();
@@ -52,7 +53,8 @@ export async function exchange(pass, action, asked) {
   }
 }
 
-// Returns a random wait before a try. Tries have numbers from 1, and the longest possible wait doubles with each try.
+// Returns a random wait before a try, in milliseconds. The first try has the number 1. The longest possible wait doubles with each try, up to a
+// limit.
 export function pauseBefore(number, random = Math.random) {
   return random() * Math.min(FIRST_PAUSE * 2 ** (Math.max(1, number) - 1), LONGEST_PAUSE);
 }
@@ -63,8 +65,8 @@ export function paused(milliseconds) {
 
 const MOST_WAITS = 30;
 
-// Sends a request that changes nothing. If no reply comes, repeats the request, with at most `tries` tries. A try that the proxy postpones doesn't
-// count. Throws the last NoReply.
+// Sends a request that changes nothing, with at most `tries` tries until a reply comes. If the proxy asks the page to wait, the function waits and
+// doesn't count the try. It waits at most `waits` times. If no reply comes in the end, the function throws the last NoReply.
 export async function ask(pass, action, asked, tries = 4, waits = MOST_WAITS) {
   try {
     return await exchange(pass, action, asked);
@@ -79,8 +81,8 @@ export async function ask(pass, action, asked, tries = 4, waits = MOST_WAITS) {
   }
 }
 
-// Runs a task for each item, a few at a time. Stops when `goesOn` returns false. The function takes the items from the front of the list. The order
-// of the list may change while the tasks run.
+// Runs a task for each item, with a few tasks at the same time. Stops when `goesOn` returns false. The function removes items from the front of the
+// list, so the caller may reorder the list while the tasks run.
 export async function eachAtOnce(items, task, goesOn = () => true) {
   const work = async () => {
     while (items.length > 0 && goesOn()) await task(items.shift());

@@ -1,5 +1,4 @@
-// The page's only dialog. The dialog opens in front of the page. When it closes, the focus returns to the
-// element that opened it.
+// The page's only dialog. The dialog opens in front of the page. When the dialog closes, the focus returns to the element that opened it.
 import { button, byName, element } from "./elements.mjs";
 import { say } from "./words.mjs";
 
@@ -19,7 +18,7 @@ export function openDialog(title, content, whenClosed = () => {}) {
   heading.focus();
 }
 
-// The browser reports the closing only later, when another dialog may be open. So this function does all the work of the closing.
+// The browser reports later that the dialog has closed. Another dialog may be open by then, so this function itself does all the work of closing.
 export function closeDialog() {
   const whenClosed = closed;
   closed = null;
@@ -38,13 +37,13 @@ export function setUpDialog() {
     event.preventDefault();
     closeDialog();
   });
-  // At a second Escape, the browser closes the dialog without asking the page.
+  // When the user presses Escape a second time, the browser closes the dialog without asking the page.
   dialog.addEventListener("close", () => { if (!dialog.open && closed !== null) closeDialog(); });
   // A press outside the dialog also closes the dialog.
   dialog.addEventListener("click", (event) => { if (event.target === dialog) closeDialog(); });
 }
 
-// Shows a message.
+// Shows a message with a button that closes it.
 export function tell(title, words) {
   return question(title, [words], say("close"), null);
 }

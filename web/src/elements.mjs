@@ -1,4 +1,4 @@
-// Elements of the page. The page never parses a text as HTML.
+// Makes and changes elements of the page. The page never parses a text as HTML.
 import { say } from "./words.mjs";
 
 export function byName(id) {
@@ -17,8 +17,8 @@ export function put(id, ...content) {
   byName(id).replaceChildren(...content);
 }
 
-// Puts named cards into a list. A card that hasn't changed stays, together with its focus and its
-// open parts.
+// Puts named cards into a list. If the list has the same names as before, a card that hasn't changed stays and keeps the focus, and open parts stay
+// open.
 export function putCards(id, cards) {
   const before = [...byName(id).children];
   const isSameList = before.length === cards.length && before.every((card, place) => card.dataset.name === cards[place].dataset.name);
@@ -39,7 +39,7 @@ export function button(className, words, press) {
   return made;
 }
 
-// Sets the texts of all elements that are in the page from the beginning.
+// Sets the texts and labels of all elements that the page's source marks with `data-say` or `data-label`.
 export function sayAll(root = document) {
   for (const each of root.querySelectorAll("[data-say]")) each.textContent = say(each.dataset.say);
   for (const each of root.querySelectorAll("[data-label]")) each.setAttribute("aria-label", say(each.dataset.label));

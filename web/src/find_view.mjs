@@ -1,5 +1,5 @@
-// Finds a free time. Shows the facilities of a kind over a week at some hours, and finds the next day
-// with a free facility.
+// The search for a free time. The view shows how many facilities of a kind are free at the chosen hours of a week. It also finds the next day with a
+// free facility.
 import { offerBooking } from "./booking_dialog.mjs";
 import { KINDS } from "./caveats.mjs";
 import { hoursOf, titleOf } from "./club.mjs";
@@ -21,8 +21,10 @@ const FIRST_HOUR = 18;
 
 let firstDay = null;
 let search = { kind: null, from: FIRST_HOUR, to: FIRST_HOUR + 2 };
-let views = new Map(); // the desk's reply for each slot, by name; "failed" if no reply came
-let findRound = 0; // numbers each search: results of an older search are dropped
+// Maps a slot's name to the desk's reply, or to "failed" after a fault or without a reply.
+let views = new Map();
+// The number of the latest search. The page drops the results of older searches.
+let findRound = 0;
 
 function facilitiesOf(kind) {
   return state.club.facilities.filter((facility) => facility.kind === kind);
@@ -32,7 +34,7 @@ function kindsToFind() {
   return KINDS.filter((kind) => facilitiesOf(kind).some((facility) => hoursOf(facility).some((hour) => isToSee({ facility: facility.name, day: firstDay, hour }))));
 }
 
-// Returns whether the pass shows a slot and members can still book it, as far as the page knows.
+// Returns whether the pass allows viewing a slot that hasn't begun and isn't too far ahead.
 function isToSee(slot) {
   const moment = clubMoment();
   return denial("view", slot) === 0 && !hasBegun(slot, moment) && !isTooFarAhead(slot, moment);
@@ -56,7 +58,7 @@ function isToBook(slot) {
   return hasRoom(slot) && !isDenied(slot, views.get(slotName(slot)), 0);
 }
 
-// If the pass allows only looking, a slot with a free place counts as free.
+// If the pass doesn't allow booking the slot, the slot counts as free if it has a free place.
 function isFree(slot) {
   return isToBook(slot) || (hasRoom(slot) && denial("book", slot) > 0);
 }
@@ -84,7 +86,7 @@ export function showFind(day) {
   lookWeek();
 }
 
-// If there was no earlier search, the search begins at the hour of the last booking.
+// If the browser has stored no search, the search begins at the hour of the last booking.
 function hoursOfLast() {
   const hour = lastBooked()?.hour;
   return hour >= 0 && hour < 24 ? { from: hour, to: Math.min(hour + 2, 24) } : {};
@@ -186,7 +188,7 @@ async function lookWeek() {
   put("find-looked", refusal ?? say("looked", { time: clubTime() }));
 }
 
-// Checks one day after the other until a day has a free slot. Shows the days from that day on.
+// Checks one day after the other until a day has a free slot. Then shows the week that begins with this day.
 async function findNext() {
   if (endedContent().length > 0) {
     put("find-news", say("pass-ended"));

@@ -13,12 +13,12 @@ class Reader {
     this.place = 0;
   }
 
-  // Returns the next byte without taking it, or undefined at the end.
+  // Returns the next byte without moving past it, or undefined at the end.
   peek() {
     return this.bytes[this.place];
   }
 
-  // If the bytes end too early, a fault names the missing part of the pass. `what` is this part.
+  // Returns the next `count` bytes. If the bytes end too early, throws a fault about `what`, the missing part of the pass.
   take(count, what, fault = "breaks-off") {
     if (count > this.bytes.length - this.place) malformed(fault, { part: what });
     this.place += count;
@@ -102,7 +102,8 @@ const END_OF_SECTION = 0;
 
 export function readV2(bytes) {
   const reader = new Reader(bytes);
-  reader.take(1, part("first-byte")); // the first byte tells the form
+  // The first byte only identifies the form.
+  reader.take(1, part("first-byte"));
   const location = optionalField(reader, LOCATION, part("location")) ?? new Uint8Array();
   const identifier = field(reader, IDENTIFIER, part("identifier"));
   endSection(reader, part("identifier"));

@@ -1,5 +1,5 @@
-// Reads the part of the page's address after #. The part is a pass, a list of bookings, spare passes, or the mark of the hall's screen. A pass may
-// follow the mark of the screen.
+// Reads the part of the page's address after #. This part is a pass, a list of bookings, spare passes, or the word `screen` for the hall's screen. A
+// pass may follow the word `screen`.
 import { textOfFragment } from "./pass.mjs";
 import { recordOfFragment } from "./record.mjs";
 
@@ -9,7 +9,7 @@ export function isScreen(fragment) {
   return SCREEN.test(fragment);
 }
 
-// Returns the kind of the part ("none", "screen", "record", "spare" or "pass"), and its text.
+// Returns the kind of this part ("none", "screen", "record", "spare" or "pass"), and its text.
 export function readFragment(fragment) {
   if (fragment.length < 2) return { kind: "none", text: "" };
   if (isScreen(fragment)) return { kind: "screen", text: textOfFragment(fragment.replace(/^#screen=?/, "#")) };

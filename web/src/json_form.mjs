@@ -1,6 +1,6 @@
-// The form in JSON. JSON.parse accepts texts that the desk refuses, such as texts with lone surrogates, with 2.0 for 2, with huge numbers or with
-// deeply nested values. So this module parses JSON itself. A JSON string becomes a string, an array becomes an array, and an object becomes a Map. If
-// an object has a name several times, the last value counts. A number becomes this class:
+// Passes in JSON. JSON.parse accepts texts that the desk refuses, such as texts with lone surrogates, with 2.0 for 2, with huge numbers or with
+// deeply nested values. So this module parses JSON itself. A JSON string becomes a string, an array becomes an array, and an object becomes a Map. A
+// number becomes a JsonNumber, which keeps the number's text. If an object has a name several times, the last value counts.
 import { base64Of, bytesOfBase64 } from "./base64.mjs";
 import { bytesOf, quoted, shown, textOf } from "./bytes.mjs";
 import { checkedSignature } from "./forms.mjs";
@@ -54,7 +54,7 @@ class JsonReader {
     return values;
   }
 
-  // Reads the items between two brackets, with commas between them.
+  // Reads the items between two brackets, with commas between the items.
   items(close, depth, readItem) {
     if (depth > DEEPEST_JSON) this.refuse("json-depth", { most: DEEPEST_JSON });
     this.place += 1;
@@ -170,7 +170,7 @@ function checkedText(value, subject) {
   return typeof value === "string" ? value : malformed("json-not-text", { subject });
 }
 
-// Writes the names in the order of their bytes. JSON.stringify writes strings in the same way as the desk.
+// Writes the object's names in the order of their bytes. JSON.stringify writes strings in the same way as the desk.
 export function writeJson(pass) {
   return JSON.stringify(Object.fromEntries([
     ["c", pass.caveats.map((caveat) => Object.fromEntries([namedBytes("i", caveat)]))],

@@ -1,15 +1,18 @@
-// Keeps the browser's stored data except the record: passes (for the page, the tab, or permanently), the screen's pass, and the language. The page
-// keeps a pass from a link only in the page's entry of the tab's history, until the member decides to store it.
+// Stores the page's data in the browser, except the record of bookings. The data includes passes, spare passes, loans and the language. The browser
+// stores a pass permanently, for the tab, or for the page. Until the member decides to store a pass from a link, only the page's entry in the tab's
+// history has the pass.
 
 import { splitGiven } from "./pass.mjs";
 import { placeName } from "./place.mjs";
 
 const LONGEST_NAME = 40;
-export const MOST_PASSES = 20; // the limit of kept passes, and the same limit for spare passes
+// The limit of stored passes, and also the limit of stored spare passes.
+export const MOST_PASSES = 20;
 const MOST_LOANS = 50;
 const MOST_NOTED = 2000;
 
-let loansOfPage = []; // loans that the browser couldn't store: the page knows them until it is closed
+// Loans that the browser couldn't store. The page knows them until the member leaves it.
+let loansOfPage = [];
 
 function storageOf(forGood) {
   return forGood ? globalThis.localStorage : globalThis.sessionStorage;
@@ -37,11 +40,11 @@ function drop(forGood, name) {
   try {
     storageOf(forGood).removeItem(placeName(name));
   } catch {
-    // The browser kept nothing.
+    // The browser had stored nothing.
   }
 }
 
-// Reads a list that is stored as JSON. Drops its invalid items.
+// Reads a list that is stored as JSON. Leaves out invalid items.
 function keptList(name, isRight) {
   try {
     const list = JSON.parse(kept(true, name) ?? "[]");
@@ -66,12 +69,12 @@ export function keptPasses() {
   return keptList("passes", isKeptPass);
 }
 
-// Returns whether the other stored passes leave no room for this pass.
+// Returns whether the browser can't store this pass because the other stored passes reach the limit.
 export function isPassTooMany(text) {
   return keptPasses().filter((each) => each.text !== text).length >= MOST_PASSES;
 }
 
-// Adds a pass in front of the other passes. If the pass is already stored, renames it. Never removes another pass.
+// Adds a pass in front of the other passes. If the pass is already stored, renames it and moves it to the front. Never removes another pass.
 export function keepPass(text, name) {
   const others = keptPasses().filter((each) => each.text !== text);
   return !isPassTooMany(text) && keep(true, "passes", JSON.stringify([{ text, name }, ...others]));
@@ -100,7 +103,7 @@ export function passOfPage() {
   return typeof pass === "string" ? pass : null;
 }
 
-// Removes the pass from the address. Keeps the pass as long as the tab's history has the page.
+// Removes the pass from the page's address. The pass stays in the page's entry in the tab's history.
 export function holdPass(text, end = "") {
   try {
     history.replaceState(text === null ? null : { pass: text }, "", location.pathname + end);
@@ -119,12 +122,12 @@ function sparesWith(texts) {
   return [...new Set([...keptSpares(), ...texts])];
 }
 
-// Returns how many spare passes the browser must remove before these passes fit.
+// Returns how many stored spare passes the member must remove before the browser can store these spare passes too.
 export function sparesTooMany(texts) {
   return Math.max(0, sparesWith(texts).length - MOST_PASSES);
 }
 
-// Keeps all of these spare passes, or none of them.
+// Stores all of these spare passes, or none of them.
 export function keepSpares(texts) {
   return sparesTooMany(texts) === 0 && keep(true, "spares", JSON.stringify(sparesWith(texts)));
 }
@@ -137,13 +140,14 @@ function isLoan(each) {
   return typeof each === "object" && each !== null && [each.given, each.says, each.spare].every((text) => typeof text === "string");
 }
 
-// A loan has the pass that the member handed on, the sentence about the loan, and the spare pass that was narrowed for the loan. If no spare pass was
-// narrowed, the spare pass is "".
+// In a loan, `given` is the text that the member handed on, `says` is the sentence about the loan, and `spare` is the spare pass that the member
+// narrowed. If the member narrowed no spare pass, `spare` is "".
 export function keptLoans() {
   return [...loansOfPage, ...keptList("loans", isLoan)].map(({ given, says, spare }) => ({ given, says, spare, ...splitGiven(given) }));
 }
 
-// Adds a loan. The page keeps a loan that the browser can't store, or that exceeds the limit, until the member leaves the page.
+// Adds a loan, and returns whether the browser stored the loan. If the browser can't store another loan, only the page knows this loan, until the
+// member leaves the page.
 export function keepLoan({ given, says, spare }) {
   const loan = { given, says, spare };
   const others = keptList("loans", isLoan);
@@ -159,7 +163,7 @@ export function dropLoan({ given }) {
 
 // ---- The rest
 
-// The numbers of the bookings in an exported list, by key.
+// Returns the numbers of a key's bookings in the list that the member last exported.
 export function takenAlong(key) {
   return new Set(keptList(`taken ${key}`, Number.isInteger));
 }
@@ -168,7 +172,7 @@ export function noteTakenAlong(key, numbers) {
   keep(true, `taken ${key}`, JSON.stringify(numbers.slice(-MOST_NOTED)));
 }
 
-// Returns the last search, and the facility and hour of the last booking. The search and the booking may come from another club.
+// keptSearch() returns the last search. lastBooked() returns the facility and hour of the last booking. Both may come from another club.
 export function keptSearch() {
   const [found] = keptList("search", (each) => typeof each === "object" && each !== null && typeof each.kind === "string"
     && Number.isInteger(each.from) && Number.isInteger(each.to) && each.from >= 0 && each.from < each.to && each.to <= 24);

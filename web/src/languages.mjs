@@ -1,10 +1,11 @@
 // The page's language. Until the user chooses a language, the page uses the first language in the browser's list that the page supports.
+
 /* global WORDS */
 import { byName, element } from "./elements.mjs";
 import { language, languageFor, languages, say, useWords } from "./words.mjs";
 
-// Calls `sayPage`, which shows the page in the chosen language or in the browser's language. Offers the other languages. The function calls `keep`
-// with each language that the user chooses.
+// Lets the user choose a language, and calls `sayPage` to show the page in the current language. The page begins with the language `before`, or with
+// the browser's language if `before` is null. The function calls `keep` with each language that the user chooses.
 export function offerLanguages(sayPage, before = null, keep = () => {}) {
   useWords(WORDS, "en");
   const field = byName("language");

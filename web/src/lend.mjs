@@ -11,13 +11,13 @@ export function caveatsOf(pass, name) {
   return pass.caveats.map(readCaveat).filter((caveat) => caveat !== null && caveat.name === name);
 }
 
-// Returns the moment at which a pass ends, or null.
+// Returns the moment at which a pass ends, or null if the pass has no end.
 export function endOf(pass) {
   const ends = caveatsOf(pass, "until").map(({ date, time }) => `${date}T${time}`).sort();
   return ends[0] ?? null;
 }
 
-// Returns the last day on which a pass is valid, or null.
+// Returns the last day on which a pass is valid, or null if the pass has no end.
 export function lastDayOf(pass) {
   const end = endOf(pass);
   if (end === null) return null;
@@ -25,19 +25,19 @@ export function lastDayOf(pass) {
   return time === "00:00" ? daysLater(day, -1) : day;
 }
 
-// Returns the most points that all bookings under the pass's key may cost, or null.
+// Returns the most points that all bookings under the pass's key may cost, or null if the pass has no such limit.
 export function limitOf(pass) {
   const limits = caveatsOf(pass, "spend").map(({ most }) => most);
   return limits.length > 0 ? Math.min(...limits) : null;
 }
 
-// Returns whether a pass allows a facility on at least one day and hour.
+// Returns whether the pass's caveats about facilities and kinds allow a facility.
 export function allowsFacility(pass, { name, kind }) {
   return caveatsOf(pass, "facility").every(({ facilities }) => facilities.includes(name)) && caveatsOf(pass, "kind").every((caveat) => caveat.kind === kind);
 }
 
-// Returns the lines of a loan. A loan allows its holder to look or to book, for a kind or a facility, until a last day. The line about points
-// allows the loan's points in addition to the points that the key has already spent.
+// Returns the lines of a loan's caveats. A loan allows its holder only to look at slots, or also to book and cancel. It may be limited to a kind or a
+// facility, and to a last day. The limit of points is the loan's points plus the points that the key has already spent.
 export function linesOf({ kind = "", facility = "", isToLook, last, points, spent }) {
   const lines = [];
   if (kind !== "") lines.push(`kind = ${kind}`);
@@ -48,7 +48,7 @@ export function linesOf({ kind = "", facility = "", isToLook, last, points, spen
   return lines;
 }
 
-// Returns the pass in a text, or null.
+// Returns the pass in a text, or null if the text isn't a pass.
 export function passOrNull(text) {
   try {
     return readPass(text);
@@ -58,13 +58,13 @@ export function passOrNull(text) {
   }
 }
 
-// Returns the texts of the spare passes that have a loan at a moment.
+// Returns the texts of the spare passes that are lent at a moment.
 export function sparesLent(loans, moment) {
   const goesOn = (pass) => pass !== null && (endOf(pass) ?? "9999") > moment;
   return new Set(loans.filter(({ text, spare }) => spare !== "" && goesOn(passOrNull(text))).map(({ spare }) => spare));
 }
 
-// Returns the spare passes that have no loan at a moment, in the same order.
+// Returns the spare passes that aren't lent at a moment, in the order of `spares`.
 export function freeSpares(spares, loans, moment) {
   const lent = sparesLent(loans, moment);
   return spares.filter((text) => !lent.has(text)).map((text) => ({ text, pass: passOrNull(text) })).filter(({ pass }) => pass !== null && keyName(pass) !== null);

@@ -1,4 +1,5 @@
-// Lends a part of a pass. Asks the member what to lend, in which way, until when and for how many points, then shows the link.
+// Lends a part of a pass. The view asks the member for the facilities, the actions, the last day and the points of the loan. Then the view shows the
+// link.
 import { titleOf } from "./club.mjs";
 import { KINDS, readCaveat } from "./caveats.mjs";
 import { daysLater, isDate } from "./dates.mjs";
@@ -21,11 +22,13 @@ const DAYS_TO_CHOOSE = 7;
 const POINTS = [200, 600, 1000];
 const LONGEST_LOAN = 365; // days
 
-const spentBy = new Map(); // the points spent under each spare pass, by its text, from the desk's last reply
+// Maps the text of a spare pass to the points spent with it, from the desk's last reply.
+const spentBy = new Map();
 const unfit = new Set(); // the texts of spare passes that the desk refuses or that belong to another member
 let isMaking = false;
 
-// Returns the spare passes that the member can lend. Without the account, the page can't tell which spare passes belong to the same member.
+// Returns the spare passes that the member can lend. Returns none if the pass doesn't show the account, because then the page can't know which spare
+// passes belong to the member.
 function sparesToLend() {
   if (denial("account") > 0) return [];
   return freeSpares(keptSpares(), keptLoans(), clubMoment()).filter(({ text }) => !unfit.has(text));
@@ -67,7 +70,7 @@ function valueOf(id) {
   return byName(id).querySelector("input:checked")?.value ?? "";
 }
 
-// Returns the member's choices. If a choice is missing or wrong, returns the key of the text about this choice.
+// Returns the member's choices. If a choice is missing or wrong, returns its field, and the key of the text about this choice.
 function chosenLoan() {
   const what = valueOf("lend-what");
   const last = valueOf("lend-until") === "other" ? byName("lend-day").value : valueOf("lend-until");
@@ -81,7 +84,7 @@ function chosenLoan() {
   };
 }
 
-// Describes the loan in a sentence. If the narrowed pass already has limits, the sentence mentions them.
+// Describes the loan in a sentence. If the loan narrows the member's own pass and this pass has limits, a second sentence mentions these limits.
 function loanText({ name, kind, facility, isToLook, last, points }, isOfOwn) {
   const what = kind !== "" ? say(`kinds-${kind}`) : facility !== "" ? titleOf(state.club, facility) : say("lend-everything");
   const loan = say(isToLook ? "lend-says-look" : "lend-says-book", {
@@ -112,9 +115,9 @@ function whyOwn() {
   return element("p", "note", element("strong", "", say(`${words}-title`)), " ", say("lend-own"), " ", say(words));
 }
 
-// ---- Making it
+// ---- Making the loan
 
-// Returns the account under a spare pass, or null if the desk refuses the pass or the pass belongs to another member.
+// Returns the account of a spare pass. Returns null if the desk refuses the pass, or if the pass belongs to another member.
 async function accountOfSpare(text, member) {
   const reply = await ask(text, "account", {}, 2);
   const isFit = reply.fault === undefined && reply.member === member;
@@ -122,8 +125,8 @@ async function accountOfSpare(text, member) {
   return isFit ? reply : null;
 }
 
-// Returns the pass to narrow, and the spent points of its key. The pass is a free spare pass of the member, otherwise the pass in use. If the desk
-// refuses the pass in use, returns this refusal.
+// Returns the pass to narrow, and the points that its key has spent. The pass is a spare pass that the desk accepts and that isn't lent. If there is
+// no such spare pass, it is the pass in use. If the desk refuses the pass in use, the function returns this refusal.
 async function basisOf() {
   const own = denial("account") > 0 ? null : await ask(state.text, "account", {}, 2);
   if (own?.fault !== undefined) return { refusal: own };
@@ -156,8 +159,8 @@ async function lend(event) {
   }
 }
 
-// Makes a loan, shows it, and returns the text below it. If it turns out that the member has no usable spare pass, the function tells the member so
-// and makes no loan.
+// Makes a loan, shows it, and returns the text to show below it. The page may have offered to lend a spare pass that turns out to be unusable. In
+// this case, the function makes no loan and asks the member to read the changed offer.
 async function makeLoan(loan) {
   const wasOfOwn = sparesToLend().length === 0;
   const { pass, spent, spare, refusal } = loan.isToLook ? { pass: state.pass, spent: 0, spare: "" } : await basisOf();
@@ -231,14 +234,14 @@ function loanCard(loan) {
   const facts = [];
   if (isOver) facts.push(say("lend-over"));
   if (spent !== undefined && limit !== null) facts.push(say("lend-used", { spent: Math.max(0, spent - loan.spent), most: limit - loan.spent }));
-  // A member can remove only a loan that is over, because the spare pass of a current loan is still lent.
+  // A member can remove only a loan that has ended, because the spare pass of a current loan is still lent.
   const press = isOver ? button("", say("remove"), () => { dropLoan(loan); showLend(); })
     : button("", say("lend-again"), () => showMade(loan.given, loan.says));
   return element("li", isOver ? "card cancelled" : "card booked", element("p", "", loan.says), element("p", "hint", facts.join(" \u00b7 ")),
     element("div", "buttons", press));
 }
 
-// Asks the desk for the points spent under each lent spare pass, and for the other spare passes that the member can use.
+// Asks the desk for the points spent with each lent spare pass. Also asks which of the other spare passes the member can use.
 async function lookAfterLoans() {
   const lent = sparesLent(keptLoans(), clubMoment());
   for (const text of lent) {
@@ -253,7 +256,7 @@ async function lookAfterLoans() {
 
 // ---- Spare passes
 
-// Keeps the spare passes in a link only after the member agrees.
+// Stores the spare passes from a link, but only after the member agrees.
 export async function offerSpares(texts) {
   const passes = texts.map(passOrNull);
   if (passes.includes(null) || passes.some((pass) => keyName(pass) === null)) {
@@ -269,7 +272,7 @@ export async function offerSpares(texts) {
   showLend();
 }
 
-// Shows which spare passes the member can remove, if the link has more spare passes than the browser can keep. A lent spare pass stays.
+// Lets the member remove stored spare passes to make room for the spare passes from a link. The member can't remove a lent spare pass.
 function makeRoom(texts, names) {
   const free = freeSpares(keptSpares(), keptLoans(), clubMoment() ?? "").filter(({ text }) => !texts.includes(text));
   const items = free.map(({ text, pass }) => {
@@ -316,7 +319,7 @@ export function setUpLend() {
   byName("lend-share").addEventListener("click", shareLoan);
 }
 
-// Summarizes a narrowed pass for its holder: the limits, the end, and the number of points that bookings have used.
+// Summarizes a narrowed pass for its holder: the limits, the end, and the points that bookings have cost so far.
 export function passSays(pass) {
   const parts = pass.caveats.map(shortText).filter((part) => part !== "");
   const limit = limitOf(pass);

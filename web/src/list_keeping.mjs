@@ -1,4 +1,5 @@
-// Only this browser has the member's list. The page asks the browser to keep the list permanently, and reminds the member to save the list.
+// The list of bookings is only in this browser. The page asks the browser to keep the list permanently, and reminds the member to save a copy of the
+// list elsewhere.
 import { byName, put } from "./elements.mjs";
 import { noteTakenAlong, takenAlong } from "./keeping.mjs";
 import { isLive } from "./record.mjs";
@@ -9,7 +10,7 @@ const REMINDED_FROM = 3; // bookings
 
 let persists = null; // whether the browser promised to keep the list; null if unknown
 
-// Some browsers ask the user, and others decide by themselves.
+// Asks the browser to keep the list permanently. Some browsers then ask the user, and others decide by themselves.
 export async function askToPersist() {
   if (persists === true) return;
   persists = await navigator.storage?.persist?.().catch(() => null) ?? null;

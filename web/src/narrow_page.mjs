@@ -1,4 +1,4 @@
-// The page that narrows a pass. The page sends nothing. The page loads only the club's list, and only if its server has such a list.
+// The page that narrows a pass. The page sends nothing. It loads only the club's list, if the page's server has this list.
 import { bytesOf, shown } from "./bytes.mjs";
 import { readClub } from "./club.mjs";
 import { showClub } from "./club_view.mjs";
@@ -10,7 +10,8 @@ import { fact, faultContent, isAboutSlots, keyFacts, keyWarning, leavesOut, limi
 import { drawQr, qrWords } from "./qr_picture.mjs";
 import { say } from "./words.mjs";
 
-// ---- The choices: for the id of each fieldset, the line that its fields make, or "" if they are empty. The page adds the lines in this order.
+// ---- The choices. For each fieldset's id, a function returns the line that the fields make, or "" if the fields are empty. The page adds the lines to
+// the pass in the order of this table.
 
 const CHOICES = {
   kind: kindLine,
@@ -72,10 +73,11 @@ const choices = byName("choices");
 const narrowButton = byName("narrow");
 const result = byName("result");
 
-// The pass in the entered text, or null.
+// The pass in the entered text, or null without a valid pass.
 let pass = null;
 let club = null; // read from club.json, if it exists
-// Counts withdrawn results. Signing takes a moment. If the user changes the input during the signing, the result is outdated.
+// This number changes when the page removes its result, for example after a change of the input. If `round` changes while the page signs a pass, the
+// page drops the signed pass.
 let round = 0;
 
 function addressOf(text) {
@@ -99,7 +101,7 @@ function readGiven() {
   if (pass !== null) put("given-pass", ...passContent(pass, pass.caveats.length));
 }
 
-// Shows a pass with the name of its key and each of its limits. Marks the limits after the first `old` limits as new.
+// Makes the elements that show a pass, the name of its key, and its limits. Marks all limits after the first `old` limits as new.
 function passContent(shownPass, old) {
   const { location, form } = shownPass;
   const where = location.length > 0 ? say("location-hint", { location: shown(location) }) : say("none");
@@ -111,7 +113,7 @@ function fieldsIn(id) {
   return [...byName(id).querySelectorAll("input, select")];
 }
 
-// Returns the line of a fieldset, "" if the fieldset is empty, or null if its input is wrong.
+// Returns the line of a fieldset. Returns "" if the fieldset is empty, and null if its input is wrong.
 function chosenLine(id, form) {
   if (fieldsIn(id).some((field) => field.validity.badInput)) return null; // an incomplete date has no value
   const line = CHOICES[id](form);
@@ -123,8 +125,8 @@ function chosenLines() {
   return new Map(Object.keys(CHOICES).map((id) => [id, chosenLine(id, form)]));
 }
 
-// Shows below a fieldset the line that the fieldset adds. Shows a fault only when the user leaves the fieldset or narrows the pass, not at the first
-// keystroke.
+// Shows the line that a fieldset adds, and removes the fieldset's fault if the input is right. The page shows a fault only when the user leaves the
+// fieldset or narrows the pass, not at the first keystroke.
 function showChoice(id) {
   const line = chosenLine(id, new FormData(choices));
   put(`${id}-made`, ...(line ? [sentenceOf(bytesOf(line)), element("code", "", line)] : []));
@@ -152,7 +154,7 @@ function leaveChoice(event) {
   showWrong(fieldset.id, chosenLine(fieldset.id, new FormData(choices)) === null);
 }
 
-// Returns the reason why the pass can't be narrowed, and the place of the reason, or null.
+// Returns the message that explains why the page can't narrow the pass, and the field to correct. Returns null if the page can narrow the pass.
 function obstacle(lines) {
   if (!canSign()) return { field: given, message: say("obstacle-sign") };
   if (pass === null) return { field: given, message: say("obstacle-pass") };
@@ -200,7 +202,7 @@ function showResult(narrower, text, old) {
   result.scrollIntoView();
 }
 
-// If the page was opened from a folder, its address doesn't work on another telephone.
+// Shows the QR code of an address. A page that was opened from a folder shows no code, because its address doesn't work on another device.
 function showQr(address) {
   const isHere = location.protocol === "file:";
   const picture = isHere ? null : drawQr(address, say("lend-qr-label"));
@@ -214,7 +216,7 @@ function clearResult() {
   for (const id of ["narrow-fault", "outcome", "narrowed-message", "address-message", "book-address-message"]) put(id);
 }
 
-// Returns the notes that the user should read before handing on this pass. Each note has a title and a text.
+// Returns the notes that the user should read before handing on the narrowed pass. Each note has a title and a text.
 function notesOn(narrower) {
   const { caveats } = narrower;
   if (caveats.some((caveat) => sentenceOf(caveat) === null)) return [[say("note-refused-title"), say("note-refused")]];
@@ -293,7 +295,8 @@ function fillHours() {
   byName("hours-to").append(...hours.slice(1).map((hour) => new Option(`${hour}:00`, hour)));
 }
 
-// Adds two lines below each fieldset: the line that the fieldset adds to the pass, and its fault. A screen reader reads both lines with the fields.
+// Adds two paragraphs to a fieldset: one for the line that the fieldset adds to the pass, and one for the fieldset's fault. A screen reader reads a
+// paragraph when it changes, and reads the fault with each field.
 function addMessages(id) {
   const made = element("p", "made");
   made.id = `${id}-made`;
@@ -314,7 +317,7 @@ function takeFragment() {
   readGiven();
 }
 
-// Shows all texts of the page in the current language. The user must narrow the pass again after a change of the language.
+// Shows all texts of the page in the current language. After a change of the language, the user must narrow the pass again.
 function sayPage() {
   sayAll();
   if (!canSign()) put("unsigned", element("strong", "", say("unsigned-title")), say("unsigned"));

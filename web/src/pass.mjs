@@ -1,6 +1,6 @@
 // A pass has a location, an identifier, caveats and a signature, which are all bytes. A pass also has the form of its text: v1, v2 or json. A caveat
-// is a line that narrows the pass. The key that signs a caveat is the signature before the caveat. So any holder of a pass can add a caveat without a
-// secret, and nobody can remove a caveat.
+// is a line that narrows the pass. The pass's signature is the key that signs the next caveat. So any holder of a pass can add a caveat without
+// another secret, and nobody can remove a caveat.
 import { bytesOfBase64 } from "./base64.mjs";
 import { bytesOf, characters } from "./bytes.mjs";
 import { NAME } from "./caveats.mjs";
@@ -22,7 +22,7 @@ export function readPass(text) {
   return { form, location, identifier, caveats: caveats.map((caveat) => caveat.identifier), signature };
 }
 
-// The first byte of a text decides its form. Drops the spaces around a text, because copying may add spaces.
+// Determines a text's form from its first byte. Drops the spaces around the text, because copying may add spaces.
 function unwrapped(spaced) {
   const text = spaced.replace(/^[ \t\r\n]+|[ \t\r\n]+$/g, "");
   if (text.startsWith("{")) return { form: "json", bytes: bytesOf(text) };
@@ -49,8 +49,8 @@ function refuseManyCaveats(count, key) {
   if (count > MOST_CAVEATS) throw new Fault(TOO_MANY, key, { count, most: MOST_CAVEATS });
 }
 
-// Returns the text of a pass for a request's field. A pass in JSON may have line breaks and letters outside ASCII. So the page sends such a pass as
-// V2 if V2 can encode the pass.
+// Returns the text of a pass for a request's Authorization field. A pass in JSON may have line breaks and letters outside ASCII. So the page sends
+// such a pass in V2 if possible, otherwise as JSON in ASCII on one line.
 export function sentText(pass, text) {
   if (pass.form !== "json" || !text.trim().startsWith("{")) return text.trim();
   try {
@@ -66,14 +66,14 @@ export function keyName(pass) {
   return found === null ? null : found[1];
 }
 
-// Returns the pass in a pasted text. The text may end with a line feed, or be an address with the pass after #.
+// Returns the text of the pass in a pasted text. The pasted text may end with a line feed, or be an address with the pass after #.
 export function pastedText(pasted) {
   const text = pasted.replace(/\n$/, "");
   return /^\s*(?:https?|file):\/\/[^#]*#/.test(text) ? textOfFragment(text.slice(text.indexOf("#"))) : text;
 }
 
-// The text of a pass may also have the points that its key spent before the loan: `PASS;spent=N`. The page only shows this number. The page doesn't
-// trust the number, because the desk decides.
+// After #, the address of a loan may have the form `PASS;spent=N`. N is the number of points that the key had spent before the loan. The page uses
+// N only for what it shows and offers. The desk decides without N.
 export function withSpent(text, spent) {
   return spent > 0 ? `${text};spent=${spent}` : text;
 }
@@ -83,7 +83,7 @@ export function splitGiven(given) {
   return found === null ? { text: given, spent: 0 } : { text: found[1], spent: Number(found[2]) };
 }
 
-// An address contains JSON in escaped form.
+// Decodes the part of an address after #, because an address contains a pass in JSON only in escaped form.
 export function textOfFragment(fragment) {
   try {
     return decodeURIComponent(fragment.slice(1));
@@ -104,7 +104,7 @@ async function extended(signature, caveat) {
   return new Uint8Array(await crypto.subtle.sign("HMAC", key, caveat));
 }
 
-// Returns the pass after adding these lines in their order.
+// Returns the pass with these lines added in their order.
 export async function narrowed(pass, lines) {
   refuseManyCaveats(pass.caveats.length + lines.length, "too-many-would");
   const added = lines.map(bytesOf);

@@ -1,5 +1,5 @@
-// The reasons why the desk refuses a text as a pass, in the order in which the desk checks them. A fault has a kind and a sentence. The sentence is
-// a key of the table of words, with values. A value may itself be a key of that table.
+// The reasons why the desk refuses a text as a pass, in the order in which the desk checks them. A fault has a kind,
+// the key of a sentence in the table of words, and values for this sentence. A value may itself be such a key with values.
 
 export const LONGEST_TEXT = 8192; // bytes
 export const MOST_CAVEATS = 64;
@@ -37,7 +37,7 @@ export function caveatName(number, name) {
   return { key: "subject-caveats", values: { number, name } };
 }
 
-// Names the part of the pass that has the fault.
+// Returns a value for a sentence about a fault: the name of a part of the pass.
 export function part(name) {
   return { key: `part-${name}` };
 }

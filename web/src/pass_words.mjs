@@ -55,7 +55,7 @@ export function keyWarning(pass) {
   return [element("p", "note", element("strong", "", say("no-key-title")), " ", say("no-key"))];
 }
 
-// Makes a list of a pass's limits. Marks the limits after the first `old` limits as new.
+// Makes a list of a pass's limits. Marks all limits after the first `old` limits as new.
 export function limitList(pass, old = pass.caveats.length) {
   const limits = element("ol", "limits", ...pass.caveats.map((caveat, index) => limitContent(caveat, index >= old)));
   limits.setAttribute("aria-label", say("limits"));
@@ -69,7 +69,8 @@ function limitContent(caveat, isNew) {
   return element("li", "", words, ...mark, element("code", "", shown(caveat) || say("empty")));
 }
 
-// Returns whether an understood line excludes an action, or allows only requests about a slot.
+// For a line that the desk understands, leavesOut() returns whether the line excludes an action. isAboutSlots() returns whether the line allows only
+// requests about slots.
 export function leavesOut(bytes, action) {
   const line = characters(bytes);
   return line.startsWith("actions = ") && !line.includes(action);

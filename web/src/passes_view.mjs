@@ -12,7 +12,8 @@ import { say } from "./words.mjs";
 
 let isAsked = false; // whether the pass came in a link and the member hasn't decided yet whether to keep it
 let isEntering = false; // whether the field for another pass is shown
-const used = new Map(); // names of the passes that this page used, by the text of the pass
+// Maps the text of each pass that this page has used to the pass's name.
+const used = new Map();
 let keepTrouble = ""; // the key of the text that says why the pass in use couldn't be kept
 let page = {}; // the page's functions begin() and show()
 
@@ -35,7 +36,7 @@ function takePass(whole) {
   keepTrouble = "";
 }
 
-// Returns a name that no other stored pass has.
+// Returns a name that no pass of this browser has yet.
 function freeName(name) {
   const taken = new Set([...keptPasses().map((each) => each.name), ...used.values()]);
   for (let count = 1; ; count += 1) {
@@ -145,12 +146,12 @@ export function keepThis(name = state.name) {
   return state.isKept;
 }
 
-// Describes where the browser keeps the pass, or why it can't keep it.
+// Describes where the browser keeps the pass, or why it can't keep the pass.
 export function keptText() {
   return say(state.isKept ? "pass-kept" : keepTrouble || "pass-not-kept", { count: MOST_PASSES });
 }
 
-// Forgets the pass in use. Another pass of this browser replaces the forgotten pass.
+// Forgets the pass in use. If the browser has another pass, the page then uses that pass.
 export function forgetPass() {
   used.delete(state.given);
   dropPass(state.given);
@@ -172,7 +173,7 @@ function loseState() {
   isEntering = false;
 }
 
-// The page calls this function when another tab has stored or forgotten a pass.
+// The page calls this function after another tab has stored or forgotten a pass.
 export function keptElsewhere() {
   const isThere = keptPasses().some((each) => each.text === state.given);
   if (state.isKept && !isThere) forgetPass();
@@ -205,7 +206,7 @@ export function endedContent() {
   return [element("strong", "", say("pass-ended")), " ", untilText(...end.split("T")), " ", say("pass-ended-ask"), " ", button("", say("enter-another"), enterAnother)];
 }
 
-// Shows the passes that the member can choose from, if the browser has several.
+// Shows the choice of passes if the browser has more than one pass.
 export function showChoice() {
   const names = new Map([...keptPasses().map((each) => [each.text, each.name]), ...used]);
   byName("who-part").hidden = !isPassShown() || names.size < 2;
@@ -223,7 +224,7 @@ export function setUpPasses(whatPageDoes) {
   byName("who").addEventListener("change", (event) => choosePass(event.target.value));
 }
 
-// Shows the name of the pass. The member can change the name if the browser stores the pass.
+// Makes a field with the name of the pass in use, so that the member can change the name.
 export function nameField() {
   const field = element("input", "");
   Object.assign(field, { id: "pass-name", value: state.name, maxLength: 40, autocomplete: "off" });

@@ -1,4 +1,4 @@
-// In a trial club, the names of the browser's stored data have another prefix.
+// The names of the data that the page stores in the browser. In a trial club, these names have a prefix.
 
 let beginning = "";
 

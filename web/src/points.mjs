@@ -1,7 +1,7 @@
-// Returns the cost of a booking, and whether the pass refuses this cost as far as the page knows.
+// Calculates the cost of a booking. Checks whether the pass denies the booking, as far as the page knows.
 import { denial } from "./state.mjs";
 
-// `view` is the desk's reply about the slot, or null if the pass doesn't show the slot.
+// `view` is the desk's reply about the slot, or null if the pass doesn't allow viewing the slot.
 export function owedFor(view, guests) {
   return view === null ? 0 : view.price * (guests + 1);
 }

@@ -6,7 +6,7 @@ const CORRECTION = [7, 10, 15, 20, 26, 18, 20, 24, 30, 18, 20, 24, 26, 30, 22, 2
 const BLOCKS = [1, 1, 1, 1, 1, 2, 2, 2, 2, 4, 4, 4, 4, 4, 6, 6, 6, 6, 7, 8, 8, 9, 9, 10, 12];
 const LARGEST_VERSION = 25;
 
-// The field of 256 elements, modulo x^8 + x^4 + x^3 + x^2 + 1. The tables have the powers of 2, and the logarithms of the elements.
+// Arithmetic in the field of 256 elements, modulo x^8 + x^4 + x^3 + x^2 + 1. The tables have the powers of 2, and the logarithms of the elements.
 const POWERS = [];
 const LOGARITHMS = [];
 for (let exponent = 0, power = 1; exponent < 255; exponent += 1) {
@@ -27,7 +27,7 @@ function alignmentPlaces(version) {
   return [6, ...Array.from({ length: count - 1 }, (_, place) => last - (count - 2 - place) * step)];
 }
 
-// Returns how many modules of a version carry bits of the text.
+// Returns how many modules carry data or error correction in a code of a version.
 function carriers(version) {
   const alignments = alignmentPlaces(version).length;
   const patterns = version === 1 ? 0 : (25 * alignments - 10) * alignments - 55;
@@ -65,7 +65,7 @@ function dataOf(bytes, version) {
   return Array.from({ length: room / 8 }, (_, place) => parseInt(bits.slice(8 * place, 8 * place + 8).join(""), 2));
 }
 
-// Returns the product of (x - 2^i) for each i below the degree, without its leading 1.
+// Returns the coefficients of the product of (x - 2^i) for each i below the degree, without the leading 1.
 function generator(degree) {
   let result = [...new Array(degree - 1).fill(0), 1];
   for (let exponent = 0; exponent < degree; exponent += 1) {
@@ -84,7 +84,7 @@ function remainder(data, divisor) {
   return rest;
 }
 
-// Interleaves the data and the error correction of the blocks.
+// Splits the data into blocks, calculates each block's error correction, and interleaves the blocks.
 function withCorrection(data, version) {
   const count = BLOCKS[version - 1];
   const divisor = generator(CORRECTION[version - 1]);
@@ -143,7 +143,7 @@ class Code {
     if (this.version >= 7) this.drawVersion();
   }
 
-  // Writes level L and the mask twice. Each of the two copies has its own error correction.
+  // Writes the format information twice. It consists of level L, the number of the mask, and their error correction.
   drawFormat(mask) {
     const value = 1 << 3 | mask;
     let rest = value;
@@ -194,7 +194,8 @@ class Code {
     return copy;
   }
 
-  // Returns the penalty of a code. Runs and squares of one colour, patterns like the finder pattern, and too much of one colour add to the penalty.
+  // Returns the penalty of a code. Runs and squares of one colour, patterns like the finder pattern, and too many modules of one colour add to the
+  // penalty.
   penalty() {
     const lines = [...this.rows, ...this.rows.map((_, x) => this.rows.map((row) => row[x]))].map((line) => line.map(Number).join(""));
     let points = 0;

@@ -5,7 +5,7 @@ const SPACE = "http://www.w3.org/2000/svg";
 const MARGIN = 4; // modules
 const DENSE = 90; // modules: a camera must come close to a code of this size
 
-// Returns null if the text is too long.
+// Returns an SVG element, or null if the text is too long.
 export function drawQr(text, label) {
   const rows = qrRows(text);
   if (rows === null) return null;
@@ -22,8 +22,7 @@ export function drawQr(text, label) {
   return picture;
 }
 
-// Returns the key of the text below the picture of a link. The picture is null if the link is too
-// long.
+// Returns the key of the text below the picture of a link. The picture is null if the link is too long.
 export function qrWords(picture) {
   if (picture === null) return "lend-qr-none";
   return picture.viewBox.baseVal.width > DENSE ? "lend-qr-dense" : "lend-qr";

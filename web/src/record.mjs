@@ -2,12 +2,12 @@
 //
 // - key, number, facility, day, hour: the identity of the booking at the desk.
 // - guests: the number of guests, or null if the browser knows only the booking's number and slot.
-// - book: the reply to the PUT of the booking, or null before the reply. An empty object means that another booking has the number.
+// - book: the reply to the PUT of the booking, or null before the reply. An entry with `listed` has an empty object.
 // - cancel: the reply to the DELETE of the booking, null before the reply, or undefined without a DELETE.
 // - unsure: whether the desk may have carried out a request of this entry although no reply came.
 // - asked: the time when the entry was made, in milliseconds.
-// - listed: the claims of a list about this entry: charge, left, refund, cancel. The desk hasn't confirmed any of these claims to this browser. So
-//   the page never sends a listed entry automatically, and never counts the entry as cancelled.
+// - listed: the values `charge`, `left`, `refund` and `cancel` that a list claims for this entry. The desk hasn't confirmed any of these claims to
+//   this browser. So the page never sends a listed entry automatically, and never counts the entry as cancelled.
 // - saidCancelled: whether a list claims that a booking of this browser was cancelled.
 //
 // The functions of this module return new entries, and never change an entry.
@@ -42,8 +42,7 @@ export function unfinished(entry) {
   return entry.cancel === null ? "cancel" : null;
 }
 
-// Returns the entry with the reply to its request. After a refusal of the pass, the request stays open if the desk may have carried out an earlier
-// try of the request.
+// Returns the entry with the reply to its request. If the desk refuses the pass but may have carried out an earlier try, the request stays open.
 export function answered(entry, action, reply) {
   if (reply.fault !== undefined && isOfPass(reply) && entry.unsure) return { ...entry, stopped: reply };
   const { stopped, saidCancelled, ...rest } = entry;
@@ -69,18 +68,18 @@ export function isLive(entry) {
   return ["asked", "booked", "cancelling"].includes(stateOf(entry)) || (stateOf(entry) === "listed" && entry.listed.refund === undefined);
 }
 
-// Returns whether the page can send a listed entry to the desk. The entry must have guests and no reply.
+// Returns whether the page can send a listed entry to the desk. The list must state the guests, and must not claim a charge.
 export function canBeAsked(entry) {
   return stateOf(entry) === "listed" && entry.guests !== null && entry.listed.charge === undefined;
 }
 
-// Turns a listed entry into a request of this browser, with the same number. `ofList` records that a list named the number.
+// Turns a listed entry into a request of this browser, with the same number. `ofList` records that the number comes from a list.
 export function withRequest(entry) {
   const { listed, notCancelled, stopped, ...rest } = entry;
   return { ...rest, book: null, unsure: true, ofList: true };
 }
 
-// Returns whether a stored value is an entry. The page neither shows nor sends stored values that aren't entries.
+// Returns whether a stored value is an entry. The page neither shows nor sends other stored values.
 export function isEntry(value) {
   if (typeof value !== "object" || value === null) return false;
   const { key, number, facility, day, hour, guests, book, cancel, listed, asked } = value;
@@ -95,15 +94,21 @@ function isWithin(value, least, most) {
   return Number.isInteger(value) && value >= least && value <= most;
 }
 
-// Returns the points that the desk charged for an entry and didn't refund. A charge or refund counts as 0 if only a list claims it.
+// Returns the points that the desk charged for an entry and didn't refund. Returns 0 if only a list claims the charge, or if a list claims that the
+// booking was cancelled.
 export function costOf(entry) {
   return entry.saidCancelled || entry.book?.charge === undefined ? 0 : entry.book.charge - (entry.cancel?.refund ?? 0);
 }
 
-// Compares the record with the desk's count of the points that the key has spent. Returns "same" if they agree, and "more" if a booking isn't in
-// the record. Returns "less" with the possible entries if a booking was cancelled elsewhere. The result also has the difference in points. Returns
-// null if no comparison is possible. Returns "claims" if the desk counts everything that it confirmed to this browser. In this case only the claims
-// of lists are in doubt. No refund is larger than its charge.
+// Compares the points in the record with the spent points that the desk counts for the key. Returns null if no comparison is possible. Otherwise,
+// `points` is the difference, `entries` has the bookings in doubt, and `is` has one of these values:
+//
+// - same: the record and the desk agree.
+// - more: the desk counts more points, because a booking isn't in the record.
+// - less: the desk counts fewer points, because a booking was cancelled elsewhere.
+// - claims: the desk counts fewer points, but at least the points that it confirmed to this browser. So only the claims of lists are in doubt.
+//
+// If a list claims a refund greater than the charge, the refund counts as the charge.
 export function compared(entries, spent, moment) {
   const counted = entries.filter((entry) => stateOf(entry) !== "refused");
   if (counted.some((entry) => unfinished(entry) !== null || amountsOf(entry).charge === undefined)) return null;
@@ -130,8 +135,8 @@ export function isAt(entry, slot) {
   return entry.facility === slot.facility && entry.day === slot.day && entry.hour === slot.hour;
 }
 
-// Returns whether a refused request needs another number. An entry from a list keeps its number, because the number may belong to the same booking
-// with other guests.
+// Returns whether a refused booking needs another number. An entry from a list keeps its number, because the desk may have the same booking under
+// this number with other guests.
 export function wantsOtherNumber(entry) {
   return entry.book?.fault === NUMBER_USED && !entry.ofList;
 }
@@ -144,13 +149,14 @@ export function isTooFarAhead(slot, moment) {
   return minutesOf(startOf(slot)) > minutesOf(moment) + DAYS_AHEAD * 1440;
 }
 
-// Returns the charge and the places left of an entry. If the desk has replied, the values come from its reply, otherwise from a list.
+// Returns an object with the charge and the places left of an entry. The object is the desk's reply if it has a charge, otherwise the claims of a
+// list.
 export function amountsOf(entry) {
   return entry.book?.charge === undefined ? entry.listed ?? {} : entry.book;
 }
 
-// Returns the refund of a charge at a moment. The refund is the whole charge a day or more ahead, otherwise half of it, rounded down. Returns null
-// if it is too late.
+// Returns the refund if the member cancels an entry at a moment. The refund is the whole charge if the slot begins at least a day later, otherwise
+// half of the charge, rounded down. Returns null if the slot has begun or the charge is unknown.
 export function refundAt(entry, moment) {
   const { charge } = amountsOf(entry);
   if (hasBegun(entry, moment) || charge === undefined) return null;
@@ -158,7 +164,7 @@ export function refundAt(entry, moment) {
   return isDayAhead ? charge : Math.floor(charge / 2);
 }
 
-// ---- The record as a text. The first line is `record of KEY`, and each other line is a booking with its number, facility, day and hour. The line
+// ---- The record as a text. The first line is `record of KEY`, and each other line has a booking's number, facility, day and hour. Such a line
 // ends with the known facts, such as `guests 2`, `charge 600`, `left 1` or `refund 300`. The word `cancel` marks a cancellation without a reply.
 // deploy/record prints the same form.
 
@@ -216,8 +222,9 @@ function detailsOf(text) {
   return details;
 }
 
-// Merges an entry with a listed entry of the same number. The merged entry keeps the desk's replies to this browser and the open requests. The entry
-// notes a list's claim of a cancellation. If both entries come from lists, the claims of the more complete entry stay.
+// Merges an entry with a listed entry of the same number. The merged entry keeps the desk's replies to this browser and the open requests. If the
+// list claims a refund for a booking of this browser, the merged entry records the claim in `saidCancelled`. If both entries come from lists, the
+// claims of the more complete entry stay.
 export function merged(own, other) {
   if (own === undefined) return other;
   if (!isAt(own, other)) return own;
@@ -235,7 +242,8 @@ export function fragmentOfRecord(text) {
   return `record=${text.trim().slice("record of ".length).replaceAll("\n", ";").replaceAll(" ", "+")}`;
 }
 
-// Returns null if the part after # has another kind. Some messengers escape characters of an address.
+// Returns the record in the part of an address after #, or null if this part isn't a record. Some messengers escape characters of an address, so the
+// function decodes them.
 export function recordOfFragment(fragment) {
   const found = /^#?record=(.*)$/s.exec(fragment);
   const text = found === null ? null : found[1].replace(/%(?:3B|2B|20)/gi, (escape) => decodeURIComponent(escape));

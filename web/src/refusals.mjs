@@ -14,8 +14,8 @@ export function refusalText(reply, action = "book", slot = null) {
   return reason === "" ? say(`fault-${reply.fault}`) : say("fault-17-why", { reason });
 }
 
-// Explains why no reply came, by the HTTP status of the response. Status 502 means that the proxy reached no desk, and status 504 means that the desk
-// took too long.
+// Explains why no reply came. The text depends on the HTTP status of the response. Status 502 means that the proxy reached no desk, and status 504
+// means that the desk took too long.
 export function noReplyText(status, otherwise) {
   const texts = { 502: "no-reply-502", 503: "fault-22", 504: "no-reply-504" };
   return say(texts[status] ?? otherwise);

@@ -1,7 +1,7 @@
-// Reads replies. A reply comes from the desk if its body is JSON of the expected shape, or a fault whose status is the response's status. Any other
-// response isn't a reply. Such a response doesn't show whether the desk carried out the request.
+// Reads responses. A response is the desk's reply if its body is JSON of the expected shape, or a fault with the response's status. Fault 22
+// (unavailable) and any other response don't count as a reply, because they don't show whether the desk carried out the request.
 
-// The status of each fault, by the fault's number.
+// The HTTP status of each fault, by the fault's number.
 const STATUSES = {
   1: 400, 2: 404, 3: 405, 4: 401, 5: 400, 6: 400, 7: 400, 8: 400, 9: 401, 10: 403, 11: 403, 12: 403,
   13: 409, 14: 404, 15: 404, 16: 409, 17: 409, 18: 409, 19: 409, 20: 402, 21: 409, 22: 503,
@@ -18,8 +18,8 @@ const UNAVAILABLE = 22;
 
 const TOO_MANY_REQUESTS = 429; // the status comes from the proxy
 
-// The desk sent no reply. `wait` is the wait in milliseconds that the proxy asked for, or undefined. `status` is the status of the response, or 0
-// without a response.
+// The desk sent no reply. `wait` is the time in milliseconds that the proxy asked the page to wait, or 0. `status` is the status of the response, or
+// 0 without a response.
 export class NoReply extends Error {
   constructor(what, status = 0, wait = 0) {
     super(what);
@@ -36,7 +36,7 @@ function isCount(value) {
   return Number.isInteger(value) && value >= 0;
 }
 
-// For each kind of request, a test of whether a body is a reply to such a request.
+// For each kind of request, a function returns whether a body is a reply to such a request.
 const SHAPES = {
   view: (body, { facility, day, hour }) => body.facility === facility && body.day === day && body.hour === hour
     && isCount(body.price) && isCount(body.places) && isCount(body.taken) && typeof body.closed === "boolean",

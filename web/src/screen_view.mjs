@@ -1,5 +1,5 @@
-// The hall's screen shows today and tomorrow, without buttons. It refreshes each minute. The screen requests each slot at most once a minute, and
-// only before the slot begins.
+// The hall's screen shows the slots of today and tomorrow, without buttons. The screen refreshes each minute. It requests a slot at most once a
+// minute, and only before the slot begins.
 import { hoursOf, whyClosed } from "./club.mjs";
 import { showClub } from "./club_view.mjs";
 import { daysLater, hourText } from "./dates.mjs";
@@ -57,7 +57,7 @@ function askToKeep() {
     button("", say("keep-yes"), answer(true)), button("", say("keep-no"), answer(false))));
 }
 
-// `loadClub` loads the club's list. If the load fails, the screen keeps the old list.
+// `loadClub` loads the club's list. If this fails, the screen keeps the old list.
 async function runScreen(loadClub) {
   for (;;) {
     await loadClub();

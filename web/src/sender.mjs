@@ -11,18 +11,20 @@ import { NoReply } from "./replies.mjs";
 export class NotStored extends Error {}
 
 export class Sender {
-  // `store` keeps the entries, and `exchange(pass, action, entry)` sends one request to the desk. `lock(work)` runs `work` while no other tab runs
-  // it. `pause(milliseconds)` waits. The sender calls `changed()` after each change. `now()` returns the time in milliseconds.
+  // `store` keeps the entries, and `exchange(pass, action, entry)` sends one request to the desk. `lock(work)` runs `work` in at most one tab
+  // at a time. `pause(milliseconds)` waits. The sender calls `changed()` after each change. `now()` returns the time in milliseconds.
   constructor({ store, exchange, lock, pause, changed, now = Date.now, draw = drawnNumber }) {
     Object.assign(this, { store, exchange, lock, pause, changed, now, draw });
-    this.pass = null; // the text of the pass; `key` is the name of its key
+    // `pass` is the text of the pass, and `key` is the name of the pass's key.
+    this.pass = null;
     this.key = null;
     this.fresh = new Set(); // requests that this tab recorded and hasn't sent yet
     this.stopped = new Set(); // bookings that the desk refused under this pass
     this.unsaved = new Map(); // answered bookings that the browser couldn't store
     this.followers = new Map(); // the functions to call when a booking changes
     this.tries = 0; // the number of successive tries without a reply
-    this.status = 0; // the status that came instead of a reply at the last try
+    // The HTTP status if the last try got a response that wasn't a reply, otherwise 0.
+    this.status = 0;
     this.wait = 0; // the wait that the proxy asked for, in milliseconds
     this.running = false;
   }
@@ -40,8 +42,8 @@ export class Sender {
     return stored.map((entry) => this.unsaved.get(`${entry.key}/${entry.number}`) ?? entry);
   }
 
-  // Books with a new number and returns the entry. Returns `second` if the key already has this slot and the member doesn't intend a second
-  // booking.
+  // Records a booking with a new number, and returns its entry. If the key already has a booking of this slot and the member doesn't intend a second
+  // booking, the function returns the existing entry as `second`.
   async book(slot, guests, isMeant) {
     const entry = await this.lock(async () => {
       const entries = await this.entries();
@@ -56,7 +58,7 @@ export class Sender {
     return entry;
   }
 
-  // Sends a listed booking to the desk, with the booking's number.
+  // Records a listed booking as a request with the same number, so that run() sends it.
   async askFor(key, number) {
     await this.lock(async () => {
       const entry = await this.store.get(key, number);
@@ -82,7 +84,7 @@ export class Sender {
     this.changed();
   }
 
-  // Follows an entry. Calls `call` with the current entry at each change, even after the entry gets a new number.
+  // Calls `call` with the current entry at each change of the entry, even after the entry gets a new number.
   follow(entry, call) {
     this.followers.set(`${entry.key}/${entry.number}`, call);
   }
@@ -151,7 +153,7 @@ export class Sender {
     }
   }
 
-  // Records an entry's result. If somebody else used the entry's number, the page books again with another number.
+  // Records the desk's reply in an entry. If the key has already used the entry's number for another booking, books again with another number.
   async keep(entry, next) {
     const name = `${entry.key}/${entry.number}`;
     if (unfinished(next) !== null && next.stopped !== undefined) this.stopped.add(name);

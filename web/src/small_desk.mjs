@@ -75,7 +75,8 @@ export class SmallDesk {
     return this.bookings.find((each) => each.key === key && each.number === number);
   }
 
-  // Returns the status and body of a reply. `asked` has an action, a slot, a number and guests. The moment is on the club's clock.
+  // Returns the status and body of the reply to a request. `asked` has the request's action, slot, number and guests. The moment is on the club's
+  // clock.
   async answer(text, asked, moment) {
     let pass;
     try {

@@ -7,9 +7,11 @@ import { costOf, isAt, isLive, personsOf, slotName, stateOf } from "./record.mjs
 
 export const state = {
   club: null, // read from club.json
-  pass: null, // the pass, with the text to send and the name of its key
+  // The pass in use. `text` is the text to send, and `key` is the name of the pass's key.
+  pass: null,
   text: "",
-  given: "", // the pass's text with `base`, the points that its key spent before the loan
+  // The text of the pass, with `base`: the points that its key spent before the loan.
+  given: "",
   base: 0,
   key: null,
   name: "", // the label of the pass, which a member chooses
@@ -17,7 +19,8 @@ export const state = {
   store: null, // null if the browser stores nothing
   sender: null,
   entries: [], // the record's bookings, under all keys
-  account: null, // the desk's reply, with its moment in `at`
+  // The desk's reply about the account, with the time of the reply in `at`.
+  account: null,
   taken: new Map(), // the taken places of each requested slot, by the slot's name
   closed: new Set(), // the names of the slots that the office closed
 };
@@ -42,21 +45,21 @@ export function withKind(slot) {
   return { ...slot, kind: facilityOf(state.club, slot.facility)?.kind ?? null };
 }
 
-// Returns the number of the first caveat that denies a request, counted from 1, or 0. The desk may deny a request for further reasons, because the
-// page doesn't know every value.
+// Returns the number of the first caveat that denies a request, or 0. The first caveat has the number 1. The desk may deny a request for further
+// reasons, because the page doesn't know every value.
 export function denial(action, slot, more = {}) {
   const place = slot === undefined ? undefined : withKind(slot);
   return firstDenial(state.pass, { action, moment: clubMoment() ?? "2000-01-01T00:00", slot: place, spent: spentOfKey(), ...more });
 }
 
-// Returns the points that the key has spent. The desk reports these points. Before the desk's report, the function returns the points that came with
-// the pass plus the points of bookings in this browser.
+// Returns the points that the key has spent, as the desk reported them with the account. Without this report, the function returns the points that
+// came with the pass plus the points of bookings in this browser.
 export function spentOfKey() {
   return state.account?.spent ?? ownEntries().reduce((sum, entry) => sum + (isLost(entry) ? 0 : costOf(entry)), state.base);
 }
 
-// Returns whether the slot of an entry has too few persons for this browser's bookings. If so, the entry's booking is gone or never existed. For an
-// entry that the desk confirmed, the function doesn't count listed bookings.
+// Returns whether the slot of an entry has fewer persons than this browser's bookings of that slot. If so, one of these bookings is gone or never
+// existed. For an entry that the desk confirmed, the function doesn't count listed bookings.
 export function isLost(entry) {
   const found = state.taken.get(slotName(entry));
   const isThere = (each) => isLive(each) && (stateOf(each) === "booked" || (stateOf(each) === "listed" && stateOf(entry) === "listed"));
@@ -72,13 +75,13 @@ export function liveAt(slot) {
   return ownEntries().filter((entry) => isLive(entry) && isAt(entry, slot));
 }
 
-// Returns the key's live entries at a slot. Leaves out listed entries if the slot has fewer persons than all these entries need.
+// Returns the key's live entries at a slot. Leaves out listed entries if the slot has fewer persons than all live entries need.
 export function ownAt(slot, view) {
   const live = liveAt(slot);
   return view !== null && view.taken < personsOf(live) ? live.filter((entry) => stateOf(entry) !== "listed") : live;
 }
 
-// Returns whether the page can send requests that it must record first.
+// Returns whether the page can book and cancel. For this, the page needs storage for the requests, and the name of the pass's key.
 export function canSend() {
   return state.sender !== null && state.key !== null;
 }

@@ -1,5 +1,4 @@
-// The record's storage: IndexedDB. The promise of `put` resolves when the browser has written the data to
-// the disk.
+// Stores the record of bookings in IndexedDB. The promise of `put` resolves when the browser has written the data to the disk.
 import { placeName } from "./place.mjs";
 
 const ENTRIES = "bookings";

@@ -24,8 +24,8 @@ export function languageFor(wanted) {
   return wanted.map((tag) => tag.slice(0, 2).toLowerCase()).find((tag) => tag in tables) ?? "en";
 }
 
-// Returns the sentence of a key. Groups the digits of a number. Replaces a value that has a key by the sentence of the key, and uses every other value
-// unchanged.
+// Returns the sentence of a key, with the values in place of the braces. A number gets marks between groups of digits. A value that is itself a key
+// with values becomes the sentence of that key.
 export function say(key, values = {}) {
   const entry = table[key];
   if (entry === undefined) throw new Error(`no words for ${key}`);
@@ -47,7 +47,7 @@ export function listed(words) {
   return words.length === 1 ? words[0] : say("list-or", { others: words.slice(0, -1).join(", "), last: words.at(-1) });
 }
 
-// ---- Dates. Formats the club's dates. No function uses a time zone, and UTC only serves to count days.
+// ---- Dates. These functions format the club's dates. They use no time zone, and use UTC only to count days.
 
 function dateValues(day) {
   const date = new Date(`${day}T00:00Z`);

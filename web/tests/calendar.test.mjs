@@ -1,4 +1,4 @@
-// A booking for a calendar: its instants in zones, its lines.
+// Tests of a booking's calendar entry: its instants in several time zones, and its lines.
 import assert from "node:assert/strict";
 import { test } from "node:test";
 import { calendarText, instantOf } from "../src/calendar.mjs";

@@ -1,15 +1,15 @@
-// Passes and loans that a browser keeps, and those that the page knows where the browser keeps no more.
+// Tests of stored passes and loans, and of loans that only the page knows because the browser can't store more.
 import assert from "node:assert/strict";
 import { beforeEach, test } from "node:test";
 import { dropLoan, dropSpare, isPassTooMany, keepLoan, keepPass, keepSpares, keptLoans, keptPasses, keptSpares, sparesTooMany } from "../src/keeping.mjs";
 import { freeSpares } from "../src/lend.mjs";
 import { narrowed, readPass, writePass } from "../src/pass.mjs";
 
-// A pass of key amy-1, under a root of sixteen zero bytes, and the same one renewed.
+// AMY is a pass of key amy-1, whose root has sixteen zero bytes. SPARES has this pass, and the same pass with another signature.
 const AMY = readPass("AgIJa2V5OmFteS0xAAAGIN6DUCO_GPEfuM-1MV-MxNrJgiVxMmDgBrq42Kle8bor");
 const SPARES = [writePass(AMY), writePass({ ...AMY, signature: AMY.signature.map((byte) => byte ^ 1) })];
 
-// A store of a browser, which takes nothing more once it is full.
+// A browser's storage, which refuses every value when it is full.
 class Room {
   isFull = false;
   values = new Map();

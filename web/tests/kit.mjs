@@ -1,4 +1,4 @@
-// What the tests share: the known texts of docs/vectors.json, and the words.
+// Data for several tests: the texts of docs/vectors.json, and the tables of words.
 import { readFileSync } from "node:fs";
 import { useWords } from "../src/words.mjs";
 
@@ -11,7 +11,7 @@ export function speak(language) {
   useWords(TABLES, language);
 }
 
-// Bytes of a text, or of hexadecimal where there is no text.
+// Returns the bytes of a vector's value. The value is in hexadecimal if its name ends with "hex", otherwise a text.
 export function bytesIn(vector, name) {
   return vector[`${name} hex`] !== undefined ? Uint8Array.from(Buffer.from(vector[`${name} hex`], "hex")) : new TextEncoder().encode(vector[name]);
 }

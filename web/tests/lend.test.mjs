@@ -1,10 +1,10 @@
-// A lent part of a pass: its lines, its end, and which spare pass is free.
+// Tests of loans: the lines of a lent pass, its end, and the spare passes that aren't lent.
 import assert from "node:assert/strict";
 import { test } from "node:test";
 import { allowsFacility, endOf, freeSpares, lastDayOf, limitOf, linesOf, sparesLent } from "../src/lend.mjs";
 import { keyName, narrowed, readPass, splitGiven, withSpent, writePass } from "../src/pass.mjs";
 
-// A pass of key amy-1, under a root of sixteen zero bytes.
+// A pass of key amy-1, whose root has sixteen zero bytes.
 const AMY = readPass("AgIJa2V5OmFteS0xAAAGIN6DUCO_GPEfuM-1MV-MxNrJgiVxMmDgBrq42Kle8bor");
 const part = (...lines) => narrowed(AMY, lines);
 

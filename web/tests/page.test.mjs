@@ -1,4 +1,4 @@
-// Words, dates, the club's list and QR codes.
+// Tests of the page's words, dates, club's list and QR codes.
 import assert from "node:assert/strict";
 import { execFileSync } from "node:child_process";
 import { mkdtempSync, readdirSync, readFileSync, rmSync, writeFileSync } from "node:fs";
@@ -86,7 +86,7 @@ test("every module of the page compiles", () => {
   for (const file of readdirSync(folder)) if (file.endsWith(".mjs")) execFileSync(process.execPath, ["--check", new URL(file, folder).pathname]);
 });
 
-// Debian's zbar reads what the page draws.
+// The test below reads the page's QR codes with zbarimg, if this program is installed.
 let zbar = true;
 try {
   execFileSync("zbarimg", ["--version"]);

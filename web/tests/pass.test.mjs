@@ -1,4 +1,4 @@
-// The reader of passes and caveats against docs/vectors.json.
+// Compares how the page reads passes and caveats with docs/vectors.json.
 import assert from "node:assert/strict";
 import { test } from "node:test";
 import { bytesOf } from "../src/bytes.mjs";
@@ -68,7 +68,7 @@ test("a pass as it is pasted", () => {
   assert.equal(keyName(readPass(VECTORS.passes[2].v2)), null);
 });
 
-// What the caveats of the vectors see of a request.
+// The requests of the vectors, with the values that a caveat tests.
 const KINDS = { "court-1": "court", "room-1": "room" };
 const PRICES = { "court-1": 200, "room-1": 601 };
 const ASKS = Object.fromEntries(Object.entries(VECTORS.asks).map(([name, { at, method, path, guests }]) => {

@@ -1,4 +1,4 @@
-// The record: its numbers, its states, what it gives back, and its text.
+// Tests of the record of bookings: numbers, states, refunds, and the record's text.
 import assert from "node:assert/strict";
 import { test } from "node:test";
 import {
@@ -101,7 +101,7 @@ test("what the desk said stays beside what a list says, and of two lists it is w
   assert.deepEqual([stateOf(noted), isLive(noted), noted.saidCancelled], ["booked", true, true]);
   assert.equal(merged(noted, gone), noted);
   assert.equal(answered(withCancellation(noted), "cancel", { booking: "amy-1/7", refund: 0 }).saidCancelled, undefined);
-  // Also about a booking that another list brought: what was pressed is still asked for, and what the desk answered stays.
+  // A booking from one list is merged with another list's claims. The member's cancellation stays open, and the desk's answer to it stays.
   const pressed = withCancellation(known);
   const rows = [[pressed, "cancelling"], [answered(pressed, "cancel", { booking: "amy-1/7", refund: 300 }), "cancelled"], [answered(pressed, "cancel", { fault: 21 }), "listed"]];
   for (const [own, state] of rows) {
@@ -122,7 +122,8 @@ test("what the desk counts beside the list says what is missing, and what may be
     assert.deepEqual([found.is, found.points, found.entries.map(({ number }) => number)], [is, points, numbers], spent);
   }
   for (const open of [ASKED, withCancellation(BOOKED), { ...BOOKED, book: {} }]) assert.equal(compared([...list, open], 901, moment), null);
-  // A list's made-up bookings put none of the desk's in doubt, and hide none.
+  // A list may claim bookings that don't exist. Such claims neither cast doubt on the bookings that the desk confirmed, nor hide that one of them is
+  // gone.
   const madeUp = (charge, refund) => ({ ...ASKED, number: 9, book: {}, listed: { charge, left: 0, ...(refund === undefined ? {} : { refund }) } });
   for (const [extra, spent, is, numbers] of [[madeUp(200), 901, "claims", [9]], [madeUp(400), 901, "claims", [9]], [madeUp(0, 400), 901, "same", []], [madeUp(0, 400), 501, "less", [1]]]) {
     const found = compared([...list, extra], spent, moment);

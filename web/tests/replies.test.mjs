@@ -1,4 +1,4 @@
-// What counts as a reply of the desk.
+// Tests which responses count as replies of the desk.
 import assert from "node:assert/strict";
 import { test } from "node:test";
 import { pauseBefore, REQUESTS } from "../src/desk.mjs";
@@ -15,7 +15,7 @@ test("requests are as the desk wants them", () => {
   assert.deepEqual(REQUESTS.account(), ["GET", "/account"]);
 });
 
-// Every reply of the vectors that this page could have asked for.
+// Reads every reply in docs/vectors.json to a request that the page could send.
 test("the replies of the vectors", () => {
   let count = 0;
   const steps = [...VECTORS.runs.map(({ exchanges }) => exchanges), ...VECTORS.office.map((run) => run.steps)];

@@ -1,4 +1,4 @@
-// The sender over a store and a desk of the test's: whatever fails, nothing is booked twice and nothing acknowledged is lost.
+// Tests of the sender, with a store and a desk of the test. No failure makes the sender book twice or lose a booking that the desk has acknowledged.
 import assert from "node:assert/strict";
 import { test } from "node:test";
 import { isEntry, readRecord, stateOf, unfinished } from "../src/record.mjs";
@@ -30,7 +30,7 @@ class MemoryStore {
   }
 }
 
-// A desk that keeps bookings, and whose replies may get lost: `fate` says of each request "reply", "lost before" or "lost after".
+// A desk that records bookings, but may lose requests and replies. For each request, `fate` returns "reply", "lost before" or "lost after".
 class Desk {
   constructor(fate = () => "reply") {
     this.fate = fate;
@@ -280,13 +280,13 @@ test("what a list names is never sent by itself, and once it is asked for only u
   await sender.run();
   assert.deepEqual(desk.log, ["book 7"]);
   assert.deepEqual([stateOf(await store.get("amy-1", 7)), (await store.get("amy-1", 7)).book.charge], ["booked", 400]);
-  await sender.askFor("amy-1", 7); // it isn't a list's any more
+  await sender.askFor("amy-1", 7); // has no effect, because booking 7 isn't a listed booking any more
   await sender.cancel("amy-1", 8);
   await sender.run();
   assert.deepEqual(desk.log, ["book 7", "cancel 8"]);
   assert.equal((await store.get("amy-1", 8)).notCancelled.fault, 15);
   assert.equal(stateOf(await store.get("amy-1", 8)), "listed");
-  // A list that has other guests than the booking of its number books nothing besides.
+  // A listed booking may state other guests than the desk's booking with the same number. The sender then makes no additional booking.
   desk.bookings.set("amy-1/9", { guests: 2, cancelled: false });
   await sender.askFor("amy-1", 9);
   await sender.run();

@@ -1,4 +1,5 @@
-// Answers of the small desk, for tests/pages/small_desk.py: reads a club, and then requests, each a line of JSON, and prints a reply for each.
+// Prints the small desk's replies for tests/pages/small_desk.py. The first line of the input is a club in JSON, and each other line is a request in
+// JSON.
 import { createInterface } from "node:readline";
 import { SmallDesk } from "../src/small_desk.mjs";
 

@@ -1,4 +1,4 @@
-// The page's state: which bookings may be gone.
+// Tests of the page's state: the bookings that may be gone, and the bookings at a slot.
 import assert from "node:assert/strict";
 import { test } from "node:test";
 import { answered, newBooking, readRecord, slotName } from "../src/record.mjs";
