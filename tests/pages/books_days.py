@@ -39,7 +39,7 @@ def books_and_cancels(page, passes):
     has(card, "a booking in the list", "Court 1", "Booked", "3 persons", "600 points", "cancelling gives back the whole charge of 600 points")
     page.cancelled_in_the_list("a cancellation", asked="Cancelling now gives back 600 points", words="600 points came back")
     page.when("byName('to-come').innerText.includes('Cancelled, 600 points came back')", "what is cancelled")
-    # If a member cancels less than a day before the slot, she gets back half of the points.
+    # If a member cancels less than a day before the slot begins, she gets back half of the points.
     page.view("day")
     page.go(day(0))
     hour = now().hour + 2
@@ -59,7 +59,7 @@ def books_and_cancels(page, passes):
     page.when("isShown('welcome')", "a forgotten pass")
     page.visit("", "isShown('welcome')", "a forgotten pass, at the next visit")
     check("Cancelled" in page.run("return byName('other-part').hidden ? '' : byName('others').textContent"), "its record stays")
-    # Pastes a pass, which only this tab stores.
+    # The member pastes a pass, and only this tab stores the pass.
     page.run("byName('given').value = `https://desk.example.org/book.html#${arguments[0]}\\n`; byName('use').click()", passes["amy-1"])
     page.when("isShown('day') && dayIsThere()", "a pasted pass")
     page.driver.refresh()
@@ -113,9 +113,9 @@ def day_says_what_is(page, passes):
 
 
 def says_why_it_is_closed(page, passes, server):
-    """The page shows the reason for a closed slot in the day, in the slot's detail, and next to a booking that the closure cancelled. The page also
-    shows the reason if the desk refuses a booking because the slot is closed. The reasons come from the club's list, but only the desk tells whether
-    a slot is closed."""
+    """The page shows the reason why a slot is closed: in the day, in the slot's dialog, and next to a booking that the office cancelled for the
+    closure. The page also shows the reason if the desk refuses a booking because the slot is closed. The reasons come from the club's list, but only
+    the desk's replies show whether a slot is closed."""
     good, wanted = pathlib.Path("www/club.json").read_text(), day(25)
     number = (datetime.strptime(wanted, "%Y-%m-%d") - datetime(1970, 1, 1)).days
     page.enter(passes["lists-1"], 25)
@@ -156,8 +156,8 @@ def says_why_it_is_closed(page, passes, server):
 
 
 def looks_six_at_a_time(page, passes, between):
-    """For a day, the page sends at most six requests at the same time. On a narrow screen, the page first requests the slots of the facility that it
-    shows. While the page loads a day, it shows its progress."""
+    """When the page loads a day, it sends at most six requests at the same time, and shows its progress. On a narrow screen, the page first requests
+    the slots of the facility that the screen shows."""
     page.sees(360, "light", 740)
     page.enter(passes["bob-2"], 4)
     page.run("pressIn(byName('facility-choice'), 'Double scull')")
@@ -222,7 +222,7 @@ def swipes(page, passes):
 
 
 def looks_again(page, passes):
-    """When the member returns to the page after a while, the page requests its day again. After only a moment, the page requests nothing."""
+    """If the member returns to the page after 16 seconds, the page requests the day again. After one second, the page requests nothing."""
     page.enter(passes["bob-2"], 4)
     own = page.driver.current_window_handle
 
@@ -245,7 +245,7 @@ def looks_again(page, passes):
     page.when("seen.length === 4 && dayIsThere() && cellAt('court-3', 14).button.innerText === 'Full'", "what changed while it was away")
     asked = Counter(address for _, address in page.requests() if "/slots/" in address)
     check(len(asked) == CELLS and set(asked.values()) == {1}, "each slot once", len(asked), Counter(asked.values()))
-    # The page also requests its day again if the member returns to the day from another view.
+    # The page also requests the day again if the member returns to the day from another view.
     curl(page, "DELETE", f"/slots/court-3/{day(4)}/14/bookings/{number}", passes["other"])
     page.view("bookings")
     page.run("lookedAt -= 16000")
@@ -326,8 +326,7 @@ def leaves_out_what_the_pass_denies(page, passes):
 
 
 def refusals_say_what_to_do(page, passes, between):
-    """The page explains each refusal in both languages. The desk sends those refusals that a member can cause, and the test's proxy sends the
-    others."""
+    """The page explains each refusal in both languages. The desk sends some refusals, and the test's proxy sends others."""
     page.enter(passes["bob-1"], 6)
     page.booked("court-1", 9)
     page.booked("court-1", 10)
@@ -347,7 +346,7 @@ def refusals_say_what_to_do(page, passes, between):
     page.book("court-3", 13)
     page.comes("The office closed this slot", "fault 17")
     page.when("cellAt('court-3', 13).button.innerText === 'Closed'", "a slot that was looked at again")
-    # If the key already has a booking with the number that the page picks, the page picks another number.
+    # If the key has already used the number that the page picks, the page picks another number.
     used = 123456789
     curl(page, "PUT", f"/slots/court-2/{day(6)}/12/bookings/{used}", passes["amy-1"], '{"guests":1}')
     curl(page, "DELETE", f"/slots/court-2/{day(6)}/12/bookings/{used}", passes["amy-1"])
@@ -367,7 +366,7 @@ def refusals_say_what_to_do(page, passes, between):
                 sentences.setdefault(text, []).append((language, fault))
         page.run("useWords(WORDS, 'en')")
     check(all(len({fault for _, fault in of}) == 1 for of in sentences.values()), "two faults with one sentence", sentences)
-    # If the desk refuses the pass, the day shows this refusal only once, and not for each slot.
+    # If the desk refuses the pass, the page shows the refusal once for the day, and not in each slot.
     for fault, status, words in [(9, 401, "doesn't know this pass"), (10, 403, "revoked this pass"), (4, 401, "didn't arrive")]:
         between.fates["GET"] = [f'answer {status} {{"fault":{fault},"text":"x"}}'] * 200
         page.run("showDay()")
@@ -448,8 +447,8 @@ def goes_by_keyboard(page, passes):
 
 
 def finds_a_time(page, passes):
-    """The search finds slots of a kind of facility at given hours of a week, and the next free time. The page remembers the last facility, and hides
-    past hours."""
+    """The search shows when facilities of a kind are free at the chosen hours of a week, and finds the next free time. The page remembers the last
+    facility, and hides past hours."""
     page.sees(360, "light", 740)
     page.enter(passes["amy-phone"], 36)
     for name, _, kind, places, *_ in FACILITIES:

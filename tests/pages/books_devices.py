@@ -13,7 +13,7 @@ from page_browser import Browser, check
 
 
 def rotations(passes, front, between):
-    """The desk refuses the old pass of a rotated key, and an open booking continues under the new pass."""
+    """The desk refuses the old pass of a rotated key. Under the new pass, the page completes a booking that has no reply yet."""
     with BookingPage(front) as page:
         page.enter(passes["amy-son"], 12)
         between.fates["PUT"] = ["swallowed"] + ["silent"] * 100
@@ -26,7 +26,8 @@ def rotations(passes, front, between):
         check("The page doesn't know whether this slot is booked" in page.run("return byName('to-come').innerText"), "a booking in an unknown state")
         page.visit(f"#{new}", "isShown('day') && state.entries.every((each) => unfinished(each) === null && each.stopped === undefined)", "the new pass")
         check(same_record(page, "amy-son") == 1, "one booking")
-        # A booking that another key began waits until the member uses the pass of that key.
+        # A booking without a reply waits while the member uses another key's pass. The page sends it again when the member returns
+    # to the booking's pass.
         between.fates["PUT"] = ["silent"] * 100
         page.go(day(12))
         page.book("court-1", 10)
@@ -42,7 +43,8 @@ def rotations(passes, front, between):
 
 
 def devices(passes, front, server):
-    """Transfers the list of bookings to another browser by text, by QR code and from the office. Adds a booking whose number and slot are known."""
+    """Transfers the list of bookings to another browser by text, by QR code and from the office. Adds a booking whose number and slot the member
+    knows."""
     with BookingPage(front) as page:
         page.enter(passes["amy-phone"], 13)
         for hour in (9, 10, 11):
@@ -127,7 +129,7 @@ def at_hand(passes, server):
         base = page.address.rsplit("/", 1)[0]
         manifest = page.command("Page.getAppManifest")
         check(manifest["url"].endswith("/app.webmanifest") and not manifest["errors"] and json.loads(manifest["data"])["display"] == "standalone", "the manifest", manifest)
-        # A browser that accepts the test's own certificate may report only one fault of the page: its origin isn't secure.
+        # Because of the test's own certificate, the browser may report that the page's origin isn't secure. It must report no other fault.
         wrong = [each["errorId"] for each in page.command("Page.getInstallabilityErrors")["installabilityErrors"]]
         check(set(wrong) <= {"not-from-secure-origin"}, "a page for the home screen", wrong)
         check(kept == sorted(f"{base}/{name}" for name in ("book.html", "pass.html", "club.json", "app.webmanifest")), "what the worker keeps", kept)
@@ -144,8 +146,8 @@ def at_hand(passes, server):
         run_proxy(front)
         page.command("Network.emulateNetworkConditions", offline=False, latency=0, downloadThroughput=-1, uploadThroughput=-1)
         page.visit("", "isShown('day') && dayIsThere()", "online again")
-        # The browser immediately shows a new version of the page, even if the old service worker still runs. Then the new service worker caches only
-        # the new version.
+        # The browser immediately shows a new version of the page, even if the old service worker still runs. When the new service worker runs, only its
+        # cache remains.
         whole = pathlib.Path("www/book.html").read_text()
         pathlib.Path("www/book.html").write_text(whole.replace("</body>", "<p id='newer'></p></body>"))
         page.visit("", "isShown('day') && byName('newer') !== null", "a new page beside an old worker")
@@ -180,8 +182,8 @@ def at_hand(passes, server):
 
 
 def tells_what_is_missing(passes, front):
-    """The page compares its list with the number of bookings that the desk counts. So the page shows that a booking was cancelled elsewhere, or that
-    a booking isn't in the list. The page reminds the member to save the list."""
+    """The page compares its list with the spent points that the desk counts. So the page shows that a booking was cancelled elsewhere, or that a
+    booking isn't in the list. The page reminds the member to save the list."""
     key = "counts-1"
     asks = "globalThis.persistAsked = 0; navigator.storage.persist = async () => { persistAsked += 1; return true; }; navigator.storage.persisted = async () => false;"
     with BookingPage(front, before=asks) as page:
@@ -203,7 +205,7 @@ def tells_what_is_missing(passes, front):
         check(not page.run("return isShown('list-remind')"), "no reminder after the list was taken along")
         gone = first[1]
         curl(page, "DELETE", f"/slots/court-2/{day(35)}/10/bookings/{gone['number']}", passes[key])
-        # The slot has as many free places as before, so only the desk's number of bookings shows the change.
+        # The slot has as many free places as before, so only the spent points that the desk counts show the change.
         curl(page, "PUT", f"/slots/court-2/{day(35)}/10/bookings/5", passes["other"], '{"guests":1}')
         page.view("day")
         page.view("bookings")
@@ -281,7 +283,7 @@ def does_more_with_bookings(page, passes, between):
     page.press("Book the new slot for 400 points, and cancel the old booking")
     page.comes("Not changed: you still have the old booking.", "a change that isn't one")
     check(not amounts("more-1")[moved["number"]][-2], "the old booking stays")
-    # If the member can't cancel the old booking any more, she has both bookings, and the page tells her so.
+    # If the member can't cancel the old booking any more, she has both bookings, and the page says so.
     between.fates["DELETE"] = ['answer 409 {"fault":21,"text":"slot has begun"}']
     more("Change", moved["number"])
     page.run("byName('change-hour').value = '15'; byName('change-guests').value = '0'")
@@ -305,7 +307,8 @@ def does_more_with_bookings(page, passes, between):
 
 
 def letters(passes):
-    """The link and the QR code in the office's letter contain the pass. deploy/letter refuses a text that isn't a pass."""
+    """The link and the QR code in the office's letter contain the pass. deploy/letter refuses texts that aren't the key's pass. deploy/club_json and
+    deploy/record refuse wrong input too."""
     address, letter = "https://desk.example.org", f"{TOP}/deploy/letter"
     link = f"{address}/book.html#{passes['amy-1']}"
     for words in ("en", "de"):

@@ -1,5 +1,5 @@
-"""A part of page_books.py: lost requests, killed servers and browsers, a page that is closed at any point, failing storage, a missing network, the
-proxy's limits, and measured times."""
+"""A part of page_books.py: lost requests, killed servers and browsers, pages that the test closes at any point, failing storage, a missing network,
+the proxy's limits, and measured times."""
 
 import contextlib
 import os
@@ -38,7 +38,7 @@ def survives_failures(page, passes, between):
     between.fates["PUT"] = []
     page.comes("Booked.", "a booking at last")
     # If the desk doesn't reply to the request for a slot, only this slot shows that the reply is missing. A press on the slot requests it again.
-    between.fates["GET"] = ["silent"] * 200  # the page may be looking at others still
+    between.fates["GET"] = ["silent"] * 200  # the page may still request other slots
     page.run("lookAt(cellAt('boat-2', 10), round)")
     page.when("cellAt('boat-2', 10).button.innerText.includes('No answer')", "a slot without an answer")
     between.fates["GET"] = []
@@ -51,7 +51,8 @@ def survives_failures(page, passes, between):
 
 
 def pages_end(page, passes, between, server):
-    """A page may be closed before it sends a request, during the request, or before the reply arrives. The next visit then completes the request."""
+    """The test closes the page before it sends a request, during the request, or before the reply arrives. At the next visit, the page completes the
+    request."""
     page.enter(passes["ends-1"], 8, "Keep it")
     before = len(amounts("ends-1"))
     for place, fate in enumerate(["slow 3", "late 3", "silent"]):
@@ -67,7 +68,7 @@ def pages_end(page, passes, between, server):
     page.run("""state.sender.run = async () => {}; return state.sender.book({ facility: "court-2", day: arguments[0], hour: 14 }, 0, false)""", day(8))
     check(len(amounts("ends-1")) == before + 3, "nothing was sent")
     page.visit("", "allAnswered()", "a booking that was written down and not sent")
-    # A cancellation likewise.
+    # At the next visit, the page completes a cancellation too.
     number = page.entries()[-1]["number"]
     between.fates["DELETE"] = ["late 3"]
     page.when("isShown('day')", "the page")
@@ -192,7 +193,7 @@ def survives_kills(passes, front, server):
             globalThis.made = 0;
             globalThis.fault = null;
             const slots = [];
-            // On days of which no other step books a slot.
+            // No other step books a slot on these days.
             for (let ahead = 40; ahead < 60; ahead += 1) for (const facility of ["court-1", "court-2", "boat-2"]) {
               for (let hour = 8; hour < 22; hour += 1) slots.push({ facility, day: daysLater(clubMoment().slice(0, 10), ahead), hour });
             }
@@ -227,11 +228,11 @@ def survives_kills(passes, front, server):
 
 
 def browser_ends(passes, front, between):
-    """If a browser is killed while it waits for the reply to a booking, it completes the booking when it runs again."""
+    """If the browser is killed while it waits for the reply to a booking, the page completes the booking when the browser runs again."""
     folder = os.path.abspath("profile")
     with BookingPage(front, words=[f"user-data-dir={folder}"]) as page:
         page.enter(passes["browser-1"], 10, "Keep it")
-        time.sleep(8)  # a browser writes down what is kept beside the record at its leisure
+        time.sleep(8)  # the browser may write the stored pass to the disk only after some seconds
         between.fates["PUT"] = ["late 5"]
         page.book("boat-2", 9, 1)
         page.when("state.entries.some((each) => each.book === null)", "a booking on record")
@@ -277,7 +278,7 @@ def broken_browsers(passes, front, server):
         page.book("court-1", 9)
         page.comes("Nothing was sent.", "a full storage")
         check(all(method == "GET" for method, _ in (server.asked() - looked)), "nothing was sent", server.asked() - looked, asked)
-    # If the browser's storage is full when the reply comes, the page shows the reply but can't store it. At the next visit, the page sends the
+    # If the browser's storage is full when the reply comes, the page shows the reply but can't store the reply. At the next visit, the page sends the
     # request again.
     later = """const put = IDBObjectStore.prototype.put;
         IDBObjectStore.prototype.put = function (entry) { if (entry.book) throw new DOMException('full', 'QuotaExceededError'); return put.call(this, entry); };"""
@@ -291,7 +292,7 @@ def broken_browsers(passes, front, server):
         page.when("isShown('day') && state.entries.length === 1 && allAnswered()", "the reply again")
         number = page.entries()[0]["number"]
         check(amounts("full-1")[number][0:3] == ("court-1", day(11), 10), "the booking in the file")
-    # If the browser refuses to store passes, the page knows the pass until it is closed.
+    # If the browser refuses to store passes, the page says that it can't keep the pass.
     refused = "for (const name of ['localStorage', 'sessionStorage']) Object.defineProperty(globalThis, name, { get() { throw new DOMException('no', 'SecurityError'); } });"
     with BookingPage(front, before=refused) as page:
         page.enter(passes["full-1"])
@@ -341,12 +342,12 @@ showDay(wanted);
 settled(() => shownDay() === wanted && dayIsThere()).then(() => done(performance.now() - begun));"""
 
 
-MOST_SECONDS = 0.7  # that a day may take
+MOST_SECONDS = 0.7  # the longest time that loading a day may take
 
 
 def days_at_once(passes, server):
-    """The limits of requests are those of the repository's nginx configuration. A member may load ten days at a rate of four a second, and ten
-    members may share an address. A flood of requests under one pass doesn't disturb another member."""
+    """nginx uses the request limits of the repository's configuration. A member may load ten days at a rate of four days a second. Ten members may
+    share an address. A flood of requests under one pass doesn't disturb another member."""
     front = start_proxy(server.port, rate=None)
     log = pathlib.Path("error.log")
 
@@ -373,14 +374,14 @@ def days_at_once(passes, server):
         page.when(f"shownDay() === '{day(10)}' && dayIsThere()", "the tenth day")
         check(page.run("return [...cells.values()].every((cell) => cell.view !== null)"), "a whole day")
         check(limited() == before, "ten days at four a second are limited", limited() - before)
-        # The test counts the best of several runs, because other work on the machine can slow down a run.
+        # The test uses the shortest time of several runs, because other work on the machine can slow down a run.
         for ahead in range(11, 31):
             time.sleep(1)
             bare.append(page.driver.execute_async_script(REQUESTS_ALONE, day(ahead)) / 1000)
             took.append(page.driver.execute_async_script(A_DAY, day(ahead)) / 1000)
             if len(took) >= 5 and min(took) < MOST_SECONDS:
                 break
-    # If the requests are slow even without a page, other work keeps the machine busy, and the line below says so.
+    # If even the requests alone are slow, other work keeps the machine busy. In this case, loading a day may take longer.
     most = max(MOST_SECONDS, 2.5 * min(bare))
     check(min(took) < most, "a day", took, bare, os.getloadavg())
     time.sleep(3)
@@ -448,7 +449,7 @@ def is_quick_and_small(passes, front):
     check(all(paint < last for paint, last in paints) and min(paint for paint, _ in paints) < 500, "the first paint doesn't wait for the day", paints)
     took.sort()
     bare.sort()
-    # If other work keeps the machine busy, even the requests alone are too slow.
+    # If even the requests alone are slow, other work keeps the machine busy. In this case, loading a day may take longer.
     check(took[2] < max(500, 2.5 * bare[2]), "a day of six facilities", took, bare)
     print(f"a day of {CELLS} slots in {took[0]:.0f} to {took[-1]:.0f} ms, of which the requests alone take {bare[0]:.0f} to {bare[-1]:.0f}; first paint after {min(each for each, _ in paints):.0f} ms; as they are "
           f"sent book.html has {sizes['book.html']:,} bytes, pass.html {sizes['pass.html']:,}")

@@ -9,8 +9,8 @@ from page_browser import check
 
 
 def lists_send_nothing(page, passes, server):
-    """If the member opens a link with a list of bookings, or pastes such a list, the page only looks up these bookings. The page sends such a booking
-    only after a press on a button that shows the slot and the points."""
+    """If the member opens a link with a list of bookings, or pastes such a list, the page only requests the slots of these bookings. The page
+    sends a booking only after the member presses a button in a dialog that shows the slot and the points."""
     key, ahead = "lists-1", 30
     page.enter(passes[key], ahead, "Keep it")
     own = page.booked("court-1", 9)
@@ -44,7 +44,7 @@ def lists_send_nothing(page, passes, server):
     page.view("day")
     check("Yours, 1 person" in page.run("return cellAt('court-1', 9).button.innerText"), "its slot is hers")
     check("4 of 4 free" in page.run("return cellAt('court-1', 10).button.innerText"), "a slot that only a list names")
-    # A press on the button sends the listed booking once.
+    # When the member presses the button, the page sends the listed booking once.
     page.view("bookings")
     page.run("""[...byName('to-come').children].find((each) => /Number 10(?![0-9])/.test(each.innerText)).querySelector('button').click()""")
     page.when("dialogText().includes('Book for 300 points')", "the press")
@@ -116,14 +116,14 @@ def nothing_by_itself(page, passes, between, server):
         unchanged("a fragment", end)
     check(len(set(fragments)) > 100, "fragments", len(set(fragments)))
     page.visit("", "isShown('day') && dayIsThere()", "her own page again")
-    for end in fragments:  # in a page that is open, where it isn't the screen
+    for end in fragments:  # an open page gets each fragment except those that begin with `screen`
         if not end.startswith("screen"):
             page.run("location.hash = arguments[0]", end)
             time.sleep(0.02)
     time.sleep(1)
     unchanged("a fragment in an open page")
     page.visit("", "isShown('day') && dayIsThere() && state.key === 'lists-1'", "her own pass is still the one that is used")
-    # Messages.
+    # The page receives messages and events.
     page.run("""for (const each of ["changed", null, { book: 1 }, { key: "lists-1", number: 8 }, "cancel", "run", 7]) {
           new BroadcastChannel("desk").postMessage(each);
           window.postMessage(each, "*");
@@ -178,8 +178,8 @@ def nothing_by_itself(page, passes, between, server):
 
 
 def keeps_each_pass(page, passes):
-    """A pass from a link is stored only after a press on a button, and replaces no stored pass. The hall's screen stores a separate pass. The member
-    can name the passes and choose one."""
+    """The browser stores a pass from a link only after the member presses a button, and the pass replaces no stored pass. The hall's screen stores a
+    separate pass. The member can name the passes, and choose the pass to use."""
     texts = "JSON.parse(localStorage.passes ?? '[]').map((each) => each.text)"
     page.enter(passes["amy-1"], keeps="Keep it")
     page.enter(narrowed(passes["bob-1"], "kind = court"))
@@ -197,7 +197,7 @@ def keeps_each_pass(page, passes):
     page.run("byName('who').value = arguments[0]; byName('who').dispatchEvent(new Event('change'))", passes["amy-1"])
     page.when("isShown('day') && dayIsThere() && state.key === 'amy-1'", "another one is chosen")
     page.visit("", "isShown('day') && state.key === 'amy-1'", "which is then the last")
-    # The screen's.
+    # The hall's screen stores its own pass.
     screen = narrowed(passes["hall-screen"], "actions = view")
     kept = page.run("return JSON.stringify({ ...localStorage })")
     page.visit(f"#screen={screen}", "document.querySelectorAll('#screen td.free').length > 50", "the screen")
@@ -208,7 +208,7 @@ def keeps_each_pass(page, passes):
     page.visit("#screen", "document.querySelectorAll('#screen td.free').length > 50", "the screen again")
     check(page.run("return shownText('notices')") == "", "it asks once", page.run("return shownText('notices')"))
     page.visit("", "isShown('day') && state.key === 'amy-1'", "her own pass is still there")
-    # If the desk refuses a pass, the page uses another stored pass.
+    # If the desk refuses a pass, the member can enter another pass.
     page.visit(f"#{printed(TOOL, 'mint', '--root', ROOT, '--id', 'key:amy-1').strip()}", "shownText('day-fault').includes(\"doesn't know this pass\")", "a refused pass")
     page.press("Enter another pass", "day-fault")
     page.when("isShown('welcome') && document.activeElement === byName('given')", "another one is entered")
@@ -244,7 +244,7 @@ def odd_passes(page, passes):
         page.run("byName('given').value = arguments[0]; byName('use').click()", f"  {text}")
         page.when("isShown('day') && dayIsThere()", "a pass in", form)
         page.run("forgetPass()")
-    # Passes that the desk refuses, that have an unknown limit, or that name no key.
+    # The desk refuses two passes. The identifier of the second pass names no key.
     for identifier in ("key:amy-1", "amy"):
         text = printed(TOOL, "mint", "--root", ROOT, "--id", identifier).strip()
         page.visit(f"#{text}", "shownText('day-fault').includes(\"doesn't know this pass\")", "a pass that the desk refuses", text)

@@ -14,8 +14,8 @@ from page_browser import Browser, check, policy_holds
 
 
 def lends(passes, front, between):
-    """A member lends a part of a spare pass, whose points the desk counts separately. If she has no spare pass, she lends a part of her own pass. The
-    receiver can only book with the lent part."""
+    """A member lends a part of a spare pass, because the desk counts a spare pass's points separately. Without a spare pass, she lends a part of her own
+    pass. The receiver books within the loan's limits, but can't cancel the member's bookings or see her account."""
     def choose(page, group, value):
         page.run("const it = [...byName(arguments[0]).querySelectorAll('input')].find((each) => each.value === arguments[1]);"
                  "it.checked = true; it.dispatchEvent(new Event('input', { bubbles: true }));", group, value)
@@ -114,7 +114,7 @@ def lends(passes, front, between):
         page.when("!shownText('pass-says').includes('600 of 600')", "points that came back")
         for each in [each for each in page.entries() if "cancel" not in each]:
             page.cancelled(each["number"], "and the other")
-    with BookingPage(front) as page:  # the second loan of a spare pass begins where the first ended, and one of her own counts with hers
+    with BookingPage(front) as page:  # the limit of a second loan includes the points that the spare pass has already spent
         page.enter(passes["amy-1"], keeps="Keep it")
         page.visit(f"#spare={passes['amy-lend-1']}", "dialogText().includes('amy-lend-1')", "a spare pass")
         page.press("Keep it")
@@ -136,7 +136,8 @@ def lends(passes, front, between):
 
 
 def tries_the_club(address):
-    """Uses the trial club in each browser, from a file. The member changes, repeats and shares a booking, and lends a part of a pass by a QR code."""
+    """Opens the trial club from a file in each browser. The member changes a booking, repeats it, and invites somebody to it. Then the member lends a
+    part of a pass by a QR code."""
     import page_engines
     for engine_of in (page_engines.Chromium, page_engines.Firefox, page_engines.WebKit):
         with engine_of() as engine:
@@ -204,7 +205,7 @@ def tries_the_club(address):
             print(f"{engine.name} {engine.version} tries the club from a folder: changes, books again, invites, compares and adds a list, lends, and books what was lent")
 
 
-# Returns the spare pass of a loan, the key, the caveats, the page's sentence about the loan, and the number of stored loans.
+# Returns the key and the caveats of the lent pass, the page's sentence about the loan, and the number of loans that the page knows.
 MADE = """
 const { text } = splitGiven(byName("lend-address").value.split("#")[1]);
 const pass = readPass(text);
@@ -233,7 +234,7 @@ def text_of(page, script):
 def lends_what_the_pass_opens(address):
     """Lends a part of a pass in the trial club. A loan uses a spare pass of the same member that the desk accepts. If the desk accepts no spare pass,
     the page tells the member so before it makes a loan. Under a pass with limits, the page offers only what the pass allows. A second press makes no
-    second loan. Without the club's list, the page still offers the actions for a booking."""
+    second loan. Without the club's list, the page still offers to cancel a booking and to invite somebody."""
     def opens(page, end=""):
         opens_lend(page, address + end)
 
@@ -251,14 +252,14 @@ def lends_what_the_pass_opens(address):
             which = page.run("return shownText('lend-which')")
             check((wanted is None) == ("None of your spare passes can be used." in which and "can cancel your bookings" in which), "which spare pass is taken", wanted, which)
             check(made(page)[0] == (wanted or "anna-1"), "the pass that is lent", wanted)
-        # Stores the same two spare passes, but now the page learns only after the press that the desk refuses them.
+        # Stores the spare pass that the office has replaced. Now the page learns only after the press that the desk refuses this pass.
         page.run("localStorage.removeItem('demo loans'); localStorage['demo spares'] = JSON.stringify([arguments[0]])", renewed)
         opens(page)
         page.run("unfit.clear(); showChosen()")
         check(page.run("return shownText('lend-which')") == "", "nothing is known yet")
         check("The link isn't made yet" in made(page) and page.run("return keptLoans().length") == 0, "no loan of her own pass before she is told")
         check("None of your spare passes" in page.run("return shownText('lend-which')") and made(page)[0] == "anna-1", "and one once she presses again")
-        # A pass with limits.
+        # The member's own pass has limits.
         last = page.run("return daysLater(clubMoment().slice(0, 10), 1)")
         for lines, how, points in [(["actions = view"], ["look"], None), (["kind = court", "actions = view,book,cancel", f"until < {last}T00:00", "spend <= 200"], ["book", "look"], ["200", "other", "none"])]:
             given = text_of(page, f"return writePass(await narrowed(readPass(await passToTry('anna-1')), {json.dumps(lines)}))")
@@ -268,7 +269,8 @@ def lends_what_the_pass_opens(address):
             check(values[0] == how and (points is None or len(values[1]) == 2 and values[2] == points), "what it offers", lines, values)
             key, found, says, _ = made(page)
             check(key == "anna-1" and found[:len(lines)] == lines and says.endswith("The limits of your own pass apply too."), "a part of that pass", key, found, says)
-        # Shows the week under three passes: a pass that allows only views, a pass with too few points, and a pass with a limit that excludes a day.
+        # Shows the week under three passes: a pass that only allows viewing, a pass with too few points, and a pass with enough points. Then shows a day
+        # that a pass's limits exclude.
         for line, words, count in (("actions = view", "Free: Court", 0), ("spend <= 100", "Too many points for your pass", 0), ("spend <= 300", "Free: Court", 14)):
             opens(page, "#" + text_of(page, f"return writePass(await narrowed(readPass(await passToTry('anna-1')), ['kind = court', '{line}']))"))
             page.run("byName('to-day').click(); byName('to-find').click(); changeSearch({ kind: 'court', from: 19, to: 21 }); showFind(daysLater(clubMoment().slice(0, 10), 11))")
@@ -283,7 +285,7 @@ def lends_what_the_pass_opens(address):
         opens(page, "#" + text_of(page, f"return writePass(await narrowed(readPass(await passToTry('anna-1')), ['hours = 18-20', 'weekday = {weekday}']))"))
         page.run("byName('to-day').click()")
         check("Only on " in page.run("return shownText('day-fault')") and "Only slots" not in page.run("return shownText('day-fault')"), "why a day is left out", page.run("return shownText('day-fault')"))
-        # Without the club's list.
+        # The page has no club's list.
         opens(page)
         page.run("byName('to-day').click(); showDay(daysLater(clubMoment().slice(0, 10), 20))")
         time.sleep(1)
@@ -304,7 +306,7 @@ FULL = "Storage.prototype.setItem = () => { throw new DOMException('full', 'Quot
 
 def says_what_it_keeps(address):
     """If the browser's storage is full, the page knows a loan until the member leaves the page. If a lent pass allows its holder to see the account,
-    the page shows the points that the desk counts. A search under an expired pass shows that the pass has expired."""
+    the page shows the points that the desk counts. If a pass has ended, the search says so."""
     with Browser() as page:
         page.helpers = HELPERS
         opens_lend(page, address)
@@ -316,7 +318,7 @@ def says_what_it_keeps(address):
         check(page.run("return byName('loans').children.length") == 3, "three loans are listed", page.run("return shownText('loans')"))
         opens_lend(page, address)
         check(made(page)[0] == "anna-lend-1" and page.run("return byName('loans').children.length") == 1, "after a reload, as it said")
-        # The page shows the points that the desk counts, and also the points that were spent in this browser.
+        # The page shows the points that the desk counts if the pass allows viewing the account. Otherwise, it shows the points spent in this browser.
         page.run("byName('to-day').click(); showDay(daysLater(clubMoment().slice(0, 10), 20))")
         time.sleep(1)
         page.run("cellAt('court-1', 20).button.click(); byName('dialog').querySelector('.main').click()")
@@ -325,7 +327,7 @@ def says_what_it_keeps(address):
         for lines, words in [(["spend <= 600"], "200 of 600 points spent, according to the desk."), (["actions = view,book,cancel", "spend <= 600"], "0 of 600 points spent in this browser.")]:
             opens_lend(page, f"{address}#" + text_of(page, f"return writePass(await narrowed(readPass(await passToTry('anna-1')), {json.dumps(lines)}))"))
             check(page.run("return shownText('pass-says')") == words, "whose number it is", lines, page.run("return shownText('pass-says')"))
-        # A pass that has ended.
+        # The pass has ended.
         opens_lend(page, f"{address}#" + text_of(page, "return writePass(await narrowed(readPass(await passToTry('anna-1')), ['until < 2026-01-02T18:00']))"))
         page.run("byName('to-day').click(); byName('to-find').click()")
         for place in ("find-looked", "lend-trouble"):
@@ -363,7 +365,7 @@ def keeps_so_many(address):
         page.run("byName('to-account').click(); pressIn(byName('pass-buttons'), 'Keep the pass in this browser')")
         check(page.run("return shownText('pass-news')") == "The pass is kept in this browser.", "there is room", page.run("return shownText('pass-news')"))
         check(page.run("return keptPasses().map((each) => each.text)") == [last, *passes[:7], *passes[8:]], "the others are as before")
-        # Spare passes. The first is lent.
+        # The browser has 20 spare passes, and the first of them is lent.
         page.run("localStorage.removeItem('demo passes'); localStorage['demo spares'] = JSON.stringify(arguments[0])", passes)
         page.run("localStorage['demo loans'] = JSON.stringify([{ given: arguments[0], says: 'lent', spare: arguments[0] }])", passes[0])
         opens_lend(page, f"{address}#spare={first};{last}")
@@ -389,8 +391,7 @@ def keeps_so_many(address):
 
 
 def club_to_try():
-    """If web/demo.html is opened from a folder, the member can book, cancel and lend with the desk that is part of the page. The page loads and sends
-    nothing."""
+    """The member opens web/demo.html from a folder, and books, cancels and lends with the desk inside the page. The page loads and sends nothing."""
     shutil.copy(f"{TOP}/web/demo.html", "demo.html")
     policy_holds(pathlib.Path("demo.html"), {"trusted-types": "'none'"}, "new Function|sendBeacon", "pass.html")
     address = pathlib.Path("demo.html").absolute().as_uri()
@@ -415,7 +416,7 @@ def club_to_try():
     lends_what_the_pass_opens(address)
     says_what_it_keeps(address)
     tries_the_club(address)
-    # If web/book.html is opened from a folder, it explains that it needs a desk, and links to web/demo.html.
+    # If the member opens web/book.html from a folder, the page says so, and links to web/demo.html.
     shutil.copy(f"{TOP}/web/book.html", "book.html")
     with Browser() as page:
         page.open(pathlib.Path("book.html").absolute().as_uri())
@@ -429,7 +430,7 @@ def club_to_try():
 
 def lends_in_a_minute(passes, server):
     """A member with a letter lends her son 600 points for courts until Friday. Her son opens the link on another telephone and books. The test waits
-    a second before each press. All presses together take less than a minute. The test runs with each pair of browsers."""
+    a second before each press. The member has the link in less than a minute. The test runs with three pairs of browsers."""
     import page_engines
     kinds = [page_engines.Chromium, page_engines.Firefox, page_engines.WebKit]
     for place, (hers, his) in enumerate(zip(kinds, kinds[1:] + kinds[:1])):

@@ -13,8 +13,8 @@ from page_browser import check
 
 
 def looks_right(passes, front):
-    """Takes pictures. At widths from 320 pixels up to a wall screen, no view scrolls sideways. Checks the contrasts, the sizes of buttons, and the
-    names for screen readers in each view, language and colour scheme."""
+    """Takes pictures. At widths from 320 to 1,920 pixels, no view scrolls sideways. Checks the contrasts, the sizes of buttons, and the names for
+    screen readers in each view, language and colour scheme."""
     texts = 0
     for language in ("en-US", "de-DE"):
         with BookingPage(front, language=language) as page:
@@ -148,7 +148,7 @@ def hall_screen(passes, front, server):
 
 def shows_the_club(page, passes):
     """The page shows the club's contact, imprint, privacy page and logo, and the sentences about facilities. The page treats invalid values as
-    missing. With an expired pass, the page shows the contact."""
+    missing. If the pass has ended, the page says when it ended and whom to ask."""
     good = pathlib.Path("www/club.json").read_text()
     more = {"contact": "Tel. 030 1234", "imprint": "https://club.example/imprint", "privacy": "javascript:alert(1)", "logo": "data:image/svg+xml;base64,PHN2ZyB4bWxucz0iaHR0cDovL3d3dy53My5vcmcvMjAwMC9zdmciLz4="}
     club = {**json.loads(good), **more}
@@ -195,7 +195,7 @@ def shows_the_club(page, passes):
 
 
 def large_letters(passes, front):
-    """Checks each view with doubled letter size at 360 pixels. Runs an accessibility audit of each view."""
+    """Checks each view with doubled letter size at a width of 360 pixels. Runs an accessibility audit of each view."""
     for language in ("en-US", "de-DE"):
         with BookingPage(front, language=language, letters=32) as page:
             page.sees(360, "light", 740)
@@ -216,7 +216,7 @@ def large_letters(passes, front):
     print("with twice the letters at 360 pixels nothing is cut off and no word is broken; an audit finds nothing")
 
 
-# Finds elements that are too wide. Only the table of a search's week may scroll sideways.
+# Finds elements that are too wide. Only the table of the search for a free time may scroll sideways.
 TOO_WIDE = """
 return [...document.querySelectorAll("button.slot, .slot span, .slot small")].filter((each) => each.offsetParent !== null
   && (each.scrollWidth > each.clientWidth + 1 && each.tagName === "BUTTON" || each.getBoundingClientRect().right > each.closest(".slot").getBoundingClientRect().right + 1
@@ -243,14 +243,14 @@ def other_engines(passes, server):
         check([rest[:4] for rest in amounts(key).values()] == [("court-1", wanted, 10, 1)], engine.name, "the file", amounts(key))
         others = engine.run("return performance.getEntriesByType('resource').map((each) => each.name).filter((each) => !each.startsWith(location.origin) && !each.startsWith('data:'))")
         check(not others, engine.name, "the page asks for", others)
-        # Searches a week for a free time of a kind of facility.
+        # The member searches a week for a free boat.
         engine.tap("//button[@id='to-find']")
         engine.when("shown('find-looked').includes(':')", "a week")
         engine.press("Boats", "find-kinds")
         engine.tap("//button[@id='find-next']")
         engine.when("shown('find-news').startsWith('Free: Double scull')", "the next free time")
         engine.tap("//button[@id='to-find']")
-        # Spare passes, and a lent part of a pass.
+        # The member stores a spare pass, and lends a part of it.
         engine.open(f"{address}#spare={passes[f'engine-lend-{place}']}")
         engine.when(f"shown('dialog').includes('engine-lend-{place}')", "a spare pass")
         engine.press("Keep it", "dialog")
@@ -262,7 +262,7 @@ def other_engines(passes, server):
         engine.when("document.getElementById('lend-made').offsetParent !== null", "a link")
         lent = engine.run("return document.getElementById('lend-address').value")
         check(lent.startswith(f"{address}#") and engine.code("lend-qr") == lent, engine.name, "a lent part, and its code", lent, engine.code("lend-qr"))
-        # Another visit, without a network.
+        # The member visits the page again without a network.
         engine.tap("//button[@id='to-account']")
         engine.when("shown('at-hand').includes('also opens without a network') && shown('account-facts').includes('of 99')", "a worker, and the account")
         stop_proxy(front)
@@ -278,7 +278,7 @@ def other_engines(passes, server):
         engine.when("shown('dialog').includes('400 points came back')", "a cancellation")
         keep(f"{engine.name}-cancelled.png", base64.b64encode(engine.picture()))
         engine.press("Close", "dialog")
-        # The holder has the lent part and also a pass of his own.
+        # The holder of the loan also has another pass in the same browser.
         engine.open(lent)
         engine.when(f"{DAY_THERE} && shown('pass-says').includes('0 of 600 points')", "what was lent")
         engine.press("Keep it", "notices")
@@ -287,7 +287,7 @@ def other_engines(passes, server):
         check(engine.run("return [...document.querySelectorAll('#facility-choice button')].every((each) => each.textContent.startsWith('Court'))"), engine.name, "courts alone")
         engine.run("const who = document.getElementById('who'); who.value = arguments[0]; who.dispatchEvent(new Event('change'))", passes[key])
         engine.when("document.querySelectorAll('#facility-choice button').length === 6", "her own pass again")
-        # A pass that allows only views, and an expired pass.
+        # The member uses a pass that only allows viewing, and then a pass that has ended.
         engine.open(f"{address}#{narrowed(passes[key], 'actions = view')}")
         engine.when(f"{DAY_THERE} && [...document.querySelectorAll('#slots button')].every((each) => each.disabled)", "a pass that looks")
         engine.open(f"{address}#{narrowed(passes[key], f'until < {day(0)}T00:00')}")

@@ -1,5 +1,5 @@
 #!/bin/sh
-# `bin/pages` makes the pages from web/src, and the modules in web/src pass their tests.
+# The pages in web/ are what `bin/pages` makes from web/src, and the modules in web/src pass their tests.
 #
 # Node's test runner runs the modules' tests, which are in web/tests.
 #

@@ -1,5 +1,4 @@
-"""A part of page_narrows.py: the page narrows, reads and refuses passes and caveats in the same way as
-passtool."""
+"""A part of page_narrows.py: the page narrows passes, and reads or refuses passes and caveats, in the same way as passtool."""
 
 import base64
 import re
@@ -57,8 +56,7 @@ SHORT = '"i":"keyid",' + S64 + "}"
 
 
 def faulty_texts():
-    """Returns texts that aren't passes for the desk, each with its fault number and with words from the
-    page's explanation."""
+    """Returns texts that the desk refuses as passes, each with its fault number and with words from the page's explanation."""
     v1, v2, known = passes.v1_bytes(README_PASS), passes.v2_bytes(KEYID), written("v2", KEYID)
     third_v1 = v1.replace(packet(b"cid", b"test = caveat"), packet(b"cid", b"a") + packet(b"vid", b"b") + packet(b"cl", b""))
     third_v2 = field(2, b"a") + field(4, b"") + b"\0"
@@ -141,8 +139,7 @@ def readable_texts():
 
 
 def compare_reading(text, answer):
-    """Checks that the page and passtool read a text in the same way. Returns the fault number, or 0 if the
-    text has no fault."""
+    """Checks that the page and passtool read a text in the same way. Returns the fault number, or 0 if the text has no fault."""
     # Unlike passtool, the page ignores spaces around a text, except when it checks the text's length.
     cut = text.removesuffix("\n")
     wanted = 1 if len(cut.encode()) > 8192 else reading_by_tool(cut)
@@ -162,7 +159,7 @@ def answers_faulty_texts(page):
     for (text, fault, words), answer in zip(rows, answers):
         check(compare_reading(text, answer) == fault, "another fault", text, fault, answer)
         check(words in answer["fault"][1], "the page doesn't say what is wrong", text, words, answer)
-    # Cuts off a valid text after each number of letters. If the text is empty, the page shows no fault.
+    # Cuts off a valid text at each length from 1. If the text is empty or blank, the page shows no fault.
     for form, it in [("v1", README_PASS), ("v2", KEYID), ("json", README_PASS)]:
         whole = written(form, it)
         cuts = [whole[:length] for length in range(1, len(whole))]
@@ -200,7 +197,7 @@ def bytes_of(text):
 
 
 def with_third_party(text):
-    """Adds a field that only third-party caveats have, at a random place."""
+    """Returns the text with an added field that only third-party caveats have. The place of the field is random."""
     if text.startswith("{"):
         return re.sub(r'\{"i', draw.choice(['{"v":"","i', '{"l64":"_w","i']), text, count=1)
     data = bytes_of(text)
@@ -231,7 +228,7 @@ def reads_spoiled_texts(page):
           f"{counts[3]} have third-party caveats")
 
 
-# Caveat texts in addition to docs/vectors.json: almost valid texts, and values at their limits.
+# Texts of caveats in addition to docs/vectors.json. NEAR_MISSES are almost valid texts, and EDGES have values at their limits.
 NEAR_MISSES = [
     " ", "kind", "kind =", "kind = ", "kind=court", "kind  = court", "kind = court ", " kind = court", "kind = courts", "kind = court\n", "kind = court,boat",
     "kınd = court", "facility = ,", "facility = a,", "facility = ,a", "facility = a, b", "facility = a,,b", "facility = A", "facility = a_b", "facility = é",
@@ -272,7 +269,7 @@ def understands_as_passtool(page):
     check(len(limits) == len(texts), "limits that aren't shown", len(limits))
     understood = 0
     for text, limit in zip(texts, limits):
-        # An argument can't contain a zero byte.
+        # A program's argument can't contain a zero byte, so the test doesn't pass such a text to passtool.
         wanted = "\0" not in text and is_understood_by_tool(text)
         check(limit["understood"] == wanted, "understood otherwise", repr(text), wanted, limit)
         check(wanted or "doesn't understand this limit" in limit["words"], "a limit that isn't understood", limit)

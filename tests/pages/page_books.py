@@ -1,28 +1,28 @@
 #!/usr/bin/env -S /usr/bin/python3 -B
 """`web/book.html` books, cancels and lends behind nginx in three browsers, with lost requests, kills and hostile input.
 
-The desk uses a file, and runs behind nginx with TLS and the repository's configuration. The test runs in Debian's chromium. A shorter part also runs
-in Firefox and WebKitGTK. The test covers:
+The desk stores its club in a file, and runs behind nginx with TLS and the repository's configuration. The test runs in Debian's chromium. A shorter
+part also runs in Firefox and WebKitGTK. The test covers:
 - the views of a day, a booking, a cancellation and the account, in English and German
-- the limits of a pass, use without a mouse, swipes, six requests at the same time, and a page that the member opens again
+- the limits of a pass, use without a mouse, swipes, at most six requests at the same time, and a member who returns to the page
 - requests that get lost in each possible way, and a desk that is killed
-- pages, tabs and browsers that are closed at each point
+- pages, tabs and browsers that the test closes at several points of a request
 - 200 bookings and cancellations while the test kills the server 30 times; afterwards the page's list must match the desk's table
 - odd passes, an odd or missing club.json, a browser that stores nothing, a wrong clock, and replies that another server sends
 - hostile links, lists, messages, stored values and replies; the page changes nothing unless the member presses a button
 - lending a part of a pass: the page's sentence, the link, the QR code, the receiver's page, and the time that lending takes
 - several passes in one browser, and the page without a network
-- the transfer of the list of bookings to another device, and the comparison of this list with the desk's count
+- the transfer of the list of bookings to another device, and the comparison of this list with the points that the desk counts
 - the output of deploy/record, deploy/club_json and deploy/letter
-- a search of a week for a free time, and a booking that the member changes, repeats, or adds to a calendar
+- a search for a free time in a week, and a booking that the member changes, repeats, or adds to a calendar
 - members who load days at the same time, under the repository's limits of requests
 - the hall's screen, names for screen readers, contrasts, widths, and reduced motion
 - the page's content security policy: no request goes to another origin, and no foreign script runs
 - the time until the page shows a day, and the size of the pages that nginx sends
 
-  tests/pages/page_books.py                  all of it
-  tests/pages/page_books.py FOLDER [STEP ..]     and pictures of the page into this folder; these functions alone
-  KILLS=3 BOOKINGS=20 tests/pages/page_books.py ..     with fewer kills and bookings than 30 and 200
+  tests/pages/page_books.py                  runs all steps
+  tests/pages/page_books.py FOLDER [STEP ..]     also saves pictures in FOLDER, and runs only the named steps if there are any
+  KILLS=3 BOOKINGS=20 tests/pages/page_books.py ..     kills the server 3 times, not 30, and makes 20 bookings, not 200
 """
 # pytestmark = [mark.browser, mark.needs("clubdesk passtool"),
 #     mark.wants("openssl sqlite3 nginx-light nodejs qrencode zbar-tools curl tzdata chromium chromium-driver python3-selenium firefox-esr webkit2gtk-driver xvfb")]

@@ -1,18 +1,18 @@
 #!/usr/bin/env -S /usr/bin/python3 -B
 """`web/pass.html` narrows 1,000 passes and reads 4,000 texts in a browser in the same way as `passtool`, and sends nothing.
 
-The test runs in Debian's chromium. The test's main parts also run in Firefox and WebKitGTK. The page narrows 1,000 passes in three forms with the
-same bytes as `passtool narrow`. The page reads 2,000 spoiled passes and 2,000 texts of caveats in the same way as `passtool`, and explains each
+The test runs in Debian's chromium. The test's main parts also run in Firefox and WebKitGTK. The page narrows 1,000 passes in three forms to the same
+bytes as `passtool narrow`. The page reads 2,000 randomly changed passes and 2,000 texts of caveats in the same way as `passtool`, and explains each
 fault. The page works by keyboard alone, fits a phone, and sends nothing. The page loads only the club's list, if the server has one.
 
 The test covers:
 - texts that aren't passes: the page must report the same fault as passtool
 - each choice with its sentence and its caveat, addresses, copying and sharing, and a browser that can't sign
 - names for screen readers, contrasts, and the page's content security policy, under which no foreign script runs
-- in each browser: how the page reads a pass, narrows it and shows it as a link and a QR code, the page's texts, and the data of the club
+- in each browser: a pass that the page reads, narrows and shows as a link and a QR code, the page's texts, and the club's data
 
-  tests/pages/page_narrows.py            all of it
-  tests/pages/page_narrows.py FOLDER     and pictures of the page into this folder
+  tests/pages/page_narrows.py            runs the test
+  tests/pages/page_narrows.py FOLDER     also saves pictures of the page in FOLDER
 """
 # pytestmark = [mark.browser, mark.needs("passtool"),
 #     mark.wants("chromium chromium-driver python3-selenium firefox-esr webkit2gtk-driver xvfb zbar-tools")]
@@ -148,7 +148,7 @@ def notes_say_what_matters(page):
     print(f"{len(NOTES)} passes come with what matters of them")
 
 
-# One of each choice.
+# One line for each choice.
 NINE_LINES = ["kind = court", "facility = court-1,court-2", "actions = view,book", "days = 2026-05-01..2026-05-31", "weekday = sat,sun",
               "hours = 18-20", "until < 2026-05-01T18:00", "guests <= 2", "spend <= 600"]
 
@@ -163,7 +163,7 @@ def goes_by_keyboard(page):
         page.press(*keys)
 
     def enter(stop, *keys):
-        """Checks that this field has the focus, and types the keys. Then presses Tab until the focus leaves the field."""
+        """Checks that the field `stop` has the focus, and types the keys. Then presses Tab until the focus leaves the field."""
         check(page.focused() == stop, "a stop", stop, page.focused())
         page.press(*keys, Keys.TAB)
         while page.focused() == stop:
@@ -208,15 +208,14 @@ def pasted(page, wanted):
 
 
 def hands_on(page):
-    """Addresses, copying, sharing."""
+    """The addresses of a narrowed pass work. The page removes an outdated result."""
     for form in FORMS:
         text = written(form, Pass(b"club %23#", b"key:amy-1", [b"kind = court", b"100% & <\xff>"], bytes(32)))
         answer = page.narrow(text, ("guests", "1"))
         wanted = narrowed_by_tool(text, ["guests <= 1"])
         address = answer["address"]
         check(address.startswith(PAGE.as_uri() + "#"), "an address", address)
-        # A click copies the address. If the user opens this address, the page has the pass. The user can also paste the address into the field for
-        # the pass.
+        # A click copies the address. The user can paste the address into the field for the pass. If the user opens the address, the field has the pass.
         page.click("copy-address")
         page.pause()
         pasted(page, address)
@@ -263,7 +262,7 @@ class Folder(http.server.SimpleHTTPRequestHandler):
 
 @contextlib.contextmanager
 def served(folder):
-    """Starts a server with the files of a folder. Returns the server's port."""
+    """Starts a server with the files of a folder. Yields the server's port."""
     Folder.asked.clear()
     server = http.server.ThreadingHTTPServer(("127.0.0.1", 0), functools.partial(Folder, directory=folder))
     threading.Thread(target=server.serve_forever, daemon=True).start()
@@ -334,7 +333,7 @@ def narrows_and_hands_on(engine, address):
 
 
 def other_engines():
-    """Runs the main tasks in each browser, with a club's list next to the page. The page requests only this list from the server."""
+    """Runs the main tasks in each browser, with a club's list next to the page. The browser requests only the page and this list from the server."""
     folder = pathlib.Path(ROOM.name, "club")
     folder.mkdir()
     shutil.copy(PAGE, folder)
@@ -351,8 +350,8 @@ def other_engines():
 
 
 def only_shows_where_it_cannot_sign():
-    """Over http, browsers allow signatures only on localhost. On another host, the page only shows passes, and requests nothing else from the
-    server."""
+    """Over http, browsers allow signatures only on localhost. On another host, the page can't narrow a pass, but still shows it. The browser requests
+    only the page from the server."""
     with served(PAGE.parent) as port, NarrowingPage(rules="MAP club.example 127.0.0.1, MAP * ~NOTFOUND") as page:
         address = f"http://club.example:{port}/pass.html"
         page.open(f"{address}#{AMY}")
@@ -405,7 +404,7 @@ def looks_right(page):
 
 
 def large_letters():
-    """Checks the page with doubled letter size at 360 pixels, in both languages, when it shows all its parts."""
+    """Checks the page with doubled letter size at a width of 360 pixels, in both languages: empty, with a narrowed pass, and with faults."""
     for language in ("en-US", "de-DE"):
         with NarrowingPage(letters=32, language=language) as page:
             page.sees(360, "light", 740)

@@ -1,9 +1,9 @@
 #!/usr/bin/env -S /usr/bin/python3 -B -m pytest -q -p no:cacheprovider
 """The small desk in web/demo.html replies to 8,000 random requests as the rules in Python demand.
 
-The small desk is written in JavaScript. In the test it serves four clubs.
+The small desk is written in JavaScript. The test runs four times with the same club, each time with 2,000 requests.
 
-The requests are bookings, repeats and cancellations with narrowed and odd passes, at moments of two days.
+The requests look at slots and accounts, book, repeat and cancel. Some passes are narrowed or invalid.
 """
 
 import json
@@ -57,8 +57,7 @@ def key_drawn(draw):
 
 
 def text_drawn(draw, key):
-    """Draws a key's pass in one of the forms. Most passes are full or narrowed. Some passes name no key, have
-    another root, or are cut off."""
+    """Draws a key's pass in one of the forms. Most passes are valid, with or without caveats. Some passes have another root, or are cut off."""
     caveats = [line.encode() for line in draw.choices(LINES, k=draw.choice([0] * 9 + [1, 1, 2]))]
     root = ROOTS.get(key, b"x" * 16) if draw.random() < 0.97 else b"y" * 16
     text = passes.text_of(passes.minted(root, f"key:{key}".encode(), b"", caveats), draw.choice(["v1", "v2", "v2", "json"]))
@@ -66,7 +65,7 @@ def text_drawn(draw, key):
 
 
 def asked_drawn(draw, before):
-    """Draws a key and its request. The request is new, or repeats an earlier request completely or in part."""
+    """Draws a key and a request under this key. The request is new, or repeats an earlier request completely or in part."""
     key = key_drawn(draw)
     action = draw.choice(["view", "book", "book", "book", "cancel", "cancel", "cancel", "account"])
     if before and action in ("book", "cancel") and draw.random() < 0.7:
@@ -102,7 +101,7 @@ def test_answers_as_the_rules_do(seed):
         key, asked = asked_drawn(draw, before)
         text = text_drawn(draw, key)
         day, minute = draw.choice(DAYS[:2]), draw.randrange(1440)
-        if asked["action"] == "cancel" and draw.random() < 0.4:  # on the day, before the slot begins
+        if asked["action"] == "cancel" and draw.random() < 0.4:  # at a moment on the slot's day, before the slot begins
             day, minute = asked["slot"]["day"], draw.randrange(60 * asked["slot"]["hour"])
         given.append({"text": text.decode(), "asked": asked, "moment": f"{day}T{minute // 60:02}:{minute % 60:02}"})
         wanted.append(wanted_of(club, text, asked, day_of(day) * 1440 + minute))
