@@ -34,14 +34,14 @@ const STATUSES: &str = "Exit status:
   3  invalid argument, or invalid root on standard input
   4  out of memory
   5  storage failed
-  6  serve, show-account: the clock shows no minute from 2000 to 2099
+  6  serve, show-account: the clock failed, or isn't in the years 2000 to 2099
   7  input or output failed
   8  no answer from the server: the command may have been done
   9  nothing was done: the server didn't get the whole command";
 
 const ADD_MEMBER_HELP: &str =
-    "FILE is the club's database, created if missing. QUOTA is the most bookings
-that the member may have open at once, 0 to 99. A new member has no points.
+    "FILE is the club's database, created if missing. QUOTA is the member's maximum
+number of open bookings, 0 to 99. A new member has no points.
 
 Example:
   clubdesk add-member club.db amy 5";
@@ -59,25 +59,25 @@ Example:
   clubdesk debit club.db amy 500";
 
 const SET_QUOTA_HELP: &str =
-    "QUOTA is the most bookings that the member may have open at once, 0 to 99.
-Open bookings stay, even if there are more than QUOTA.
+    "QUOTA is the member's maximum number of open bookings, 0 to 99. Bookings stay,
+even if the member has more open bookings than QUOTA.
 
 Example:
   clubdesk set-quota club.db amy 8";
 
 const ADD_FACILITY_HELP: &str =
-    "KIND is court, boat or room. PLACES are 1 to 50. PRICE is the points for one
-place and one hour, 0 to 9999. The facility OPENS and SHUTS at full hours, 0 to
-24.
+    "KIND is court, boat or room. PLACES are 1 to 50. PRICE is the number of points
+for one place for one hour, 0 to 9999. The facility OPENS and SHUTS at full
+hours, 0 to 24.
 
 Example:
   clubdesk add-facility club.db court-1 court 4 200 8 22";
 
 const SET_FACILITY_HELP: &str =
-    "PLACES are 1 to 50. PRICE is the points for one place and one hour, 0 to 9999.
-The facility OPENS and SHUTS at full hours, 0 to 24. Fails if a slot already has
-more persons than PLACES. The facility keeps its kind. Bookings keep their
-charge and their hour.
+    "PLACES are 1 to 50. PRICE is the number of points for one place for one hour, 0
+to 9999. The facility OPENS and SHUTS at full hours, 0 to 24. Fails if a slot
+already has more persons than PLACES. The facility keeps its kind. Bookings keep
+their charge and their hour.
 
 Example:
   clubdesk set-facility club.db court-1 4 250 8 21";
@@ -137,16 +137,16 @@ Example:
   clubdesk serve club.db --port 8080 --count 1000 --zone CET-1CEST,M3.5.0,M10.5.0/3";
 
 const SHOW_ACCOUNT_HELP: &str =
-    "Prints the account that the desk shows to the key: member, balance, quota, open
-bookings and points spent. Also prints whether the key is revoked, and when its
-old root expires. Prints no root.
+    "Prints the account that the desk shows to the key's holder: member, balance,
+quota, open bookings and points spent. Also prints whether the key is revoked,
+and when its old root expires. Prints no root.
 
 Example:
   clubdesk show-account club.db amy-1 --zone CET-1CEST,M3.5.0,M10.5.0/3";
 
 const SHOW_SLOT_HELP: &str =
-    "Prints the slot as the desk shows it to every key: kind, price, places, places
-taken, and whether it is closed. HOUR has two digits, 00 to 23.
+    "Prints the slot as the desk shows it to every key's holder: kind, price, places,
+places taken, and whether it is closed. HOUR has two digits, 00 to 23.
 
 Example:
   clubdesk show-slot club.db court-1 2026-05-01 18";
@@ -169,7 +169,11 @@ const FORM: Argument = Argument::Or("form", "FORM", "The form of the pass: v1, v
 
 const ZONE: Argument = Argument::Or("zone", "RULE", "The club's time zone, a POSIX rule", "UTC0");
 
-const AT: Argument = Argument::Value("at", "MOMENT", "The time to use instead of the clock's");
+const AT: Argument = Argument::Value(
+    "at",
+    "MOMENT",
+    "The time to use instead of the clock's time",
+);
 
 const SLOT: &[Argument] = &[FILE, FACILITY, DAY, HOUR];
 
@@ -213,7 +217,7 @@ const ROTATE_KEY_ARGUMENTS: &[Argument] = &[
 
 const SERVE_ARGUMENTS: &[Argument] = &[
     FILE,
-    Argument::Needed("port", "P", "The port, 0 to 65535; 0 takes any free port"),
+    Argument::Needed("port", "P", "The port, 0 to 65535; 0 means any free port"),
     Argument::Needed(
         "count",
         "N",
@@ -224,7 +228,7 @@ const SERVE_ARGUMENTS: &[Argument] = &[
     Argument::Or(
         "patience",
         "SECONDS",
-        "The time to send, to read and to stop sending, 1 to 3600 each",
+        "Seconds for each step (send, read, stop sending), 1 to 3600",
         "10",
     ),
     Argument::Flag("log", "Writes a line for each connection to standard error"),
@@ -293,7 +297,7 @@ static CLUBDESK: Program<CommandName> = Program {
         Row {
             command: CommandName::AddKey,
             name: "add-key",
-            about: "Adds a key of a member",
+            about: "Adds a key for a member",
             help: ADD_KEY_HELP,
             arguments: ADD_KEY_ARGUMENTS,
         },
