@@ -20,7 +20,7 @@ const STATUSES: &str = "Exit status:
   0  done
   1  verify: not signed
   2  usage error
-  3  the pass is too long or malformed, or has a third-party or too many caveats
+  3  bad pass: malformed, too long, too many caveats, or a third-party caveat
   4  out of memory
   5  the desk doesn't understand a caveat
   6  bad root
@@ -34,8 +34,8 @@ const NARROW_HELP: &str = "Caveats that the desk understands, each with an examp
   until < DAYTHH:MM         until < 2026-05-01T18:00
   guests <= N               guests <= 2
   spend <= N                spend <= 600
-  actions = ACTION,..       actions = view,book (of view,book,cancel,account, in this order)
-  weekday = DAY,..          weekday = sat,sun (of mon,tue,wed,thu,fri,sat,sun, in this order)
+  actions = ACTION,..       actions = view,book (from view,book,cancel,account, in this order)
+  weekday = DAY,..          weekday = sat,sun (from mon,tue,wed,thu,fri,sat,sun, in this order)
 
 Example:
   passtool narrow \"guests <= 2\" \"until < 2026-05-01T18:00\" < pass";
@@ -45,7 +45,8 @@ const VERIFY_HELP: &str = "Checks the signature only. The desk checks the caveat
 Example:
   passtool verify --root 00ff < pass";
 
-const CAVEAT_HELP: &str = "Caveats to add, in order; put -- before one that begins with a dash";
+const CAVEAT_HELP: &str =
+    "Caveats to add, in order; put -- before a caveat that begins with a dash";
 
 const ROOT: Argument = Argument::Needed(
     "root",

@@ -69,7 +69,7 @@ const HELP: &str =
     "help|mint mint|--help show|-h narrow|--help convert|--help verify|--root|ROOT|--help";
 
 const OF_WEEKDAYS: &str =
-    "\n  weekday = DAY,..          weekday = sat,sun (of mon,tue,wed,thu,fri,sat,sun, in this order)\n";
+    "\n  weekday = DAY,..          weekday = sat,sun (from mon,tue,wed,thu,fri,sat,sun, in this order)\n";
 
 #[test]
 fn shows_help(rt: HostRuntime) {
