@@ -18,8 +18,8 @@ fn main(rt: HostRuntime) -> ExitCode {
 }
 
 // Runs the program with the arguments and standard streams of the process. This type also
-// implements the traits of the process, because a call that passes the runtime twice can't be
-// proved.
+// implements the traits of the process, because the borrow checker doesn't cover `main` with a type
+// of another crate in its place.
 #[derive(Drop)]
 struct Program<'a> {
     rt: &'a HostRuntime,
