@@ -155,7 +155,7 @@ def paragraphs(path, text):
     if name.endswith(".antt"):
         return of_comments(lines, r"\s*-- ?(.*)")
     if name.endswith((".mjs", ".js", ".go", ".c")):
-        return of_comments(lines, r"\s*(?:///?|/?\*+/?) ?(.*)")
+        return of_comments(lines, r"\s*(?:///?|/?\*+/?)(?!\S) ?(.*)")  # no dereference, such as `*at = 1`
     if re.fullmatch(r"web/src/words/[a-z]+\.json", name):
         return [[(number, it)] for number, line in lines for it in re.findall(r'(?:: |\[|, )"((?:[^"\\]|\\.)*)"', line)]
     if re.fullmatch(r"man/.*\.[1-8]", name):
