@@ -10,13 +10,13 @@ same_slot a b = bytes_eq a.facility b.facility && a.day == b.day && a.hour == b.
 abbrev pub persons_of : Booking → ℕ
 persons_of booking = booking.guests + 1
 
--- The minimum number of minutes between a cancellation with full refund and the start of the slot:
--- one day.
+-- A cancellation gets a full refund if at least this many minutes remain before the slot starts.
+-- The value is one day in minutes.
 abbrev pub full_refund_ahead : ℕ
 full_refund_ahead = minutes_a_day
 
--- The refund for a cancellation at this moment. At least one day before the start of the slot, the
--- refund is the whole charge. Later, the refund is half of the charge, rounded down.
+-- The refund for a cancellation at this moment. If at least one day remains before the slot starts,
+-- the refund is the whole charge. Otherwise, the refund is half of the charge, rounded down.
 abbrev pub refund_at : Booking → ℕ → ℕ
 refund_at booking moment =
     if nat_le (moment + full_refund_ahead) (start_of booking.slot) then booking.charge else booking.charge / 2

@@ -1,4 +1,4 @@
--- Defines the rows that the values of columns represent.
+-- Defines which column values represent a row.
 use Rattle.std.specs.Prelude.{◌≡◌, ℕ, ◌≤◌, ℤ, pos, Bool, true, false, List}
 use Rattle.club_values.specs.{Kind.kind_text, declared.slot.Slot.Slot}
 use Rattle.club_rows.specs.{Limits.charge_limit, Rows.{IsMember, IsFacility, IsKeyRow, IsSlot, IsBooking}, declared.booking.Booking.Booking}
@@ -40,8 +40,8 @@ pub record IsSlotOf (facility : List ℕ) (day hour : ℤ) (slot : Slot) : Type 
   pub same_day : day ≡ pos slot.day
   pub same_hour : hour ≡ pos slot.hour
 
--- The charge and the refund of a booking. If the booking isn't cancelled, the refund is 0. The
--- refund is never more than the charge.
+-- The columns contain this charge, cancellation flag and refund. The charge is within its limit,
+-- and the refund is at most the charge. If the booking isn't cancelled, the refund is 0.
 pub record IsPaid (charge_value cancelled_value refund_value : ℤ) (charge : ℕ) (cancelled : Bool) (refund : ℕ) : Type 0 where
   pub same_charge : charge_value ≡ pos charge
   pub same_cancelled : IsTruth cancelled_value cancelled

@@ -2,7 +2,7 @@
 use Rattle.std.specs.Prelude.{ℕ, nat_lt, List, Option, Some, None, if◌then◌else◌}
 use Rattle.club_rows.specs.declared.key.{Key.Key, KeyRow.KeyRow, OlderRoot.OlderRoot}
 
--- The older root, if the moment is before the end of its validity.
+-- The older root, if the older root is still valid at this moment. Otherwise, the result is `None`.
 abbrev pub older_root_at : Option OlderRoot → ℕ → Option (List ℕ)
 older_root_at None moment = None
 older_root_at (Some older) moment = if nat_lt moment older.until then Some older.root else None

@@ -2,15 +2,16 @@
 use Rattle.std.specs.Prelude.{ℕ, ◌-◌, ◌*◌, ◌≤◌, List, length}
 use Rattle.club_values.specs.{Hour.hours_a_day, Number.number_limit, Slot.guests_limit}
 
--- The maximum of all credits of a member minus all its debits, in points.
+-- The highest value of a member's `credited`, in points. A member's `credited` is the sum of all
+-- credits minus the sum of all debits.
 abbrev pub credited_limit : ℕ
 credited_limit = number_limit
 
--- The most open bookings that a member can have.
+-- The highest quota. A quota is the maximum number of open bookings that a member can have.
 abbrev pub quota_limit : ℕ
 quota_limit = 99
 
--- The most places of a facility.
+-- The maximum number of places in a slot.
 abbrev pub places_limit : ℕ
 places_limit = 50
 
@@ -22,11 +23,11 @@ price_limit = 9_999
 abbrev pub shutting_limit : ℕ
 shutting_limit = hours_a_day
 
--- The highest charge of a booking, in points: all places at the highest price.
+-- The highest charge of a booking, in points: the maximum number of places times the highest price.
 abbrev pub charge_limit : ℕ
 charge_limit = places_limit * price_limit
 
--- The most places that remain in a slot after a booking of one person.
+-- The maximum number of free places in a slot after a booking. A booking takes at least one place.
 abbrev pub left_limit : ℕ
 left_limit = places_limit - 1
 

@@ -9,20 +9,21 @@ use crate::facility::{MAX_PLACES, MAX_PRICE};
 use crate::guests::Guests;
 use club_values::{MINUTES_A_DAY, Moment, Name, Slot};
 
-/// The highest charge of a booking, in points: all places at the highest price.
+/// The highest charge of a booking, in points: the maximum number of places times the highest
+/// price.
 pub const MAX_CHARGE: u32 = MAX_PLACES * MAX_PRICE;
 
-/// The most places that remain in a slot after a booking. A booking takes at least one place.
+/// The maximum number of free places in a slot after a booking. A booking takes at least one place.
 const MAX_LEFT: u32 = MAX_PLACES - 1;
 
-/// The minimum number of minutes between a cancellation with full refund and the start of the slot:
-/// one day.
+/// A cancellation gets a full refund if at least this many minutes remain before the slot starts.
+/// The value is one day in minutes.
 const FULL_REFUND_MINUTES: u64 = MINUTES_A_DAY as u64;
 
-/// A booking of a slot. A cancelled booking keeps its row.
+/// A booking of a slot. A cancellation doesn't delete the booking's row.
 #[derive(Clone, Copy, Debug, PartialEq, Eq)]
 pub struct Booking {
-    /// The name of the key that made the booking.
+    /// The name of the key that was used to make the booking.
     pub key: Name,
     pub number: BookingNumber,
     pub slot: Slot,
@@ -55,9 +56,9 @@ pub struct BookingColumns<'a> {
 impl Booking {
     ghost use Rattle.club_rows.specs.{Booking.refund_at, Columns.IsBookingOf};
 
-    /// Returns the refund in points for a cancellation at this moment. At least one day before the
-    /// start of the slot, the refund is the whole charge. Later, the refund is half of the charge,
-    /// rounded down.
+    /// Returns the refund in points for a cancellation at this moment. If at least one day remains
+    /// before the slot starts, the refund is the whole charge. Otherwise, the refund is half of the
+    /// charge, rounded down.
     pub fn refund_at(&self, moment: Moment) -> u32
         ensures { result ≡ refund_at self.now moment }
     {

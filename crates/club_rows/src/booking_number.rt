@@ -9,8 +9,8 @@ use std::marker::Model;
 /// The highest booking number.
 pub const MAX_BOOKING_NUMBER: u32 = MAX_NUMBER;
 
-/// The number of a booking among the bookings of its key, from 1 to 999,999,999. In contracts, a
-/// booking number is a plain number.
+/// The number of a booking, from 1 to 999,999,999. The bookings of a key have different numbers.
+/// Contracts represent a booking number as a natural number.
 #[derive(Clone, Copy, Debug, PartialEq, Eq, PartialOrd, Ord)]
 pub struct BookingNumber {
     number: u32,

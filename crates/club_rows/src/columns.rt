@@ -1,4 +1,4 @@
-//! Parsers of column values. A database returns column values as integers, texts and bytes.
+//! Parses column values. A database returns column values as integers, texts and bytes.
 
 ghost use Rattle.std.specs.Prelude.{◌≡◌, ◌≤◌, pos};
 ghost use Rattle.club_values.specs.Reading.{Reads};
@@ -10,7 +10,8 @@ use crate::booking_number::BookingNumber;
 use crate::guests::Guests;
 use club_values::{Day, Hour, Name, Slot};
 
-/// Returns the number in a column. Returns `None` if the number is outside the limits.
+/// Returns the number in a column. Returns `None` if the number is less than `low` or more than
+/// `high`.
 pub(crate) fn number_within(value: i64, low: u32, high: u32) -> Option<u32>
     ensures { Reads (λ n. (low ≤ n) × (n ≤ high) × (value ≡ pos n)) result }
 {
@@ -58,8 +59,7 @@ pub(crate) fn paid_of(charge: i64, cancelled: i64, refund: i64) -> Option<(u32, 
     }
 }
 
-/// Returns the slot in the columns `facility`, `day` and `hour`. Returns `None` if a value is
-/// outside its limits.
+/// Returns the slot with these column values. Returns `None` if a value is outside its limits.
 pub fn slot_from_columns(facility: &[u8], day: i64, hour: i64) -> Option<Slot>
     ensures { Reads (IsSlotOf facility.now day hour) result }
 {

@@ -6,8 +6,8 @@ ghost use Rattle.club_rows.specs.Limits.{IsGuests};
 use club_values::MAX_GUESTS;
 use std::marker::Model;
 
-/// The number of guests of a booking, from 0 to 49. The member isn't a guest. In contracts, it is a
-/// plain number.
+/// The number of guests of a booking, from 0 to 49. The member isn't a guest. Contracts represent a
+/// `Guests` value as a natural number.
 #[derive(Clone, Copy, Debug, PartialEq, Eq, PartialOrd, Ord)]
 pub struct Guests {
     count: u8,
@@ -28,7 +28,7 @@ impl Model for Guests {
 }
 
 impl Guests {
-    /// Returns the value for this number of guests. Returns `None` for more than 49 guests.
+    /// Returns a `Guests` value with this number of guests. Returns `None` for more than 49 guests.
     pub fn new(count: u8) -> Option<Guests>
         ensures within { IsSome result ↔ IsGuests count }
         ensures value { IfSome result (λ guests. guests ≡ count) }

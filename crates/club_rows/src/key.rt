@@ -15,7 +15,7 @@ pub struct OlderRoot {
     pub until: Moment,
 }
 
-/// A key's row in the table of keys, without its older root.
+/// A key's row in the table of keys. The row doesn't contain the key's older root.
 #[derive(Clone, Copy, Debug, PartialEq, Eq)]
 pub struct KeyRow {
     pub name: Name,
@@ -27,8 +27,8 @@ pub struct KeyRow {
 impl KeyRow {
     ghost use Rattle.club_rows.specs.Columns.{IsKeyOf};
 
-    /// Returns the row in the columns `name`, `member`, `root` and `revoked`. Returns `None` if a
-    /// value is outside its limits.
+    /// Returns the key's row with these column values. Returns `None` if a value is outside its
+    /// limits.
     pub fn from_columns(name: &[u8], member: &[u8], root: &[u8], revoked: i64) -> Option<KeyRow>
         ensures { Reads (IsKeyOf name.now member.now root.now revoked) result }
     {
@@ -85,8 +85,8 @@ impl Key {
         }
     }
 
-    /// Returns the older root, if the moment is before the end of its validity. The current root of
-    /// a key is always valid.
+    /// Returns the key's older root, if the older root is still valid at this moment. The current
+    /// root of a key doesn't expire.
     pub fn older_root_at(&self, moment: Moment) -> Option<&Root>
         ensures { option_copied result ≡ older_root_at self.now.older moment }
     {

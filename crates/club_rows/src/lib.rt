@@ -1,5 +1,5 @@
-//! The rows of the club with their limits, and parsers of the database columns that store the rows.
-//! No call allocates memory.
+//! Defines the club's rows and their limits, and parses the rows from database columns. No call in
+//! this crate allocates memory.
 #![tactic(auto)]
 
 mod booking;

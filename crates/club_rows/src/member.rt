@@ -6,10 +6,10 @@ use crate::columns::number_within;
 use club_values::Name;
 use club_values::digits::MAX_NUMBER;
 
-/// The maximum of all credits of a member minus all its debits, in points.
+/// The highest value of a member's `credited`, in points.
 pub const MAX_CREDITED: u32 = MAX_NUMBER;
 
-/// The most open bookings that a member can have.
+/// The highest quota. A quota is the maximum number of open bookings that a member can have.
 pub const MAX_QUOTA: u32 = 99;
 
 /// A member of the club.
@@ -18,15 +18,15 @@ pub struct Member {
     pub name: Name,
     /// All points ever credited to the member, minus all points debited, from 0 to 999,999,999.
     pub credited: u32,
-    /// The most open bookings that this member can have, from 0 to 99.
+    /// The maximum number of open bookings that this member can have, from 0 to 99.
     pub quota: u8,
 }
 
 impl Member {
     ghost use Rattle.club_rows.specs.Columns.{IsMemberOf};
 
-    /// Returns the member in the columns `name`, `credited` and `quota`. Returns `None` if a value
-    /// is outside its limits.
+    /// Returns the member with these column values. Returns `None` if a value is outside its
+    /// limits.
     pub fn from_columns(name: &[u8], credited: i64, quota: i64) -> Option<Member>
         ensures { Reads (IsMemberOf name.now credited quota) result }
     {

@@ -15,8 +15,8 @@ pub const MIN_ROOT_LEN: usize = 16;
 /// The maximum number of bytes in a root.
 pub const MAX_ROOT_LEN: usize = 64;
 
-/// The secret of a key, which signs the key's passes. A root has 16 to 64 bytes. In contracts, a
-/// root is the list of its bytes.
+/// The secret that signs a key's passes. A root has 16 to 64 bytes. Contracts represent a root as
+/// the list of its bytes.
 #[derive(Clone, Copy)]
 pub struct Root {
     bytes: InlineBytes<MAX_ROOT_LEN>,
