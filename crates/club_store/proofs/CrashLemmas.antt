@@ -1,4 +1,5 @@
--- Lemmas on the database that a crash leaves, and on the store that opens the database afterwards.
+-- Lemmas about the database that a crash leaves, and about the store that opens the database
+-- afterwards.
 use Rattle.std.proofs.{Common.{◌≡◌, List, [], ◌∷◌, length, IsTrue, inl, inr, map, refl, sym, ap, subst, arith}, Math.Logic.{∥∥₁_map}}
 use Rattle.std.specs.List.{AllZip}
 use Rattle.sqlite_catalog.specs.Listing.{IsSound, AreListed, IsTableRow, IsIndexRow, IsViewRow, cut}
@@ -81,7 +82,7 @@ unlisted schema listed = λ i. record {
 blank_if_unlisted : (db : Database) → IsDatabase db → db.trees catalog_tree ≡ [] → HoldsClubAnyVersion db empty_club
 blank_if_unlisted db sound none = inr (inr (unlisted db.schema (subst (λ rows. AreListed rows db.schema) none sound.lists.listed), refl, sound))
 
--- An empty file has no tables.
+-- A database that SQLite opened from an empty file contains the empty club.
 pub new_is_blank : (start : Image) (opened : State) → start.db ≡ [] → FindsIn start opened → IsDatabase opened.committed
     → HoldsClubAnyVersion opened.committed empty_club
 new_is_blank start opened none found sound = elim found.reads [

@@ -1,4 +1,5 @@
--- The state of a store after a crash, and the club that reopening the store recovers.
+-- Defines the clubs that a crash of a store may leave, and the club that a reopened store
+-- represents.
 use Rattle.std.specs.Prelude.{List, [], ◌∷◌, ◌⊎◌, IsTrue}
 use Rattle.sqlite_disk.specs.declared.Disk as disk
 use Rattle.sqlite.specs.{Files.{HoldsDatabase, over_files}, Recovery.Image, State.{State, Opens, IsLive}, Store.Ghosts, Tree.Trees, View.IsClean}
@@ -17,13 +18,13 @@ pub record IsOpenedOn (state : State) (clubs : List Club) : Type 0 where
   pub live : IsLive state
   pub left : IsLeftOf state.committed.trees clubs
 
--- The state represents one of these clubs, and every crash recovers that club.
+-- The state represents one of these clubs, and a crash can leave only that club.
 abbrev pub RepresentsOne : State → List Club → Type 0
 RepresentsOne state [] = ⊥
 RepresentsOne state (club ∷ clubs) = Represents state club [] ⊎ RepresentsOne state clubs
 
--- The state has one of these clubs, and every crash recovers that club. The state may also have
--- tables of an older version.
+-- The tables of version 1 or 2 represent one of these clubs, and a crash can leave only that club.
+-- If there are no tables yet, the club is empty.
 abbrev pub OneIsFound : State → List Club → Type 0
 OneIsFound state [] = ⊥
 OneIsFound state (club ∷ clubs) = IsFound state club [] ⊎ OneIsFound state clubs
@@ -32,8 +33,8 @@ OneIsFound state (club ∷ clubs) = IsFound state club [] ⊎ OneIsFound state c
 abbrev pub HoldsOneOf : Image → List Club → Type 0
 HoldsOneOf image clubs = (trees : Trees) × HoldsDatabase image trees × IsLeftOf trees clubs
 
--- A crash may leave this image of a store's file and log. The listed clubs are the clubs that the
--- store may have after a crash.
+-- A crash may leave this image of a store's file and log. After a crash, the store contains one of
+-- the clubs in `clubs`.
 pub record CrashLeaves {D : Type 0} {g : disk.Ghosts D} (store : FileStore D g) (clubs : List Club) (left : Image) : Type 0 where
   pub clean : IsClean (file.view store)
   pub numbers : IsTrue (file.view store).is_numbered

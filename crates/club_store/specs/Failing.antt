@@ -1,18 +1,18 @@
--- The faults with which calls of a store can fail.
+-- Defines the faults of a store's calls.
 use Rattle.std.specs.Prelude.{List, Option, Some, None}
 use Rattle.sqlite.specs.{Held.Held, Store.Ghosts}
 use Rattle.club_core.specs.{Club.Club, Store.FitsClub, declared.{change.Change.Change, store.StoreFault.StoreFault}}
 use Rattle.club_tables.specs.{Answers.IsReadFault, ChangeStatements.statements_of, ReadsAndChanges.{IsChangeFault, IsRunFault, represents_in}}
 
--- A change failed with this fault. If the change fits the club, the cause is an error of the
--- database, not a missing row.
+-- A change failed with this fault. If the change fits the club, the fault comes from an error of
+-- the database.
 pub record FailsToChange {S : Type 0} (g : Ghosts S) (change : Change) (old : Held S) (fault : StoreFault) (new : Held S) : Type 0 where
   pub cause : IsChangeFault g change old new fault
   pub error_if_fits : (club : Club) (others : List Club) → represents_in g old club others → FitsClub change club
       → IsRunFault g 0 (statements_of change) old new fault
 
--- A read or the given change failed with this fault. If no change is given, the failed call is a
--- read. The relation includes the state of the store before and after the call.
+-- A call failed with this fault. For `None`, the call was a read. For `Some change`, the call tried
+-- to apply this change. `old` and `new` are the store before and after the call.
 abbrev pub Fails : {S : Type 0} → Ghosts S → Option Change → Held S → StoreFault → Held S → Type 0
 Fails g None old fault new = IsReadFault g old new fault
 Fails g (Some change) old fault new = FailsToChange g change old fault new

@@ -1,4 +1,4 @@
--- The limits of a key and of the rows that answer a request.
+-- Defines the limits of the rows that `Store::view` returns.
 use Rattle.std.specs.Prelude.{IfSome}
 use Rattle.club_core.specs.declared.view.KeyView.{KeyView}
 use Rattle.club_rows.specs.Rows.{IsMember, IsFacility, IsKey, IsBooking}

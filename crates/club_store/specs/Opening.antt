@@ -1,4 +1,4 @@
--- The results of opening the file of a club and its log.
+-- Defines the results of opening a club's file and its log.
 use Rattle.std.specs.Prelude.{◌≡◌, ◌⊎◌, false, List, [], Option, None, IfSome, IsTrue}
 use Rattle.sqlite_disk.specs.declared.Disk as disk
 use Rattle.sqlite_disk.specs.declared.Files.{Files}
@@ -12,23 +12,23 @@ use Rattle.club_tables.specs.Transaction.{MayCommit, IsKept, fault_by}
 use Rattle.club_store.specs.{Crash.{HoldsOneOf, IsOpenedOn, RepresentsOne, OneIsFound}, FailedOpening.busy, declared.failed_opening.FailedOpening.FailedOpening}
 use Rattle.club_store.specs.declared.failed_opening.FailedOpening.TheVariants as failed
 
--- The states that a crash after an opening may leave: the states that were possible before the
--- opening, and the state after the SQL statements of the opening.
+-- A crash after the opening leaves a state that a crash could leave before the opening, or the
+-- state after the opening's SQL statements.
 abbrev pub SurvivesOpening : {S : Type 0} → Ghosts S → Held S → Held S → Type 0
 SurvivesOpening g old new = Survives (state g old) (state g new) (MayCommit g 0 IsOpeningBatch old)
 
--- The connection that a failed opening returns. The connection still has the club that it had
--- before the opening. If the connection isn't in a transaction, the database is also unchanged. A
--- crash leaves a state that was possible before the opening, or the state after the SQL statements
--- of the opening.
+-- The connection that a failed opening returns. The connection still represents the club that it
+-- represented before the opening. If the connection isn't in a transaction, the database is also
+-- unchanged. A crash leaves a state that a crash could leave before the opening, or the state after
+-- the opening's SQL statements.
 pub record IsHandedBack {S : Type 0} (g : Ghosts S) (old new : Held S) : Type 0 where
   pub clean : HasCleanDisk (state g new) → HasCleanDisk (state g old)
   pub kept : HasCleanDisk (state g new) → KeepsClub (found_in g) old new
   pub mode : new.in_transaction ≡ old.in_transaction
   pub same_database : old.in_transaction ≡ false → IsKept (state g old) (state g new)
   pub survives : SurvivesOpening g old new
-  -- If a crash left a database with one of these clubs, the connection has exactly one of these
-  -- clubs.
+  -- If the connection was newly opened on the database of one of these clubs, the connection still
+  -- represents one of these clubs. A crash can leave only that club.
   pub again : HasCleanDisk (state g new) → (clubs : List Club) → IsOpenedOn (state g old) clubs → OneIsFound (state g new) clubs
 
 -- The store was opened from files with the image `start`. The opening accepted the tables of the
@@ -40,25 +40,27 @@ pub record OpensFrom {D : Type 0} {g : disk.Ghosts D} (start : Image) (now : Hel
   pub acceptance : IsTrue (file_state now).is_open → AcceptsTables over_files was now
   pub survives : SurvivesOpening over_files was now
   pub represents : (club : Club) (others : List Club) → IsFound (file_state was) club others → Represents (file_state now) club others
-  -- If a crash left files with one of these clubs, the store represents exactly one of these clubs.
+  -- If the files contained one of these clubs, the store represents one of these clubs. A crash can
+  -- leave only that club.
   pub again : (clubs : List Club) → HoldsOneOf start clubs → RepresentsOne (file_state now) clubs
-  -- A store on a new file represents the empty club.
+  -- If the file was empty, the store represents the empty club.
   pub fresh : start.db ≡ [] → Represents (file_state now) empty_club []
 
--- The fault with which opening a database in memory fails. The cause is that memory ran out, or
--- that the tables of the empty club couldn't be created.
+-- The fault of a failed opening of a database in memory. Memory ran out, or the tables of the empty
+-- club couldn't be created.
 abbrev pub IsMemoryFault : StoreFault → Type 0
 IsMemoryFault fault = (fault ≡ Memory) ⊎ ((was : _) × (now : _) × IsEmpty (state over_memory was) × IsOpeningFault over_memory was now fault)
 
--- The fault of a file that wasn't opened. If no files remain, the file couldn't be opened, or
--- memory ran out. If files remain, the database engine refused the file and its log.
+-- The fault of a file that the database engine couldn't open. If the engine returned no files, the
+-- file couldn't be opened, or memory ran out. If the engine returned files, it couldn't open the
+-- database in the files.
 pub record IsFileFault {D : Type 0} {g : disk.Ghosts D} (start : Image) (rest : Option (Leftover D g)) (fault : StoreFault) : Type 0 where
   pub error : Error
   pub without_files : rest ≡ None → (error ≡ SqliteFailure CannotOpen) ⊎ (error ≡ SqliteFailure OutOfMemory)
   pub cause : IfSome rest (λ left. (files : Files D) × (image_of g files ≡ start) × (IsCleanLeft left → FailsToOpenFiles files left error))
   pub fault_is : fault ≡ fault_by error
 
--- The fault of a connection whose tables the opening doesn't accept.
+-- The fault of an opening that doesn't accept the tables in the file.
 pub record IsTablesFault {D : Type 0} {g : disk.Ghosts D} (start : Image) (now : Held (FileStore D g)) (fault : StoreFault) : Type 0 where
   pub was : Held (FileStore D g)
   pub opening : HasCleanDisk (file_state was) → IsOpened was × FindsIn start (file_state was)
@@ -73,7 +75,7 @@ FailsFrom start failed.InUse fault = fault ≡ fault_by busy
 FailsFrom start (failed.Files rest) fault = IsFileFault start rest fault
 FailsFrom start (failed.Connection now) fault = IsTablesFault start now fault
 
--- The remaining files of a failed opening. Before the opening, the files had the image `start`. The
+-- The files that a failed opening returns. Before the opening, the files had the image `start`. The
 -- contract of the database engine defines which bytes a crash may leave in the files.
 pub record IsLeftOfFiles {D : Type 0} {g : disk.Ghosts D} (start : Image) (left : Leftover D g) : Type 0 where
   pub files : Files D
@@ -81,15 +83,16 @@ pub record IsLeftOfFiles {D : Type 0} {g : disk.Ghosts D} (start : Image) (left 
   pub one_outcome : (image : Image) → outcomes g files.log files.db image → image ≡ start
   pub leaves : IsCleanLeft left → LeavesFiles files left
 
--- The connection that a failed opening returns. The opening doesn't accept the tables in the file,
--- and the connection still has the club of the file.
+-- The connection that a failed opening returns. The opening didn't accept the tables in the file.
+-- If the file contained a club, the connection still represents this club.
 pub record IsLeftOpen {D : Type 0} {g : disk.Ghosts D} (start : Image) (now : Held (FileStore D g)) : Type 0 where
   pub was : Held (FileStore D g)
   pub opening : HasCleanDisk (file_state was) → IsOpened was × FindsIn start (file_state was)
   pub back : IsHandedBack over_files was now
   pub again : HasCleanDisk (file_state now) → (clubs : List Club) → HoldsOneOf start clubs → OneIsFound (file_state now) clubs
 
--- The remains of a failed opening. Before the opening, the files had the image `start`.
+-- The `FailedOpening` that a failed opening returns. Before the opening, the files had the image
+-- `start`.
 abbrev pub LeavesFrom : {D : Type 0} {g : disk.Ghosts D} → Image → FailedOpening D g → Type 0
 LeavesFrom start failed.InUse = Unit {0}
 LeavesFrom start (failed.Files rest) = IfSome rest (IsLeftOfFiles start)

@@ -1,4 +1,4 @@
-//! Implements `ClubStore`, the trait that a desk needs, for `Store`.
+//! Implements the trait `ClubStore` for `Store`. A desk uses its store through this trait.
 
 use crate::store::Store;
 use club_core::{Change, ClubStore, MemberAccount, SlotUse, StoreFault};

@@ -11,15 +11,14 @@ use crate::Store;
 use sqlite::{FileFrom, FileStore, MemStore, Start};
 use sqlite_disk::{Disk, Fuse, Memory};
 
-/// After a crash, the store's file and log contain the database of one of the store's possible
-/// crash states.
+/// After a crash, the store's file and log contain the database of one of the clubs in `clubs`.
 pub fn files_hold_one_of<D: Disk>(store: &FileStore<D>)
     ensures { (clubs : List Club) (left : Image) → CrashLeaves store.now clubs left →
         ∥ HoldsOneOf left clubs ∥₁ }
 {}
 
-/// The crash law. Reopening the files after a crash recovers exactly one of the clubs that the old
-/// store could recover to. Every later crash recovers the same club.
+/// The crash law. After a crash, the reopened store represents one of the clubs that the crash
+/// could leave. Until the next change, another crash leaves the same club.
 pub fn one_club_recovered<D: Disk, Q: Start>(
     before: &FileStore<D>,
     after: &Store<FileStore<FileFrom<Q>>>,
@@ -40,8 +39,8 @@ pub fn disk_of_files_in_memory_is_clean(store: &Store<FileStore<Memory>>)
     ensures { HasCleanDisk (file_state store.now) }
 {}
 
-/// The disk of a store over files in memory stays clean even if every call fails after some point.
-/// A crash of the machine is modelled by calls that fail. No read returns bytes other than the
+/// The disk of a store over files in memory stays clean, even if all calls of the disk fail from
+/// some point on. Such failures model a crash of the machine. A read that succeeds returns the
 /// bytes that were written.
 pub fn disk_of_files_that_stop_is_clean(store: &Store<FileStore<Fuse<Memory>>>)
     ensures { HasCleanDisk (file_state store.now) }

@@ -1,4 +1,4 @@
-//! The store of a club: opens a database, reads rows, and applies changes.
+//! Opens the database of a club, reads the club's rows, and applies changes.
 
 ghost use Rattle.std.specs.Prelude.{◌≡◌, ℕ, false, List, [], ◌∷◌, All, IsTrue, IfOk, IfErr, IfSome};
 ghost use Rattle.std.specs.Prelude.{option_and_then, IsErrAnd, codes};
@@ -72,11 +72,12 @@ impl Store<MemStore> {
 }
 
 impl<Q: Start> Store<FileStore<FileFrom<Q>>> {
-    /// Opens the tables in the file at a path, and creates the file if it is missing. The argument
-    /// `start` represents the contents of the file and its log. On failure, returns the fault and
-    /// the remains of the opening. The remains are the connection that `adopt` refused, or the
-    /// files that weren't opened. Nothing remains if another program has the file open. The path
-    /// `:memory:` fails with `Storage`, because it isn't the name of a file.
+    /// Opens the store in the file at `path`. Creates the file if it is missing. In contracts,
+    /// `start` represents the contents of the file and its log before the call. On failure, returns
+    /// the fault and a `FailedOpening`. The `FailedOpening` has the connection that `adopt`
+    /// refused, or the files that the database engine couldn't open. If another program has the
+    /// file open, the `FailedOpening` has neither a connection nor files. Fails with `Storage` for
+    /// the path `:memory:`, because this path doesn't name a file.
     pub fn open_file(
         rt: &HostRuntime,
         path: &str,
@@ -104,11 +105,12 @@ impl<Q: Start> Store<FileStore<FileFrom<Q>>> {
 }
 
 impl<S: Alter + Drop> Store<S> {
-    /// Makes a store from a connection whose database has the tables of a club. Creates the tables
-    /// of an empty club if the database is empty. Migrates tables of version 1 to the current
-    /// version. On failure, changes nothing, and returns the fault and the connection. The fault is
-    /// `Storage` if the tables aren't the tables of a club, or have another version. The fault is
-    /// also `Storage` if the connection is in a transaction.
+    /// Makes a store from a connection to a club's database. Creates the tables of an empty club if
+    /// the table `desk`, which contains the version, is missing. Migrates tables of version 1 to
+    /// version 2. Adds the index of the bookings if the index is missing. Fails with `Storage` if
+    /// the connection is in a transaction, or if the version is neither 1 nor 2. Also fails if
+    /// SQLite can't create or change the tables, or refuses a statement that reads a row by its
+    /// key. On failure, changes nothing, and returns the fault and the connection.
     pub fn adopt(
         alloc: Global,
         connection: Connection<S>,
@@ -145,9 +147,9 @@ impl<S: Alter + Drop> Store<S> {
         }
     }
 
-    /// Consumes the connection, and returns the engine's store below the connection. After a crash,
-    /// the engine's store contains the current club or one of the possible crash states. A crash
-    /// during a call is modelled by a disk that fails from some point on.
+    /// Consumes the store, and returns the storage of the SQLite engine. After a crash, this
+    /// storage contains the current club or another club that a crash may leave. Contracts model a
+    /// crash during a call as a disk that fails from some point on.
     pub fn into_store(self) -> S
         ensures was_clean { IsClean (S.Store.view result) → HasCleanDisk (state S.Store self) }
         ensures numbered { IsClean (S.Store.view result) → IsTrue
@@ -197,8 +199,8 @@ impl<S: Alter> Store<S> {
         }
     }
 
-    /// Returns the member with this name and its balance in points, or `None` if no member has this
-    /// name. Fails with `Storage` if a value in the row is outside its limits.
+    /// Returns the member with this name, and the member's balance in points. Returns `None` if no
+    /// member has this name. Fails with `Storage` if a value in the row is outside its limits.
     pub fn account(&mut self, member: &Name) -> Result<Option<MemberAccount>, StoreFault>
         ensures reads { ReadsClub S.Store self.old self.new result
             (λ club account. account ≡ account_named member.now club) }
@@ -249,8 +251,7 @@ impl<S: Alter> Store<S> {
         self.tables.most_taken(facility)
     }
 
-    /// Returns the use of a slot: the number of persons who booked the slot, and whether the slot
-    /// is closed.
+    /// Returns the number of persons in a slot, and whether the slot is closed.
     pub fn slot(&mut self, slot: &Slot) -> Result<SlotUse, StoreFault>
         ensures reads { ReadsClub S.Store self.old self.new result
             (λ club found. found ≡ slot_use club slot.now) }
@@ -258,8 +259,8 @@ impl<S: Alter> Store<S> {
         self.tables.slot(slot)
     }
 
-    /// Returns the bookings of a day that aren't cancelled. The bookings are sorted by facility,
-    /// hour, key and number, as in the day sheet.
+    /// Returns the uncancelled bookings of a day. The bookings are sorted by facility, hour, key
+    /// and number, as in the day sheet.
     pub fn day(&mut self, day: Day) -> Result<Vec<Booking>, StoreFault>
         ensures reads { ReadsClub S.Store self.old self.new result
             (λ club rows. AreRowsOf club day rows.items) }
@@ -281,8 +282,8 @@ impl<S: Alter> Store<S> {
         }
     }
 
-    /// Returns the use of a request's slot. If the request has no slot, returns the use of an open
-    /// slot without persons.
+    /// Returns the number of persons in a request's slot, and whether the slot is closed. If the
+    /// request has no slot, returns 0 persons and an open slot.
     fn use_for(&mut self, request: &Request) -> Result<SlotUse, StoreFault>
         ensures reads { ReadsClub S.Store self.old self.new result
             (λ club found. found ≡ (state_of club (request_slot request.now)).held) }
@@ -311,16 +312,17 @@ impl<S: Alter> Store<S> {
         }
     }
 
-    /// Returns the key with this name and the rows that answer a request at a moment. Returns
-    /// `None` if no key has this name. Fails with `Storage` if a value in a row is outside its
-    /// limits.
+    /// Returns the key with this name, and the rows and sums that decide a request at this moment.
+    /// Returns `None` if no key has this name. Fails with `Storage` if a value in a row is outside
+    /// its limits.
     ///
     /// The result contains:
     /// - the key, with its older root
     /// - the points that the key has spent
     /// - the key's booking with the request's number
     /// - the member's row, balance and number of open bookings
-    /// - the facility and the use of the request's slot
+    /// - the facility and the number of persons of the request's slot, and whether the slot is
+    ///   closed
     pub fn view(
         &mut self,
         key: &Name,
@@ -358,15 +360,15 @@ impl<S: Alter> Store<S> {
     }
 
     /// Applies a change in one transaction. The change must fit the club: the change's values match
-    /// the club's rows, and the changed club is sound. A change that doesn't fit fails without
-    /// effect. If the call fails for another reason, the club is unchanged, but a crash may still
-    /// leave the changed club.
+    /// the club's rows, and the changed club is sound. If the change doesn't fit, the call fails
+    /// without effect. If the call fails for another reason, the club is unchanged. A crash after
+    /// such a failure may nevertheless leave the changed club.
     ///
     /// # Errors
     ///
     /// Fails if the database refuses a statement or the commit. Fails with `Storage` if the change
-    /// doesn't fit, unless the call ran out of memory first. For such a change, a value is outside
-    /// its limits, or a statement breaks a rule of the tables or writes no row.
+    /// doesn't fit, unless the call ran out of memory first. If a change doesn't fit, a value is
+    /// outside its limits, or a statement breaks a constraint of the tables or writes no row.
     pub fn apply(&mut self, change: &Change) -> Result<(), StoreFault>
         ensures makes { ChangesClub S.Store change.now self.old self.new result }
     {
@@ -491,7 +493,7 @@ impl<S: Alter> Store<S> {
     }
 
     /// Sets a key's root, in one transaction. The previous root becomes the key's older root, and
-    /// is valid until the given moment. The previous root replaces any older root that the key
+    /// is valid until the moment `until`. The previous root replaces any older root that the key
     /// already had. Fails in the same cases as `apply`.
     pub fn replace_root(
         &mut self,
