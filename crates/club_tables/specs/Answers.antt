@@ -11,7 +11,7 @@ use Rattle.club_rows.specs.{Key.key_of_row, Limits.places_limit, Rows.{IsFacilit
 use Rattle.club_rows.specs.declared.{facility.Facility.Facility, key.{KeyRow.KeyRow, OlderRoot.OlderRoot}}
 use Rattle.club_core.specs.declared.{slot_use.SlotUse.SlotUse, store.StoreFault.{StoreFault, TheVariants.{Memory, Storage}}}
 
--- The row contains the columns of this key, and the key's values are within their limits.
+-- The row contains the column values of this key, and the values are within their limits.
 abbrev pub IsKeyIn : Row → KeyRow → Type 0
 IsKeyIn row key = IsKeyRow key × HasValues row (key_values (key_of_row key None))
 
@@ -40,8 +40,8 @@ abbrev pub IsFirst : {A : Type 0} → (Row → A → Type 0) → List Row → Op
 IsFirst Yields [] found = found ≡ None
 IsFirst Yields (row ∷ rows) found = IsSomeAnd found (Yields row)
 
--- The rows decode to this use of a slot. If there is no row, the slot is open and none of its
--- places is taken. Two or more rows can't be decoded.
+-- The rows decode to this `SlotUse`. If there is no row, the slot is open and none of its places is
+-- taken. Two or more rows can't be decoded.
 abbrev pub IsUse : List Row → SlotUse → Type 0
 IsUse [] found = found ≡ no_slot_use
 IsUse (row ∷ []) found = IsUseIn row found
@@ -51,8 +51,7 @@ IsUse (row ∷ other ∷ rows) found = ⊥
 abbrev pub AreCosts : List Row → ℕ → Type 0
 AreCosts rows cost = All IsCostRow rows × (cost ≡ sum_by cost_in rows) × (cost < 2 ^ 64)
 
--- The row contains a number of persons. This number is at most the highest number of places that a
--- facility may have.
+-- The row contains a number of persons. This number is at most `places_limit`.
 abbrev pub IsTakenRow : Row → Type 0
 IsTakenRow row = (taken : ℕ) × (taken ≤ places_limit) × (column row 0 ≡ whole taken)
 
@@ -134,7 +133,8 @@ LacksMemory g _ old fault = ⊥
 abbrev pub FailsAtReading : {S : Type 0} → Ghosts S → Reading → Held S → Held S → StoreFault → Type 0
 FailsAtReading g reading old new fault = FailsToRead g (reading_statement reading) (CanRead reading) old new fault ⊎ LacksMemory g reading old fault
 
--- The connection after reads. If no write was pending, the reads leave the connection unchanged.
+-- `new` is the connection `old` after reads. If no write was pending, the reads don't change the
+-- connection.
 pub record IsAfterReadings {S : Type 0} (g : Ghosts S) (old new : Held S) : Type 0 where
   pub same : IsUntouched (state g old) (state g new)
   pub clean : HasCleanDisk (state g new)

@@ -28,7 +28,8 @@ giving_quota member quota = (SET_QUOTA.now, Text member ∷ whole quota ∷ []) 
 abbrev pub adding_facility : Facility → List BoundStatement
 adding_facility facility = (ADD_FACILITY.now, facility_values facility) ∷ []
 
--- The parameters that set a facility's places, price and hours: its name, and then the new numbers.
+-- The parameters for setting a facility's places, price and hours: the facility's name, and then
+-- the new numbers.
 abbrev pub numbers_values : List ℕ → ℕ → ℕ → ℕ → ℕ → Row
 numbers_values facility places price opens shuts = Text facility ∷ whole places ∷ whole price ∷ whole opens ∷ whole shuts ∷ []
 
@@ -49,32 +50,33 @@ abbrev pub reopening : Slot → List BoundStatement
 reopening slot = (OPEN_SLOT.now, name_values slot) ∷ []
 
 -- Stores the key's older root, and then sets the key's new root. The second statement writes a row
--- only if the key's current root is this older root.
+-- only if the key's current root is the last value of `set`.
 abbrev pub rotating : Row → Row → List BoundStatement
 rotating put set = (PUT_OLDER_ROOT.now, put) ∷ (SET_ROOT.now, set) ∷ []
 
 abbrev pub replacing_root : List ℕ → List ℕ → OlderRoot → List BoundStatement
 replacing_root key root older = rotating (Text key ∷ older_root_values older) (Text key ∷ Blob root ∷ Blob older.root ∷ [])
 
--- The parameters that add an amount to the points that a member has spent. The last parameter is
--- the key of the booking.
+-- The parameters for adding to the points that a member has spent: the member, the added points,
+-- and the booking's key.
 abbrev pub used_values : List ℕ → ℤ → List ℕ → Row
 used_values member points key = Text member ∷ Int points ∷ Text key ∷ []
 
--- The parameters that charge a member for a booking: the member, the points, the booking's key, and
--- its slot.
+-- The parameters for charging a member for a booking: the member, the points, the booking's key,
+-- and the booking's slot.
 abbrev pub charge_values : List ℕ → ℕ → List ℕ → Slot → Row
 charge_values member points key slot = Text member ∷ whole points ∷ Text key ∷ name_values slot
 
--- Three statements: insert a booking, add its persons to its slot, and charge its member.
+-- Three statements that insert a booking, add the booking's persons to the slot, and charge the
+-- member.
 abbrev pub booking_with : Row → Row → Row → List BoundStatement
 booking_with booking taken charge = (ADD_BOOKING.now, booking) ∷ (ADD_TAKEN.now, taken) ∷ (CHARGE.now, charge) ∷ []
 
 abbrev pub cancelling_with : Row → Row → Row → List BoundStatement
 cancelling_with booking used taken = (CANCEL_BOOKING.now, booking) ∷ (ADD_USED.now, used) ∷ (ADD_TAKEN.now, taken) ∷ []
 
--- Inserts a booking under a key of the member, adds its persons to its slot, and charges the
--- member. The last statement writes a row only if the slot has enough places.
+-- Inserts a booking under a key of the member, adds the booking's persons to the slot, and charges
+-- the member. The last statement writes a row only if the slot has enough places.
 abbrev pub adding_booking : Booking → List ℕ → List BoundStatement
 adding_booking booking member =
     booking_with (booking_values booking) (name_values booking.slot ++ Int (pos (persons_taken booking)) ∷ [])

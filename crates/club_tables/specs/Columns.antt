@@ -29,7 +29,7 @@ facility_values facility =
 abbrev pub key_values : Key → Row
 key_values key = Text key.name ∷ Text key.member ∷ Blob key.root ∷ flag key.revoked ∷ []
 
--- The columns that identify a slot.
+-- The column values that identify a slot.
 abbrev pub name_values : Slot → Row
 name_values slot = Text slot.facility ∷ whole slot.day ∷ whole slot.hour ∷ []
 
@@ -39,7 +39,7 @@ use_values held = flag held.closed ∷ whole held.taken ∷ []
 abbrev pub slot_values : SlotRow → Row
 slot_values row = name_values row.slot ++ use_values row.held
 
--- The two columns of an older root that a query returns.
+-- The two column values that the query for an older root returns.
 abbrev pub older_root_values : OlderRoot → Row
 older_root_values older = Blob older.root ∷ whole older.until ∷ []
 
@@ -77,7 +77,8 @@ abbrev pub whole_in : Value → ℕ
 whole_in (Int (pos n)) = n
 whole_in _ = 0
 
--- The two columns that a query returns for the cost of a booking: its charge and its refund.
+-- The two column values that a query returns for the cost of a booking: the booking's charge and
+-- refund.
 abbrev pub cost_values : Booking → Row
 cost_values booking = whole booking.charge ∷ whole booking.refund ∷ []
 
@@ -85,8 +86,8 @@ cost_values booking = whole booking.charge ∷ whole booking.refund ∷ []
 abbrev pub cost_in : Row → ℕ
 cost_in row = whole_in (column row 0) - whole_in (column row 1)
 
--- The cost is the charge minus the refund. The charge is within its limit, and the refund is at
--- most the charge.
+-- The row contains a charge and a refund, and the cost is the charge minus the refund. The charge
+-- is within its limit, and the refund is at most the charge.
 pub record IsCostIn (row : Row) (cost : ℕ) : Type 0 where
   pub charge : ℕ
   pub refund : ℕ

@@ -1,12 +1,12 @@
--- This file defines the faults of calls that the database refuses.
+-- This file defines the faults of queries, statements and transactions that fail.
 use Rattle.std.specs.Prelude.{◌≡◌, ◌⊎◌, ℕ, ◌<◌, ◌≤◌, List, [], ◌∷◌, Result, Ok, Err, IfErr, IsTrue, OnOk, OnErr}
 use Rattle.sqlite.specs.{Effect.Database, Held.{Held, state}, State.{HasCleanDisk, Survives, FailsToQuery, IsNotRun, Executes, ExecutesInside}}
 use Rattle.sqlite.specs.{Steps.FailsToCommit, Store.Ghosts, declared.error.Error.Error}
 use Rattle.club_core.specs.declared.store.StoreFault.{StoreFault, TheVariants.Storage}
 use Rattle.club_tables.specs.Transaction.{BoundStatement, Ran, IsKept, transaction_start, fault_by}
 
--- The database refused a query with an error, and the fault is the one that corresponds to this
--- error. The disk's count of failures doesn't decrease.
+-- The database refused a query with an error, and `fault_by` maps this error to the fault. The
+-- disk's count of failures doesn't decrease.
 pub record FailsToAsk {S : Type 0} (g : Ghosts S) (statement : BoundStatement) (old new : Held S) (fault : StoreFault) : Type 0 where
   pub mid : Held S
   pub error : Error
@@ -14,8 +14,8 @@ pub record FailsToAsk {S : Type 0} (g : Ghosts S) (statement : BoundStatement) (
   pub fault_count : (state g mid).faults ≤ (state g new).faults
   pub fault_is : fault ≡ fault_by error
 
--- The database refused to prepare an SQL text, and the fault is the one that corresponds to the
--- database's error.
+-- The database refused to prepare an SQL text, and `fault_by` maps the database's error to the
+-- fault.
 pub record FailsToPrepare {S : Type 0} (g : Ghosts S) (sql : List ℕ) (old new : Held S) (fault : StoreFault) : Type 0 where
   pub mid : Held S
   pub error : Error
@@ -50,7 +50,8 @@ pub record FailsToRun {S : Type 0} (g : Ghosts S) (fewest : ℕ) (all : List Bou
 
 -- The statements run in a transaction of their own, and each statement must write at least `fewest`
 -- rows. If the call succeeds, all statements were committed. If the call fails, the committed state
--- is unchanged. Even after a failed call, a crash may leave the effects of all statements.
+-- is unchanged. If a crash follows a failed call, the database may nevertheless contain the effects
+-- of all statements.
 pub record Commits {S : Type 0} (g : Ghosts S) (fewest : ℕ) (all : List BoundStatement) (old new : Held S) (result : Result (Unit {0}) StoreFault)
     : Type 0
   where

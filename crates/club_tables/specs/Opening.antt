@@ -62,7 +62,7 @@ abbrev pub YieldsRows : List ℕ → Database → List Row → Type 0
 YieldsRows sql db rows = (c : Compiled) × (understood db.schema sql ≡ Ok c) × Reads c.command db [] rows
 
 -- The query for the version returned these rows. If the database represents a club, the rows
--- contain the version of its tables.
+-- contain the version of the club's tables.
 pub record YieldsVersion {S : Type 0} (g : Ghosts S) (old new : Held S) (rows : List Row) : Type 0 where
   pub query : Asked g version_text [] old rows
   pub version_rows : YieldsRows version_text (state g old).now rows
@@ -133,9 +133,9 @@ pub record MadeAll {S : Type 0} (g : Ghosts S) (old new : Held S) : Type 0 where
   pub ran : Ran g 0 table_batch from (state g new).committed
 
 -- Three kinds of databases can be opened:
--- - Tables of version 2 get the index of the bookings, if the index is missing.
--- - Tables of version 1 are migrated to version 2.
--- - A database without a version gets all tables.
+-- - A database with tables of version 2 gets the index of the bookings, if the index is missing.
+-- - A database with tables of version 1 is migrated to version 2.
+-- - A database without the table `desk` gets all tables.
 abbrev pub AcceptsTables : {S : Type 0} → Ghosts S → Held S → Held S → Type 0
 AcceptsTables g old new =
     FoundReady 2 indexed_texts (state g old) (state g new) ⊎ (AddsIndex g old new ⊎ (Migrated g old new ⊎ MadeAll g old new))
@@ -145,7 +145,7 @@ abbrev pub OneOf : (List ℕ → Type 0) → List (List ℕ) → Type 0
 OneOf P [] = ⊥
 OneOf P (text ∷ texts) = P text ⊎ OneOf P texts
 
--- SQLite didn't accept one of the texts as a statement, or the database failed to prepare the text.
+-- The database refused to prepare one of the texts, perhaps after reads.
 pub record FailsToPrepareOne {S : Type 0} (g : Ghosts S) (texts : List (List ℕ)) (old new : Held S) (fault : StoreFault) : Type 0 where
   pub from : Held S
   pub after : IsAfterReadings g old from
@@ -165,7 +165,7 @@ FailsToTake g old new fault =
     ⊎ (OneOf (λ text. FailsToPrepare g text old new fault) texts_by_key
     ⊎ ((fault ≡ Storage) × (rows : List Row) × Asked g version_text [] old rows × (rows ≢ version_values 2 ∷ []) × (rows ≢ version_values 1 ∷ []))))
 
--- Opening the tables may fail with this fault.
+-- Opening the tables failed with this fault, perhaps after reads.
 pub record IsOpeningFault {S : Type 0} (g : Ghosts S) (old new : Held S) (fault : StoreFault) : Type 0 where
   pub from : Held S
   pub after : IsAfterReadings g old from
@@ -181,8 +181,8 @@ WhenIdle g Done old new = IsTrue (state g new).is_open → IsIdle (state g old) 
 --   relates the old state to the new state.
 -- - After a failure, the tables still represent the club as `Before` describes. `Fails` describes
 --   the fault.
--- - A crash may leave a state that was possible before the step. It may also leave the result of
---   statements that satisfy `IsOpeningBatch`.
+-- - A crash leaves a state that a crash could leave before the step, or the result of statements
+--   that satisfy `IsOpeningBatch`.
 pub record Opens {S : Type 0} (g : Ghosts S) (Before : Held S → Club → List Club → Type 0) (Done : Held S → Held S → Type 0)
     (Fails : Held S → Held S → StoreFault → Type 0) (old new : Held S) (result : Result (Unit {0}) StoreFault) : Type 0
   where

@@ -27,10 +27,10 @@ version_2_in g held = RepresentsVersion2 (state g held)
 abbrev pub found_in : {S : Type 0} → Ghosts S → Held S → Club → List Club → Type 0
 found_in g held = IsFound (state g held)
 
--- A call that only reads. Its result is correct for the current club. The club and its possible
--- crash states are unchanged. If no write was pending, the connection is unchanged. A failed call
--- returns the fault of the database's error. The call returns `Storage` if the rows can't be
--- decoded, and `Memory` if there is no memory for a day's decoded bookings.
+-- A call that only reads. Its result is correct for the current club. The call changes neither the
+-- club nor the clubs that a crash may leave. If no write was pending, the connection is unchanged.
+-- A failed call returns the fault of the database's error. The call returns `Storage` if the rows
+-- can't be decoded, and `Memory` if there is no memory for a day's decoded bookings.
 pub record ReadsClub {S A : Type 0} (g : Ghosts S) (old new : Held S) (result : Result A StoreFault) (IsReturned : Club → A → Type 0) : Type 0 where
   pub returns : HasCleanDisk (state g new) → Returns (represents_in g) old result IsReturned
   pub kept : HasCleanDisk (state g new) → KeepsClub (represents_in g) old new
@@ -67,8 +67,9 @@ abbrev pub IsChangeFault : {S : Type 0} → Ghosts S → Change → Held S → H
 IsChangeFault g change old new fault = IsRunFault g 1 (statements_of change) old new fault ⊎ ((¬ InLimits change) × (fault ≡ Storage))
 
 -- A call that applies a change. If the call succeeds, the change fits the club and is applied. If
--- no write was pending, a failed call leaves the connection unchanged. Even after a failed call, a
--- crash may leave the effects of the change's statements, if each statement wrote a row.
+-- no write was pending, a failed call leaves the connection unchanged. If a crash follows a failed
+-- call, the database may nevertheless contain the effects of the change's statements. In this case,
+-- each statement wrote a row.
 pub record ChangesClub {S : Type 0} (g : Ghosts S) (change : Change) (old new : Held S) (result : Result (Unit {0}) StoreFault) : Type 0 where
   pub was_clean : HasCleanDisk (state g new) → HasCleanDisk (state g old)
   pub effect : HasCleanDisk (state g new) → Changes (represents_in g) change old new result

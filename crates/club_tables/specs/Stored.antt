@@ -6,7 +6,8 @@ use Rattle.club_rows.specs.declared.{facility.Facility.Facility, key.{Key.Key, O
 use Rattle.club_core.specs.{Basis.slot_use, Club.{Club, bookings_of}, KeyParts.older_root_of, Sums.cost_of, declared.slot_use.SlotUse.SlotUse}
 use Rattle.club_tables.specs.declared.row.MemberRow.{MemberRow}
 
--- A row of the table `slots`: a slot that was closed or booked, and its use.
+-- A row of the table `slots`: a slot, and the slot's use. The use is the number of persons in the
+-- slot, and whether the slot is closed.
 pub record SlotRow : Type 0 where
   pub slot : Slot
   pub held : SlotUse
@@ -42,8 +43,8 @@ no_slot_use = record { taken = 0; closed = false }
 abbrev pub row_of : Slot → List SlotRow → Option SlotRow
 row_of slot rows = find (λ (row : SlotRow). same_slot row.slot slot) rows
 
--- The use of a slot, from the rows of the table `slots`. A slot without a row is open, and none of
--- its places is taken.
+-- A slot's `SlotUse`, as the rows of the table `slots` store it. A slot without a row is open, and
+-- none of its places is taken.
 abbrev pub stored_slot_use : Slot → List SlotRow → SlotUse
 stored_slot_use slot rows = unwrap_or (option_map (λ (row : SlotRow). row.held) (row_of slot rows)) no_slot_use
 

@@ -64,7 +64,7 @@ HoldsRowsWith tables db = HoldsRowsBy tables 2 db.trees db
 abbrev pub HoldsRows : Database → Rows → Type 0
 HoldsRows = HoldsRowsWith club_schema
 
--- The B-trees with an empty table of older roots.
+-- These B-trees, but with an empty table of older roots.
 abbrev pub without_olders : Trees → Trees
 without_olders trees tree = if tree == olders_tree then [] else trees tree
 
@@ -73,8 +73,7 @@ without_olders trees tree = if tree == olders_tree then [] else trees tree
 abbrev pub HoldsRowsVersion1 : Database → Rows → Type 0
 HoldsRowsVersion1 db = HoldsRowsBy first_schema 1 (without_olders db.trees) db
 
--- The tables contain exactly the rows of the club, in the way that `HoldThem` describes. The club
--- is sound.
+-- The tables contain exactly the rows of the club, as `HoldThem` describes. The club is sound.
 pub record HoldsClubBy (HoldThem : Database → Rows → Type 0) (db : Database) (club : Club) : Type 0 where
   pub rows : Rows
   pub holds_rows : HoldThem db rows

@@ -59,8 +59,8 @@ pub record Ran {S : Type 0} (g : Ghosts S) (fewest : ℕ) (all : List BoundState
   pub turns : RanInTurn g fewest all (transaction_start old) last
   pub is : db ≡ (state g last).now
 
--- A crash may leave these B-trees, because they are the result of statements that ran from this
--- state and satisfy `AreStatements`. Each statement wrote at least `fewest` rows.
+-- Statements that satisfy `AreStatements` ran in one transaction, and the B-trees are the result.
+-- Each statement wrote at least `fewest` rows. A crash may leave these B-trees.
 pub record MayCommit {S : Type 0} (g : Ghosts S) (fewest : ℕ) (AreStatements : List BoundStatement → Type 0) (old : Held S) (trees : Trees) : Type 0 where
   pub from : Held S
   pub same : IsUntouched (state g old) (state g from)

@@ -1,5 +1,5 @@
-//! Stores a club in the tables of a database: the schema, the rows, and the SQL statements that
-//! read and write the rows. Between calls, the connection isn't in a transaction.
+//! Stores a club in the tables of a database. The crate has the schema, the rows, and the SQL
+//! statements that read and write the rows. Between calls, the connection isn't in a transaction.
 #![tactic(auto)]
 
 mod limits;

@@ -47,7 +47,8 @@ pub(crate) fn are_numbers(places: u8, price: u16, opens: u8, shuts: u8) -> bool
         && u32::from(shuts) <= LAST_HOUR
 }
 
-/// Proves that a key's values are within their limits. The types of the values allow no others.
+/// Proves that a key's values are within their limits. The types of the values guarantee the
+/// limits.
 pub(crate) fn key_within(key: &Key)
     ensures { IsKey key.now }
 {
@@ -60,7 +61,8 @@ pub(crate) fn key_within(key: &Key)
     }
 }
 
-/// Proves that a slot's values are within their limits. The types of the values allow no others.
+/// Proves that a slot's values are within their limits. The types of the values guarantee the
+/// limits.
 pub(crate) fn slot_within(slot: &Slot)
     ensures { IsSlot slot.now }
 {
@@ -69,8 +71,8 @@ pub(crate) fn slot_within(slot: &Slot)
     let _hour = slot.hour.number();
 }
 
-/// Proves that a rotation's new root and moment are within their limits. The types of these values
-/// allow no others.
+/// Proves that a rotation's new root and the moment `until` are within their limits. The types of
+/// these values guarantee the limits.
 pub(crate) fn rotation_within(rotation: &Rotation)
     ensures root { IsRoot rotation.now.root }
     ensures until { IsMoment rotation.now.older.until }

@@ -58,8 +58,8 @@ fn is_version(rows: &[Row], version: u8) -> bool
 }
 
 impl<S: Alter> Tables<S> {
-    /// Returns the rows that contain the version of the tables. If the call succeeds, tables of
-    /// that version represent the club.
+    /// Returns the rows that contain the version of the tables. If the database contains a club,
+    /// the returned version is the version of the club's tables.
     fn version(&mut self) -> Result<Vec<Row>, StoreFault>
         ensures ok { HasCleanDisk (state S.Store self.new) → IfOk result
             (λ rows. YieldsVersion S.Store self.old self.new rows.items) }
@@ -71,8 +71,8 @@ impl<S: Alter> Tables<S> {
         self.ask(texts::VERSION, &[])
     }
 
-    /// Creates the tables of an empty club, in one transaction. Fails if tables with these names
-    /// exist.
+    /// Creates the tables of an empty club, in one transaction. Fails if the database already has
+    /// one of the tables.
     fn make_tables(&mut self) -> Result<(), StoreFault>
         ensures opens { RunsBatch S.Store (found_in S.Store) table_batch self.old self.new result }
         ensures untouched { OnErr result
@@ -81,7 +81,8 @@ impl<S: Alter> Tables<S> {
         self.run(&TABLE_STATEMENTS)
     }
 
-    /// Prepares each text. Fails if a text isn't a statement over the tables. Changes nothing.
+    /// Prepares each SQL text. Fails if SQLite doesn't accept a text as a statement over the
+    /// tables. Changes nothing.
     fn prepare_all(&mut self, texts: &[&str]) -> Result<(), StoreFault>
         ensures kept { IsUntouched (state S.Store self.old) (state S.Store self.new) }
         ensures understood { HasCleanDisk (state S.Store self.new) → OnOk result
@@ -115,8 +116,9 @@ impl<S: Alter> Tables<S> {
         ])
     }
 
-    /// Migrates tables of version 1, after checking that each row can be read by its key. A failed
-    /// call changes nothing. After a crash, the tables have version 1 or version 2.
+    /// Migrates tables of version 1, after checking that SQLite accepts the statements that read a
+    /// row by its key. A failed call changes nothing. After a crash, the tables have version 1 or
+    /// version 2.
     fn migrate(&mut self) -> Result<(), StoreFault>
         ensures opens { Opens S.Store (version_1_in S.Store)
             (λ from to. IsIdle (state S.Store from) → HasMigrated S.Store from to)
@@ -130,8 +132,7 @@ impl<S: Alter> Tables<S> {
         }
     }
 
-    /// Creates the index of the bookings, in one transaction. Fails if an index with this name
-    /// exists.
+    /// Creates the index of the bookings, in one transaction. Fails if the index already exists.
     fn add_index(&mut self) -> Result<(), StoreFault>
         ensures opens { RunsBatch S.Store (version_2_in S.Store) index_batch
             self.old self.new result }
@@ -155,9 +156,9 @@ impl<S: Alter> Tables<S> {
         }
     }
 
-    /// Accepts tables of version 2, after checking that each row can be read by its key. Adds the
-    /// index of the bookings if it is missing. A failed call changes nothing. After a crash, the
-    /// tables are unchanged or have the index.
+    /// Accepts tables of version 2, after checking that SQLite accepts the statements that read a
+    /// row by its key. Adds the index of the bookings if it is missing. A failed call changes
+    /// nothing. After a crash, either the tables are unchanged, or the index exists.
     fn complete(&mut self) -> Result<(), StoreFault>
         ensures opens { Opens S.Store (version_2_in S.Store)
             (WhenIdle S.Store (EnsuresIndex S.Store)) (IsOpeningFault S.Store)

@@ -1,4 +1,4 @@
-//! Builds the parameters of the statements.
+//! Builds the parameters of the SQL statements.
 
 ghost use Rattle.std.specs.Prelude.{◌≡◌, ◌/◌, [], ◌∷◌, ◌++◌, pos, neg_ℤ};
 ghost use Rattle.sqlite.specs.Values.{bound};
@@ -23,7 +23,7 @@ fn bool_as_number(value: bool) -> i64
     if value { 1 } else { 0 }
 }
 
-/// Returns the columns of a new member.
+/// Returns the column values of a new member.
 pub(crate) fn of_member(member: &Member) -> [ValueRef<'_>; 3]
     ensures { bound result ≡ TextValue member.now.name ∷ whole member.now.credited ∷ whole
         member.now.quota ∷ [] }
@@ -35,7 +35,7 @@ pub(crate) fn of_member(member: &Member) -> [ValueRef<'_>; 3]
     ]
 }
 
-/// Returns the columns of a facility.
+/// Returns the column values of a facility.
 pub(crate) fn of_facility(facility: &Facility) -> [ValueRef<'_>; 6]
     ensures { bound result ≡ facility_values facility.now }
 {
@@ -68,7 +68,7 @@ pub(crate) fn of_numbers(
     ]
 }
 
-/// Returns the columns of a key.
+/// Returns the column values of a key.
 pub(crate) fn of_key(key: &Key) -> [ValueRef<'_>; 4]
     ensures { bound result ≡ key_values key.now }
 {
@@ -111,7 +111,7 @@ pub(crate) fn of_root(rotation: &Rotation) -> [ValueRef<'_>; 3]
     ]
 }
 
-/// Returns the columns of a booking.
+/// Returns the column values of a booking.
 pub(crate) fn of_booking(booking: &Booking) -> [ValueRef<'_>; 10]
     ensures { bound result ≡ booking_values booking.now }
 {
@@ -149,7 +149,7 @@ pub(crate) fn of_quota(member: &Name, quota: u8) -> [ValueRef<'_>; 2]
     ]
 }
 
-/// Returns the columns of a slot.
+/// Returns the column values that identify a slot.
 pub(crate) fn of_slot(slot: &Slot) -> [ValueRef<'_>; 3]
     ensures { bound result ≡ name_values slot.now }
 {
@@ -188,8 +188,8 @@ pub(crate) fn of_charge<'a>(member: &'a Name, booking: &'a Booking) -> [ValueRef
     ]
 }
 
-/// Returns a member's name, a negated refund, and the booking's key. The statement that adds the
-/// negated refund lowers the points that the member has spent.
+/// Returns a member's name, a negated refund, and the booking's key. A statement adds the negated
+/// refund to the points that the member has spent.
 pub(crate) fn of_return<'a>(
     member: &'a Name,
     booking: &'a Booking,
@@ -205,7 +205,7 @@ pub(crate) fn of_return<'a>(
     ]
 }
 
-/// Returns a slot's columns, and the number of persons to add to the slot.
+/// Returns the column values that identify a slot, and the number of persons to add to the slot.
 fn of_persons(slot: &Slot, persons: i64) -> [ValueRef<'_>; 4]
     ensures { bound result ≡ name_values slot.now ++ IntValue persons ∷ [] }
 {
@@ -217,7 +217,8 @@ fn of_persons(slot: &Slot, persons: i64) -> [ValueRef<'_>; 4]
     ]
 }
 
-/// Returns a booking's slot and its number of persons. For a cancelled booking, the number is 0.
+/// Returns a booking's slot, and the booking's number of persons. For a cancelled booking, the
+/// number is 0.
 pub(crate) fn of_places(booking: &Booking) -> [ValueRef<'_>; 4]
     ensures { bound result ≡ name_values booking.now.slot ++ IntValue
         (pos (persons_taken booking.now)) ∷ [] }
@@ -230,7 +231,7 @@ pub(crate) fn of_places(booking: &Booking) -> [ValueRef<'_>; 4]
     of_persons(&booking.slot, i64::from(persons))
 }
 
-/// Returns a booking's slot, and the negated number of its persons.
+/// Returns a booking's slot, and the booking's negated number of persons.
 pub(crate) fn of_freed(booking: &Booking) -> [ValueRef<'_>; 4]
     ensures { bound result ≡ name_values booking.now.slot ++ IntValue
         (neg_ℤ (pos (persons_of booking.now))) ∷ [] }
@@ -239,7 +240,7 @@ pub(crate) fn of_freed(booking: &Booking) -> [ValueRef<'_>; 4]
     of_persons(&booking.slot, -persons)
 }
 
-/// Returns the columns that a booking has before it is cancelled, and the refund.
+/// Returns the column values of a booking, followed by the refund.
 pub(crate) fn of_refund(booking: &Booking, refund: u32) -> [ValueRef<'_>; 11]
     ensures { bound result ≡ booking_values booking.now ++ whole refund ∷ [] }
 {

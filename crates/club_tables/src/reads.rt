@@ -1,4 +1,4 @@
-//! Reads the rows of the club. The functions in this file change nothing. The functions return
+//! Reads the rows of the club. The functions in this file change nothing. The functions fail with
 //! `Storage` if a row contains a value outside its limits.
 
 ghost use Rattle.std.specs.Prelude.{◌≡◌, ◌↔◌, List, All, IsTrue, IfOk, IfErr, IfSome, option_map};
@@ -107,7 +107,7 @@ impl<S: Alter> Tables<S> {
         self.answer(texts::FACILITY, &[ValueRef::Text(name.as_bytes())])
     }
 
-    /// Returns the use of a slot: the number of persons who booked it, and whether it is closed.
+    /// Returns the number of persons in a slot, and whether the slot is closed.
     pub fn slot(&mut self, slot: &Slot) -> Result<SlotUse, StoreFault>
         ensures reads { ReadsClub S.Store self.old self.new result
             (λ club found. found ≡ slot_use club slot.now) }
@@ -157,8 +157,8 @@ impl<S: Alter> Tables<S> {
         }
     }
 
-    /// Returns the day's bookings that aren't cancelled. The order is that of the day sheet: by
-    /// facility, hour, key and number.
+    /// Returns the day's bookings that aren't cancelled. The bookings are sorted by facility, hour,
+    /// key and number, as in the day sheet.
     pub fn day(&mut self, alloc: Global, day: Day) -> Result<Vec<Booking>, StoreFault>
         ensures reads { ReadsClub S.Store self.old self.new result
             (λ club rows. AreRowsOf club day rows.items) }
@@ -187,8 +187,8 @@ impl<S: Alter> Tables<S> {
         self.answer(texts::COSTS_UNDER_KEY, &[ValueRef::Text(key.as_bytes())])
     }
 
-    /// Returns the number of a member's open bookings. A booking is open if it isn't cancelled and
-    /// begins after the moment.
+    /// Returns the number of a member's open bookings at a moment. A booking is open if it isn't
+    /// cancelled and its slot begins after the moment.
     pub fn open_count(&mut self, member: &Name, moment: Moment) -> Result<u64, StoreFault>
         ensures reads { ReadsClub S.Store self.old self.new result
             (λ club count. count ≡ count_to_come moment (bookings_of member.now club)) }

@@ -23,8 +23,8 @@ use std::alloc::Global;
 #[derive(Clone, Copy)]
 pub struct MemberRow {
     pub member: Member,
-    /// The member's charges minus refunds, from 0 to 999,999,999 points. The number is at most the
-    /// member's credited points.
+    /// The member's charges minus refunds, from 0 to 999,999,999 points. In a sound club, this
+    /// number is at most the member's credited points.
     pub used: u32,
 }
 
@@ -55,7 +55,7 @@ pub(crate) fn integer_at(row: &Row, at: usize) -> Option<i64>
     }
 }
 
-/// Returns the number in a column, if it is an integer from 0 to `high`.
+/// Returns the number in a column, if the column contains an integer from 0 to `high`.
 pub(crate) fn number_within(row: &Row, at: usize, high: u32) -> Option<u32>
     ensures { Reads (λ n. (n ≤ high) × (column row.now at ≡ whole n)) result }
 {
@@ -63,8 +63,8 @@ pub(crate) fn number_within(row: &Row, at: usize, high: u32) -> Option<u32>
     if number <= high { Some(number) } else { None }
 }
 
-/// Decodes the use of a slot from the columns `closed` and `taken`. Returns `None` if there are
-/// more persons than the highest number of places that a facility may have.
+/// Decodes the columns `closed` and `taken` of a slot. Returns `None` if a value has the wrong type
+/// or is outside its limits. The highest value of `taken` is `MAX_PLACES`.
 fn slot_use_in(row: &Row) -> Option<SlotUse>
     ensures { Reads (IsUseIn row.now) result }
 {
@@ -125,7 +125,8 @@ impl FromRows for SlotUse {
 
     ghost holds = { IsUse };
 
-    /// Decodes the use of a slot. Without a row, the slot is open and none of its places is taken.
+    /// Decodes rows into a `SlotUse`. If there is no row, the slot is open and has no persons.
+    /// Returns `None` for two or more rows.
     fn from_rows(rows: &[Row]) -> Option<SlotUse> {
         match rows {
             [] => Some(SlotUse {

@@ -12,8 +12,8 @@ use sqlite::types::ValueRef;
 use sqlite::{Alter, Connection, Row};
 use std::marker::Model;
 
-/// The tables of a club over a connection. Between calls, the connection isn't in a transaction. In
-/// contracts, a value of this type is represented by its connection.
+/// The tables of a club, and the connection to their database. Between calls, the connection isn't
+/// in a transaction. Contracts represent a `Tables` value by its connection.
 #[derive(Drop)]
 pub struct Tables<S: Alter> {
     connection: Connection<S>,
@@ -71,7 +71,7 @@ impl<S: Alter> Tables<S> {
         Ok(rows)
     }
 
-    /// Prepares a text as a statement over the current schema. Changes nothing.
+    /// Prepares an SQL text as a statement over the current schema. Changes nothing.
     ///
     /// # Errors
     ///
@@ -99,8 +99,8 @@ impl<S: Alter> Tables<S> {
     /// # Errors
     ///
     /// Fails if the database refuses a statement or the commit. `fault_of` maps the database's
-    /// error to the fault. A failed call leaves the committed state unchanged. A crash after a
-    /// failed call may still leave the effects of all statements.
+    /// error to the fault. A failed call doesn't change the committed state. If a crash follows a
+    /// failed call, the database may nevertheless contain the effects of all statements.
     pub fn run(&mut self, statements: &[Statement<'_>]) -> Result<(), StoreFault>
         ensures commits { Commits S.Store 0 (map bound_statement statements.now)
             self.old self.new result }

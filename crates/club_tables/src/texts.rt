@@ -1,6 +1,6 @@
 //! The SQL texts that create the tables, and the SQL texts that read and write their rows.
 
-/// Creates the table for the version of the tables. This table has exactly one row.
+/// Creates the table `desk`. Its only row contains the version of the tables.
 pub(crate) const MAKE_DESK: &str = "CREATE TABLE desk (version INTEGER NOT NULL) STRICT";
 
 pub(crate) const MAKE_MEMBERS: &str = "\
@@ -67,14 +67,15 @@ pub(crate) const MAKE_OLD_ROOTS: &str = "\
 /// of all keys.
 pub(crate) const MAKE_KEYS_BY_MEMBER: &str = "CREATE INDEX keys_by_member ON keys (member)";
 
-/// Creates an index of bookings by key. Sums over a key's bookings need only this index, and the
-/// query for open bookings skips cancelled bookings and bookings of earlier days.
+/// Creates an index of bookings by key. The query for the costs of a key's bookings reads only this
+/// index. With this index, the query for open bookings skips cancelled bookings and bookings of
+/// earlier days.
 pub(crate) const MAKE_BOOKINGS_BY_KEY: &str = "\
     CREATE INDEX bookings_by_key \
     ON bookings (pass_key, cancelled, day, hour, number, charge, refund)";
 
-/// Drops the index of the bookings. SQLite prepares this text only if the index exists. The text is
-/// never run.
+/// Tests for the index of the bookings. SQLite prepares this text only if the index exists. The
+/// text is never run.
 pub(crate) const DROP_BOOKINGS_BY_KEY: &str = "DROP INDEX bookings_by_key";
 
 pub(crate) const ADD_VERSION: &str = "INSERT INTO desk (version) VALUES (2)";
@@ -100,7 +101,7 @@ pub(crate) const SLOT: &str = "\
     FROM slots \
     WHERE facility = ?1 AND day = ?2 AND hour = ?3";
 
-/// Returns the number of persons in each slot that has a row, for one facility.
+/// Returns the number of persons in each slot of a facility, if the slot has a row.
 pub(crate) const TAKEN: &str = "SELECT taken FROM slots WHERE facility = ?1";
 
 pub(crate) const BOOKING: &str = "\
@@ -129,7 +130,7 @@ pub(crate) const SET_QUOTA: &str = "UPDATE members SET quota = ?2 WHERE name = ?
 
 /// Charges a member for a booking. The booking must already be inserted, and its persons must
 /// already be added to its slot. Updates no row in these cases:
-/// - The booking's key isn't the member's.
+/// - The booking's key doesn't belong to the member.
 /// - The member has too few points.
 /// - The slot has more persons than the facility has places.
 pub(crate) const CHARGE: &str = "\
@@ -141,8 +142,8 @@ pub(crate) const CHARGE: &str = "\
     WHERE slots.facility = ?4 AND slots.day = ?5 AND slots.hour = ?6 \
     AND slots.taken <= facilities.places)";
 
-/// Adds a number to the points that a member has spent, if the booking's key is the member's. The
-/// number is negative for a refund.
+/// Adds a number to the points that a member has spent, if the booking's key belongs to the member.
+/// The number is negative for a refund.
 pub(crate) const ADD_USED: &str = "\
     UPDATE members \
     SET used = used + ?2 \
@@ -153,7 +154,7 @@ pub(crate) const ADD_FACILITY: &str = "\
     VALUES (?1, ?2, ?3, ?4, ?5, ?6)";
 
 /// Sets a facility's places, price and hours. Updates no row if a slot of the facility has more
-/// persons than the facility's new places.
+/// persons than the facility's new number of places.
 pub(crate) const SET_NUMBERS: &str = "\
     UPDATE facilities \
     SET places = ?2, price = ?3, opens = ?4, shuts = ?5 \
@@ -183,15 +184,16 @@ pub(crate) const CLOSE_SLOT: &str = "\
     ON CONFLICT (facility, day, hour) \
     DO UPDATE SET closed = 1 WHERE closed = 0";
 
-/// Opens a slot, even if it is already open. A foreign key requires that its facility exists.
+/// Opens a slot, even if it is already open. A foreign key requires that the slot's facility
+/// exists.
 pub(crate) const OPEN_SLOT: &str = "\
     INSERT INTO slots (facility, day, hour, closed, taken) \
     VALUES (?1, ?2, ?3, 0, 0) \
     ON CONFLICT (facility, day, hour) \
     DO UPDATE SET closed = 0";
 
-/// Adds a number to the persons in a slot. The number is negative for a cancellation. If the slot
-/// has no row, the inserted row describes an open slot.
+/// Adds the last parameter to the number of persons in a slot. The parameter is negative for a
+/// cancellation. If the slot has no row, the statement inserts a row for an open slot.
 pub(crate) const ADD_TAKEN: &str = "\
     INSERT INTO slots (facility, day, hour, closed, taken) \
     VALUES (?1, ?2, ?3, 0, ?4) \
@@ -220,8 +222,8 @@ pub(crate) const DAY: &str = "\
     WHERE day = ?1 AND cancelled = 0 \
     ORDER BY facility, hour, pass_key, number";
 
-/// Returns the numbers of a member's open bookings after a moment. The last parameter is the
-/// moment's day, because all slots of earlier days have begun.
+/// Returns the booking numbers of a member's bookings that are open at a moment. The last parameter
+/// is the moment's day, so that SQLite skips bookings of earlier days.
 pub(crate) const OPEN: &str = "\
     SELECT number \
     FROM keys JOIN bookings ON name = pass_key \

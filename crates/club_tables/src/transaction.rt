@@ -1,4 +1,4 @@
-//! Statements that write to the tables, and the faults that correspond to database errors.
+//! Defines the statements that write to the tables, and maps database errors to faults.
 
 ghost use Rattle.std.specs.Prelude.{◌≡◌};
 ghost use Rattle.club_tables.specs.Transaction.{fault_by};

@@ -74,7 +74,8 @@ impl<S: Alter> Tables<S> {
     }
 
     /// Sets a facility's places, price and hours. Fails without effect if a number is outside its
-    /// limits, the facility doesn't exist, or a slot has more persons than the new places.
+    /// limits, the facility doesn't exist, or a slot has more persons than the new number of
+    /// places.
     pub fn replace_numbers(
         &mut self,
         facility: &Name,
@@ -125,8 +126,8 @@ impl<S: Alter> Tables<S> {
         self.write_one(texts::ADD_CREDIT, &params::of_credit(member, points))
     }
 
-    /// Subtracts points from a member's credit. Fails without effect if the member doesn't exist or
-    /// has fewer unspent points.
+    /// Subtracts points from a member's credit. Fails without effect if the member doesn't exist,
+    /// or has fewer unspent points than `points`.
     pub fn take_credit(&mut self, member: &Name, points: u32) -> Result<(), StoreFault>
         ensures commits { Commits S.Store 1 (taking_credit member.now points)
             self.old self.new result }
@@ -163,8 +164,9 @@ impl<S: Alter> Tables<S> {
         self.write_one(texts::REVOKE_KEY, &[ValueRef::Text(key.as_bytes())])
     }
 
-    /// Sets a key's root. The former root becomes the key's older root and replaces any earlier
-    /// older root. Fails without effect if the given former root isn't the key's current root.
+    /// Sets a key's root. The former root becomes the key's older root, and replaces any older root
+    /// that the key already had. Fails without effect if the rotation's former root isn't the key's
+    /// current root.
     pub fn replace_root(&mut self, rotation: &Rotation) -> Result<(), StoreFault>
         ensures commits { Commits S.Store 1
             (replacing_root rotation.now.key rotation.now.root rotation.now.older)
@@ -219,7 +221,7 @@ impl<S: Alter> Tables<S> {
         self.write_one(texts::OPEN_SLOT, &params::of_slot(slot))
     }
 
-    /// Inserts a booking, adds its persons to its slot, and charges its member.
+    /// Inserts a booking, adds the booking's persons to the slot, and charges the member.
     fn run_booking(
         &mut self,
         booking: &[ValueRef<'_>],
@@ -246,8 +248,8 @@ impl<S: Alter> Tables<S> {
         ])
     }
 
-    /// Inserts a booking under one of the member's keys. Adds its persons to its slot, and its
-    /// charge to the points that the member has spent.
+    /// Inserts a booking under one of the member's keys. Adds the booking's persons to the slot,
+    /// and the booking's cost to the points that the member has spent.
     ///
     /// # Errors
     ///

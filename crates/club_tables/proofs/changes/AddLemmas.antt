@@ -35,7 +35,7 @@ only_found {X} q (x ∷ xs) low = (λ passes. rw passes refl, go (q x) low (only
         absurd (omega (arith, low, contains_counts q xs _ (All-contains_itself xs k d within) passes)))
     go false low more = more low
 
--- A new row is the last row of its table.
+-- An inserted row becomes the last row of its table.
 
 added : {X : Type 0} (values : X → Row) {text : List ℕ} {at width : ℕ} {terms : List Term} → Means club_schema text (Insert at (Values terms width))
     → (table : Table) → slice_get club_schema.tables at ≡ Some table → table.is_counted ≡ false

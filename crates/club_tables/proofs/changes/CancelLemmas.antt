@@ -95,8 +95,8 @@ module _ (rows : Rows) (once : AreBookingsOnce rows.bookings) (booking : Booking
       let low = one_numbered booking.key booking.number rows.bookings once in
       search rules
 
-  -- If the statement that cancels a booking writes a row, the table contains a booking with the
-  -- given values.
+  -- If the statement that cancels a booking writes a row, the booking was stored and not yet
+  -- cancelled.
   pub cancel_found : WhenRan (CANCEL_BOOKING.now, params) rows (λ old new count.
       1 ≤ count → (booking_under booking.key booking.number rows.bookings ≡ Some booking) × (booking.cancelled ≡ false))
   cancel_found old new count holds_rows ran some =
@@ -176,7 +176,8 @@ module _ (club : Club) (sound : IsSound club) (booking : Booking) (cancels : IsT
         | inr is ↦ let s = rw is at sums in rw is (omega (arith, s))
       ]
 
-  -- If the booking is in the slot, a cancellation lowers the slot's number of persons.
+  -- If the booking is in the slot, a cancellation lowers the slot's number of persons by the
+  -- booking's persons.
   pub taken_back : (s : Slot) → taken_in s next.bookings + (if same_slot booking.slot s then persons_of booking else 0) ≡ taken_in s club.bookings
   taken_back s =
       let sums = picked_changed (is_numbered key number) change (other_stays key number refund) persons_of (is_in s) club.bookings booking alone cancels.0 in

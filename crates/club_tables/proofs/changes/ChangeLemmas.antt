@@ -70,14 +70,14 @@ AreNamedOnce = AllPairs (λ (a : MemberRow) (b : MemberRow). name_of a ≢ name_
 abbrev pub StoresMember : List ℕ → List MemberRow → MemberRow → Type 0
 StoresMember name members row = find (λ (row : MemberRow). bytes_eq (name_of row) name) members ≡ Some row
 
--- Adds points to the credit of the member with this name.
+-- Adds points to the credit in the row, if the row's member has this name.
 abbrev pub credited_row : List ℕ → ℕ → MemberRow → MemberRow
 credited_row name points row = record row { member = credited_member name points row.member }
 
 abbrev pub used_row : List ℕ → (ℕ → ℕ) → MemberRow → MemberRow
 used_row name next row = record row { used = if bytes_eq row.member.name name then next row.used else row.used }
 
--- Sets the quota of the member with this name.
+-- Sets the quota in the row, if the row's member has this name.
 abbrev pub quota_row : List ℕ → ℕ → MemberRow → MemberRow
 quota_row name quota row = record row { member = member_with_quota name quota row.member }
 
@@ -295,8 +295,8 @@ module _ (rows : Rows) (once : AreKeysOnce rows.keys) (name : List ℕ) where
         let wide : Implies has_root has_name = λ key passes. (and_parts (has_name key) _ passes).0 in
         search (rules, low_keys)
 
-    -- If the statement that sets a key's root writes a row, the given former root was the key's
-    -- root.
+    -- If the statement that sets a key's root writes a row, the key had the former root from the
+    -- parameters.
     pub root_found : WhenRan (SET_ROOT.now, root_params) rows (λ old new count.
         1 ≤ count → (key : Key) × StoresKey name rows.keys key × (key.root ≡ was))
     root_found old new count holds_rows ran some =

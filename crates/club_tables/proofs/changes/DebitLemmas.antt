@@ -24,7 +24,7 @@ difference : (m r : ℕ) → r ≤ m → m < 2 ^ 63 → binary (Arith Sub) (whol
 unfolding binary
 difference m r low small = search rules
 
--- Subtracts points from the credit of the member with this name.
+-- Subtracts points from the credit in the row, if the row's member has this name.
 abbrev pub debited_row : List ℕ → ℕ → MemberRow → MemberRow
 debited_row name points row = record row { member = debited_member name points row.member }
 

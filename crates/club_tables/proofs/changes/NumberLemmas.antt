@@ -42,11 +42,12 @@ none_counted (x ∷ xs) = let one : min 1 (length (x ∷ xs)) ≡ 1 = omega arit
 casts_facility : (id : ℤ) (f : Facility) → cast_row facility_table (Int id ∷ facility_values f) ≡ Int id ∷ facility_values f
 casts_facility id f = simp cast_int
 
--- The row belongs to a slot of this facility, and the slot has more persons than these places.
+-- The row belongs to a slot of this facility, and the slot has more persons than this number of
+-- places.
 abbrev pub crowds : List ℕ → ℕ → SlotRow → Bool
 crowds name places row = bytes_eq row.slot.facility name && nat_lt places row.held.taken
 
--- At least one slot of the facility has more persons than these places.
+-- At least one slot of the facility has more persons than this number of places.
 abbrev pub is_crowded : List ℕ → ℕ → List SlotRow → Bool
 is_crowded name places slots = is_counted (length (filter (crowds name places) slots))
 
