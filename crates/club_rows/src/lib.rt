@@ -1,5 +1,5 @@
-//! Defines the club's rows and their limits, and parses the rows from database columns. No call in
-//! this crate allocates memory.
+//! Defines the club's rows and their limits, and parses the rows from database columns. No function
+//! in this crate allocates memory.
 #![tactic(auto)]
 
 mod booking;
