@@ -82,7 +82,8 @@ unlisted schema listed = λ i. record {
 blank_if_unlisted : (db : Database) → IsDatabase db → db.trees catalog_tree ≡ [] → HoldsClubAnyVersion db empty_club
 blank_if_unlisted db sound none = inr (inr (unlisted db.schema (subst (λ rows. AreListed rows db.schema) none sound.lists.listed), refl, sound))
 
--- A database that SQLite opened from an empty file contains the empty club.
+-- A database that SQLite opened from an empty file contains the empty club. A database without
+-- tables counts as the empty club.
 pub new_is_blank : (start : Image) (opened : State) → start.db ≡ [] → FindsIn start opened → IsDatabase opened.committed
     → HoldsClubAnyVersion opened.committed empty_club
 new_is_blank start opened none found sound = elim found.reads [

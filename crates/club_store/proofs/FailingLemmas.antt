@@ -31,8 +31,8 @@ change_failed g change old new (Err fault) made clean = record {
   error_if_fits = λ club others represents fits. made.fault_if_fits clean club others represents fits;
 }
 
--- If the current club and all clubs that a crash may leave are sound before a change, they are
--- sound after the change.
+-- If the current club and all clubs that a crash may leave are sound before a change, the same
+-- holds after the change.
 pub sound_changes : {S E : Type 0} (g : Ghosts S) (change : Change) (old new : Held S) (result : Result (Unit {0}) E)
     → Changes (represents_in g) change old new result → Changes (sound_in g) change old new result
 sound_changes g change old new (Ok done) made = λ club others represents.

@@ -29,8 +29,8 @@ accounted club (Some member) account h =
     let same : member ≡ account.member = ap (λ (a : MemberAccount). a.member) (sym e) in
     (ap Some same, ap (λ (a : MemberAccount). a.balance) e ∙ ap (λ (m : Member). balance_of m (bookings_of m.name club)) same)
 
--- `key_view_in` uses only the bookings of the key's member. Using all bookings of the club gives
--- the same view.
+-- `key_view_in` uses only the bookings of the key's member. The key's spent points and the
+-- request's booking are the same when they are computed from all bookings of the club.
 pub seen_is : OwnBookings → (club : Club) (name : List ℕ) (key : Key) (account : MemberAccount) (request : Request) (moment : ℕ)
     → key_named name club ≡ Some key → Some account ≡ account_named key.member club → key_view_in club name request moment ≡ Some (record {
       key = key;

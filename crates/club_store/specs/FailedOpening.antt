@@ -1,4 +1,4 @@
--- Defines the connection or files that a failed opening of a store returns.
+-- Defines the `FailedOpening` for an error of the database engine.
 use Rattle.std.specs.Prelude.{◌≡◌, ◌≢◌, Option, None}
 use Rattle.sqlite_disk.specs.declared.Disk as disk
 use Rattle.sqlite.specs.declared.{error.{Error.{Error, TheVariants.SqliteFailure}, ErrorCode.TheVariants.DatabaseBusy}, file.Leftover.Leftover}

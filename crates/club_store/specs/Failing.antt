@@ -5,7 +5,7 @@ use Rattle.club_core.specs.{Club.Club, Store.FitsClub, declared.{change.Change.C
 use Rattle.club_tables.specs.{Answers.IsReadFault, ChangeStatements.statements_of, ReadsAndChanges.{IsChangeFault, IsRunFault, represents_in}}
 
 -- A change failed with this fault. If the change fits the club, the fault comes from an error of
--- the database.
+-- the database, not from a statement that wrote no row.
 pub record FailsToChange {S : Type 0} (g : Ghosts S) (change : Change) (old : Held S) (fault : StoreFault) (new : Held S) : Type 0 where
   pub cause : IsChangeFault g change old new fault
   pub error_if_fits : (club : Club) (others : List Club) → represents_in g old club others → FitsClub change club

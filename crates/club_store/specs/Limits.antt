@@ -1,4 +1,4 @@
--- Defines the limits of the rows that `Store::view` returns.
+-- Defines the limits of the key and the rows that `Store::view` returns.
 use Rattle.std.specs.Prelude.{IfSome}
 use Rattle.club_core.specs.declared.view.KeyView.{KeyView}
 use Rattle.club_rows.specs.Rows.{IsMember, IsFacility, IsKey, IsBooking}

@@ -1,4 +1,4 @@
-//! Defines the connection or files that a failed `Store::open_file` returns.
+//! Defines the connection or files, if any, that a failed `Store::open_file` returns.
 
 ghost use Rattle.club_store.specs.FailedOpening.{IsFailedOpening};
 

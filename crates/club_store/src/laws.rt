@@ -39,7 +39,7 @@ pub fn disk_of_files_in_memory_is_clean(store: &Store<FileStore<Memory>>)
     ensures { HasCleanDisk (file_state store.now) }
 {}
 
-/// The disk of a store over files in memory stays clean, even if all calls of the disk fail from
+/// The disk of a store over files in memory stays clean, even if all calls to the disk fail from
 /// some point on. Such failures model a crash of the machine. A read that succeeds returns the
 /// bytes that were written.
 pub fn disk_of_files_that_stop_is_clean(store: &Store<FileStore<Fuse<Memory>>>)

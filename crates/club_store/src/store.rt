@@ -107,10 +107,15 @@ impl<Q: Start> Store<FileStore<FileFrom<Q>>> {
 impl<S: Alter + Drop> Store<S> {
     /// Makes a store from a connection to a club's database. Creates the tables of an empty club if
     /// the table `desk`, which contains the version, is missing. Migrates tables of version 1 to
-    /// version 2. Adds the index of the bookings if the index is missing. Fails with `Storage` if
-    /// the connection is in a transaction, or if the version is neither 1 nor 2. Also fails if
-    /// SQLite can't create or change the tables, or refuses a statement that reads a row by its
-    /// key. On failure, changes nothing, and returns the fault and the connection.
+    /// version 2. Adds the index of the bookings if the index is missing.
+    ///
+    /// # Errors
+    ///
+    /// Fails with `Storage` if the connection is in a transaction, or if the version is neither 1
+    /// nor 2. Also fails if SQLite can't create or change the tables, refuses a statement that
+    /// reads a row by its key, or runs out of memory. On failure, returns the fault and the
+    /// connection. The database is unchanged. A crash after such a failure may nevertheless leave
+    /// the created tables, the migrated tables or the added index.
     pub fn adopt(
         alloc: Global,
         connection: Connection<S>,
@@ -283,7 +288,7 @@ impl<S: Alter> Store<S> {
     }
 
     /// Returns the number of persons in a request's slot, and whether the slot is closed. If the
-    /// request has no slot, returns 0 persons and an open slot.
+    /// request has no slot, the number is 0 and `closed` is false.
     fn use_for(&mut self, request: &Request) -> Result<SlotUse, StoreFault>
         ensures reads { ReadsClub S.Store self.old self.new result
             (λ club found. found ≡ (state_of club (request_slot request.now)).held) }

@@ -30,13 +30,12 @@ returns-in-Ok-adopt-clause-opened g c clean =
       fresh = λ none. the_one _ empty_club (again (empty_club ∷ []) (inl (was.committed, refl, new_is_blank _ was none found (opened.1 opened.0.is_open).1)));
     }
 
--- The bytes of the log if `is_log` is true, else of the database file, after the calls in
--- `history`.
+-- The bytes of the log, or of the database file if `is_log` is false, after the calls in `history`.
 abbrev seen_bytes : List ℕ → List ℕ → Bool → List Event → List ℕ
 seen_bytes log db is_log history = (replay (cond is_log log db) history).seen
 
--- A crash after the calls in `history` may leave the bytes `c` in the log if `is_log` is true, else
--- in the database file.
+-- A crash after the calls in `history` may leave the bytes `c` in the log, or in the database file
+-- if `is_log` is false.
 abbrev MayLeaveOf : Bool → List ℕ → List ℕ → Bool → List Event → List ℕ → Type 0
 MayLeaveOf mixes log db is_log history c =
     MayLeave mixes (replay (cond is_log log db) history).seen (replay (cond is_log log db) history).synced (replay (cond is_log log db) history).steps c
