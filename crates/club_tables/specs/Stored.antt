@@ -43,8 +43,8 @@ no_slot_use = record { taken = 0; closed = false }
 abbrev pub row_of : Slot → List SlotRow → Option SlotRow
 row_of slot rows = find (λ (row : SlotRow). same_slot row.slot slot) rows
 
--- A slot's `SlotUse`, as the rows of the table `slots` store it. A slot without a row is open, and
--- none of its places is taken.
+-- The `SlotUse` that the rows of the table `slots` store for a slot. A slot without a row is open,
+-- and none of its places is taken.
 abbrev pub stored_slot_use : Slot → List SlotRow → SlotUse
 stored_slot_use slot rows = unwrap_or (option_map (λ (row : SlotRow). row.held) (row_of slot rows)) no_slot_use
 

@@ -60,7 +60,8 @@ pub record Ran {S : Type 0} (g : Ghosts S) (fewest : ℕ) (all : List BoundState
   pub is : db ≡ (state g last).now
 
 -- Statements that satisfy `AreStatements` ran in one transaction, and the B-trees are the result.
--- Each statement wrote at least `fewest` rows. A crash may leave these B-trees.
+-- The transaction started from `old`, perhaps after reads. Each statement wrote at least `fewest`
+-- rows. A crash may leave these B-trees.
 pub record MayCommit {S : Type 0} (g : Ghosts S) (fewest : ℕ) (AreStatements : List BoundStatement → Type 0) (old : Held S) (trees : Trees) : Type 0 where
   pub from : Held S
   pub same : IsUntouched (state g old) (state g from)

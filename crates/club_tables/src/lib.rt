@@ -1,4 +1,4 @@
-//! Stores a club in the tables of a database. The crate has the schema, the rows, and the SQL
+//! Stores a club in the tables of a database. The crate defines the schema, the rows, and the SQL
 //! statements that read and write the rows. Between calls, the connection isn't in a transaction.
 #![tactic(auto)]
 

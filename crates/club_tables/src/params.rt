@@ -188,7 +188,7 @@ pub(crate) fn of_charge<'a>(member: &'a Name, booking: &'a Booking) -> [ValueRef
     ]
 }
 
-/// Returns a member's name, a negated refund, and the booking's key. A statement adds the negated
+/// Returns a member's name, a negated refund, and the booking's key. `ADD_USED` adds the negated
 /// refund to the points that the member has spent.
 pub(crate) fn of_return<'a>(
     member: &'a Name,

@@ -223,7 +223,8 @@ pub(crate) const DAY: &str = "\
     ORDER BY facility, hour, pass_key, number";
 
 /// Returns the booking numbers of a member's bookings that are open at a moment. The last parameter
-/// is the moment's day, so that SQLite skips bookings of earlier days.
+/// is the moment's day, so that SQLite skips bookings of earlier days. At the moment, all slots of
+/// earlier days have begun.
 pub(crate) const OPEN: &str = "\
     SELECT number \
     FROM keys JOIN bookings ON name = pass_key \

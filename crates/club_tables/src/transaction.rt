@@ -1,4 +1,4 @@
-//! Defines the statements that write to the tables, and maps database errors to faults.
+//! Defines the type of a statement that writes to the tables, and maps database errors to faults.
 
 ghost use Rattle.std.specs.Prelude.{◌≡◌};
 ghost use Rattle.club_tables.specs.Transaction.{fault_by};

@@ -51,8 +51,8 @@ module _ (rows : Rows) (once : AreNamedOnce rows.members) (name : List ℕ) wher
     abbrev owns_it : Key → Bool
     owns_it k = bytes_eq k.name key && bytes_eq k.member name
 
-    -- The row and the facility belong to the slot. The row's number of persons is at most the
-    -- facility's number of places.
+    -- The row is the slot's row, and the facility is the slot's facility. The row's number of
+    -- persons is at most the facility's number of places.
     abbrev pub has_room : SlotRow → Facility → Bool
     has_room row facility =
         bytes_eq facility.name slot.facility && (bytes_eq row.slot.facility slot.facility && (row.slot.day == slot.day && (row.slot.hour == slot.hour
