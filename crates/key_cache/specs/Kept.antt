@@ -3,6 +3,7 @@ use Rattle.std.specs.Prelude.{◌≡◌, [], IfSome}
 use Rattle.lru.specs.LruCache.{lru_cache}
 use Rattle.key_cache.specs.declared.KeptKeys.{KeptKeys}
 
--- The cache is empty. The cache has room for 64 keys, or no room if memory ran out.
+-- The cache is empty and has room for 64 derived keys. If memory ran out, the field `cache` is
+-- `None` instead.
 abbrev pub IsFresh : KeptKeys → Type 0
 IsFresh keys = IfSome keys.cache (λ cache. cache ≡ lru_cache [] 64)

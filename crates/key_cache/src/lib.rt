@@ -1,4 +1,5 @@
-//! Caches the 64 derived keys that were used last. Each derived key is stored with its root.
+//! Caches at most 64 derived keys, each with its root. To store a new key, a full cache drops the
+//! key that was stored least recently.
 #![tactic(auto)]
 
 use club_rows::Root;
@@ -9,7 +10,7 @@ use std::alloc::Global;
 use std::marker::Model;
 use std::num::NonZeroUsize;
 
-/// The highest number of derived keys in the cache.
+/// The maximum number of derived keys in the cache.
 pub const MAX_KEPT_KEYS: usize = 64;
 
 /// A root together with its derived key. In contracts, a `DerivedKey` is represented by its root.
@@ -54,9 +55,9 @@ impl DerivedKey {
     }
 }
 
-/// A cache of at most 64 derived keys. The cache finds a derived key by the name of the key, and
-/// stores the derived keys that were used last. If no memory can be allocated for the cache, it
-/// stays empty.
+/// A cache of at most 64 derived keys. Each derived key is stored under the name of a member's key.
+/// To store a new derived key, a full cache drops the derived key that was stored least recently.
+/// If the allocation of the cache fails, the cache stays empty.
 #[derive(Drop)]
 pub struct KeptKeys {
     cache: Option<LruCache<Name, DerivedKey>>,
@@ -66,7 +67,8 @@ impl KeptKeys {
     ghost use Rattle.std.specs.Prelude.{◌≡◌, IfSome};
     ghost use Rattle.key_cache.specs.Kept.{IsFresh};
 
-    /// Returns an empty cache with room for 64 keys. If memory runs out, the cache has no room.
+    /// Returns an empty cache with room for 64 derived keys. If memory runs out, the cache can't
+    /// store any derived key.
     pub fn new(alloc: Global) -> KeptKeys
         ensures { IsFresh result }
     {
@@ -78,7 +80,8 @@ impl KeptKeys {
         }
     }
 
-    /// Returns the derived key that is cached under this name, if it was derived from this root.
+    /// Returns the derived key that is cached under this name. Returns `None` unless the key was
+    /// derived from this root.
     fn kept(&self, name: &Name, root: &Root) -> Option<DerivedKey>
         ensures { IfSome result (λ key. key ≡ root.now) }
     {
@@ -89,8 +92,8 @@ impl KeptKeys {
         Some(*kept)
     }
 
-    /// Returns the derived key of a root. Computes the derived key if it isn't in the cache. `name`
-    /// is the name of the key with this root. The cache is unchanged.
+    /// Returns the derived key of a root. Computes the derived key unless the cache has this key
+    /// under `name`. Doesn't change the cache.
     pub fn derived(&self, name: &Name, root: &Root) -> DerivedKey
         ensures { result ≡ root.now }
     {
@@ -98,8 +101,8 @@ impl KeptKeys {
             .unwrap_or_else(|| DerivedKey::of(root))
     }
 
-    /// Stores a derived key under this name, and replaces any older derived key. The stored key
-    /// becomes the most recently used key. If memory runs out, the cache is unchanged.
+    /// Stores a derived key under this name, and replaces any derived key that already has this
+    /// name. If memory runs out, the cache is unchanged.
     pub fn keep(&mut self, name: &Name, key: DerivedKey) {
         if let Some(cache) = &mut self.cache {
             let _ = cache.put(*name, key);

@@ -4,8 +4,8 @@ use super::*;
 use std::fmt::Debug;
 use std::process::Abort;
 
-// Two roots and their derived keys. An independent program computed the derived keys by
-// libmacaroons' method.
+// Two roots and their derived keys. An independent program computed the derived keys in the same
+// way as libmacaroons.
 const ROOT: &[u8; 16] = b"\x00\x11\x22\x33\x44\x55\x66\x77\x88\x99\xaa\xbb\xcc\xdd\xee\xff";
 
 const DERIVED: &[u8; 32] =
@@ -36,8 +36,8 @@ fn expect_derived(rt: &impl Abort, keys: &KeptKeys, name: &Name, root: &Root, wa
     expect_eq(rt, keys.derived(name, root).bytes(), want);
 }
 
-// Looks up a derived key and then caches it. The desk does the same if a pass is signed under the
-// root.
+// Looks up a derived key and then caches it. The desk also does this when a pass is signed under
+// the key's current root.
 fn derive_and_keep(
     rt: &impl Abort,
     keys: &mut KeptKeys,
@@ -81,13 +81,14 @@ fn are_derived_anew(
     }
 }
 
-// A derived key that is cached for one root isn't used for another root. The last cached key stays.
+// A derived key that is cached for one root isn't used for another root. For each name, the cache
+// keeps only the derived key that was stored last.
 #[test]
 fn keeps_a_key_beside_its_root(rt: HostRuntime) {
     are_derived_anew(&rt, &IN_TURN);
 }
 
-// Derives keys for the names `00`, `01` and so on.
+// Derives and caches keys under the names `00`, `01` and so on.
 fn derive_many(rt: &impl Abort, keys: &mut KeptKeys, root: &Root, count: u8) {
     for number in 0..count {
         let name = name(rt, &[b'0' + number / 10 % 10, b'0' + number % 10]);
@@ -95,7 +96,8 @@ fn derive_many(rt: &impl Abort, keys: &mut KeptKeys, root: &Root, count: u8) {
     }
 }
 
-// If 65 keys are cached, the least recently used key is evicted and must be computed again.
+// When the 65th key is stored, the cache drops the key that was stored first. The first key must
+// then be computed again.
 #[test]
 fn keeps_the_last_of_many_keys(rt: HostRuntime) {
     let root = root(&rt, ROOT);
@@ -105,7 +107,8 @@ fn keeps_the_last_of_many_keys(rt: HostRuntime) {
     is_derived_anew(&rt, &mut keys, &name(&rt, b"00"), &root, DERIVED);
 }
 
-// The first of 65 keys is used again and stays in the cache. The second key is evicted.
+// The first of 64 keys is stored again, and then a new key is stored. The cache keeps the first key
+// and drops the second key.
 #[test]
 fn keeps_a_key_that_is_used_again(rt: HostRuntime) {
     let root = root(&rt, ROOT);
@@ -117,8 +120,8 @@ fn keeps_a_key_that_is_used_again(rt: HostRuntime) {
     expect_kept(&rt, &keys, &name(&rt, b"01"), &root, None);
 }
 
-// A lookup alone neither caches a key nor evicts a key. So the derived key of the older root stays
-// in the cache after a rotation, until the desk checks a pass that is signed under the new root.
+// A lookup alone doesn't change the cache. A rotation gives a key a new root. The cache keeps the
+// derived key of the older root until the desk checks a pass that is signed under the new root.
 #[test]
 fn keeps_a_key_until_another_is_kept(rt: HostRuntime) {
     let (root, older) = (root(&rt, ROOT), root(&rt, OTHER_ROOT));
