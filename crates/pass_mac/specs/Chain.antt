@@ -11,22 +11,22 @@ derivation_key = codes "macaroons-key-generator"
 unfoldable pub derived_key : List ℕ → List ℕ
 derived_key root = hmac derivation_key root
 
--- The signature after more caveats are added. The key of each caveat's HMAC is the previous
--- signature.
+-- Returns the signature after these caveats are added to a chain. The key of each caveat's HMAC is
+-- the previous signature.
 abbrev pub extended_signature : List ℕ → List (List ℕ) → List ℕ
 extended_signature signature caveats = fold hmac signature caveats
 
--- The signature of an identifier and its caveats under a derived key.
+-- Returns the signature of a pass with this derived key, identifier and caveats.
 abbrev pub chain : List ℕ → List ℕ → List (List ℕ) → List ℕ
 chain key identifier caveats = extended_signature (hmac key identifier) caveats
 
--- Adding a caveat at the end adds one HMAC to the chain. The key of this HMAC is the previous
--- signature.
+-- The signature with one more caveat is the HMAC of this caveat, with the old signature as the key.
 abbrev pub GrowsByOneHmac : Type 0
 GrowsByOneHmac = (key identifier : List ℕ) (caveats : List (List ℕ)) (caveat : List ℕ) →
     chain key identifier (caveats ++ caveat ∷ []) ≡ hmac (chain key identifier caveats) caveat
 
--- A signature is enough to add more caveats to a pass. The derived key isn't needed.
+-- Caveats can be added to a chain without the derived key. Adding them to the chain's signature
+-- gives the signature of the chain with all caveats.
 abbrev pub NarrowsWithoutTheKey : Type 0
 NarrowsWithoutTheKey = (key identifier signature : List ℕ) (caveats more : List (List ℕ)) →
     signature ≡ chain key identifier caveats → extended_signature signature more ≡ chain key identifier (caveats ++ more)

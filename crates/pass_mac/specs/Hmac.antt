@@ -10,11 +10,11 @@ block_len = 64
 abbrev pub short_key : List ℕ → List ℕ
 short_key key = if nat_lt block_len (length key) then sha256 key else key
 
--- The HMAC key, padded with zero bytes to the length of a block.
+-- The HMAC key or its hash, padded with zero bytes to the length of a block.
 unfoldable pub key_block : List ℕ → List ℕ
 key_block key = short_key key ++ replicate (block_len - length (short_key key)) 0
 
--- The block after each of its bytes is XORed with the pad byte.
+-- Returns the block with each byte XORed with the pad byte.
 abbrev pub masked_block : ℕ → List ℕ → List ℕ
 masked_block pad block = map (λ byte. bit_xor byte pad) block
 

@@ -5,8 +5,9 @@ ghost use Rattle.std.specs.Prelude.{◌≡◌, []};
 use crate::mac::{derive, hmac};
 use std::marker::Model;
 
-/// The signature of a pass while caveats are added. Each caveat replaces the signature by a new
-/// HMAC. In contracts, a `Chain` is represented by its 32 bytes.
+/// The current signature of a pass while a caller adds caveats. Adding a caveat replaces the
+/// signature with a new HMAC. In contracts, a `Chain` is represented by the 32 bytes of its
+/// signature.
 #[derive(Drop)]
 pub struct Chain {
     signature: [u8; 32],
@@ -49,7 +50,8 @@ impl Chain {
         Chain { signature }
     }
 
-    /// Adds a caveat. The new signature is the caveat's HMAC, whose key is the current signature.
+    /// Adds a caveat. The new signature is the HMAC of the caveat, with the old signature as the
+    /// key.
     pub fn add(&mut self, caveat: &[u8])
         ensures { self.new ≡ spec.hmac self.old caveat.now }
     {

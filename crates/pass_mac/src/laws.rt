@@ -2,13 +2,14 @@
 
 ghost use Rattle.pass_mac.specs.Chain.{GrowsByOneHmac, NarrowsWithoutTheKey};
 
-/// States that adding a caveat at the end of a chain adds one HMAC.
+/// States that the signature with one more caveat is the HMAC of this caveat, with the old
+/// signature as the key.
 pub fn grows_by_one_hmac()
     ensures { GrowsByOneHmac }
 {}
 
-/// States that caveats can be added to a signature without the derived key. The result is the
-/// signature of the chain with all caveats.
+/// States that caveats can be added to a chain without the derived key. Adding them to the chain's
+/// signature gives the signature of the chain with all caveats.
 pub fn narrows_without_the_key()
     ensures { NarrowsWithoutTheKey }
 {}
