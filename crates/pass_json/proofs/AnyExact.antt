@@ -1,4 +1,4 @@
--- Lemmas for the proof that a text has exactly one reading, in any of the three forms.
+-- Lemmas for the proof that reading a text in any of the three forms has exactly one result.
 use Rattle.pass_json.proofs.Common.{◌≡◌, ◌↔◌, ℕ, List, length, Some, Result, Ok, Err, FormFault, Form, Plain, WidePass, ReadsTextsExactly, ComputesSpelled}
 use Rattle.pass_json.proofs.{Common.{SpellsForm, IsAnyReading, OneReadingEachText, reading, wide_in, SpellsJson, wide_json, arith}, SameReading.same_answer}
 use Rattle.pass_forms.specs.{Text.{SpellsText, IsTextReading}, V1.SpellsV1, V2.SpellsV2}

@@ -13,7 +13,8 @@ str_of value text e = grind arith
 mapped : (o : Option (List ℕ)) (t : Option (List ℕ)) → option_map (λ bytes. Some bytes) o ≡ Some t → (bytes : List ℕ) × (o ≡ Some bytes) × (t ≡ Some bytes)
 mapped o t e = grind arith
 
--- The same condition as `IsField`, for the values under the plain name and the `64` name.
+-- The condition of `IsField`, stated for the value under the plain name and the value under the
+-- base64 name.
 abbrev IsFieldBytes : Option Data → Option Data → Option (List ℕ) → Type 0
 IsFieldBytes plain base64 None = (plain ≡ None) × (base64 ≡ None)
 IsFieldBytes plain base64 (Some bytes) =

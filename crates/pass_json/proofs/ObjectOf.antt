@@ -12,8 +12,8 @@ use Rattle.json.specs.Tree as tree
 use Rattle.json.proofs.Printed.Utf8.{IsUtf8-are_ascii}
 use Rattle.serde_json.proofs.OnLiterals.{serde_json_on_literals}
 
--- The text of a field. The flag is true if the text belongs under the plain name, and false if it
--- belongs under the `64` name.
+-- The text of a field. The flag is true if the text belongs under the plain name, and false if the
+-- text belongs under the base64 name.
 abbrev pub FieldText : Type 0
 FieldText = Bool × List ℕ
 
@@ -67,8 +67,8 @@ caveat_is bytes = ap object (put_is (codes "i") (codes "i64") bytes no_members �
 location_is : (location : List ℕ) → with_location location no_members ≡ located (location_text location) no_members
 location_is location = grind (arith, put_is, put_first)
 
--- Returns the object of a pass. The version, the signature and the caveats are added to the given
--- members.
+-- Returns the JSON object of a pass. The version, the signature and the caveats are added to the
+-- given members.
 with_others : Items → List ℕ → Members → Data
 with_others caveats signature members =
     object (put (codes "v") (number (unsigned 2)) (put (codes "s64") (string signature) (put (codes "c") (array caveats) members)))
@@ -113,7 +113,7 @@ object_reads pass =
 -- The conditions under which the text of a JSON value is read back as the same value:
 --
 -- - The numbers are valid.
--- - The nesting depth is limited.
+-- - The nesting depth is at most `most`.
 -- - No number is a float.
 -- - All strings are UTF-8.
 pub record IsFine (Numbers : Type 0) (depth most : ℕ) (float : Bool) (Texts : Type 0) : Type 0 where

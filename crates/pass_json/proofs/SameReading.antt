@@ -1,4 +1,4 @@
--- Lemmas for the proof that two texts that encode the same pass have the same reading.
+-- Lemmas for the proof that reading gives the same result for two texts of the same pass.
 use Rattle.pass_json.proofs.Common.{ℕ, ◌<◌, ◌≤◌, Result, FormFault, Plain, WidePass, IsReadAs, UnlessMemory, max_text_len, arith}
 
 abbrev pub Spelling : Type 1

@@ -9,7 +9,7 @@ use Rattle.base64.specs.Engines.{url_safe_no_pad}
 use Rattle.pass_forms.specs.computed.Envelope.{from_base64}
 
 -- The text of a field encodes the given bytes. Under the plain name, the text equals the bytes.
--- Under the `64` name, the text is base64 of the bytes.
+-- Under the base64 name, the text is base64 of the bytes.
 abbrev YieldsBytes : FieldText → List ℕ → Type 0
 YieldsBytes (true, text) bytes = text ≡ bytes
 YieldsBytes (false, text) bytes = from_base64 text ≡ Some bytes

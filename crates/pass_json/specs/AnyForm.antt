@@ -20,13 +20,13 @@ abbrev pub IsReadingInForm : Form → List ℕ → Result (Form × Plain) FormFa
 IsReadingInForm form bytes (Ok read) = (read.0 ≡ form) × IsReadAs (length bytes) (SpellsForm form bytes) (Ok read.1)
 IsReadingInForm form bytes (Err fault) = IsReadAs (length bytes) (SpellsForm form bytes) (Err fault)
 
--- Reading may run out of memory for a JSON text within the limit, and for a V1 or V2 text that
--- passes all checks.
+-- Reading can run out of memory only for these texts: a JSON text within the length limit, and a V1
+-- or V2 text that passes all checks.
 abbrev pub MayRunOut : List ℕ → Type 0
 MayRunOut text =
     ((read : Form × Plain) × IsAnyReading text (Ok read)) ⊎ ((bytes : List ℕ) × IsUnwrapped text (Ok (Json, bytes)))
 
--- The given text is a text of the pass in the given form.
+-- `IsTextIn form pass text` means that `text` is the text of the pass in this form.
 abbrev pub IsTextIn : Form → Plain → List ℕ → Type 0
 IsTextIn V1 pass text = IsV1Text pass text
 IsTextIn V2 pass text = IsV2Text pass text

@@ -1,6 +1,6 @@
 -- Defines the JSON form of a pass. A pass is one object, in the style of libmacaroons' V2 JSON.
--- This project chose which members are optional. A `64` name accepts both base64 alphabets, which
--- is also a choice of this project.
+-- This project chose which members are optional. This project also chose to allow both base64
+-- alphabets under a base64 name such as `i64`.
 use Rattle.std.specs.Prelude.{◌≡◌, ◌⊎◌, ℕ, List, [], ◌∷◌, codes, length, Option, None, Some, unwrap_or, IsSome, IsUtf8, Contains}
 use Rattle.serde_json.specs.{Data.{Data, number, string, array, unsigned, Items, no_items, item}, Find.get, Read.read}
 use Rattle.pass_forms.specs.{Envelope.IsBase64, Pass.{WideCaveat, WidePass}}
@@ -66,7 +66,7 @@ IsVersion (Some value) = value ≡ number (unsigned 2)
 pub record IsPass (value : Data) (wide : WidePass) : Type 0 where
   pub names : HasOnly pass_names value
   pub version : IsVersion (get (codes "v") value)
-  -- A missing location means the empty location.
+  -- If the object has no location, the location of the pass is empty.
   pub location : Option (List ℕ)
   pub is_location : IsField (codes "l") (codes "l64") value location
   pub location_is : wide.location ≡ unwrap_or location []

@@ -10,13 +10,14 @@ use Rattle.pass_json.specs.Json.{SpellsJson}
 abbrev pub base64_text : List ℕ → Data
 base64_text bytes = string (encode_of url_safe_no_pad bytes)
 
--- Adds bytes to the members of an object. If the bytes are UTF-8, the member has the plain name.
--- Otherwise the member has the `64` name, and its value is base64. This project chose this rule.
+-- Adds a member with these bytes to an object. If the bytes are UTF-8, the member has the name
+-- `plain`. Otherwise the member has the name `base64`, and the value is base64 of the bytes. This
+-- project chose this rule.
 unfoldable pub put_member : List ℕ → List ℕ → List ℕ → Members → Members
 put_member plain base64 bytes members =
     if is_utf8 bytes then put plain (string bytes) members else put base64 (base64_text bytes) members
 
--- Adds a location to the members of an object. An empty location isn't added.
+-- Adds a location to the members of an object, unless the location is empty.
 abbrev pub with_location : List ℕ → Members → Members
 with_location [] members = members
 with_location (byte ∷ bytes) members = put_member (codes "l") (codes "l64") (byte ∷ bytes) members
@@ -36,8 +37,8 @@ object_of pass =
     (put (codes "c") (array (caveat_objects pass.caveats))
     (put_member (codes "i") (codes "i64") pass.identifier (with_location pass.location no_members)))))
 
--- Returns the JSON text of a pass, as `serde_json` writes it. The text has no white space. The
--- names of each object are in the order of the names' bytes.
+-- Returns the JSON text of a pass, as `serde_json` writes it. The text has no white space between
+-- tokens. The names in each object are sorted by their bytes.
 unfoldable pub json_text : Plain → List ℕ
 json_text pass = compact_text (object_of pass)
 

@@ -10,14 +10,14 @@ use Rattle.base64.specs.GeneralPurpose.{IsBytes}
 abbrev pub JsonReadsBack : Type 0
 JsonReadsBack = (pass : Plain) (text : List ℕ) → IsWritableText IsJsonText pass text → IsReadBack SpellsJson Json text pass text
 
--- Suppose that the parts of a pass are bytes and the signature has 32 bytes. Then `writing_json`
--- returns the only result that `IsWriting` allows for the pass.
+-- Suppose that each part of a pass is a list of bytes, and the signature has 32 bytes. Then
+-- `writing_json` returns the only result that `IsWriting` allows for the pass.
 abbrev pub WritesJsonExactly : Type 0
 WritesJsonExactly = (pass : Plain) (answer : Result (List ℕ) FormFault) → HasBytes pass → length pass.signature ≡ 32 →
     (writing_json pass ≡ answer) ↔ IsWriting IsJsonText pass answer
 
--- Suppose that a text wraps bytes, and the length of these bytes is within the limit. Then reading
--- the text gives the same result as reading the bytes in their form.
+-- Suppose that unwrapping a text gives a form and bytes, and the number of bytes is within the
+-- limit. Then reading the text gives the same result as reading the bytes in this form.
 abbrev pub ReadsWhatIsWrapped : Type 0
 ReadsWhatIsWrapped = (text bytes : List ℕ) (form : Form) (answer : Result (Form × Plain) FormFault)
     → IsUnwrapped text (Ok (form, bytes)) → length bytes ≤ max_text_len
@@ -27,7 +27,7 @@ ReadsWhatIsWrapped = (text bytes : List ℕ) (form : Form) (answer : Result (For
 abbrev pub RefusesWhatWrapsNothing : Type 0
 RefusesWhatWrapsNothing = (text : List ℕ) (fault : FormFault) → IsUnwrapped text (Err fault) → IsAnyReading text (Err fault)
 
--- For each text that is a list of bytes, `reading` returns the only result that `IsAnyReading`
+-- If each element of a text is a byte, `reading` returns the only result that `IsAnyReading`
 -- allows.
 abbrev pub ReadsAnyFormExactly : Type 0
 ReadsAnyFormExactly = (text : List ℕ) (answer : Result (Form × Plain) FormFault) →
@@ -42,8 +42,8 @@ abbrev pub AnyFormReadsBack : Type 0
 AnyFormReadsBack = (form : Form) (pass : Plain) (text : List ℕ) → HasBytes pass →
     IsWritableText (IsTextIn form) pass text → IsAnyReading text (Ok (form, pass))
 
--- Suppose that the parts of a pass are bytes and the signature has 32 bytes. Then `writing` returns
--- the only result that `IsWriting` allows for the pass.
+-- Suppose that each part of a pass is a list of bytes, and the signature has 32 bytes. Then
+-- `writing` returns the only result that `IsWriting` allows for the pass.
 abbrev pub WritesAnyFormExactly : Type 0
 WritesAnyFormExactly = (form : Form) (pass : Plain) (answer : Result (List ℕ) FormFault) → HasBytes pass → length pass.signature ≡ 32 →
     (writing form pass ≡ answer) ↔ IsWriting (IsTextIn form) pass answer

@@ -42,7 +42,7 @@ pub fn read_any(alloc: Global, text: &[u8]) -> Result<(Form, Pass), FormFault>
     unwrapping(alloc, text)
 }
 
-// Unwraps a text and reads the bytes. Returns the form and the pass.
+// Unwraps a text and reads the unwrapped bytes. Returns the form and the pass.
 fn unwrapping(alloc: Global, text: &[u8]) -> Result<(Form, Pass), FormFault>
     ensures spelling { UnlessMemory (IsAnyReading text.now) result }
     ensures memory { result ≡ Err Memory → MayRunOut text.now }

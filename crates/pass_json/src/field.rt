@@ -1,5 +1,5 @@
-//! Reads one field of a JSON object. A field is a string under a plain name, or base64 under a `64`
-//! name.
+//! Reads one field of a JSON object. A field is either a string under a plain name such as `i`, or
+//! base64 under a base64 name such as `i64`.
 
 ghost use Rattle.std.specs.Prelude.{◌≡◌, Some, option_map, IfErr, IfOk};
 ghost use Rattle.serde_json.specs.{Find.as_str, View.view};
@@ -9,8 +9,8 @@ use pass_forms::{FormFault, decode_base64};
 use serde_json::Value;
 use std::alloc::Global;
 
-/// Returns the bytes of a field, or `None` if the object has neither the plain name nor the `64`
-/// name.
+/// Returns the bytes of a field, or `None` if the object has neither the name `plain` nor the name
+/// `base64`.
 #[tactic(auto, unfolding(crate::specs::computed::JsonReading::field_from))]
 pub fn field(
     alloc: Global,

@@ -3,9 +3,9 @@
 use pass_forms::{Field, FieldSource, Pass, PassFields};
 use std::marker::Model;
 
-/// An iterator over the fields of a pass that `read_json` or `read_any` returned. Each field is a
-/// slice of the pass. Contracts see a `JsonFields` as the list of fields that the iterator hasn't
-/// returned yet.
+/// An iterator over the fields of a pass that `read_json` or `read_any` returned. The iterator
+/// allocates no memory. In contracts, a `JsonFields` is represented by the list of fields that the
+/// iterator hasn't returned yet.
 #[derive(Drop)]
 pub struct JsonFields<'a> {
     fields: PassFields<'a>,

@@ -13,21 +13,21 @@ use pass_forms::laws::{
     texts_read_back, wraps_one, writes_exactly,
 };
 
-/// In JSON, a list of bytes encodes at most one wide pass.
+/// In JSON, a list of bytes encodes at most one `WidePass`.
 pub fn one_pass_for_each_json()
     ensures { OnePassEach SpellsJson }
 {
     from_base64_is_base64();
 }
 
-/// In JSON, a list of bytes encodes a wide pass if and only if `wide_json` returns this wide pass.
+/// `wide_json` returns a `WidePass` if and only if the bytes encode this `WidePass` in JSON.
 pub fn computes_json()
     ensures { ComputesSpelled SpellsJson wide_json }
 {
     from_base64_is_base64();
 }
 
-/// In JSON, `reading_json` returns the only result that `IsReadAs` allows for a list of bytes.
+/// For each list of bytes, `reading_json` returns the only result that `IsReadAs` allows for JSON.
 #[tactic(auto, using(crate::proofs::JsonExact::reading_json_exact))]
 pub fn reads_json_exactly()
     ensures { ReadsExactly SpellsJson reading_json }
@@ -36,7 +36,7 @@ pub fn reads_json_exactly()
     answers_exactly();
 }
 
-/// For each text that is a list of bytes, `reading` returns the only result that `IsAnyReading`
+/// If each element of a text is a byte, `reading` returns the only result that `IsAnyReading`
 /// allows.
 #[tactic(auto, using(crate::proofs::AnyExact::reading_exact))]
 pub fn reads_any_form_exactly()
@@ -48,8 +48,8 @@ pub fn reads_any_form_exactly()
     reads_texts_exactly();
 }
 
-/// Suppose that a text wraps bytes, and the length of these bytes is within the limit. Then reading
-/// the text gives the same result as reading the bytes in their form.
+/// Suppose that unwrapping a text gives a form and bytes, and the number of bytes is within the
+/// limit. Then reading the text gives the same result as reading the bytes in this form.
 #[tactic(auto, using(crate::proofs::Wrapped::reads_wrapped))]
 pub fn reads_what_is_wrapped()
     ensures { ReadsWhatIsWrapped }
@@ -68,8 +68,8 @@ pub fn json_reads_back()
     ensures { JsonReadsBack }
 {}
 
-/// Suppose that the parts of a pass are bytes and the signature has 32 bytes. Then `writing_json`
-/// returns the only result that `IsWriting` allows for the pass.
+/// Suppose that each part of a pass is a list of bytes, and the signature has 32 bytes. Then
+/// `writing_json` returns the only result that `IsWriting` allows for the pass.
 #[tactic(auto, using(crate::proofs::WritingJson::exact_json))]
 pub fn writes_json_exactly()
     ensures { WritesJsonExactly }
@@ -92,8 +92,8 @@ pub fn any_form_reads_back()
     json_reads_back();
 }
 
-/// Suppose that the parts of a pass are bytes and the signature has 32 bytes. Then `writing`
-/// returns the only result that `IsWriting` allows for the pass.
+/// Suppose that each part of a pass is a list of bytes, and the signature has 32 bytes. Then
+/// `writing` returns the only result that `IsWriting` allows for the pass.
 #[tactic(auto, using(crate::proofs::InEachForm::exact_in_any_form))]
 pub fn writes_any_form_exactly()
     ensures { WritesAnyFormExactly }

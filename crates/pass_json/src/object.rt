@@ -16,8 +16,9 @@ const PASS_NAMES: [&str; 8] = ["v", "l", "l64", "i", "i64", "c", "s", "s64"];
 
 const CAVEAT_NAMES: [&str; 6] = ["i", "i64", "l", "l64", "v", "v64"];
 
-/// The result of parsing a pass's object. The pass doesn't include the verifier ids and locations
-/// of caveats. The flag `third_party` is true if any caveat is a third-party caveat.
+/// The result of parsing the JSON object of a pass. The field `pass` doesn't include the verifier
+/// ids and locations of caveats. The flag `third_party` is true if any caveat is a third-party
+/// caveat.
 #[derive(Drop)]
 pub struct Read {
     pub pass: Pass,
@@ -65,7 +66,7 @@ pub fn pass_from(alloc: Global, value: &Value) -> Result<Read, FormFault>
     })
 }
 
-// Returns whether the version is the whole number 2 or is missing.
+// Returns whether the version is missing or is the whole number 2.
 fn is_version(value: &Value) -> bool
     ensures { result ≡ reading.is_version (get (codes "v") (view value.now)) }
 {

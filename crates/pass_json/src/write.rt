@@ -18,9 +18,9 @@ use pass_forms::{FormFault, MAX_CAVEATS, MAX_TEXT, Pass};
 use serde_json::{Map, Value, put};
 use std::alloc::{AllocError, Global};
 
-/// Returns the text of a pass in JSON. The text has no white space. The names of each object are in
-/// the order of the names' bytes. The writer uses a `64` name only for the signature and for bytes
-/// that aren't UTF-8.
+/// Returns the text of a pass in JSON. The text has no white space between tokens. The names in
+/// each object are sorted by their bytes. The names of base64 fields end in `64`. Only the
+/// signature and bytes that aren't UTF-8 are in base64.
 ///
 /// # Errors
 ///
@@ -132,8 +132,8 @@ fn caveat_object(alloc: Global, caveat: &[u8]) -> Result<Value, AllocError>
     Ok(Value::Object(members))
 }
 
-// Adds bytes to the members of an object. If the bytes are UTF-8, the member has the plain name.
-// Otherwise the member has the `64` name, and its value is base64.
+// Adds a member with these bytes to an object. If the bytes are UTF-8, the member has the name
+// `plain`. Otherwise the member has the name `base64`, and the value is base64 of the bytes.
 #[tactic(auto, unfolding(crate::specs::JsonWriting::put_member))]
 fn put_field(
     alloc: Global,

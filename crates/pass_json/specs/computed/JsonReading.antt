@@ -12,9 +12,9 @@ use Rattle.pass_json.specs.Json.{caveat_names, pass_names}
 abbrev pub decoded_text : Data → Option (List ℕ)
 decoded_text value = as_str value >>= from_base64
 
--- Returns the bytes of a field. The first argument is the value under the plain name. The second
--- argument is the value under the `64` name. `Some None` means that the object has neither name.
--- `None` means that the field is malformed.
+-- Returns the bytes of a field. The first argument is the value under the plain name, such as `i`.
+-- The second argument is the value under the base64 name, such as `i64`. `Some None` means that the
+-- object has neither name. `None` means that the field is malformed.
 abbrev pub field_bytes : Option Data → Option Data → Option (Option (List ℕ))
 field_bytes None None = Some None
 field_bytes (Some value) None = option_map (λ bytes. Some bytes) (as_str value)
@@ -59,7 +59,7 @@ abbrev pub is_version : Option Data → Bool
 is_version None = true
 is_version (Some value) = unwrap_or (option_map (λ n. n == 2) (as_number value >>= as_u64)) false
 
--- Returns the bytes if there are `len` bytes, or `None` otherwise.
+-- Returns the bytes if the list has exactly `len` bytes, or `None` otherwise.
 abbrev pub of_length : ℕ → List ℕ → Option (List ℕ)
 of_length len bytes = if length bytes == len then Some bytes else None
 
@@ -88,7 +88,7 @@ value_of bytes = if is_utf8 bytes then read bytes else None
 unfoldable pub wide_json : List ℕ → Option WidePass
 wide_json bytes = value_of bytes >>= pass_from
 
--- Reads bytes in JSON. Returns the pass, or the first fault that applies.
+-- Reads a pass from JSON bytes. Returns the pass, or the first fault that applies.
 unfoldable pub reading_json : List ℕ → Result Plain FormFault
 reading_json bytes = reading_of (length bytes) (wide_json bytes)
 
@@ -100,8 +100,9 @@ kept_caveat caveat = (first_party_caveat caveat, is_third_party caveat)
 abbrev pub kept_caveats : List WideCaveat → List (List ℕ) × Bool
 kept_caveats caveats = (map first_party_caveat caveats, list_any is_third_party caveats)
 
--- The faults that the parser of one part may return. `Malformed` is possible only if the part is
--- malformed. `Memory` is always possible.
+-- The faults that a parser of one part of the JSON may return. `found` is the parsed part, or
+-- `None` if the part is malformed. `Malformed` is possible only if the part is malformed. `Memory`
+-- is always possible.
 abbrev pub RefusesPart : {A : Type 0} → Option A → FormFault → Type 0
 RefusesPart found Malformed = found ≡ None
 RefusesPart found Memory = Unit {0}

@@ -1,4 +1,5 @@
--- Each iteration preserves the combined result of the parsed caveats and the remaining caveats.
+-- The result for the list equals the parsed caveats combined with the result for the remaining
+-- caveats.
 use Rattle.pass_json.proofs.{CaveatList.{kept_of, with_kept}, Common.{◌≡◌, map, drop, items_view}}
 use Rattle.pass_json.proofs.object.all_caveats.Given as goal
 

@@ -2,7 +2,7 @@ use Rattle.pass_json.proofs.Common.{◌≡◌, ℕ, List, Bool, true, false, con
 use Rattle.pass_json.proofs.Common.{read, value_of}
 use Rattle.pass_json.proofs.read.value_of.Goals as goal
 
--- The result is `None` if the bytes aren't UTF-8 or aren't JSON.
+-- The parsed value is `None` if the bytes aren't UTF-8 or aren't JSON.
 no_value : (bytes : List ℕ) (test : Bool) (found : Option Data) → is_utf8 bytes ≡ test → (IsUtf8 bytes → found ≡ None) → cond test found None ≡ None
 no_value bytes true found e none = none (IsUtf8-from_is_utf8 bytes e)
 no_value bytes false found e none = refl

@@ -1,5 +1,5 @@
--- The list contains the objects of the caveats before the current index. Each of these caveats is a
--- list of bytes.
+-- The list `objects` contains the JSON objects of the caveats before the current index. Each of
+-- these caveats is a list of bytes.
 use Rattle.pass_json.proofs.Common.{◌≡◌, map, take, AllByRecursion, IsBytes, view, caveat_object}
 use Rattle.pass_json.proofs.write.caveat_objects.Given as goal
 
