@@ -1,4 +1,4 @@
--- Lemmas for the proof that a text has exactly one reading.
+-- Lemmas for the proof that reading a text has exactly one result.
 use Rattle.pass_forms.proofs.Common.{◌≡◌, ◌↔◌, ℕ, ◌≤◌, Bool, false, cond, ltb, ◌||◌, List, [], ◌∷◌, length, map, Option, Some, None, Result, Ok, Err, refl, ap}
 use Rattle.pass_forms.proofs.Common.{subst, arith, is_some, list_any, length-map, or_parts, le-ltb, lt-ltb, FormFault, TooLong, Malformed, ThirdParty, TooMany}
 use Rattle.pass_forms.proofs.Common.{Memory, ComputesSpelled, OnePassEach, Plain, WideCaveat, WidePass, is_third_party, has_third_party, widened_caveat}

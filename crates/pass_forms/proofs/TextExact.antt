@@ -1,4 +1,4 @@
--- Lemmas for the proof that a text has exactly one reading, in any form.
+-- Lemmas for the proof that reading a text in any form has exactly one result.
 use Rattle.pass_forms.proofs.{Checking.{Computes, checked_if_any_is, checked_determined}, Common.{◌≡◌, ◌↔◌, ℕ, ◌≤◌, List, length, Option, Some, Result, Ok}}
 use Rattle.pass_forms.proofs.Common.{Err, refl, sym, ap, subst, ◌∙◌, arith, rules, FormFault, TooLong, Malformed, ThirdParty, TooMany, Form, Wraps, IsUnwrapped}
 use Rattle.pass_forms.proofs.{Common.{unwrapping, Plain, WidePass, as_wide_pass, max_text_len, IsReadAs}, EnvelopeLaws.{wraps_one, unwrapped_answers}}

@@ -15,7 +15,7 @@ caveat_takes : (bytes : List ℕ) (found : WideCaveat × List ℕ) → caveat_at
 unfolding caveat_at
 caveat_takes bytes found e = grind (arith, common_steps, optional_takes, field_takes, after_prefix_takes)
 
--- The parser of a field doesn't accept a field of another type.
+-- The parser of a location field doesn't accept an identifier field.
 not_location : (text rest : List ℕ) → field_at types.location (field types.identifier text ++ rest) ≡ None
 unfolding field_at
 not_location text rest = refl

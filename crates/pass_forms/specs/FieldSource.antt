@@ -22,16 +22,16 @@ abbrev pub if_left : {A : Type 0} → (A → PassField) → Option A → List Pa
 if_left field None = []
 if_left field (Some bytes) = field bytes ∷ []
 
--- Returns the fields that a source hasn't returned yet. The value of a field that the source has
--- already returned is `None`. The function `bytes` returns the bytes of a location or an
--- identifier.
+-- Returns the fields that a source hasn't returned yet. The argument `location`, `identifier` or
+-- `signature` is `None` if the source has already returned this field. The function `bytes` returns
+-- the bytes of a location or an identifier.
 abbrev pub those_left : {A : Type 0} → (A → List ℕ) → Option A → Option A → List (List ℕ) → Option (List ℕ) → List PassField
 those_left bytes location identifier caveats signature =
     if_left (λ l. location_field (bytes l)) location ++ (if_left (λ i. identifier_field (bytes i)) identifier
     ++ (map caveat_field caveats ++ if_left signature_field signature))
 
--- Converts a result of reading to a result of opening. A fault stays unchanged, and the function
--- `fields` returns the list of fields.
+-- Converts the result of reading a pass to the result of `Fields::open`. A fault stays unchanged.
+-- The function `fields` returns the fields of a successful result.
 abbrev pub opening_by : {A : Type 0} → (A → List PassField) → Result A FormFault → Result (List PassField) FormFault
 opening_by fields (Ok read) = Ok (fields read)
 opening_by fields (Err fault) = Err fault
@@ -39,8 +39,8 @@ opening_by fields (Err fault) = Err fault
 abbrev pub opening_of : Result Plain FormFault → Result (List PassField) FormFault
 opening_of reading = opening_by pass_fields reading
 
--- The result of opening is a list of fields or a fault. `Reads` must allow the fault, or a pass
--- with these fields.
+-- If the result of `Fields::open` is a fault, `Reads` allows this fault. If the result is a list of
+-- fields, `Reads` allows a pass with these fields.
 abbrev pub IsOpening : (Result Plain FormFault → Type 0) → Result (List PassField) FormFault → Type 0
 IsOpening Reads (Ok fields) = (pass : Plain) × Reads (Ok pass) × (fields ≡ pass_fields pass)
 IsOpening Reads (Err fault) = Reads (Err fault)
@@ -52,8 +52,8 @@ as_field (Identifier bytes) = identifier_field bytes.now
 as_field (Caveat bytes) = caveat_field bytes.now
 as_field (Signature bytes) = signature_field bytes
 
--- The list of fields begins with caveats and a signature. The signature is the last signature of
--- the chain, after these caveats are added to the chain (Macaroons, NDSS 2014).
+-- The list of fields begins with caveats and a signature. The signature equals the signature of the
+-- chain after these caveats are added (Macaroons, NDSS 2014).
 pub record AreSignedBy (chain : List ℕ) (fields : List PassField) : Type 0 where
   pub caveats : List (List ℕ)
   pub rest : List PassField

@@ -6,8 +6,8 @@ use Rattle.pass_forms.specs.computed.{Envelope.{from_base64, unwrapping}, Pass.i
 use Rattle.pass_forms.specs.{computed.Writing.{writing_v1, writing_v2}, declared.{fault.FormFault.FormFault, form.Form.{Form, TheVariants.{V1, V2}}}}
 use Rattle.base64.specs.GeneralPurpose.{IsBytes}
 
--- Suppose that a text encodes only the wide pass `computed`, or no wide pass if `computed` is
--- `None`. Then `reading_of` returns the only result that `IsReadAs` allows.
+-- `reading_of` returns the only result that `IsReadAs` allows. `len` is the length of a text.
+-- `computed` is the wide pass that the text encodes, or `None`.
 abbrev pub AnswersExactly : Type 0
 AnswersExactly = (len : ℕ) (computed : Option WidePass) (answer : Result Plain FormFault) →
     IsReadAs len (λ wide. computed ≡ Some wide) answer ↔ (reading_of len computed ≡ answer)
@@ -16,22 +16,23 @@ AnswersExactly = (len : ℕ) (computed : Option WidePass) (answer : Result Plain
 abbrev pub OnePassEach : (List ℕ → WidePass → Type 0) → Type 0
 OnePassEach Spells = (bytes : List ℕ) (one other : WidePass) → Spells bytes one → Spells bytes other → one ≡ other
 
--- A list of bytes encodes a wide pass if and only if `wide_at` returns this wide pass.
+-- `wide_at` returns a wide pass if and only if the bytes encode this wide pass.
 abbrev pub ComputesSpelled : (List ℕ → WidePass → Type 0) → (List ℕ → Option WidePass) → Type 0
 ComputesSpelled Spells wide_at = (bytes : List ℕ) (wide : WidePass) → Spells bytes wide ↔ (wide_at bytes ≡ Some wide)
 
--- The function `reading` returns the only result that `IsReadAs` allows for a list of bytes.
+-- For each list of bytes, `reading` returns the only result that `IsReadAs` allows.
 abbrev pub ReadsExactly : (List ℕ → WidePass → Type 0) → (List ℕ → Result Plain FormFault) → Type 0
 ReadsExactly Spells reading = (bytes : List ℕ) (answer : Result Plain FormFault) →
     IsReadAs (length bytes) (Spells bytes) answer ↔ (reading bytes ≡ answer)
 
--- A pass text wraps at most one list of bytes, and these bytes have only one form.
+-- A pass text has at most one form, and wraps at most one list of bytes.
 abbrev pub WrapsOne : Type 0
 WrapsOne = (text : List ℕ) (form other_form : Form) (bytes other_bytes : List ℕ)
     → Wraps text form bytes → Wraps text other_form other_bytes
     → (form ≡ other_form) × (bytes ≡ other_bytes)
 
--- If a pass text is a list of bytes, the list that the text wraps is also a list of bytes.
+-- If each element of a pass text is a byte, each element of the list that the text wraps is also a
+-- byte.
 abbrev pub WrapsBytes : Type 0
 WrapsBytes = (text : List ℕ) (form : Form) (bytes : List ℕ)
     → IsBytes text → Wraps text form bytes → IsBytes bytes
@@ -63,8 +64,7 @@ abbrev pub WritesExactly : Type 0
 WritesExactly = (pass : Plain) (answer : Result (List ℕ) FormFault) → length pass.signature ≡ 32 →
     ((writing_v1 pass ≡ answer) ↔ IsWriting IsV1Text pass answer) × ((writing_v2 pass ≡ answer) ↔ IsWriting IsV2Text pass answer)
 
--- Adding a caveat to a pass that is signed under a root gives a pass that is signed under the same
--- root.
+-- A pass that is signed under a root stays signed under this root when a caveat is added.
 abbrev pub NarrowedStaysSigned : Type 0
 NarrowedStaysSigned = (root caveat : List ℕ) (pass : Plain) → IsSigned root pass → IsSigned root (with_caveat caveat pass)
 

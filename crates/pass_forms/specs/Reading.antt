@@ -29,7 +29,8 @@ IsReadAs len Spelled (Err TooMany) =
     (len ≤ max_text_len) × (wide : WidePass) × Spelled wide × (has_third_party wide ≡ false) × (max_caveats < length wide.caveats)
 IsReadAs len Spelled (Ok pass) =
     (len ≤ max_text_len) × Spelled (as_wide_pass pass) × (length pass.caveats ≤ max_caveats)
--- This definition never allows the fault `Memory`, because no text requires running out of memory.
+-- This definition never allows the fault `Memory`, because it describes a reader with enough
+-- memory.
 IsReadAs len Spelled (Err Memory) = ⊥
 
 -- The result satisfies the predicate `Holds`, or the result is the fault `Memory`.
@@ -42,7 +43,7 @@ UnlessMemory Holds (Err TooMany) = Holds (Err TooMany)
 UnlessMemory Holds (Ok read) = Holds (Ok read)
 
 -- The result satisfies the predicate `Holds`, or the result is the fault `Memory`. The fault
--- `Memory` is possible only if `Holds` allows a success.
+-- `Memory` is possible only if `Holds` is true for some successful result.
 abbrev pub OrOutOfMemory : {A : Type 0} → (Result A FormFault → Type 0) → Result A FormFault → Type 0
 OrOutOfMemory {A} Holds (Err Memory) = (read : A) × Holds (Ok read)
 OrOutOfMemory Holds (Err TooLong) = Holds (Err TooLong)

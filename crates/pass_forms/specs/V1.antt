@@ -36,7 +36,7 @@ optional_packet key None = []
 optional_packet key (Some bytes) = packet key bytes
 
 -- Returns the packets of a caveat. The packet with the identifier comes first. A third-party caveat
--- may add a packet with a verifier id and a packet with a location.
+-- may also have a packet with a verifier id and a packet with a location.
 abbrev pub caveat_packets : WideCaveat → List ℕ
 caveat_packets caveat =
     packet (codes "cid ") caveat.identifier ++ (optional_packet (codes "vid ") caveat.verifier_id

@@ -4,14 +4,15 @@ use Rattle.std.specs.List.{flat_map}
 use Rattle.std.specs.Prelude.{◌≡◌, ℕ, zero, suc, ◌+◌, ◌/◌, ◌%◌, nat_lt, if◌then◌else◌, List, [], ◌∷◌, ◌++◌, length, Option, Some, None, unwrap_or}
 use Rattle.pass_forms.specs.Pass.{WideCaveat, WidePass}
 
--- Encodes the number `n` in groups of seven bits, one group for each byte. The lowest group comes
--- first. Each byte except the last has its top bit set. This project accepts only the shortest
--- encoding. The first argument limits the number of bytes before the last byte.
+-- Encodes the number `n` in groups of seven bits, with one group in each byte. The lowest group
+-- comes first. Each byte except the last has its top bit set. This project accepts only the
+-- shortest encoding. The first argument limits the number of bytes before the last byte.
 unfoldable pub groups : ℕ → ℕ → List ℕ
 groups zero n = n ∷ []
 groups (suc more) n = if nat_lt n 128 then n ∷ [] else (128 + n % 128) ∷ groups more (n / 128)
 
--- Returns the varint encoding of a number. The limit `n` is large enough for all groups of `n`.
+-- Returns the varint encoding of a number. The limit `n` is large enough for the encoding of the
+-- number `n`.
 unfoldable pub varint : ℕ → List ℕ
 varint n = groups n n
 
@@ -39,8 +40,9 @@ caveat_section caveat =
     optional_field types.location caveat.location ++ (field types.identifier caveat.identifier
     ++ (optional_field types.verifier_id caveat.verifier_id ++ end_of_section))
 
--- Returns the bytes of a pass in V2. The first byte is the version 2. The other bytes are the
--- header, the caveats and the signature, in this order. The header may have no location.
+-- Returns the bytes of a pass in V2. The first byte is the version number, which is 2. The other
+-- bytes are the header, the caveats and the signature, in this order. The header may have no
+-- location.
 abbrev pub sections : Option (List ℕ) → WidePass → List ℕ
 sections location wide =
     2 ∷ optional_field types.location location ++ (field types.identifier wide.identifier ++ (end_of_section

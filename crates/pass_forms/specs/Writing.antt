@@ -1,5 +1,5 @@
--- Defines the results of writing a pass. In each form, a pass has only one text that a writer may
--- return. This project chose the limits, the order of the faults, and base64 without padding.
+-- Defines the results of writing a pass. In each form, a writer may return only one text for a
+-- pass. This project chose the limits, the order of the faults, and base64 without padding.
 use Rattle.std.specs.{List.AllByRecursion, Prelude.{◌≡◌, ℕ, ◌<◌, ◌≤◌, List, [], ◌∷◌, ◌++◌, length, Option, None, Some, Result, Ok, Err, IsOk}}
 use Rattle.base64.specs.{Engines.url_safe_no_pad, GeneralPurpose.{IsBytes, encode_of}}
 use Rattle.pass_mac.specs.Hmac.{hmac}
@@ -25,7 +25,8 @@ nonempty_location (byte ∷ bytes) = Some (byte ∷ bytes)
 unfoldable pub v2_bytes : Plain → List ℕ
 v2_bytes pass = sections (nonempty_location pass.location) (as_wide_pass pass)
 
--- The text is the base64 encoding of the pass's bytes in one form, and these bytes encode the pass.
+-- The text is base64 of the bytes that `bytes_of` returns for the pass. These bytes encode the
+-- pass.
 pub record IsTextBy (bytes_of : Plain → List ℕ) (Spells : List ℕ → WidePass → Type 0) (pass : Plain) (text : List ℕ) : Type 0 where
   pub encoding : text ≡ in_base64 (bytes_of pass)
   pub spelling : Spells (bytes_of pass) (as_wide_pass pass)
@@ -36,7 +37,7 @@ IsV1Text pass text = IsTextBy v1_bytes SpellsV1 pass text
 abbrev pub IsV2Text : Plain → List ℕ → Type 0
 IsV2Text pass text = IsTextBy v2_bytes SpellsV2 pass text
 
--- A writer may return this text of the pass. The length of the text and the number of caveats are
+-- A writer may return this text for the pass. The length of the text and the number of caveats are
 -- within the limits.
 pub record IsWritableText (IsText : Plain → List ℕ → Type 0) (pass : Plain) (text : List ℕ) : Type 0 where
   pub is_text : IsText pass text
@@ -55,7 +56,8 @@ IsWriteFault IsText pass Memory = (text : List ℕ) × IsWritableText IsText pas
 IsWriteFault IsText pass other = ⊥
 
 -- The result of writing a pass is a text that a writer may return, or the first fault that applies.
--- This definition never allows the fault `Memory`, because no pass requires running out of memory.
+-- This definition never allows the fault `Memory`, because it describes a writer with enough
+-- memory.
 abbrev pub IsWriting : (Plain → List ℕ → Type 0) → Plain → Result (List ℕ) FormFault → Type 0
 IsWriting IsText pass (Ok text) = IsWritableText IsText pass text
 IsWriting IsText pass (Err TooLong) = IsWriteFault IsText pass TooLong

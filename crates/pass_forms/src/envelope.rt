@@ -1,4 +1,5 @@
-//! The envelope of a pass text: plain JSON, or base64 of the bytes of any form.
+//! Finds the form and the bytes of a pass text. A pass text is plain JSON, or base64 of a pass in
+//! any form.
 
 ghost use Rattle.std.specs.{Option.{option_map, option_or}, Prelude.{◌≡◌, ◌↔◌, ℕ, ◌≤◌, List}};
 ghost use Rattle.std.specs.Prelude.{Option, Some, length, take, IfOk, IfSome};
@@ -18,12 +19,12 @@ use std::alloc::{AllocError, Global};
 /// The maximum length of a pass text, in bytes.
 pub const MAX_TEXT: usize = 8192;
 
-/// The maximum number of bytes that base64 text of `MAX_TEXT` characters can encode.
+/// The maximum number of bytes that a base64 text of `MAX_TEXT` characters can encode.
 pub const MAX_BYTES: usize = 6144;
 
-/// The form of a pass, and the position of the pass's bytes. If `plain` is true, the pass is the
-/// text itself. Otherwise the pass is the first `len` bytes of the buffer. In both cases, `len` is
-/// the number of bytes of the pass.
+/// The form of a pass and the position of the pass's bytes, as returned by `unwrap_text`. If
+/// `plain` is true, the pass is the text itself. Otherwise the pass is the first `len` bytes of the
+/// buffer. In both cases, `len` is the number of bytes of the pass.
 #[derive(Clone, Copy, Debug, PartialEq, Eq)]
 pub struct Unwrapped {
     pub form: Form,
@@ -33,7 +34,8 @@ pub struct Unwrapped {
 
 impl Unwrapped {
     /// Returns the bytes of the pass. The arguments must be the text and the buffer of the call to
-    /// `unwrap_text`. If `len` is more than the buffer's length, returns the whole buffer.
+    /// `unwrap_text`. If `plain` is false and `len` is more than the buffer's length, returns the
+    /// whole buffer.
     pub fn bytes<'a>(&self, text: &'a [u8], buffer: &'a [u8; MAX_BYTES]) -> &'a [u8]
         ensures { result.now ≡ unwrapped_bytes self.now text.now buffer.now }
     {
@@ -54,8 +56,8 @@ impl Unwrapped {
 /// - `{` for JSON
 /// - `0` to `9` or `a` to `f` for V1
 ///
-/// The rest of the buffer is unspecified. After a fault, the whole buffer is unspecified. The call
-/// allocates no memory.
+/// The bytes of the buffer after the decoded bytes are unspecified. After a fault, the whole buffer
+/// is unspecified. The call allocates no memory.
 ///
 /// # Errors
 ///

@@ -10,9 +10,9 @@ use std::fmt;
 /// The reason why a call couldn't read, write or narrow a pass.
 #[derive(Clone, Copy, Debug, PartialEq, Eq)]
 pub enum FormFault {
-    /// The text or the bytes of the pass have, or would have, more than 8,192 bytes.
+    /// The input has more than 8,192 bytes, or the output would have more than 8,192 bytes.
     TooLong,
-    /// The text doesn't encode a pass.
+    /// The input doesn't encode a pass.
     Malformed,
     /// The pass has a third-party caveat.
     ThirdParty,

@@ -1,6 +1,7 @@
 //! Reads the fields of a pass one after another.
 
-/// One field of a pass. The bytes of the field are a slice of the input.
+/// One field of a pass. The bytes of a location, an identifier or a caveat are a slice of the
+/// input.
 #[derive(Clone, Copy, Debug, Drop, PartialEq, Eq)]
 pub enum Field<'a> {
     /// A hint about where the pass is valid. The location may be empty.
@@ -9,7 +10,7 @@ pub enum Field<'a> {
     Identifier(&'a [u8]),
     /// A first-party caveat.
     Caveat(&'a [u8]),
-    /// The signature of the pass, which is the last signature of the chain.
+    /// The signature of the pass. A valid signature is the last signature of the pass's chain.
     Signature([u8; 32]),
 }
 

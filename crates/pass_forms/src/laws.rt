@@ -9,12 +9,13 @@ ghost use Rattle.pass_forms.specs.{V1.SpellsV1, V2.SpellsV2};
 ghost use Rattle.pass_forms.specs.computed.V1Reading as v1;
 ghost use Rattle.pass_forms.specs.computed.V2Reading as v2;
 
-/// A pass text wraps at most one list of bytes, and these bytes have only one form.
+/// A pass text has at most one form, and wraps at most one list of bytes.
 pub fn wraps_one()
     ensures { WrapsOne }
 {}
 
-/// If a pass text is a list of bytes, the list that the text wraps is also a list of bytes.
+/// If each element of a pass text is a byte, each element of the list that the text wraps is also a
+/// byte.
 pub fn wraps_bytes()
     ensures { WrapsBytes }
 {}
@@ -31,47 +32,47 @@ pub fn unwrapped_is_the_answer()
     ensures { UnwrappedIsTheAnswer }
 {}
 
-/// In V1, a list of bytes encodes at most one wide pass.
+/// In V1, a list of bytes encodes at most one `WidePass`.
 pub fn one_pass_for_each_v1()
     ensures { OnePassEach SpellsV1 }
 {}
 
-/// In V1, a list of bytes encodes a wide pass if and only if `wide_at` returns this wide pass.
+/// In V1, `wide_at` returns a `WidePass` if and only if the bytes encode this `WidePass`.
 pub fn computes_v1()
     ensures { ComputesSpelled SpellsV1 v1.wide_at }
 {}
 
-/// In V1, `reading_v1` returns the only result that `IsReadAs` allows for a list of bytes.
+/// For each list of bytes, `reading_v1` returns the only result that `IsReadAs` allows for V1.
 #[tactic(auto, using(crate::proofs::WholeV1::reads_v1))]
 pub fn reads_v1_exactly()
     ensures { ReadsExactly SpellsV1 v1.reading_v1 }
 {}
 
-/// In V2, a list of bytes encodes at most one wide pass.
+/// In V2, a list of bytes encodes at most one `WidePass`.
 pub fn one_pass_for_each_v2()
     ensures { OnePassEach SpellsV2 }
 {}
 
-/// In V2, a list of bytes encodes a wide pass if and only if `wide_at` returns this wide pass.
+/// In V2, `wide_at` returns a `WidePass` if and only if the bytes encode this `WidePass`.
 pub fn computes_v2()
     ensures { ComputesSpelled SpellsV2 v2.wide_at }
 {}
 
-/// In V2, `reading_v2` returns the only result that `IsReadAs` allows for a list of bytes.
+/// For each list of bytes, `reading_v2` returns the only result that `IsReadAs` allows for V2.
 #[tactic(auto, using(crate::proofs::WholeV2::reads_v2))]
 pub fn reads_v2_exactly()
     ensures { ReadsExactly SpellsV2 v2.reading_v2 }
 {}
 
-/// Suppose that a function computes the wide pass that bytes encode in some form. Then `reading_of`
-/// returns the only result that `IsReadAs` allows.
+/// `reading_of` returns the only result that `IsReadAs` allows. `reading_of` takes the length of a
+/// text, and either the `WidePass` that the text encodes or `None`.
 #[tactic(auto, using(crate::proofs::Checking::exactly))]
 pub fn answers_exactly()
     ensures { AnswersExactly }
 {}
 
 /// For each text, `text_reading` returns the only result that `IsTextReading` allows. A parameter
-/// defines the encoding of each form.
+/// of the law decodes the bytes of each form.
 #[tactic(auto, using(crate::proofs::TextExact::text_reading_exact))]
 pub fn reads_texts_exactly()
     ensures { ReadsTextsExactly }
@@ -90,8 +91,7 @@ pub fn texts_read_back()
     ensures { TextsReadBack }
 {}
 
-/// Adding a caveat to a pass that is signed under a root gives a pass that is signed under the same
-/// root.
+/// A pass that is signed under a root stays signed under this root when a caveat is added.
 pub fn narrowed_stays_signed()
     ensures { NarrowedStaysSigned }
 {}

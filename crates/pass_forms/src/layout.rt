@@ -27,15 +27,17 @@ pub struct Caveat<'a> {
     pub rest: &'a [u8],
 }
 
-/// The number of caveats that remain, and the bytes that contain these caveats.
+/// The number of caveats that the iterator hasn't returned yet, and the bytes that contain these
+/// caveats.
 #[derive(Clone, Copy)]
 pub struct Caveats<'a> {
     count: usize,
     bytes: &'a [u8],
 }
 
-/// An iterator over the fields of a pass in this layout. A field is `None` after the iterator has
-/// returned the field. Contracts see the remaining fields as a list.
+/// An iterator over the fields of a pass in the layout `L`. Each of `location`, `identifier` and
+/// `signature` is `None` after the iterator has returned this field. In contracts, a `Fields` is
+/// represented by the list of the remaining fields.
 #[derive(Drop)]
 pub struct Fields<'a, L: Layout> {
     location: Option<&'a [u8]>,
@@ -81,10 +83,11 @@ pub trait Layout: Copy {
     // Parses a header. Returns the location, the identifier, and the bytes after the header.
     ghost header_at: { List ℕ → Option (List ℕ × List ℕ × List ℕ) };
 
-    // Parses the first caveat. Returns the caveat and the bytes after the caveat.
+    // Parses the caveat at the start of the bytes. Returns the caveat and the bytes after the
+    // caveat.
     ghost caveat_at: { List ℕ → Option (WideCaveat × List ℕ) };
 
-    // Parses a footer, which must be all of the bytes. Returns the signature.
+    // Parses all of the bytes as a footer. Returns the signature.
     ghost footer_at: { List ℕ → Option (List ℕ) };
 
     /// Parses the header at the start of the bytes, or returns `None` if there is no header.
@@ -99,7 +102,7 @@ pub trait Layout: Copy {
             (found.identifier.now, found.third_party, found.rest.now)) result
             ≡ option_map summary (caveat_at bytes.now) };
 
-    /// Parses a footer, which must be all of the bytes, and returns the signature.
+    /// Parses all of the bytes as a footer, and returns the signature.
     fn footer(bytes: &[u8]) -> Option<[u8; 32]>
         ensures { result ≡ footer_at bytes.now };
 
@@ -141,7 +144,8 @@ fn skip_caveats<L: Layout>(bytes: &[u8]) -> Skipped<'_>
     skipped
 }
 
-// Scans all bytes of a pass. Returns `None` if the bytes don't encode a wide pass.
+// Scans all bytes of a pass. Returns `None` if the bytes don't encode a pass. The scan accepts
+// third-party caveats.
 #[tactic(auto, using(crate::proofs::CaveatRuns::as_many), unfolding(crate::specs::computed::Caveats::whole_at))]
 fn scan_pass<L: Layout>(bytes: &[u8]) -> Option<ScanResult<'_, L>>
     ensures { option_map (λ pass. (pass.fields, pass.caveat_count, pass.third_party)) result
@@ -237,8 +241,8 @@ impl<'a, L: Layout> Fields<'a, L> {
     ghost use Rattle.pass_forms.specs.FieldSource.{IsOpening, no_fields, opening_of, with_fields};
     ghost use Rattle.pass_forms.specs.Reading.{IsReadAs};
 
-    /// Checks all of the bytes, and then returns a source of the pass's fields. The bytes are not
-    /// base64. Allocates no memory, because each field is a slice of the bytes.
+    /// Checks all of the bytes, and then returns an iterator over the pass's fields. `bytes` is the
+    /// pass in the layout `L`, without base64. Allocates no memory.
     ///
     /// # Errors
     ///
@@ -249,9 +253,11 @@ impl<'a, L: Layout> Fields<'a, L> {
     /// - `ThirdParty` for a third-party caveat,
     /// - `TooMany` for more than 64 caveats.
     pub fn open(bytes: &'a [u8]) -> Result<Fields<'a, L>, FormFault>
-        // The fields belong to the pass that the bytes encode.
+        // The result is the fields of the pass that the bytes encode, or the first fault that
+        // applies.
         ensures spelling { IsOpening (IsReadAs (length bytes.now) (L.Spells bytes.now)) result }
-        // The result equals the result that `L.reading` computes from the bytes.
+        // The result is the fault that `L.reading` returns for the bytes, or the fields of the pass
+        // that `L.reading` returns.
         ensures computed { result ≡ opening_of (L.reading bytes.now) }
     {
         L::reads_exactly();

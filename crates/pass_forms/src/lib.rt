@@ -1,7 +1,7 @@
 //! Reads, writes and narrows passes, which are macaroons with first-party caveats. The crate
 //! supports libmacaroons' packets (V1) and libmacaroons' binary format (V2). A caller can read all
-//! fields of a pass at once or one field at a time. An envelope turns the bytes of each form into a
-//! text.
+//! fields of a pass at once or one field at a time. `unwrap_text` finds the form of a pass text and
+//! decodes base64.
 #![tactic(auto)]
 
 mod envelope;

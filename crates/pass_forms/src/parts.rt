@@ -1,4 +1,4 @@
-//! Splits a part off the start or the end of a byte slice.
+//! Strips a prefix or a suffix from a byte slice, and checks that a signature is at the end.
 
 ghost use Rattle.std.specs.Prelude.{◌≡◌, option_map};
 ghost use Rattle.pass_forms.specs.computed.Parts as spec;
@@ -17,7 +17,7 @@ pub fn before_suffix<'a>(suffix: &[u8], bytes: &'a [u8]) -> Option<&'a [u8]>
     bytes.strip_suffix(suffix)
 }
 
-/// Returns the signature if it has 32 bytes and no bytes remain in `rest`.
+/// Returns the signature if it has 32 bytes and `rest` is empty.
 pub fn last_signature(signature: &[u8], rest: &[u8]) -> Option<[u8; 32]>
     ensures { result ≡ spec.last_signature (signature.now, rest.now) }
 {

@@ -15,7 +15,8 @@ use std::marker::Model;
 /// The maximum number of caveats in a pass.
 pub const MAX_CAVEATS: usize = 64;
 
-/// A macaroon with first-party caveats. Contracts see a `Pass` as the record `Plain`.
+/// A macaroon with first-party caveats. In contracts, a `Pass` is represented by the record
+/// `Plain`.
 #[derive(Drop)]
 pub struct Pass {
     location: Vec<u8>,
@@ -33,7 +34,7 @@ pub struct PassParts {
     pub identifier: Vec<u8>,
     /// The caveats, in the order in which they were added.
     pub caveats: Vec<Vec<u8>>,
-    /// The signature of the pass, which is the chain's signature after the last caveat.
+    /// The signature of the pass. A valid signature is the chain's signature after the last caveat.
     pub signature: [u8; 32],
 }
 
@@ -167,7 +168,8 @@ impl Pass {
         self.caveats.as_slice()
     }
 
-    /// Returns the signature of the pass, which is the chain's signature after the last caveat.
+    /// Returns the signature of the pass. A valid signature is the chain's signature after the last
+    /// caveat.
     pub fn signature(&self) -> &[u8; 32]
         ensures value { result.now ≡ self.now.signature }
         ensures len { length self.now.signature ≡ 32 }
@@ -175,8 +177,7 @@ impl Pass {
         &self.signature
     }
 
-    /// Returns an iterator over the fields of the pass. Allocates no memory, because each field is
-    /// a slice of the pass.
+    /// Returns an iterator over the fields of the pass. Allocates no memory.
     pub fn fields(&self) -> PassFields<'_>
         ensures { result ≡ pass_fields self.now }
     {
@@ -202,8 +203,8 @@ impl Pass {
     }
 }
 
-/// Adds a caveat to a pass and signs the pass without the root. The new signature is the HMAC of
-/// the caveat, with the old signature as the key.
+/// Adds a caveat to a pass and signs the pass again. The root isn't needed. The new signature is
+/// the HMAC of the caveat, with the old signature as the key.
 ///
 /// # Errors
 ///

@@ -3,8 +3,8 @@
 use crate::{Field, FieldSource};
 use std::marker::Model;
 
-/// An iterator over the fields of a pass, without copies. Contracts see a `PassFields` as the list
-/// of fields that the iterator hasn't returned yet.
+/// An iterator over the fields of a pass in memory. In contracts, a `PassFields` is represented by
+/// the list of fields that the iterator hasn't returned yet.
 #[derive(Drop)]
 pub struct PassFields<'a> {
     pub(crate) location: Option<&'a [u8]>,

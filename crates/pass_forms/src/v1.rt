@@ -61,7 +61,8 @@ fn first_packet<'a>(key: &[u8], bytes: &'a [u8]) -> Option<(&'a [u8], &'a [u8])>
         return None;
     }
     let (_, rest) = bytes.split_at(LEN_DIGITS);
-    // Most packets have a different key, so the code compares the key before it parses the length.
+    // The packet often has a different key, so the code compares the key before it parses the
+    // length.
     let body = after_prefix(key, rest)?;
     let len = packet_len(bytes)?;
     let body_len = len.checked_sub(LEN_DIGITS)?.checked_sub(key.len())?;
@@ -74,7 +75,8 @@ fn first_packet<'a>(key: &[u8], bytes: &'a [u8]) -> Option<(&'a [u8], &'a [u8])>
     Some((text, rest))
 }
 
-// Parses an optional packet. If the packet is missing, returns `None` and all of the bytes.
+// Skips an optional packet. Returns whether the packet is present, and the bytes after the packet.
+// If the packet is missing, returns false and all of the bytes.
 #[inline(always)]
 fn optional_packet<'a>(key: &[u8], bytes: &'a [u8]) -> (bool, &'a [u8])
     ensures { (is_some (reading.optional_at key.now bytes.now).0 ≡ result.0)

@@ -1,4 +1,4 @@
-//! Writes passes as texts. In each form, a pass has only one text that a writer may return.
+//! Writes passes as texts. In each form, a writer may return only one text for a pass.
 
 ghost use Rattle.std.specs.Prelude.{◌≡◌, length, IfErr, IfOk, IsOk, MatchResult, Ok};
 ghost use Rattle.std.specs.String.{string_bytes};
@@ -35,7 +35,7 @@ trait PutLayout {
 }
 
 /// Returns the text of a pass in V1. The text is libmacaroons' packets, encoded in URL-safe base64
-/// without padding. An empty location is written too.
+/// without padding. An empty location also gets a packet.
 ///
 /// # Errors
 ///

@@ -4,8 +4,8 @@ use Rattle.std.specs.{List.list_any, Prelude.{◌≡◌, ℕ, Bool, zero, suc, L
 use Rattle.pass_forms.specs.FieldSource.{PassField, pass_fields}
 use Rattle.pass_forms.specs.{Pass.{WideCaveat, WidePass, has_third_party, is_third_party, first_party, first_party_caveat}, computed.Parts.{◌>>=◌}}
 
--- Returns the found caveat and the caveats after it, with the bytes after the last caveat. If no
--- caveat was found, returns no caveats and all of the bytes.
+-- Returns the found caveat, the caveats that `others` parses after it, and the bytes after the last
+-- caveat. If no caveat was found, returns no caveats and all of the bytes.
 abbrev pub and_others : (List ℕ → List WideCaveat × List ℕ) → List ℕ → Option (WideCaveat × List ℕ) → List WideCaveat × List ℕ
 and_others others bytes None = ([], bytes)
 and_others others bytes (Some found) = (found.0 ∷ (others found.1).0, (others found.1).1)

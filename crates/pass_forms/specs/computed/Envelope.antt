@@ -17,8 +17,7 @@ by_decoders text =
 unfoldable pub from_base64 : List ℕ → Option (List ℕ)
 from_base64 text = if list_all (λ byte. nat_lt byte 256) text then by_decoders text else None
 
--- Returns the bytes with their form. Returns `None` if no form starts with the first byte of the
--- list.
+-- Returns the form and the bytes, or `None` if `form_of` finds no form.
 abbrev pub with_its_form : List ℕ → Option (Form × List ℕ)
 with_its_form bytes = option_map (λ form. (form, bytes)) (form_of bytes)
 

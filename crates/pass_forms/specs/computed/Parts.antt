@@ -1,4 +1,4 @@
--- Defines parsers that split a part off a list of bytes.
+-- Defines small functions that the parsers of passes share.
 use Rattle.std.specs.{Cmp.Lexicographic.pointwise, Prelude.{ℕ, ◌-◌, ◌==◌, ◌&&◌, nat_eq, if◌then◌else◌, List, length, take, drop, Option, Some, None}}
 
 infixl 10 ◌>>=◌
@@ -14,8 +14,8 @@ abbrev pub before_suffix : List ℕ → List ℕ → Option (List ℕ)
 before_suffix suffix bytes =
     if pointwise nat_eq (drop (length bytes - length suffix) bytes) suffix then Some (take (length bytes - length suffix) bytes) else None
 
--- Returns an optional part and the bytes after the part. If the part is missing, returns `None` and
--- all of the bytes.
+-- Returns an optional value and the bytes after the value. If the value is missing, returns `None`
+-- and all of the bytes.
 abbrev pub found_or_none : List ℕ → Option (List ℕ × List ℕ) → Option (List ℕ) × List ℕ
 found_or_none bytes None = (None, bytes)
 found_or_none bytes (Some found) = (Some found.0, found.1)

@@ -4,8 +4,8 @@
 use crate::{FormFault, MAX_BYTES};
 use std::marker::Model;
 
-/// A buffer and the number of bytes that a writer has appended. Contracts see a `Buffer` as a list
-/// of at most 6,144 bytes.
+/// A buffer of 6,144 bytes, and the number of bytes that a writer has appended. In contracts, a
+/// `Buffer` is represented by the list of the appended bytes.
 #[derive(Drop)]
 pub struct Buffer {
     bytes: [u8; MAX_BYTES],
@@ -50,7 +50,7 @@ impl Buffer {
         Ok(())
     }
 
-    /// Returns all bytes in the buffer.
+    /// Returns the appended bytes.
     pub fn as_slice(&self) -> &[u8]
         ensures bytes { result.now ≡ self.now }
         ensures fits { length self.now ≤ buffer_len }

@@ -9,7 +9,8 @@ use crate::write::PutLayout;
 use crate::write::buffer::Buffer;
 use crate::{FormFault, MAX_BYTES, Pass};
 
-// Appends a length as a varint. Each length that fits in the buffer needs at most two bytes.
+// Appends a length as a varint. The data of a field has at most 6,144 bytes, so the varint has at
+// most two bytes.
 #[tactic(auto, using(crate::proofs::Fields::varint_small, crate::proofs::Fields::varint_of_two))]
 fn put_varint(buffer: &mut Buffer, n: usize) -> Result<(), FormFault>
     requires { n < 2 ^ 14 }
@@ -44,7 +45,7 @@ fn put_location(buffer: &mut Buffer, location: &[u8]) -> Result<(), FormFault>
     put_field(buffer, LOCATION, location)
 }
 
-// Appends an identifier and the end of its section.
+// Appends an identifier and the zero byte that ends the section.
 fn put_identifier(buffer: &mut Buffer, identifier: &[u8]) -> Result<(), FormFault>
     ensures { Puts (spec.field 2 identifier.now
         ++ spec.end_of_section) buffer.old buffer.new result }
