@@ -1,5 +1,5 @@
-//! Caches at most 64 derived keys, each with its root. To store a new key, a full cache drops the
-//! key that was stored least recently.
+//! Caches at most 64 derived keys, each with its root. When a full cache stores a derived key under
+//! a new name, the cache drops the derived key that was stored least recently.
 #![tactic(auto)]
 
 use club_rows::Root;
@@ -56,8 +56,8 @@ impl DerivedKey {
 }
 
 /// A cache of at most 64 derived keys. Each derived key is stored under the name of a member's key.
-/// To store a new derived key, a full cache drops the derived key that was stored least recently.
-/// If the allocation of the cache fails, the cache stays empty.
+/// When a full cache stores a derived key under a new name, the cache drops the derived key that
+/// was stored least recently. If the allocation of the cache fails, the cache stays empty.
 #[derive(Drop)]
 pub struct KeptKeys {
     cache: Option<LruCache<Name, DerivedKey>>,
@@ -80,8 +80,8 @@ impl KeptKeys {
         }
     }
 
-    /// Returns the derived key that is cached under this name. Returns `None` unless the key was
-    /// derived from this root.
+    /// Returns the derived key that is cached under this name, or `None` if no key is cached under
+    /// this name. Also returns `None` if the cached key was derived from another root.
     fn kept(&self, name: &Name, root: &Root) -> Option<DerivedKey>
         ensures { IfSome result (λ key. key ≡ root.now) }
     {

@@ -120,8 +120,9 @@ fn keeps_a_key_that_is_used_again(rt: HostRuntime) {
     expect_kept(&rt, &keys, &name(&rt, b"01"), &root, None);
 }
 
-// A lookup alone doesn't change the cache. A rotation gives a key a new root. The cache keeps the
-// derived key of the older root until the desk checks a pass that is signed under the new root.
+// A lookup alone doesn't change the cache. A rotation gives a key a new root. The derived key of
+// the older root can stay in the cache until the desk checks a pass that is signed under the new
+// root.
 #[test]
 fn keeps_a_key_until_another_is_kept(rt: HostRuntime) {
     let (root, older) = (root(&rt, ROOT), root(&rt, OTHER_ROOT));
