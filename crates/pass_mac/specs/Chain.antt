@@ -11,16 +11,17 @@ derivation_key = codes "macaroons-key-generator"
 unfoldable pub derived_key : List ℕ → List ℕ
 derived_key root = hmac derivation_key root
 
--- Returns the signature after these caveats are added to a chain. The key of each caveat's HMAC is
--- the previous signature.
+-- Adds caveats to a chain with this signature, and returns the new signature. The key of each
+-- caveat's HMAC is the previous signature.
 abbrev pub extended_signature : List ℕ → List (List ℕ) → List ℕ
 extended_signature signature caveats = fold hmac signature caveats
 
--- Returns the signature of a pass with this derived key, identifier and caveats.
+-- Returns the signature of a pass with this identifier and these caveats under a derived key.
 abbrev pub chain : List ℕ → List ℕ → List (List ℕ) → List ℕ
 chain key identifier caveats = extended_signature (hmac key identifier) caveats
 
--- The signature with one more caveat is the HMAC of this caveat, with the old signature as the key.
+-- The signature of a chain with one more caveat is the HMAC of this caveat, with the old signature
+-- as the key.
 abbrev pub GrowsByOneHmac : Type 0
 GrowsByOneHmac = (key identifier : List ℕ) (caveats : List (List ℕ)) (caveat : List ℕ) →
     chain key identifier (caveats ++ caveat ∷ []) ≡ hmac (chain key identifier caveats) caveat

@@ -2,8 +2,8 @@
 
 ghost use Rattle.pass_mac.specs.Chain.{GrowsByOneHmac, NarrowsWithoutTheKey};
 
-/// States that the signature with one more caveat is the HMAC of this caveat, with the old
-/// signature as the key.
+/// States that the signature of a chain with one more caveat is the HMAC of this caveat, with the
+/// old signature as the key.
 pub fn grows_by_one_hmac()
     ensures { GrowsByOneHmac }
 {}
