@@ -6,8 +6,8 @@ use Rattle.std.proofs.lemmas.Slice.Eq.{bytes_eq-Decides}
 use Rattle.pass_mac.specs.Hmac.{hmac}
 use Rattle.pass_forms.specs.FieldSource.{AreSignedBy}
 
--- Returns true if the fields begin with caveats, followed by the signature of the chain after these
--- caveats are added.
+-- Returns true if the fields begin with caveats and a valid signature. A valid signature equals the
+-- signature of the chain after these caveats are added.
 abbrev pub signed_in : List ℕ → List PassField → Bool
 signed_in chain [] = false
 signed_in chain (location_field bytes ∷ fields) = false

@@ -38,7 +38,7 @@ form_of bytes = option_and_then form_of_byte (slice_get bytes 0)
 
 -- `Wraps text form bytes` means that the pass text `text` contains the bytes `bytes` of a pass in
 -- the form `form`. If the text starts with `{`, the bytes are the text itself and the form is JSON.
--- Otherwise the text is base64 of the bytes, and the first byte determines the form.
+-- Otherwise the text is base64 of the bytes, and the first decoded byte determines the form.
 abbrev pub Wraps : List ℕ → Form → List ℕ → Type 0
 Wraps text form bytes =
     (IsTrue (starts_with_brace text) × (form ≡ Json) × (bytes ≡ text))

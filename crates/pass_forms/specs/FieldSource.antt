@@ -22,9 +22,9 @@ abbrev pub if_left : {A : Type 0} → (A → PassField) → Option A → List Pa
 if_left field None = []
 if_left field (Some bytes) = field bytes ∷ []
 
--- Returns the fields that a source hasn't returned yet. The argument `location`, `identifier` or
--- `signature` is `None` if the source has already returned this field. The function `bytes` returns
--- the bytes of a location or an identifier.
+-- Returns the fields that a source hasn't returned yet. Each of the arguments `location`,
+-- `identifier` and `signature` is `None` if the source has already returned this field. The
+-- function `bytes` returns the bytes of a location or an identifier.
 abbrev pub those_left : {A : Type 0} → (A → List ℕ) → Option A → Option A → List (List ℕ) → Option (List ℕ) → List PassField
 those_left bytes location identifier caveats signature =
     if_left (λ l. location_field (bytes l)) location ++ (if_left (λ i. identifier_field (bytes i)) identifier

@@ -11,8 +11,7 @@ unfoldable pub groups : ℕ → ℕ → List ℕ
 groups zero n = n ∷ []
 groups (suc more) n = if nat_lt n 128 then n ∷ [] else (128 + n % 128) ∷ groups more (n / 128)
 
--- Returns the varint encoding of a number. The limit `n` is large enough for the encoding of the
--- number `n`.
+-- Returns the varint encoding of a number. The number itself is a large enough limit for `groups`.
 unfoldable pub varint : ℕ → List ℕ
 varint n = groups n n
 

@@ -1,7 +1,7 @@
 //! Reads the fields of a pass one after another.
 
-/// One field of a pass. The bytes of a location, an identifier or a caveat are a slice of the
-/// input.
+/// One field of a pass. The bytes of a location, an identifier or a caveat are a slice of the input
+/// or of a `Pass` in memory.
 #[derive(Clone, Copy, Debug, Drop, PartialEq, Eq)]
 pub enum Field<'a> {
     /// A hint about where the pass is valid. The location may be empty.

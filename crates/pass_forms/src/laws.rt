@@ -71,8 +71,8 @@ pub fn answers_exactly()
     ensures { AnswersExactly }
 {}
 
-/// For each text, `text_reading` returns the only result that `IsTextReading` allows. A parameter
-/// of the law decodes the bytes of each form.
+/// For each text, `text_reading` returns the only result that `IsTextReading` allows. The parameter
+/// `wide_at` of the law decodes the bytes of each form.
 #[tactic(auto, using(crate::proofs::TextExact::text_reading_exact))]
 pub fn reads_texts_exactly()
     ensures { ReadsTextsExactly }

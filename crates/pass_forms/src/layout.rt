@@ -27,7 +27,7 @@ pub struct Caveat<'a> {
     pub rest: &'a [u8],
 }
 
-/// The number of caveats that the iterator hasn't returned yet, and the bytes that contain these
+/// The number of caveats that `Fields` hasn't returned yet, and the bytes that begin with these
 /// caveats.
 #[derive(Clone, Copy)]
 pub struct Caveats<'a> {
@@ -102,7 +102,8 @@ pub trait Layout: Copy {
             (found.identifier.now, found.third_party, found.rest.now)) result
             ≡ option_map summary (caveat_at bytes.now) };
 
-    /// Parses all of the bytes as a footer, and returns the signature.
+    /// Parses all of the bytes as a footer and returns the signature, or returns `None` if the
+    /// bytes aren't a footer.
     fn footer(bytes: &[u8]) -> Option<[u8; 32]>
         ensures { result ≡ footer_at bytes.now };
 
@@ -241,8 +242,8 @@ impl<'a, L: Layout> Fields<'a, L> {
     ghost use Rattle.pass_forms.specs.FieldSource.{IsOpening, no_fields, opening_of, with_fields};
     ghost use Rattle.pass_forms.specs.Reading.{IsReadAs};
 
-    /// Checks all of the bytes, and then returns an iterator over the pass's fields. `bytes` is the
-    /// pass in the layout `L`, without base64. Allocates no memory.
+    /// Checks all of the bytes, and then returns an iterator over the pass's fields. Expects bytes
+    /// in the layout `L`, and doesn't decode base64. Allocates no memory.
     ///
     /// # Errors
     ///

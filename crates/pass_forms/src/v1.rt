@@ -61,8 +61,8 @@ fn first_packet<'a>(key: &[u8], bytes: &'a [u8]) -> Option<(&'a [u8], &'a [u8])>
         return None;
     }
     let (_, rest) = bytes.split_at(LEN_DIGITS);
-    // The packet often has a different key, so the code compares the key before it parses the
-    // length.
+    // The packet often has a key other than `key`, so the code compares the key before it parses
+    // the length.
     let body = after_prefix(key, rest)?;
     let len = packet_len(bytes)?;
     let body_len = len.checked_sub(LEN_DIGITS)?.checked_sub(key.len())?;

@@ -35,7 +35,7 @@ trait PutLayout {
 }
 
 /// Returns the text of a pass in V1. The text is libmacaroons' packets, encoded in URL-safe base64
-/// without padding. An empty location also gets a packet.
+/// without padding. The text has a location packet even if the location is empty.
 ///
 /// # Errors
 ///

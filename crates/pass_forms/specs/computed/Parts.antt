@@ -1,4 +1,4 @@
--- Defines small functions that the parsers of passes share.
+-- Defines small functions for the parsers of passes.
 use Rattle.std.specs.{Cmp.Lexicographic.pointwise, Prelude.{ℕ, ◌-◌, ◌==◌, ◌&&◌, nat_eq, if◌then◌else◌, List, length, take, drop, Option, Some, None}}
 
 infixl 10 ◌>>=◌

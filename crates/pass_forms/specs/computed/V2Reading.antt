@@ -21,8 +21,8 @@ varint_up_to most (byte ∷ rest) =
     else if nat_lt byte 128 then Some (byte, rest)
     else (if nat_lt byte 256 then above most (byte - 128) (varint_up_to (most / 128) rest) else None)
 
--- The argument `len` is a pair of a length and a list of bytes. Returns the first `len.0` bytes of
--- `len.1` and the bytes after them. Returns `None` if `len.1` has fewer bytes.
+-- Returns the first `len.0` bytes of the list `len.1`, and the bytes after them. Returns `None` if
+-- the list has fewer bytes.
 abbrev pub counted_at : ℕ × List ℕ → Option (List ℕ × List ℕ)
 counted_at len = if nat_le len.0 (length len.1) then Some (take len.0 len.1, drop len.0 len.1) else None
 

@@ -9,7 +9,7 @@ use crate::write::PutLayout;
 use crate::write::buffer::Buffer;
 use crate::{FormFault, MAX_BYTES, Pass};
 
-// Appends a length as a varint. The data of a field has at most 6,144 bytes, so the varint has at
+// Appends a length as a varint. `put_field` limits the length to 6,144 bytes, so the varint has at
 // most two bytes.
 #[tactic(auto, using(crate::proofs::Fields::varint_small, crate::proofs::Fields::varint_of_two))]
 fn put_varint(buffer: &mut Buffer, n: usize) -> Result<(), FormFault>

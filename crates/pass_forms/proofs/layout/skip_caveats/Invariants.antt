@@ -1,5 +1,5 @@
--- After each iteration, `Keeps` relates the remaining caveats to all caveats. The number of scanned
--- caveats is at most the number of iterations.
+-- After each iteration, `Keeps` relates the scanned caveats and the remaining caveats to all
+-- caveats. The number of scanned caveats is at most the number of iterations.
 use Rattle.pass_forms.proofs.{CaveatRuns.Keeps, Common.{length, ◌≤◌, ◌-◌, caveats_at}}
 use Rattle.pass_forms.proofs.layout.skip_caveats.Given as goal
 
