@@ -1,4 +1,5 @@
--- Lemmas for the proof that reading gives the same result for two texts of the same pass.
+-- Lemmas for the proofs that `IsReadAs` allows the same results for two equivalent predicates. Each
+-- predicate is true for the wide pass that a text encodes.
 use Rattle.pass_json.proofs.Common.{ℕ, ◌<◌, ◌≤◌, Result, FormFault, Plain, WidePass, IsReadAs, UnlessMemory, max_text_len, arith}
 
 abbrev pub Spelling : Type 1

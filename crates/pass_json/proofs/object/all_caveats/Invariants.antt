@@ -1,5 +1,5 @@
--- The result for the list equals the parsed caveats combined with the result for the remaining
--- caveats.
+-- The result of `kept_of` for the whole list equals the parsed caveats combined with the result of
+-- `kept_of` for the remaining caveats.
 use Rattle.pass_json.proofs.{CaveatList.{kept_of, with_kept}, Common.{◌≡◌, map, drop, items_view}}
 use Rattle.pass_json.proofs.object.all_caveats.Given as goal
 
