@@ -6,7 +6,7 @@ use Rattle.club_http.specs.Ends.{TakesAll}
 use Rattle.desk_server.specs.Served.{answer_bytes}
 
 module _ (status : ℕ) (text : List ℕ) where
-  -- The office took a prefix of the answer.
+  -- The server wrote a prefix of the answer.
   abbrev Begins : Option (List ℕ) → Option (List ℕ) → Type 0
   Begins taken taken' = (n : ℕ) × Appends taken taken' (take n (answer_bytes status text))
 

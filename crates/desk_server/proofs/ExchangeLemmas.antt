@@ -12,8 +12,8 @@ use Rattle.desk_server.specs.declared.timed.Accepted.{Accepted}
 use Rattle.desk_server.specs.Between as between
 use Rattle.desk_server.proofs.MeanwhileLemmas.{reads_kept}
 
--- The effect of writing a reply on the desk and on the writer. The field `written` has the bytes
--- that the server wrote.
+-- The effect of an exchange's reply on the desk and on the writer. The field `written` has the
+-- bytes that the server wrote.
 pub record Written {Desk : Type 0} (Answers : AnswerRelation Desk) (bytes : List ℕ) (old new : Desk) (before after : Option (List ℕ))
     (outcome : Result Reply AnswerFault) : Type 0 where
   pub written : List ℕ
@@ -50,7 +50,8 @@ kept_appends (Some xs) (Some ys) None bytes kept appends = absurd appends
 kept_appends (Some xs) (Some ys) (Some zs) bytes kept appends = appends ∙ ap (λ (list : List ℕ). list ++ bytes) kept
 
 module _ {S C : Type 0} (to_come taken : S → Option (List ℕ)) (Shows : C → Option ℕ → Type 0) (Reads Writes : Calls S) where
-  -- No byte was written while the request was read.
+  -- Between the states `old` and `new` of the connection, the server wrote no bytes, and the count
+  -- of failed writes didn't change.
   record IsSilent (old new : Accepted S C) : Type 0 where
     pub writes_nothing : Keeps (taken old.stream) (taken new.stream)
     pub failed_writes : new.write_failures ≡ old.write_failures
@@ -81,8 +82,8 @@ module _ {S C : Type 0} (to_come taken : S → Option (List ℕ)) (Shows : C →
   written_still old new (calls.put_again result bytes mid _ before call) =
       ap (λ (a : Accepted S C). a.read_failures) call.same ∙ written_still old mid before
 
-  -- The bytes that the server read fit the outcome of the exchange. The count of failed reads also
-  -- fits the outcome.
+  -- The bytes that the server read, and the count of failed reads, agree with the outcome of the
+  -- exchange.
   pub record Reached (old heard : Accepted S C) (bytes : List ℕ) (outcome : Result Reply AnswerFault) : Type 0 where
     pub came : Comes to_come taken outcome old bytes heard
     pub failed_reads : heard.read_failures ≡ reader_failures old.read_failures outcome

@@ -12,8 +12,8 @@ clients_more (first ∷ turns) turn = omega (arith, clients_more turns turn)
 
 module _ {Clock Desk Source Log : Type 0} (Gives : GivesMoment Clock) (Answers : ℕ → AnswerRelation Desk) (Carries : CommandRelation Desk)
     (Ended : Ends) (waited failures : Source → ℕ) (Begins : Log → Log → Type 0) (Noted : Notes Log) where
-  -- The effect of the server's turns before an iteration of its loop. Exactly `clients` of the
-  -- server's turns are clients' turns. The server has taken at least `commands` turns.
+  -- The effect of the server's turns before an iteration of the server's loop. The server has
+  -- counted exactly `clients` clients for these turns. There are at least `commands` turns.
   pub record SoFar (clients commands : ℕ) (s s' : Source) (c : Clock) (d : Desk) (l : Log) (c' : Clock) (d' : Desk) (l' : Log) : Type 0 where
     pub turns : List Turn
     pub so_many : clients_in turns ≡ clients

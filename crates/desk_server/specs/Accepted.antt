@@ -41,24 +41,24 @@ module _ {S C : Type 0} (to_come taken : S → Option (List ℕ)) where
     pub bytes : TakesAtMost 65_536 (to_come old.stream) (to_come new.stream)
     pub writes_nothing : Keeps (taken old.stream) (taken new.stream)
 
-  -- If no read failed, `bytes` are the bytes of a request. If a read failed, `bytes` are the bytes
-  -- that came before the failure.
+  -- If no read failed, `bytes` are the bytes received for a request. If a read failed, `bytes` are
+  -- the bytes that came before the failure.
   abbrev pub Comes : Result Reply AnswerFault → Accepted S C → List ℕ → Accepted S C → Type 0
   Comes (Ok reply) old bytes new = Receives (to_come old.stream) (to_come new.stream) bytes
   Comes (Err (Write n)) old bytes new = Receives (to_come old.stream) (to_come new.stream) bytes
   Comes (Err Read) old bytes new = IsCutOff (to_come old.stream) (to_come new.stream) bytes
 
-  -- The effect of ending a connection. After a completely written reply, the server reads bytes
-  -- that the client still sends, unless exactly one request came. After a fault the server reads
-  -- nothing.
+  -- The effect of ending a connection. After a completely written reply, the server may read bytes
+  -- that the client still sends. If the bytes read so far were exactly one request, the server
+  -- reads nothing more. After a fault the server reads nothing.
   abbrev pub IsEnded : Result Reply AnswerFault → List ℕ → Accepted S C → Accepted S C → Type 0
   IsEnded (Ok reply) bytes old new = (IsOneRequest bytes → new ≡ old) × TakesRest old new
   IsEnded (Err fault) bytes old new = new ≡ old
 
   module _ (Shows : C → Option ℕ → Type 0) (Reads Writes : Calls S) where
-    -- The course of an exchange. The server read the request, and stopped reading once the request
-    -- was complete. After the last read, the server wrote the reply, and ended the connection. The
-    -- server wrote exactly the bytes `written`.
+    -- The course of an exchange. The server read bytes at most until the request was complete.
+    -- After these reads, the server wrote bytes of the reply, and ended the connection. The server
+    -- wrote exactly the bytes `written`.
     pub record Talks (old : Accepted S C) (bytes written : List ℕ) (outcome : Result Reply AnswerFault) (new : Accepted S C) : Type 0 where
       pub heard : Accepted S C
       pub sent : Accepted S C

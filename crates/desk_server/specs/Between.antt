@@ -1,4 +1,4 @@
--- This file defines the calls of a client's reader that carries out commands while it waits.
+-- This file defines the calls of a reader that carries out commands while it waits for a client.
 use Rattle.std.specs.Prelude.{◌≡◌, ℕ, List, Option}
 use Rattle.club_clock.specs.Moments.{GivesMoment}
 use Rattle.club_http.specs.Calls.{Call}

@@ -46,8 +46,8 @@ IsTextWritten taken taken' failures failures' text =
     (Appends taken taken' text × (failures' ≡ failures))
     ⊎ ((n : ℕ) × (n < length text) × Appends taken taken' (take n text) × (failures' ≡ one_more failures))
 
--- The writer took a line for each event, in the order of the events. Each line ends with some
--- number of microseconds.
+-- For each event, in order, the writer took the event's line, or failed after a prefix of the line.
+-- The number of microseconds in a line may be any number.
 pub data AreWritten (taken : Option (List ℕ)) (failures : ℕ) : List LogEvent → Option (List ℕ) → ℕ → Type 0 where
   no_line : AreWritten taken failures [] taken failures
   one_line : (events : List LogEvent) (event : LogEvent) (microseconds : ℕ) (t : Option (List ℕ)) (f : ℕ) (t' : Option (List ℕ)) (f' : ℕ)

@@ -33,7 +33,7 @@ Talk Client = Client → List ℕ → List ℕ → Result Reply AnswerFault → 
 abbrev pub Ends : Type 1
 Ends = List ℕ → List ℕ → Result Reply AnswerFault → Type 0
 
--- An exchange with some connection may have the given bytes and the given outcome.
+-- For some connection, an exchange may read and write the given bytes and have the given outcome.
 abbrev pub HasTalked : {Client : Type 0} → Talk Client → Ends
 HasTalked {Client} Talks bytes written outcome = (old : Client) × (new : Client) × Talks old bytes written outcome new
 
@@ -41,8 +41,8 @@ HasTalked {Client} Talks bytes written outcome = (old : Client) × (new : Client
 --
 -- - If the exchange succeeded, the desk gave the reply to the bytes read, and the exchange wrote
 --   exactly the reply's text.
--- - If the writer failed, the desk still gave a reply, but the exchange wrote only the first `n`
---   bytes of the reply's text.
+-- - If the outcome is the fault `Write n`, the desk still gave a reply, but the exchange wrote only
+--   the first `n` bytes of the reply's text.
 -- - If the reader failed, the desk is unchanged, and the exchange wrote nothing.
 abbrev pub IsExchanged : {Desk : Type 0} → AnswerRelation Desk → List ℕ → Desk → List ℕ → Result Reply AnswerFault → Desk → Type 0
 IsExchanged Answers bytes old written outcome new = Exchanges
@@ -51,9 +51,9 @@ IsExchanged Answers bytes old written outcome new = Exchanges
     (λ text. written ≡ text)
     outcome
 
--- The effect of a connection of the office on the desk. The desk carried out one command exactly
--- once, even if the office didn't take the answer. If no complete command came, the desk is
--- unchanged.
+-- The effect of a connection of the office on the desk. If a complete command came, the desk
+-- carried out the command exactly once, even if the office didn't read the answer. If no complete
+-- command came, the desk is unchanged.
 abbrev pub IsCarriedOut : {Desk : Type 0} → CommandRelation Desk → Desk → Option Carried → Desk → Type 0
 IsCarriedOut Carries old None new = new ≡ old
 IsCarriedOut Carries old (Some carried) new =
@@ -73,18 +73,18 @@ pub record AnswersCommand {Desk : Type 0} (Carries : CommandRelation Desk) (byte
   pub same : carried ≡ answer.carried
   pub writes : (n : ℕ) × Appends taken taken' (take n (answer_bytes answer.carried.status (string_bytes answer.text)))
 
--- A turn of the server. A turn has the event of an arrival, and the events of the commands that
--- came while the server waited for the arrival's request.
+-- A turn of the server. The field `event` is the event that ends the turn. The field `meanwhile`
+-- has the events of the commands that the desk carried out during a client's turn.
 pub record Turn : Type 0 where
   pub meanwhile : List LogEvent
   pub event : LogEvent
 
--- The turn that has the given event, and during which no commands came.
+-- The turn with the given event, during which no other commands came.
 abbrev pub alone : LogEvent → Turn
 alone event = record { meanwhile = []; event = event }
 
--- The events of the turns, in the order in which the events ended. In each turn the client's event
--- comes after the events of the commands.
+-- The events of the turns, in the order in which the log notes them. In each turn, the field
+-- `event` comes after the events in `meanwhile`.
 abbrev pub events_in : List Turn → List LogEvent
 events_in [] = []
 events_in (turn ∷ turns) = (turn.meanwhile ++ turn.event ∷ []) ++ events_in turns
@@ -94,18 +94,19 @@ abbrev pub client_in : LogEvent → ℕ
 client_in (Commanded moment carried) = 0
 client_in event = 1
 
--- The number of turns in the list that are clients' turns.
+-- The number of clients that the server counts for a list of turns.
 abbrev pub clients_in : List Turn → ℕ
 clients_in [] = 0
 clients_in (turn ∷ turns) = client_in turn.event + clients_in turns
 
--- An overrun comes only after at least 2 ^ 64 - 1 turns.
+-- An event `Overrun` comes only after at least 2 ^ 64 - 1 turns.
 abbrev pub IsDue : List Turn → LogEvent → Type 0
 IsDue turns Overrun = 2 ^ 64 ≤ suc (length turns)
 IsDue turns event = Unit {0}
 
 module _ {Clock Desk : Type 0} (Gives : GivesMoment Clock) (Carries : CommandRelation Desk) where
-  -- The desk carried out consecutive commands, even if the clock gave no moment for a command.
+  -- The desk carried out consecutive commands. The desk carried out a command even if the clock
+  -- gave no moment for the command.
   pub data AreCommanded (clock : Clock) (desk : Desk) : List LogEvent → Clock → Desk → Type 0 where
     no_command : AreCommanded clock desk [] clock desk
     one_command : (events : List LogEvent) (moment : Option ℕ) (carried : Option Carried) (c : Clock) (d : Desk) (c' : Clock) (d' : Desk)
@@ -114,9 +115,9 @@ module _ {Clock Desk : Type 0} (Gives : GivesMoment Clock) (Carries : CommandRel
 
 module _ {Clock Desk : Type 0} (Gives : GivesMoment Clock) (Answers : ℕ → AnswerRelation Desk) (Carries : CommandRelation Desk) (Ended : Ends) where
   -- The effect of a client on the clock and the desk. The clock first gave the client's moment.
-  -- After the client's moment was known, the desk carried out commands, each at its own moment.
-  -- After the commands, the client's exchange took place. An exchange with a connection may have
-  -- the given outcome.
+  -- While the server waited for the client's request, the desk carried out commands, each at its
+  -- own moment. After the commands, the client's exchange took place. The relation `Ended` allows
+  -- the bytes and the outcome of this exchange.
   pub record IsAttended (meanwhile : List LogEvent) (moment : ℕ) (line : List ℕ) (outcome : Result Reply AnswerFault) (clock : Clock) (desk : Desk)
       (clock' : Clock) (desk' : Desk) : Type 0 where
     pub given : Clock
@@ -133,8 +134,8 @@ module _ {Clock Desk : Type 0} (Gives : GivesMoment Clock) (Answers : ℕ → An
   --
   -- - If waiting failed, only the count grew.
   -- - A command is carried out even if the clock gives no moment.
-  -- - Other commands can come only during a client's turn.
-  -- - An overrun changes nothing.
+  -- - Commands can interrupt only a client's turn.
+  -- - An event `Overrun` changes nothing.
   abbrev pub ServesOne : Clock → Desk → ℕ → List LogEvent → LogEvent → Clock → Desk → ℕ → Type 0
   ServesOne clock desk failures meanwhile Absent clock' desk' failures' =
       (meanwhile ≡ []) × (failures' ≡ one_more failures) × (clock' ≡ clock) × (desk' ≡ desk)
@@ -154,8 +155,8 @@ module _ {Clock Desk : Type 0} (Gives : GivesMoment Clock) (Answers : ℕ → An
         → AreServed clock desk failures (turns ++ turn ∷ []) c' d' f'
 
   -- The effect of a server for `count` clients. The server served all `count` clients, or stopped
-  -- because the clock failed. The list `all` has the turns of all arrivals that the server waited
-  -- for.
+  -- because the clock failed. The list `all` has all turns of the server. If the clock failed, the
+  -- last turn in `all` has the event `Unanswered`.
   pub record ServesTurns (all : List Turn) (count : ℕ) (clock : Clock) (desk : Desk) (failures : ℕ) (outcome : Result Unit ClockOutOfRange)
       (clock' : Clock) (desk' : Desk) (failures' : ℕ) : Type 0 where
     pub turns : List Turn
@@ -165,7 +166,8 @@ module _ {Clock Desk : Type 0} (Gives : GivesMoment Clock) (Answers : ℕ → An
         (λ done. (clients_in turns ≡ count) × (clock' ≡ last) × (all ≡ turns))
         (λ stopped. (clients_in turns < count) × Gives last None clock' × (all ≡ turns ++ alone Unanswered ∷ []))
 
-  -- The effect of a server for `count` clients whose turns also have the property `Besides`.
+  -- The effect of a server for `count` clients. The list of the server's turns also has the
+  -- property `Besides`.
   pub record Serves (count : ℕ) (clock : Clock) (desk : Desk) (failures : ℕ) (outcome : Result Unit ClockOutOfRange) (clock' : Clock) (desk' : Desk)
       (failures' : ℕ) (Besides : List Turn → Type 0) : Type 0 where
     pub all : List Turn
@@ -224,7 +226,6 @@ module _ {Clock Desk Log : Type 0} (Gives : GivesMoment Clock) (Carries : Comman
     pub written : List ℕ
     pub meanwhile : Meanwhile clock desk log clock' left log'
     pub exchanged : IsExchanged Answers bytes left written outcome desk'
-    -- The exchange has the same effect for all bytes that the client would send until the client
-    -- closes the connection.
+    -- The effect would be the same if the server had read all bytes that the client will ever send.
     pub to_all : IfSome (ToCome client) (λ all. IsExchanged Answers all left written outcome desk')
     pub talked : Talks client bytes written outcome client'

@@ -7,15 +7,15 @@ use Rattle.desk_server.specs.declared.{office.Carried.Carried, serve.ClockOutOfR
 
 module _ {Clock Desk Log : Type 0} (Gives : GivesMoment Clock) (Begins : Log → Log → Type 0) (Noted : Notes Log) where
   -- The effect of a connection of the office. The desk carries out the office's command if the
-  -- command is complete. The log notes the beginning and the event of the command at the clock's
-  -- moment.
+  -- command is complete. The log notes the command's beginning and the command's event. The event
+  -- has the clock's moment.
   abbrev pub IsCommanded : CommandRelation Desk → Clock → Desk → Log → Clock → Desk → Log → Type 0
   IsCommanded Carries clock desk log clock' desk' log' =
       (moment : Option ℕ) × (carried : Option Carried) × (begun : Log) × Begins log begun × Noted begun (Commanded moment carried) log'
       × Gives clock moment clock' × IsCarriedOut Carries desk carried desk'
 
-  -- The effect of a server for `count` clients of a source. The source counts each call, and the
-  -- log notes each arrival.
+  -- The effect of a server for `count` clients from a source of arrivals. The source counts each
+  -- wait for an arrival, and the log notes each turn.
   abbrev pub ServesLogged : {Source : Type 0} → (ℕ → AnswerRelation Desk) → CommandRelation Desk → Ends → (Source → ℕ) → (Source → ℕ) → ℕ
       → Source → Clock → Desk → Log → Result Unit ClockOutOfRange → Source → Clock → Desk → Log → Type 0
   ServesLogged Answers Carries Ended waited failures count source clock desk log result source' clock' desk' log' =
@@ -23,7 +23,7 @@ module _ {Clock Desk Log : Type 0} (Gives : GivesMoment Clock) (Begins : Log →
       (λ turns. CountsOn (waited source) (length turns) (waited source') × AreNoted Begins Noted log turns log')
 
 module _ {Clock Desk : Type 0} (Gives : GivesMoment Clock) where
-  -- The effect of a server without a log for `count` clients of a source.
+  -- The effect of a server without a log for `count` clients from a source of arrivals.
   abbrev pub ServesOn : {Source : Type 0} → (ℕ → AnswerRelation Desk) → CommandRelation Desk → Ends → (Source → ℕ) → (Source → ℕ) → ℕ
       → Source → Clock → Desk → Result Unit ClockOutOfRange → Source → Clock → Desk → Type 0
   ServesOn Answers Carries Ended waited failures count source clock desk result source' clock' desk' =

@@ -1,4 +1,4 @@
-//! Commands of the office, including those that come between the pieces of a client's request.
+//! Carries out commands of the office, even while the server waits for a client's request.
 
 ghost use Rattle.std.specs.Prelude.{◌≡◌, IfNone, IfSome};
 ghost use Rattle.http_request.specs.HeadResult.{Covers};
@@ -12,12 +12,12 @@ use crate::office::{Carried, Office};
 use club_clock::Moments;
 use club_http::{Face, HeadScan, Inlet};
 
-/// A connection of the office, which brings a command.
+/// A connection over which the office sends a command.
 pub trait Handover {
     ghost use Rattle.desk_server.specs.Served.{IsCarriedOut};
 
     /// Reads a command, has the desk carry it out, and writes the answer. Returns `None` if no
-    /// complete command came.
+    /// complete command arrived.
     fn carry_out<D: Office>(&mut self, desk: &mut D) -> Option<Carried>
         ensures { IsCarriedOut D.commands desk.old result desk.new };
 }
@@ -39,30 +39,31 @@ pub(crate) fn carry_out<O: Handover + Drop, M: Moments, D: Office, G: Log>(
     log.note(&LogEvent::Commanded { moment, carried });
 }
 
-/// A client's reader that also waits for the office.
+/// A reader of a client's bytes that can also wait for a command of the office.
 pub trait Waits: Inlet {
     ghost use Rattle.std.specs.{Io.KnownBytes.Keeps, Prelude.{◌≡◌}};
 
     type Command: Handover + Drop;
 
-    // The known effects of one wait.
+    // The reader before and after a call of `command_before`.
     ghost waits: { Self → Self → Type 0 };
 
     /// Waits for a command and returns it. Returns `None` after one of these events:
     ///
-    /// - Bytes of the client arrive.
+    /// - Bytes from the client arrive.
     /// - The client ends its input.
-    /// - The client's time limit ends.
+    /// - The client's time limit expires.
     /// - Waiting fails.
     ///
-    /// Returns `None` at once if the stream has no door for commands.
+    /// Returns `None` at once if there is no door, the socket where commands arrive.
     fn command_before(&mut self) -> Option<Self::Command>
         ensures reads_nothing { Keeps (Self.to_come self.old) (Self.to_come self.new) }
         ensures counted { Self.failures self.new ≡ Self.failures self.old }
         ensures waited { waits self.old self.new };
 }
 
-/// A client's reader that carries out the commands that come while it waits.
+/// A reader of a client's bytes. While the reader waits for bytes, it carries out commands of the
+/// office.
 #[derive(Drop)]
 struct Between<'r, 'm, 'd, 'g, R, M, D, G> {
     reader: &'r mut R,
@@ -94,8 +95,8 @@ impl<R: Waits, M: Moments, D: Office, G: Log> Inlet for Between<'_, '_, '_, '_, 
     }
 }
 
-/// Reads a request as `Face::receive` does. While it waits for the request, it carries out commands
-/// of the office. Each command has its own moment and is logged.
+/// Reads a request as `Face::receive` does. While waiting for the request, this function carries
+/// out commands of the office. For each command, this function reads the clock and calls the log.
 ///
 /// An exchange has two steps: `receive_between` is the first step, and `Face::respond` is the
 /// second.
@@ -125,7 +126,7 @@ pub fn receive_between<R: Waits, M: Moments, D: Office, G: Log>(
     receive_in(face, &mut between)
 }
 
-// Reads a request, and carries out the commands that come while it waits for the request.
+// Reads a request. While waiting for the request, this function carries out commands.
 fn receive_in<R: Waits, M: Moments, D: Office, G: Log>(
     face: &mut Face,
     between: &mut Between<'_, '_, '_, '_, R, M, D, G>,

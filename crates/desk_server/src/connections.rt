@@ -18,13 +18,13 @@ pub trait Connection {
     // The bytes that the client will still send, if they are known.
     ghost to_come: { Self → Option (List ℕ) };
 
-    // The outcomes that an exchange with the connection may have.
+    // The possible exchanges with the connection.
     ghost talks: { Talk Self };
 
-    /// Carries out one exchange with the desk at a moment. While it waits for the request, it
-    /// carries out commands and logs them, each at its own moment. Returns the reply, or the fault
-    /// that ended the exchange. The bytes read for the request stay in `face`. Bytes after a
-    /// complete request change nothing.
+    /// Carries out one exchange with the desk at the given moment. While waiting for the request,
+    /// this method carries out commands of the office and logs them. For each command, this method
+    /// reads the clock. Returns the reply, or the fault that ended the exchange. The bytes read for
+    /// the request stay in `face`. Bytes after a complete request have no effect on the reply.
     ///
     /// # Errors
     ///
@@ -43,8 +43,8 @@ pub trait Connection {
 }
 
 /// If both the client's bytes and a command are ready, the client and the office take turns. The
-/// office's turn also ends if the server couldn't accept the office's connection. Carrying out a
-/// command doesn't extend the client's patience.
+/// client also gets the next turn if the server couldn't accept the office's connection. Carrying
+/// out a command doesn't extend the client's time limit.
 impl<S: ClientStream, C: MonotonicClock> Waits for Accepted<'_, S, C> {
     ghost use Rattle.desk_server.specs.Accepted.{HasWaited};
 
@@ -74,8 +74,8 @@ impl<S: ClientStream, C: MonotonicClock> Waits for Accepted<'_, S, C> {
     }
 }
 
-/// Takes the two steps of `club_http::answer` with the connection as reader and writer. While it
-/// waits for the request, it also carries out commands.
+/// Reads a request and writes the reply as `club_http::answer` does. The connection is both the
+/// reader and the writer. While waiting for the request, the exchange also carries out commands.
 impl<S: ClientStream, C: MonotonicClock> Connection for Accepted<'_, S, C> {
     ghost use Rattle.desk_server.specs.{Accepted.Talks, Served.ExchangesBetween};
 
@@ -116,10 +116,11 @@ impl<S: ClientStream, C: MonotonicClock> Accepted<'_, S, C> {
     ghost use Rattle.std.specs.Prelude.{◌≡◌, IsTrue};
     ghost use Rattle.desk_server.specs.Accepted.{TakesRest};
 
-    // Ends a connection after its reply was written. Closing a socket with unread bytes resets the
-    // connection, and a client that is still sending may then lose its reply. Unless `over` is
-    // true, this function therefore shuts down the writing side, and then reads the bytes that the
-    // client still sends.
+    // Ends a connection after its reply was written. If the server closed a socket with unread
+    // bytes, TCP would reset the connection. A client that is still sending could lose its reply.
+    // If `over` is false, this function therefore shuts down the writing side, and then reads the
+    // bytes that the client still sends. The caller passes true for `over` if the bytes read so far
+    // are exactly one request.
     fn end(&mut self, over: bool)
         ensures over { IsTrue over → self.new ≡ self.old }
         ensures rest { TakesRest S.to_come S.taken self.old self.new }

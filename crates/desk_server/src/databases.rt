@@ -1,16 +1,17 @@
-//! The trait of databases that a server and the office open, and the door between server and
-//! office.
+//! Traits for opening databases, and for the door through which the office reaches a server.
 
 use club_http::{ClubStore, StoreFault};
 use std::os::unix::net::UnixListener;
 
-/// The door of a server, where commands of the office arrive. Dropping a `Door` removes the door.
+/// The door of a server: the socket where commands of the office arrive. Dropping a `Door` removes
+/// the door.
 pub trait Door {
     /// Returns the listener for commands, or `None` if there is no door.
     fn listener(&self) -> Option<&UnixListener>;
 }
 
-/// A server that the office found by the server's door. The server has sent its greeting.
+/// A server that the office has reached through the server's door. The server has sent its
+/// greeting.
 pub trait Visit {
     ghost use Rattle.desk_server.specs.Databases.{Giving, in_bytes};
 
@@ -18,8 +19,8 @@ pub trait Visit {
     ghost gives: { Giving Self };
 
     /// Sends the bytes of a command to the server, and returns the answer's status and text.
-    /// Returns `None` if no answer comes. Without an answer, the server may or may not have carried
-    /// out the command.
+    /// Returns `None` if no answer comes. Even without an answer, the server may have carried out
+    /// the command.
     fn give(self, command: &[u8]) -> Option<(u8, String)>
         ensures { gives self command.now (in_bytes result) };
 }
@@ -42,13 +43,15 @@ pub trait Databases {
 
     ghost use Rattle.desk_server.specs.Databases.{Closing, Opening, Reaching};
 
-    // The possible results of opening a name, with the databases before and after.
+    // The possible results of opening a database by name, with the state of all databases before
+    // and after the call.
     ghost opens: { Opening Self Self.Store };
 
-    // The possible results of reaching a name, with the databases before and after.
+    // The possible results of reaching a database by name, with the state of all databases before
+    // and after the call.
     ghost reaches: { Reaching Self Self.Store Self.Visit };
 
-    // The databases before and after closing a store.
+    // The state of all databases before and after a store is closed.
     ghost closes: { Closing Self Self.Store };
 
     /// Opens the database with the given name for a server. Creates an empty database if no
@@ -68,6 +71,6 @@ pub trait Databases {
         ensures { closes self.old store self.new };
 
     /// Makes a door for the server that has opened the database with the given name. The new door
-    /// replaces the door of a server that was killed.
+    /// replaces a door that a killed server left behind.
     fn make_door(&self, name: &str) -> Result<Self::Door, StoreFault>;
 }

@@ -13,17 +13,18 @@ use std::io;
 use std::os::unix::net::{UnixListener, UnixStream};
 use std::time::Duration;
 
-/// The byte that the server sends once it has accepted a connection of the office. The office sends
-/// its command only after the greeting. An office that left before the greeting has therefore sent
-/// no command.
+/// The byte that the server sends after it accepts a connection of the office. The office sends its
+/// command only after it receives this byte. If the office disconnects earlier, it has therefore
+/// sent no command.
 pub const GREETING: [u8; 1] = *b"!";
 
 /// The size of the buffer for a command, in bytes. The longest command is one byte shorter than the
 /// buffer.
 pub const MAX_COMMAND_LEN: usize = 8_192;
 
-/// The last byte of an answer. The text of an answer has no zero byte, because arguments have no
-/// zero bytes. A truncated answer therefore doesn't end with a zero byte.
+/// The last byte of an answer, after the answer's text. The text has no zero byte, because
+/// command-line arguments have no zero bytes. If the bytes after the status don't end with a zero
+/// byte, the answer is therefore truncated.
 pub const ANSWER_END: [u8; 1] = [0];
 
 /// The status of the answer to bytes that aren't a complete command. The status 9 means that the
@@ -34,7 +35,7 @@ pub const NOTHING_DONE: u8 = 9;
 pub const NOTHING_DONE_TEXT: &str = "nothing was done";
 
 /// The timeout for the office to send its command, in milliseconds. The office has the same time
-/// again to take the answer. Clients wait while the office sends its command or takes the answer.
+/// again to read the answer. Clients wait while the office sends its command or reads the answer.
 const OFFICE_MILLISECONDS: u64 = 200;
 
 /// A connection of the office that the server accepted at its door.
@@ -51,7 +52,8 @@ impl<'c, C: MonotonicClock> Handed<'c, C> {
         Ok(Handed { stream, clock })
     }
 
-    // Returns both ends of the connection. The office's time limit starts with the call of `ends`.
+    // Returns the connection as a reader and a writer with time limits. The time limit for reading
+    // starts with this call. The time limit for writing starts with the first write.
     fn ends(&self) -> Accepted<'c, &UnixStream, C> {
         let patience = Duration::from_millis(OFFICE_MILLISECONDS);
         Accepted::new(&self.stream, self.clock, patience)
@@ -76,8 +78,8 @@ pub fn read_command<R: Inlet>(reader: &mut R, room: &mut [u8]) -> Option<usize>
     None
 }
 
-/// Has the desk carry out a command, and writes the command's answer. The command's effect stays
-/// even if the writer fails.
+/// Has the desk carry out a command, and writes the command's answer. A failure of the writer
+/// doesn't undo the command.
 pub fn answer_command<D: Office, W: Outlet>(desk: &mut D, bytes: &[u8], writer: &mut W) -> Carried
     ensures { AnswersCommand D.commands bytes.now desk.old (W.taken writer.old)
         result desk.new (W.taken writer.new) }
@@ -104,8 +106,8 @@ pub fn put_answer<W: Outlet>(writer: &mut W, status: u8, text: &str)
     }
 }
 
-/// Greets the office, reads its command, and answers the command. If no complete command came, the
-/// answer has the status `NOTHING_DONE`.
+/// Sends the greeting, reads a command, and writes the answer. If no complete command arrives after
+/// the greeting, the answer has the status `NOTHING_DONE`.
 impl<C: MonotonicClock> Handover for Handed<'_, C> {
     fn carry_out<D: Office>(&mut self, desk: &mut D) -> Option<Carried> {
         if put_all(&mut self.ends(), &GREETING).is_err() {

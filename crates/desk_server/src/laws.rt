@@ -6,7 +6,7 @@ use crate::log::{Log, LogLines};
 use club_http::Outlet;
 use std::time::Clock;
 
-/// A `LogLines` writes a line for each arrival that it notes, in the order of the arrivals.
+/// A `LogLines` writes a line for each event passed to `note`, in the order of the calls.
 pub fn a_log_has_its_lines<'a, W: Outlet, C: Clock + 'a>()
     ensures { WritesLines ⟦<LogLines<'a, W, C> as Log>⟧.begins ⟦<LogLines<'a, W, C> as Log>⟧.notes
         (λ log. W.taken log.writer) (λ log. W.failures log.writer) }

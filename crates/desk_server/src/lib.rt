@@ -1,6 +1,6 @@
 //! The server of the desk. The server serves clients and commands of the office one after the
 //! other. While the server waits for a client's request, it also carries out commands. The server
-//! serves each client at the moment that the club's clock shows. The server and the office open a
+//! takes the moment of each request from the club's clock. The server and the office open a
 //! database through the trait `Databases`.
 #![tactic(auto)]
 

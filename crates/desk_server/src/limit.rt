@@ -44,8 +44,8 @@ impl<'c, C: MonotonicClock> Limit<'c, C> {
     ghost use Rattle.std.specs.{Duration.as_nanos, Prelude.{◌≡◌}};
     ghost use Rattle.desk_server.specs.Limits.{AtShown, due_after, left_until, nanos_of};
 
-    /// Returns the deadline that is `patience` after the current time. If the clock can't be read,
-    /// or can't show the time of the deadline, the deadline has already passed.
+    /// Returns the deadline that is `patience` after the current time. If the clock can't be read
+    /// or can't represent the deadline, the deadline counts as passed.
     pub fn after(clock: &'c C, patience: Duration) -> Limit<'c, C>
         ensures clock { result.clock ≡ clock.entry }
         ensures due { AtShown (C.shows clock.entry.now)

@@ -15,8 +15,9 @@ use std::os::fd::{AsRawFd, RawFd};
 use std::os::unix::net::UnixListener;
 use std::time::Duration;
 
-/// The server's sleep after waiting or accepting failed, in milliseconds. Without a sleep, a
-/// listener that keeps failing would soon use up the number of clients to serve.
+/// The time that the server sleeps after waiting or accepting failed, in milliseconds. Each failed
+/// wait counts as a client. Without the sleep, a listener that keeps failing would soon reach the
+/// number of clients to serve.
 const REST_MILLISECONDS: u64 = 10;
 
 /// The number that replaces a missing descriptor. `poll` ignores the descriptor -1.
@@ -28,9 +29,9 @@ const NO_END: i32 = -1;
 /// A client of a listener, or a command that came through a door.
 type Arrived<'a, C> = Arrival<Accepted<'a, ClientSocket<'a, C>, C>, Handed<'a, C>>;
 
-/// The clients of a listener, and the commands of the office if there is a door. All clients have
-/// the same patience. If a client and a command are both waiting, the client and the office take
-/// turns.
+/// A source of clients from a listener, and of commands from a door if there is one. All clients
+/// have the same time limit, `patience`. If a client and a command are both waiting, the client and
+/// the office take turns.
 #[derive(Drop)]
 pub struct Listening<'a, C> {
     clients: &'a TcpListener,
@@ -68,10 +69,10 @@ impl<'a, C: MonotonicClock> Listening<'a, C> {
     }
 
     // Waits until a command or a client has arrived. If a connection is gone before the server
-    // accepts it, the server drops that connection. If the server can't accept a connection of the
-    // office, the server tries again after a pause. A waiting client goes before the second
-    // attempt. A connection of the office that the server couldn't accept doesn't count as a
-    // client.
+    // accepts it, the server ignores that connection. If the server can't accept a connection of
+    // the office, the server pauses and tries again. If a client is waiting after the pause, the
+    // server accepts the client before it tries again. A failure to accept a connection of the
+    // office doesn't count as a client.
     fn wait(&self) -> Arrived<'a, C> {
         let door = match self.door {
             Some(door) => door.as_raw_fd(),

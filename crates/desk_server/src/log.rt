@@ -12,24 +12,24 @@ use std::time::{Clock, Instant};
 /// The word that replaces the method in the line of a command.
 const OFFICE: &[u8] = b"office";
 
-/// The outcome of an arrival.
+/// An event that the server passes to the log.
 #[derive(Drop)]
 pub enum LogEvent {
     /// Waiting failed.
     Absent,
-    /// The u64 counter of commands is full, so this turn counts as a client that never came.
+    /// The u64 counter of commands is full. The server counts one client, although no client came.
     Overrun,
-    /// The server closed a client's connection without an answer, because the clock showed no
-    /// moment within the club's years.
+    /// The server closed a client's connection without an answer, because the clock couldn't be
+    /// read, or showed a year before 2000 or after 2099.
     Unanswered,
-    /// The office connected at this moment. The desk carried out the office's command, or no
-    /// complete command came.
+    /// The office connected at `moment`. `moment` is `None` if the clock showed no moment.
+    /// `carried` is `None` if no complete command came.
     Commanded {
         moment: Option<Moment>,
         carried: Option<Carried>,
     },
-    /// A client had an exchange at this moment. `line` has the first bytes of the client's request.
-    /// `outcome` is the result of `club_http::answer`: the reply or the fault.
+    /// A client had an exchange at `moment`. `line` has the first bytes of the client's request.
+    /// `outcome` is the result of the exchange: the reply or the fault.
     Exchanged {
         moment: Moment,
         line: RequestLine,
@@ -37,9 +37,10 @@ pub enum LogEvent {
     },
 }
 
-/// A log of clients and commands. The server calls `begin` when a client or command begins, and
-/// `note` when it ends. The log doesn't affect the outcome. If a command comes while the server
-/// waits for a client's request, the calls for the command are between the client's two calls.
+/// A log of clients and commands. The server calls `begin` when it starts to serve a client or a
+/// command, and `note` when it has finished. The log has no effect on clients and commands. If a
+/// command comes while the server waits for a client's request, the server makes both calls for the
+/// command between the two calls for the client.
 pub trait Log {
     ghost use Rattle.desk_server.specs.Served.{Notes};
 
@@ -53,7 +54,7 @@ pub trait Log {
     fn begin(&mut self)
         ensures { begins self.old self.new };
 
-    /// Notes the outcome of a client or a command.
+    /// Notes the event that ended the service of a client or a command.
     fn note(&mut self, event: &LogEvent)
         ensures { notes self.old event.now self.new };
 }
@@ -80,14 +81,14 @@ impl Log for Unlogged {
 ///   microseconds taken.
 ///
 /// A dash replaces a missing value. A dash also replaces the status of a reply that wasn't
-/// completely written. If the writer fails, the server goes on.
+/// completely written. The log ignores failures of the writer.
 #[derive(Drop)]
 pub struct LogLines<'a, W, C> {
     /// The writer that takes the lines.
     pub writer: W,
     clock: &'a C,
-    // `began` is the start time of the client or command that began last and hasn't ended. If a
-    // command came during a client's turn, `around` is the start time of that client.
+    // `began` is the start time of the current client or command. During a command that interrupts
+    // a client, `around` is the start time of that client.
     began: Option<Instant>,
     around: Option<Instant>,
 }
@@ -103,7 +104,8 @@ impl<'a, W: Outlet, C: Clock> LogLines<'a, W, C> {
         }
     }
 
-    // Returns the microseconds since `begin` was called. Returns 0 if the clock can't be read.
+    // Returns the microseconds since the current client or command began. Returns 0 if the start
+    // time is missing, or if the clock can't be read.
     fn microseconds(&self) -> u64 {
         let Some(began) = self.began else {
             return 0;

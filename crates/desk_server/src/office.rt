@@ -3,10 +3,10 @@
 use crate::request_line::RequestLine;
 use club_http::Responder;
 
-/// The parts of a carried-out command that the log shows.
+/// The data that the log shows about a command that the desk carried out.
 #[derive(Drop)]
 pub struct Carried {
-    /// The first bytes of the line of a command. The second word of the line is the command's name.
+    /// A line of text whose second word is the command's name.
     pub line: RequestLine,
     /// The exit status of the command.
     pub status: u8,
@@ -25,7 +25,7 @@ pub struct Answer {
 pub trait Office: Responder {
     ghost use Rattle.desk_server.specs.Served.{CommandRelation};
 
-    // The effects that the bytes of a command may have.
+    // The possible answers to the bytes of a command, with the desk before and after the command.
     ghost commands: { CommandRelation Self };
 
     /// Carries out the command that the bytes encode. If the bytes encode no command, nothing

@@ -1,14 +1,14 @@
-//! Calls of `poll`, which waits for events of descriptors.
+//! Calls of `poll`, which waits for events on file descriptors.
 
 use libc::net as c;
 use libc::types::pollfd;
 use std::os::fd::RawFd;
 
-/// The result of a wait for a command and for a client.
+/// The result of a wait for a command or a client.
 pub(crate) enum Next {
-    /// The command goes before the client.
+    /// A command is ready and comes next.
     Command,
-    /// The client goes before the command.
+    /// A client is ready and comes next.
     Client,
     /// Neither a command nor a client came in time.
     Nothing,
@@ -16,7 +16,8 @@ pub(crate) enum Next {
     Failed,
 }
 
-/// Waits for a command at a door or for a client, and returns which of the two goes first. Waits at
+/// Waits for a command at a door or for a client, and returns which of the two comes next. If both
+/// are ready, the command comes next if `command_first` is true, and otherwise the client. Waits at
 /// most `milliseconds`. If `milliseconds` is -1, the wait has no limit.
 pub(crate) fn next_of(door: RawFd, client: RawFd, milliseconds: i32, command_first: bool) -> Next {
     let mut asked = [waits_for(door, c::POLLIN), waits_for(client, c::POLLIN)];

@@ -8,7 +8,7 @@ use club_http::Line;
 use std::marker::Model;
 
 /// The maximum number of bytes of a request that the log keeps. The desk's longest request line has
-/// 80 bytes. The longest request line cancels a booking at a facility whose name has 24 letters.
+/// 80 bytes. That line cancels a booking at a facility whose name has 24 letters.
 pub const MAX_KEPT: usize = 96;
 
 /// The maximum number of letters in a method that the log shows. The desk's longest method is
@@ -17,9 +17,9 @@ const MAX_METHOD_LEN: usize = 7;
 
 /// The first bytes of a request. Contracts represent a `RequestLine` by its bytes.
 ///
-/// A `RequestLine` shows the method and the path only if all their characters also occur in the
-/// desk's own methods and paths. The text of every pass has a capital letter or a brace. The log
-/// therefore never shows a pass.
+/// A `RequestLine` shows a method only if the method has only capital letters. A `RequestLine`
+/// shows a path only if the path has only small letters, digits, dashes and slashes. The text of
+/// every pass has a capital letter or a brace, so the log never shows a pass as a path.
 #[derive(Drop)]
 pub struct RequestLine {
     kept: Line,

@@ -29,14 +29,15 @@ impl fmt::Display for ClockOutOfRange {
 impl Error for ClockOutOfRange {}
 
 /// Serves `count` clients of a listener, one after the other. The server carries out commands of
-/// the office before each client, and while it waits for a client's request. A client gets the
-/// clock's moment at the start of its turn. A client counts even if its connection or exchange
-/// fails, or if its request is refused. Commands don't count as clients.
+/// the office before each client, and while it waits for a client's request. The moment of a
+/// client's request is the clock's moment after the server accepts the client. A client counts
+/// toward `count` even if its connection or exchange fails, or if its request is refused. Commands
+/// don't count as clients.
 ///
 /// # Errors
 ///
-/// Fails with `ClockOutOfRange` if the clock shows no moment within the club's years. After
-/// `ClockOutOfRange` the server closes the client's connection without an answer, and accepts no
+/// Fails with `ClockOutOfRange` if the clock can't be read, or shows a year before 2000 or after
+/// 2099. In this case the server closes the client's connection without an answer, and accepts no
 /// other client.
 pub fn serve_on<L: Arrivals, M: Moments, D: Office>(
     listener: &mut L,
@@ -52,8 +53,8 @@ pub fn serve_on<L: Arrivals, M: Moments, D: Office>(
     serve_logged(listener, count, moments, face, desk, &mut Unlogged)
 }
 
-/// Serves as `serve_on` does, and logs each client and each command. The log doesn't affect the
-/// service.
+/// Serves as `serve_on` does, and logs each client and each command. The log has no effect on
+/// clients and commands.
 ///
 /// # Errors
 ///

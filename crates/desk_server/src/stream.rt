@@ -1,4 +1,4 @@
-//! The stream of a client, which also waits at the office's door.
+//! A client's stream that can wait for the client and for commands of the office at the same time.
 
 use crate::between::Handover;
 use crate::door::Handed;
@@ -11,26 +11,31 @@ use std::os::fd::AsRawFd;
 use std::os::unix::net::UnixListener;
 use std::time::Duration;
 
-/// The result of a wait for a client and for the office.
+/// The result of a wait for a client or a command.
 #[derive(Drop)]
 pub enum Woken<O> {
     /// A command came.
     Command(O),
-    /// No command came. The client has sent bytes or ended its input, or the time limit is over, or
-    /// waiting failed, or the stream has no door for commands.
+    /// The wait returned no command, for one of these reasons:
+    ///
+    /// - The client sent bytes or ended its input.
+    /// - The time limit expired.
+    /// - Waiting failed.
+    /// - There is no door where commands arrive.
     Client,
-    /// The server couldn't accept the connection of a command, or the connection was already gone.
+    /// The server couldn't accept a connection of the office, or the connection was already gone.
     Nobody,
 }
 
-/// A client's stream, which also waits at the door. No contract states which commands come.
+/// A client's stream that can also wait for commands at the office's door. No contract states which
+/// commands arrive.
 pub trait ClientStream: TimedStream {
     ghost use Rattle.std.specs.Io.KnownBytes.{Keeps};
 
     type Command: Handover + Drop;
 
-    /// Waits at most for the time `limit`, for the client and for the office at once. If both are
-    /// ready, the office goes first if `command_first` is true, else the client.
+    /// Waits until the client or the office is ready, at most for the time `limit`. If both are
+    /// ready, the office comes next if `command_first` is true, and otherwise the client.
     fn wait_within(&mut self, limit: Duration, command_first: bool) -> Woken<Self::Command>
         ensures reads_nothing { Keeps (Self.to_come self.old) (Self.to_come self.new) }
         ensures writes_nothing { Keeps (Self.taken self.old) (Self.taken self.new) };
@@ -41,7 +46,8 @@ pub trait ClientStream: TimedStream {
         ensures writes_nothing { Keeps (Self.taken self.old) (Self.taken self.new) };
 }
 
-/// The server's sleep after it couldn't accept a connection of the office, in milliseconds.
+/// The time that the server sleeps after it couldn't accept a connection of the office, in
+/// milliseconds.
 const REST_MILLISECONDS: u64 = 10;
 
 /// A client's socket, and the office's door if there is one.
@@ -144,7 +150,8 @@ impl<'a, C: MonotonicClock> ClientStream for ClientSocket<'a, C> {
     }
 }
 
-// Returns a duration in milliseconds, rounded up, for `poll`.
+// Returns a timeout for `poll`: the whole milliseconds of a duration plus 1. Without the extra
+// millisecond, `poll` could return before the duration is over.
 fn milliseconds_of(limit: Duration) -> i32 {
     i32::try_from(limit.as_millis())
         .unwrap_or(i32::MAX)

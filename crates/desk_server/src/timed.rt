@@ -26,7 +26,7 @@ pub enum Waited {
 
 /// A stream whose reads and writes have a time limit, such as a socket. With a time limit of zero,
 /// a read returns the bytes that have already arrived. With a time limit of zero, a write takes as
-/// many bytes as there is room for.
+/// many bytes as the stream has room for.
 pub trait TimedStream {
     ghost use Rattle.std.specs.{Duration.as_nanos, Io.KnownBytes.Keeps};
     ghost use Rattle.std.specs.Prelude.{◌≤◌, ℕ, List, length, Option, IfSome};
@@ -39,10 +39,12 @@ pub trait TimedStream {
     // The bytes that the stream took, if they are known.
     ghost taken: { Self → Option (List ℕ) };
 
-    // A read that waits at most for the given time, with the stream before and after the read.
+    // The possible results of a read that waits at most for the given time, with the stream before
+    // and after the read.
     ghost reads: { Calls Self };
 
-    // A write that waits at most for the given time, with the stream before and after the write.
+    // The possible results of a write that waits at most for the given time, with the stream before
+    // and after the write.
     ghost writes: { Calls Self };
 
     /// Reads the next bytes into the front of the buffer, and returns the number of bytes read. If
@@ -61,8 +63,8 @@ pub trait TimedStream {
         ensures limited { writes self.old (as_nanos limit) result self.new };
 }
 
-/// The shortest timeout that a socket accepts, in microseconds. A write that must not wait needs a
-/// timeout if it has more bytes than there is room for.
+/// The shortest timeout that a socket accepts, in microseconds. A write with a time limit of zero
+/// uses this timeout, because a write without a timeout could block.
 pub(crate) const LEAST_MICROSECONDS: u64 = 1;
 
 /// No contract states which bytes a socket returns or takes.
@@ -112,8 +114,9 @@ pub(crate) fn outcome_of(returned: io::Result<usize>) -> Waited
     }
 }
 
-// Reads within the time left of a limit. Once the limit is over, a read doesn't wait. A read after
-// the limit still returns bytes that came while the server was stopped.
+// Reads, and waits at most until the deadline `limit`. After the deadline, a read doesn't wait, but
+// still returns bytes that have arrived. For example, bytes may have arrived while the server's
+// process was stopped.
 fn read_under<R: TimedStream, C: MonotonicClock>(
     reader: &mut R,
     limit: &Limit<'_, C>,
@@ -133,7 +136,7 @@ fn read_under<R: TimedStream, C: MonotonicClock>(
     None
 }
 
-// Writes within the time left of a limit. Once the limit is over, a write doesn't wait.
+// Writes, and waits at most until the deadline `limit`. After the deadline, a write doesn't wait.
 fn write_under<W: TimedStream, C: MonotonicClock>(
     writer: &mut W,
     limit: &Limit<'_, C>,
@@ -156,18 +159,21 @@ fn write_under<W: TimedStream, C: MonotonicClock>(
 /// The maximum number of bytes that `take_rest` reads.
 pub const MAX_REST: usize = 65_536;
 
-/// The time limit of `take_rest` for the next bytes or the end of the input, in milliseconds.
+/// The longest time that `take_rest` waits for the next bytes or the end of the input, in
+/// milliseconds.
 const REST_MILLISECONDS: u64 = 200;
 
 /// The maximum number of bytes that `take_rest` reads in one call.
 const MAX_REST_AT_ONCE: usize = 4_096;
 
-/// Both ends of an accepted connection, with time limits. All reads together may take the patience,
-/// counted from the moment when the server accepted the connection. All writes together may take
-/// the patience, counted from the first write. A call waits at most for the time left of its limit.
+/// An accepted connection as a reader and a writer with time limits. All reads share one time
+/// limit, which starts when the server accepts the connection. All writes share another time limit,
+/// which starts with the first write. Each of the two time limits is `patience`. A call waits at
+/// most until its time limit expires.
 ///
-/// If no time is left or the clock can't be read, the call is still made, but doesn't wait. If a
-/// signal interrupts a call, the call is repeated with the time that is left.
+/// If no time is left or the clock can't be read, the server still makes the call, but the call
+/// doesn't wait. If a signal interrupts a call, the server repeats the call with the time that is
+/// left.
 #[derive(Drop)]
 pub struct Accepted<'c, S, C> {
     pub(crate) stream: S,
@@ -188,7 +194,7 @@ impl<'c, S: TimedStream, C: MonotonicClock> Accepted<'c, S, C> {
     ghost use Rattle.desk_server.specs.Accepted.{HasMoved};
     ghost use Rattle.desk_server.specs.Limits.{AtShown, TakesAtMost, due_after, nanos_of};
 
-    /// Returns a connection that was just accepted.
+    /// Adds time limits to the stream of a connection that the server has just accepted.
     pub fn new(stream: S, clock: &'c C, patience: Duration) -> Accepted<'c, S, C>
         ensures new { result ≡ record {
           stream = stream;
@@ -224,8 +230,8 @@ impl<'c, S: TimedStream, C: MonotonicClock> Accepted<'c, S, C> {
     }
 
     /// Reads the bytes that the client still sends, at most `MAX_REST`. Reading stops at the end of
-    /// the input, or once no byte came for 200 milliseconds. Reading also stops once the patience,
-    /// counted from the start of this call, is over.
+    /// the input, or once no byte came for 200 milliseconds. Reading also stops if a read fails, or
+    /// when the time `patience` has passed since the start of this call.
     pub fn take_rest(&mut self)
         ensures taken { TakesAtMost 65_536 (S.to_come self.old.stream) (S.to_come self.new.stream) }
         ensures writes_nothing { Keeps (S.taken self.old.stream) (S.taken self.new.stream) }
