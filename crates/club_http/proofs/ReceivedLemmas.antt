@@ -1,4 +1,4 @@
--- Lemmas on a request whose bytes arrive in several pieces.
+-- Lemmas about a request whose bytes arrive in several pieces.
 use Rattle.std.proofs.{Common.{◌≡◌, ℕ, ◌+◌, ◌≤◌, ◌↔◌, Bool, false, List, ◌++◌, length, take, sym, ap, ◌∙◌, arith}, Math.Seq.take-append-add}
 use Rattle.std.proofs.lemmas.List.{take-append-le, length-take, length-take-le}
 use Rattle.std.specs.Prelude.{IsTrue}

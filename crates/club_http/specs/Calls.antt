@@ -2,9 +2,9 @@
 use Rattle.std.specs.Prelude.{◌⊎◌, ℕ, ◌<◌, ◌≤◌, List, [], ◌++◌, length, take, Option, Some, None}
 use Rattle.http_request.specs.{Frame.IsWhole, Limits.max_request_len}
 
--- A relation between the state before a call, the returned number of bytes, a list of bytes, and
--- the state after the call. For a reader, the list is the buffer after the call. For a writer, the
--- list is the bytes to write.
+-- A `Call` describes one call by four terms: the state before the call, the returned number of
+-- bytes, a list of bytes, and the state after the call. For a reader, the list is the buffer after
+-- the call. For a writer, the list is the bytes to write.
 abbrev pub Call : Type 0 → Type 1
 Call End = End → Option ℕ → List ℕ → End → Type 0
 
@@ -25,13 +25,14 @@ pub record EndsWithNone {Reader : Type 0} (Fills : Call Reader) (old : Reader) (
   pub not_whole : ¬ (IsWhole bytes)
   pub none : Fills mid (Some 0) room new ⊎ Fills mid None room new
 
--- The number of bytes is within the limit of a request. The reader wasn't called again after the
+-- The reader returned at most `max_request_len` bytes. The reader wasn't called again after the
 -- request was complete. The reader wasn't called again after a call that returned no bytes.
 pub record ReadsNoFurther {Reader : Type 0} (Fills : Call Reader) (old : Reader) (bytes : List ℕ) (new : Reader) : Type 0 where
   pub within : length bytes ≤ max_request_len
   pub calls : Gives Fills old bytes new ⊎ EndsWithNone Fills old bytes new
 
--- Only consecutive calls of the writer changed the writer. A call may also have failed.
+-- Zero or more consecutive calls changed the writer `old` to the new writer. Some of these calls
+-- may have failed.
 pub data ArePut {Writer : Type 0} (Puts : Call Writer) (old : Writer) : Writer → Type 0 where
   not_put : ArePut Puts old old
   put_again : (result : Option ℕ) (bytes : List ℕ) (mid new : Writer) → ArePut Puts old mid → Puts mid result bytes new → ArePut Puts old new

@@ -15,9 +15,9 @@ pub record AnswersBy {S : Type 0} (IsClean : S → Type 0)
   pub was_clean : IsClean new → IsClean old
   pub steps : IsClean new → (words : Words) × AreWordsOf text request words × DecidesOrFails Represents old new words moment reply
   pub lawful : OfItsClub IsClean Represents old new (λ club. IsLawful club text request moment reply)
-  -- The reply is `Unavailable` only if the store failed or the text is JSON.
+  -- The reply is `Unavailable` only if the store failed, or if the text of the pass is JSON.
   pub failed : OfItsClub IsClean Represents old new (λ club. FailsForCause Fails old new club text request moment reply)
-  -- If a text isn't a pass, the desk refuses the text without calling the store. The refusal needs
-  -- memory only if the text is JSON.
+  -- If the text isn't a pass, the desk refuses the text and doesn't change the store. The refusal
+  -- needs memory only if the text is JSON.
   pub no_change : (fault : FormFault) → IsAnyReading text (Err fault) → new ≡ old
   pub in_place : RefusesByFormFault text reply

@@ -1,4 +1,4 @@
--- The texts of the faults with which an exchange can fail.
+-- The texts that say why an exchange failed.
 use Rattle.std.specs.{Fmt.decimal, Prelude.{ℕ, List, ◌++◌, codes}}
 use Rattle.club_http.specs.declared.fault.AnswerFault.{AnswerFault, TheVariants.{Read, Write}}
 

@@ -1,4 +1,4 @@
--- Laws of the reply to the bytes of a request.
+-- A law about the reply to the bytes of a request.
 use Rattle.std.specs.Prelude.{ℕ, List, Option, IfSome}
 use Rattle.club_core.specs.declared.reply.Reply.{Reply}
 use Rattle.club_http.specs.{Received.Receives, Replied.{AnswerRelation, IsReplied}}

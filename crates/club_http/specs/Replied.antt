@@ -3,8 +3,8 @@ use Rattle.std.specs.Prelude.{◌≡◌, ℕ, List, Ok, Err}
 use Rattle.club_core.specs.declared.{refusal.Refusal.{Refusal, TheVariants.Unavailable}, reply.Reply.{Reply, TheVariants.Refused}, request.Request.Request}
 use Rattle.http_request.specs.Words.{DecodedRequest, IsRequestReading, HoldsBody}
 
--- A relation between the text of a pass, a request, and the desk's reply. The relation also
--- includes the state of the desk before and after the reply.
+-- An `AnswerRelation` describes a reply by five terms: the text of a pass, the request, the desk
+-- before the reply, the reply, and the desk after the reply.
 abbrev pub AnswerRelation : Type 0 → Type 1
 AnswerRelation Desk = List ℕ → Request → Desk → Reply → Desk → Type 0
 

@@ -13,7 +13,7 @@ pub trait Inlet {
     // The number of calls that failed.
     ghost failures: { Self → ℕ };
 
-    // The known effects of one call of `fill`.
+    // The effects that one call of `fill` may have.
     ghost fills: { Call Self };
 
     /// Reads the next bytes into the start of the buffer `room`, and returns the number of bytes
@@ -37,7 +37,7 @@ pub trait Outlet {
     // The number of calls that failed, or took no bytes although there were bytes to write.
     ghost failures: { Self → ℕ };
 
-    // The known effects of one call of `put`.
+    // The effects that one call of `put` may have.
     ghost puts: { Call Self };
 
     /// Takes a prefix of the bytes, and returns the length of the prefix. The result `None` means

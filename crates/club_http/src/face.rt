@@ -58,7 +58,7 @@ fn reply_to<D: Responder>(
 }
 
 impl Face {
-    /// Makes a `Face` without a request: the routes, and a buffer of `MAX_REQUEST_LEN` bytes.
+    /// Makes a `Face` that has no request yet. Its buffer has `MAX_REQUEST_LEN` bytes.
     ///
     /// # Errors
     ///
@@ -75,8 +75,8 @@ impl Face {
         })
     }
 
-    /// Returns the bytes of the last request, and any later bytes that the reader returned in the
-    /// same call. If the reader failed, returns the bytes that arrived before the failure.
+    /// Returns the bytes that were read for the last request. These bytes may include bytes after
+    /// the request. If the reader failed, returns the bytes that arrived before the failure.
     pub fn request(&self) -> &[u8]
         ensures { result.now ≡ self.now }
     {
@@ -86,10 +86,10 @@ impl Face {
     /// Reads a request and keeps its bytes. Returns `None` if the reader fails before the request
     /// is complete.
     ///
-    /// Stops calling the reader once the request is complete. If the input ends early, the bytes
-    /// that arrived are the request. A call of the reader may also return bytes after the request.
-    /// In all, this method reads at most `MAX_REQUEST_LEN` bytes. The returned scan covers all of
-    /// the bytes read.
+    /// After the request is complete, this method doesn't call the reader again. If the input ends
+    /// early, the bytes that have arrived count as the request. The last call of the reader may
+    /// also return bytes after the request. In all, this method reads at most `MAX_REQUEST_LEN`
+    /// bytes. The returned scan covers all of the bytes read.
     pub fn receive<R: Inlet>(&mut self, reader: &mut R) -> Option<HeadScan>
         ensures covered { IfSome result (λ scan. Covers scan self.new) }
         ensures received { IfSome result
@@ -122,8 +122,8 @@ impl Face {
     }
 
     /// Asks the desk for the reply to the last request, and writes the text of the reply. The scan
-    /// must cover the bytes of this request. In an exchange, the call of `respond` comes after the
-    /// call of `receive`.
+    /// must cover the bytes of this request. In an exchange, the caller first calls `receive` and
+    /// then `respond`.
     ///
     /// # Errors
     ///
@@ -152,7 +152,8 @@ impl Face {
         }
     }
 
-    /// Returns whether the buffer contains exactly one request, with no bytes after the request.
+    /// Returns true if the bytes in the buffer are exactly one request, with no bytes after the
+    /// request.
     pub fn is_over(&self, scan: &HeadScan) -> bool
         requires { Covers scan.now self.now }
         ensures { IsTrue result ↔ IsOneRequest self.now }

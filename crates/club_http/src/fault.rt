@@ -9,8 +9,8 @@ pub enum AnswerFault {
     /// The reader failed before the request was complete. The desk wasn't asked, and nothing was
     /// written.
     Read,
-    /// The writer failed or took nothing, after this number of bytes of the reply. The desk's
-    /// decision isn't undone.
+    /// After the writer had taken this number of bytes of the reply, it failed or took nothing
+    /// more. The desk's decision isn't undone.
     Write(usize),
 }
 

@@ -1,5 +1,4 @@
-//! Laws of the definitions of an exchange. Each law is the contract of a function with an empty
-//! body.
+//! A law about exchanges. The law is the contract of a function that does nothing when it runs.
 
 ghost use Rattle.club_http.specs.Laws.{RepliesToAll};
 

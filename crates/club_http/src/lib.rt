@@ -1,7 +1,8 @@
 //! One HTTP/1.1 exchange with the desk: reads a request, asks the desk, and writes the reply.
 //!
 //! This crate re-exports the types, constants and functions that a program needs. The re-exports
-//! cover the desk and its commands, the values and rows of a club, and the status lines of replies.
+//! cover the desk and its commands, the values and rows of a club, and the texts and statuses of
+//! replies.
 #![tactic(auto)]
 
 mod desk;
