@@ -65,8 +65,8 @@ some_day day = omega arith
 abbrev IsPart : List ℕ → Type 0
 IsPart part = (0 < length part) × (has_slash part ≡ false)
 
--- The routes that remain after a slot's facility and day. One route ends with the hour, and the
--- other continues with a booking.
+-- The routes of a booking and of a slot, without everything up to the slash after the day. The
+-- slot's route then has only the hour. The booking's route then has the hour and the booking.
 hour_routes : {K : Type 0} → K → K → RowsOf K
 hour_routes booking slot = (param_token ∷ codes "/bookings/" ++ param_token ∷ [], booking) ∷ (param_token ∷ [], slot) ∷ []
 

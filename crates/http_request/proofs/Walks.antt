@@ -1,12 +1,12 @@
--- Lemmas about matchit's search for the route of a path, which handles one part of the path at a
--- time.
+-- Lemmas about matchit's search for the route of a path.
 use Rattle.http_request.proofs.Common.{◌≡◌, ℕ, zero, suc, ◌-◌, ◌<◌, List, [], ◌∷◌, ◌++◌, length, drop, Option, Some, None, true, false, cond, ◌==◌, ltb, nat_eq}
 use Rattle.http_request.proofs.Common.{refl, ap, ◌∙◌, arith, length-append, IsSome, and_right, nat_tests}
 use Rattle.std.specs.Cmp.Lexicographic.{pointwise}
 use Rattle.std.proofs.Math.Seq.{drop-append_seam}
 use Rattle.matchit.specs.{Rows.{RowsOf, param_token}, Seek.{segment, has_slash, cuts, step, or_else, param_step, seek}}
 
--- The rows that still match after the given bytes of a path.
+-- The rows of the router that still match after the given bytes of a path. Each row keeps the rest
+-- of its route.
 abbrev pub steps : {K : Type 0} → List ℕ → RowsOf K → RowsOf K
 steps [] rs = rs
 steps (b ∷ word) rs = steps word (step b rs)

@@ -17,13 +17,13 @@ has_only_name name value = unwrap_or (option_map (only_named name) (as_object va
 abbrev pub whole_number : Option Data → Option ℕ
 whole_number value = option_and_then as_u64 (option_and_then as_number value)
 
--- The number of guests. The number is `None` if it is over the limit of a booking.
+-- The number of guests. The number is `None` if it is over the limit for a booking.
 abbrev pub few_guests : Option ℕ → Option ℕ
 few_guests None = None
 few_guests (Some n) = if nat_le n guests_limit then Some n else None
 
 -- The number of guests in an object whose only name is `guests`. The number of guests must be a
--- whole number within the limit of a booking.
+-- whole number within the limit for a booking.
 unfoldable pub guests_of_value : Data → Option ℕ
 guests_of_value value = if has_only_name (codes "guests") value then few_guests (whole_number (get (codes "guests") value)) else None
 

@@ -1,4 +1,4 @@
--- This file defines the values of a head's fields, which are found by the names of the fields.
+-- This file defines how to find the values of a head's fields by the names of the fields.
 use Rattle.std.specs.{Char.to_ascii_lowercase, Prelude.{◌≡◌, ℕ, Bool, List, [], ◌∷◌, map, if◌then◌else◌}, Str.bytes_eq}
 use Rattle.httparse.specs.{Spans.header_bytes, declared.spans.HeaderSpan.HeaderSpan}
 use Rattle.http_request.specs.declared.fields.Values.{Values, TheVariants.{None, One, More}}

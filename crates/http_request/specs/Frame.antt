@@ -35,7 +35,8 @@ pub record IsRefusedHead (bytes : List ℕ) : Type 0 where
   pub refusal : (head : RequestHead) (body_len : ℕ) → ¬ (AsksForBody piece head body_len)
 
 -- The bytes begin with a complete request. A request is complete if its head and its body are
--- complete. A request is also complete if its head is refused whatever bytes follow.
+-- complete. A request is also complete if the desk refuses its head, and more bytes can't change
+-- the refusal.
 pub data IsWhole (bytes : List ℕ) : Type 0 where
   has_frame : (head : RequestHead) (body : List ℕ) → IsFramed bytes head body → IsWhole bytes
   endless : HasNoPiece bytes → max_head_len ≤ length bytes → IsWhole bytes

@@ -13,8 +13,9 @@ pub record IsHeadAt (bytes : List ℕ) (fields : List HeaderSpan) (found : Head)
   pub within : IsRequestWithin (take found.len bytes) fields found.spans
   pub spans : IsRequestAt (take found.len bytes) fields found.spans head
 
--- The result of looking for a head at the front of the bytes. Either no head ends within the limit
--- of a head, or the head is refused, or the head announces a body of a known length.
+-- The result of looking for a head at the front of the bytes. Either no head ends within the first
+-- `max_head_len` bytes, or the desk refuses the head, or the head announces a body of a known
+-- length.
 abbrev pub IsHeadResultOf : List ℕ → List HeaderSpan → HeadResult → Type 0
 IsHeadResultOf bytes fields NoPiece = HasNoPiece bytes
 IsHeadResultOf bytes fields Refused = IsRefusedHead bytes

@@ -3,12 +3,12 @@ use Rattle.std.specs.{Prelude.{ℕ, ◌==◌, ◌||◌, List, [], ◌∷◌, len
 use Rattle.club_values.specs.Number.{number_of_digits}
 use Rattle.http_request.specs.{Fields.values_of, Limits.max_body_len}
 
--- The given length. The length is `None` if it is over the limit of a body.
+-- The given length of a body, or `None` if the length is over the limit for a body.
 abbrev pub body_length : ℕ → Option ℕ
 body_length n = if nat_le n max_body_len then Some n else None
 
 -- The number that 1 to 4 digits represent. The result is `None` for any other text, and for a
--- number over the limit of a body.
+-- number over the limit for a body.
 abbrev pub length_in : List ℕ → Option ℕ
 length_in value = if nat_le (length value) 4 then option_and_then body_length (number_of_digits value) else None
 
@@ -19,12 +19,14 @@ declared_length [] = Some 0
 declared_length (value ∷ []) = length_in value
 declared_length (value ∷ other ∷ more) = None
 
--- The desk allows a body that isn't empty only with the method PUT.
+-- The given length of a body, or `None` if the method doesn't allow a body of this length. The desk
+-- allows a body that isn't empty only with the method PUT.
 abbrev pub where_allowed : List ℕ → Option ℕ → Option ℕ
 where_allowed method None = None
 where_allowed method (Some n) = if n == 0 || bytes_eq method (codes "PUT") then Some n else None
 
--- The desk refuses a head with a transfer coding.
+-- The given length of a body, or `None` if the head has a transfer coding. The desk refuses such a
+-- head.
 abbrev pub unless_coded : List (List ℕ) → Option ℕ → Option ℕ
 unless_coded [] found_len = found_len
 unless_coded (coding ∷ more) found_len = None

@@ -1,10 +1,11 @@
 -- This file defines the limits of a request.
 use Rattle.std.specs.Prelude.{ℕ, ◌+◌}
 
--- The maximum numbers of bytes and of fields in a head.
+-- The maximum number of bytes in a head.
 abbrev pub max_head_len : ℕ
 max_head_len = 16_384
 
+-- The maximum number of fields in a head.
 abbrev pub max_fields : ℕ
 max_fields = 32
 

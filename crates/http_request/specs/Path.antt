@@ -24,8 +24,7 @@ HasRealValues (SlotPlace slot) = IsSlot slot
 HasRealValues (BookingPlace slot number) = IsSlot slot × IsBookingNumber number
 HasRealValues AccountPlace = Unit {0}
 
--- The target is the path of the place. A path is a slash, and then its parts with slashes between
--- them.
+-- The target is the path of the place. A path begins with a slash, and slashes separate its parts.
 pub record IsPlace (target : List ℕ) (place : Place) : Type 0 where
   pub path : List ℕ
   pub slash : target ≡ 47 ∷ path

@@ -23,7 +23,7 @@ pub record DecodedRequest : Type 0 where
 abbrev pub guests_by_method : List ℕ → List ℕ → Option ℕ
 guests_by_method method body = if bytes_eq method (codes "PUT") then guests_in body else Some 0
 
--- The request that a method makes at a place. The case of a method's letters matters.
+-- The request that has the given method and place. The case of a method's letters matters.
 abbrev pub request_at : Place → List ℕ → ℕ → Result Request Refusal
 request_at (SlotPlace slot) method guests =
     if bytes_eq method (codes "GET") then Ok (requests.View slot) else Err (MethodNotAllowed resources.Slot)

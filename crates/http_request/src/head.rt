@@ -14,8 +14,8 @@ pub const MAX_HEAD_LEN: usize = 16_384;
 pub const MAX_FIELDS: usize = 32;
 
 /// Returns the length of the head at the front of the bytes. A head ends with the first empty line,
-/// CR LF CR LF. The caller knows that no head ends within the first `searched` bytes. This function
-/// therefore doesn't search the first `searched` bytes again.
+/// CR LF CR LF. The caller has searched the first `searched` bytes already, and no head ends there.
+/// This function therefore doesn't search these bytes again.
 pub(crate) fn piece_len(bytes: &[u8], searched: usize) -> Option<usize>
     requires inside { searched ≤ length bytes.now }
     requires open { HasNoPiece (take searched bytes.now) }

@@ -29,8 +29,8 @@ pub(crate) enum HeadResult {
     Asking(Head),
 }
 
-/// Looks for a head at the front of the bytes. The caller knows that no head ends within the first
-/// `searched` bytes. Writes the positions of the head's fields to `fields`.
+/// Looks for a head at the front of the bytes. The caller has searched the first `searched` bytes
+/// already, and no head ends there. Writes the positions of the head's fields to `fields`.
 pub(crate) fn head_result_of(
     bytes: &[u8],
     searched: usize,

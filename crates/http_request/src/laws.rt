@@ -1,4 +1,5 @@
-//! Laws about the decoding of requests. Each law is the contract of a function with an empty body.
+//! Laws about the decoding of requests. Each law is the contract of a function that does nothing
+//! when it runs.
 
 ghost use Rattle.http_request.specs.Laws.{OneReading, WholeKeepsItsReading, BodyStays, ReadsPlaces};
 
@@ -27,7 +28,7 @@ pub fn whole_keeps_its_reading()
     ensures { WholeKeepsItsReading }
 {}
 
-/// A request whose body needs memory stays at the front of the bytes when more bytes are appended.
+/// If bytes begin with a PUT request that has a body, they still do after more bytes are appended.
 pub fn body_stays()
     ensures { BodyStays }
 {}

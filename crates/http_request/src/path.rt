@@ -9,7 +9,7 @@ use club_rows::BookingNumber;
 use club_values::digits::read_number;
 use club_values::{Day, Hour, Name, Slot};
 
-/// The place that a path names.
+/// The place that a path names: a slot, a booking in a slot, or the account.
 #[derive(Clone, Copy, Debug, PartialEq, Eq)]
 pub(crate) enum Place {
     SlotPlace(Slot),
@@ -17,7 +17,8 @@ pub(crate) enum Place {
     AccountPlace,
 }
 
-/// Returns the first part of a path, and the rest of the path after the following slash.
+/// Returns the part of a path before the first slash, and the rest after that slash. If there is no
+/// slash, the first part is the whole path and the rest is `None`.
 fn next_part(path: &[u8]) -> (&[u8], Option<&[u8]>)
     ensures { BeginsWith path.now result.0.now result.1 }
 {
@@ -51,8 +52,8 @@ fn read_slot(facility: &[u8], day: &[u8], hour: &[u8]) -> Option<Slot>
     })
 }
 
-/// Returns the place of a slot or of a booking in the slot. `rest` is the rest of the path after
-/// the slot's parts.
+/// Returns the place of a path that begins with a slot: the slot itself, or a booking in the slot.
+/// `rest` is the rest of the path after the slot's hour.
 fn at_slot(slot: Slot, rest: Option<&[u8]>) -> Option<Place>
     ensures { result ≡ spec.at_slot slot (following_parts rest.entry) }
 {

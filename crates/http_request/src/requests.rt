@@ -1,4 +1,4 @@
-//! The requests that a method can make at a place.
+//! Combines a method and a place into a request.
 
 ghost use Rattle.std.specs.Prelude.{◌≡◌, Ok};
 ghost use Rattle.http_request.specs.Words as spec;
@@ -7,7 +7,7 @@ use crate::path::Place;
 use club_core::{Refusal, Request, Resource};
 use club_rows::Guests;
 
-/// Returns the request that a method makes at a place.
+/// Returns the request that has the given method and place.
 pub(crate) fn request_at(place: Place, method: &[u8], guests: Guests) -> Result<Request, Refusal>
     ensures { result ≡ spec.request_at place method.now guests }
 {

@@ -1,4 +1,4 @@
-//! The routes of the desk, and the decoding of requests with the desk's routes.
+//! The routes of the desk, and functions that decode requests with these routes.
 
 ghost use Rattle.std.specs.Prelude.{◌≡◌, length, map, All, codes, IfOk, MatchResult, Some, Ok};
 ghost use Rattle.std.specs.Str.{IsUtf8};
@@ -44,7 +44,7 @@ fn add(router: &mut Router<()>, route: &str) -> Result<(), AllocError>
 }
 
 impl Routes {
-    /// Makes the routes of the account, of a slot and of a booking.
+    /// Makes the routes for the account, a slot and a booking.
     ///
     /// # Errors
     ///
@@ -114,8 +114,8 @@ fn decode_request<'a>(
     Ok(Words { pass, request })
 }
 
-/// Decodes the bytes of a request. `scan` must cover the bytes, so this function doesn't parse the
-/// head again. Bytes after the request change nothing.
+/// Decodes the bytes of a request. The caller has scanned these bytes with `scan` already, so this
+/// function doesn't parse the head again. Bytes after the request have no effect on the result.
 ///
 /// # Errors
 ///
@@ -144,7 +144,7 @@ pub fn words_by_scan<'a>(
 }
 
 /// Decodes the bytes of a request. Returns the text of the request's pass, and the request itself.
-/// Bytes after the request change nothing.
+/// Bytes after the request have no effect on the result.
 ///
 /// # Errors
 ///

@@ -1,4 +1,4 @@
-//! The scan for the head of a request while its bytes arrive.
+//! Looks for the head of a request while the bytes of the request arrive.
 
 ghost use Rattle.std.specs.{Bool.OnFalse, Prelude.{◌<◌, ◌≤◌, ◌↔◌, [], length, take, IsTrue}};
 ghost use Rattle.http_request.specs.{Frame.{IsOneRequest, IsWhole}, HeadResult.Covers};
@@ -12,8 +12,9 @@ use httparse::spans::{EMPTY_HEADER_SPAN, HeaderSpan};
 /// The maximum number of bytes in a request.
 pub const MAX_REQUEST_LEN: usize = MAX_HEAD_LEN + MAX_BODY_LEN;
 
-/// A scan for the head of a request. The scan keeps the result of looking for a head in the scanned
-/// bytes. The scan parses the head once, after the end of the head has arrived.
+/// A scan for the head of a request. A scan covers some bytes if it has the result of looking for a
+/// head at the front of these bytes. The scan parses the head once, after the end of the head has
+/// arrived.
 #[derive(Drop)]
 pub struct HeadScan {
     pub(crate) front: HeadResult,
@@ -34,8 +35,8 @@ impl HeadScan {
 
     /// Extends the scan to all of `bytes`. The scan must already cover the first `searched` bytes.
     /// If no head has ended yet, this function looks for the end of a head in the new bytes. If it
-    /// finds a head, it parses the head. Once a head has ended, this function looks at no more
-    /// bytes.
+    /// finds the end, it parses the head. If a head has already ended, this function ignores the
+    /// new bytes.
     pub fn go_on(&mut self, bytes: &[u8], searched: usize)
         requires inside { searched ≤ length bytes.now }
         requires before { Covers self.old (take searched bytes.now) }

@@ -7,7 +7,7 @@ infixl 10 ◌>>=◌
 abbrev pub ◌>>=◌ : {A B : Type 0} → Option A → (A → Option B) → Option B
 o >>= f = option_and_then f o
 
--- The given number. The number is `None` unless it is from 1 to the largest booking number.
+-- The given number if it is from 1 to the largest booking number, else `None`.
 abbrev pub within_limits : ℕ → Option ℕ
 within_limits n = if nat_le 1 n && nat_le n booking_number_limit then Some n else None
 

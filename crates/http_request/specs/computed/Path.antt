@@ -4,8 +4,8 @@ use Rattle.club_values.specs.declared.slot.Slot.{Slot}
 use Rattle.http_request.specs.{Parts.segments, computed.Parts.{number_of_text, slot_of_parts, ◌>>=◌}, declared.path.Place.Place}
 use Rattle.http_request.specs.declared.path.Place.TheVariants.{SlotPlace, BookingPlace, AccountPlace}
 
--- The place of a slot, or of a booking in the slot. The list `parts` has the parts of the path
--- after the slot's own parts.
+-- The place of a path that begins with a slot: the slot itself, or a booking in the slot. The given
+-- list has the parts of the path after the slot's hour.
 abbrev pub at_slot : Slot → List (List ℕ) → Option Place
 at_slot slot [] = Some (SlotPlace slot)
 at_slot slot (word ∷ []) = None
