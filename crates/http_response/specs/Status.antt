@@ -36,7 +36,7 @@ abbrev pub status_of : Reply → ℕ
 status_of (Refused refusal) = refusal_status refusal
 status_of served = 200
 
--- The methods of a resource. A client can view a slot or its account, and can make or cancel a
+-- The methods of a resource. A client can view a slot or an account, and can make or cancel a
 -- booking.
 abbrev pub methods_of : Resource → List ℕ
 methods_of resources.Slot = codes "GET"

@@ -22,7 +22,7 @@ fn push_name(line: &mut Line, name: &[u8])
     line.push(b"\":");
 }
 
-/// Appends a text without escapes.
+/// Appends a text in quotes. The text must need no escapes.
 fn push_value(line: &mut Line, text: &[u8])
     requires { length line.old + length text.now + 2 ≤ max_line_len }
     ensures text { line.new ≡ line.old ++ spec.value_text (spec.text text.now) }
@@ -101,7 +101,7 @@ fn slot_body(slot: &Slot, kind: Kind, price: u16, places: u8, taken: u64, closed
     line
 }
 
-/// Starts an object whose first members are a booking's key and number.
+/// Starts an object whose first member identifies a booking by the booking's key and number.
 #[tactic(auto, unfolding(crate::specs::Body::member_text))]
 fn object_of_booking(key: &Name, number: BookingNumber) -> Line
     ensures text { result ≡ codes "{" ++ spec.member_text (spec.booking_member key.now number) }

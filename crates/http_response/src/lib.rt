@@ -1,4 +1,4 @@
-//! The replies of the desk as bytes. A reply is an HTTP/1.1 response with a JSON object as its
+//! Converts the desk's replies to bytes. A reply is an HTTP/1.1 response with a JSON object as its
 //! body. This crate allocates no memory.
 #![tactic(auto)]
 

@@ -7,7 +7,8 @@ use std::marker::Model;
 /// head and its body.
 pub const MAX_LINE_LEN: usize = 256;
 
-/// A text that grows by `push`. Contracts represent a `Line` by the list of its bytes, at most 256.
+/// A text buffer. `push` appends bytes to the text. Contracts represent a `Line` by the list of its
+/// bytes, at most 256.
 #[derive(Drop)]
 pub struct Line {
     bytes: [u8; MAX_LINE_LEN],

@@ -1,4 +1,4 @@
-//! Writes the text of a reply, which consists of its head and its body.
+//! Writes the text of a reply: the head and the body.
 
 ghost use Rattle.std.specs.Prelude.{◌≡◌, ◌≤◌, ◌++◌, length, drop};
 ghost use Rattle.http_response.specs.Text.{reply_text};
@@ -15,7 +15,7 @@ pub const MAX_REPLY_LEN: usize = 512;
 ///
 /// The text is an HTTP/1.1 response (RFC 9112) with a JSON object as its body. The fields of a
 /// reply are the content type, the content length and `Connection: close`. Status 401 adds the
-/// challenge `Bearer` (RFC 6750). Status 405 adds the methods of the path.
+/// challenge `Bearer` (RFC 6750). Status 405 adds the methods that the path's resource allows.
 #[tactic(auto, unfolding(crate::specs::Text::reply_text, crate::specs::Text::head_text))]
 pub fn reply_bytes(reply: &Reply, room: &mut [u8; MAX_REPLY_LEN]) -> usize
     ensures len { result ≡ length (reply_text reply.now) }

@@ -30,8 +30,8 @@ fn refusal_status(refusal: Refusal) -> u16
     }
 }
 
-/// Returns the HTTP status of a reply. The status is 200 if the request was served. The status of a
-/// refusal depends on its kind.
+/// Returns the HTTP status of a reply. The status is 200 if the request was served. Otherwise the
+/// status depends on the kind of refusal.
 pub fn status_of(reply: &Reply) -> u16
     ensures { result ≡ spec.status_of reply.now }
 {
