@@ -58,7 +58,8 @@ fn reply_to<D: Responder>(
 }
 
 impl Face {
-    /// Makes a `Face` that has no request yet. Its buffer has `MAX_REQUEST_LEN` bytes.
+    /// Makes a `Face` that has no request yet. The `Face` contains the desk's routes, and a buffer
+    /// of `MAX_REQUEST_LEN` bytes.
     ///
     /// # Errors
     ///
@@ -152,8 +153,8 @@ impl Face {
         }
     }
 
-    /// Returns true if the bytes in the buffer are exactly one request, with no bytes after the
-    /// request.
+    /// Returns true if and only if the bytes that were read are exactly one request, with no bytes
+    /// after the request.
     pub fn is_over(&self, scan: &HeadScan) -> bool
         requires { Covers scan.now self.now }
         ensures { IsTrue result ↔ IsOneRequest self.now }

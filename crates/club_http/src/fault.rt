@@ -9,8 +9,8 @@ pub enum AnswerFault {
     /// The reader failed before the request was complete. The desk wasn't asked, and nothing was
     /// written.
     Read,
-    /// After the writer had taken this number of bytes of the reply, it failed or took nothing
-    /// more. The desk's decision isn't undone.
+    /// The writer took this number of bytes of the reply, and then failed or took nothing more. The
+    /// desk's decision isn't undone.
     Write(usize),
 }
 
