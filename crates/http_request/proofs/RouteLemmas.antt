@@ -65,8 +65,9 @@ some_day day = omega arith
 abbrev IsPart : List ℕ → Type 0
 IsPart part = (0 < length part) × (has_slash part ≡ false)
 
--- The routes of a booking and of a slot, without everything up to the slash after the day. The
--- slot's route then has only the hour. The booking's route then has the hour and the booking.
+-- The rest of a booking's route and of a slot's route, after the day and the slash that follows it.
+-- The rest of the slot's route is the hour. The rest of the booking's route is the hour,
+-- `/bookings/` and the booking's number.
 hour_routes : {K : Type 0} → K → K → RowsOf K
 hour_routes booking slot = (param_token ∷ codes "/bookings/" ++ param_token ∷ [], booking) ∷ (param_token ∷ [], slot) ∷ []
 

@@ -5,8 +5,8 @@ use Rattle.std.specs.Cmp.Lexicographic.{pointwise}
 use Rattle.std.proofs.Math.Seq.{drop-append_seam}
 use Rattle.matchit.specs.{Rows.{RowsOf, param_token}, Seek.{segment, has_slash, cuts, step, or_else, param_step, seek}}
 
--- The rows of the router that still match after the given bytes of a path. Each row keeps the rest
--- of its route.
+-- The rows of the router that still match after the given bytes of a path. Each of these rows has
+-- only the rest of its route.
 abbrev pub steps : {K : Type 0} → List ℕ → RowsOf K → RowsOf K
 steps [] rs = rs
 steps (b ∷ word) rs = steps word (step b rs)

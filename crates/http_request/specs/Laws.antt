@@ -19,6 +19,7 @@ WholeKeepsItsReading =
     (bytes more : List ℕ) (answer : Result DecodedRequest Refusal)
     → IsWhole bytes → IsRequestReading bytes answer → IsRequestReading (bytes ++ more) answer
 
--- If bytes begin with a PUT request that has a body, they still do after more bytes are appended.
+-- If bytes begin with a PUT request whose body isn't empty, they still do after more bytes are
+-- appended.
 abbrev pub BodyStays : Type 0
 BodyStays = (bytes more : List ℕ) → HoldsBody bytes → HoldsBody (bytes ++ more)

@@ -1,7 +1,8 @@
 -- This file defines the parts of a path.
 use Rattle.std.specs.{Borrow.Bor, Prelude.{◌≡◌, ℕ, ◌==◌, List, [], ◌∷◌, ◌++◌, if◌then◌else◌, Option, Some, None}}
 
--- The given parts of a path, with the bytes `front` added at the start of the first part.
+-- The given parts of a path, with the bytes `front` added at the start of the first part. If no
+-- parts are given, `front` is the only part.
 abbrev pub with_front : List ℕ → List (List ℕ) → List (List ℕ)
 with_front front [] = front ∷ []
 with_front front (part ∷ parts) = (front ++ part) ∷ parts

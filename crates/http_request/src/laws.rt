@@ -28,7 +28,8 @@ pub fn whole_keeps_its_reading()
     ensures { WholeKeepsItsReading }
 {}
 
-/// If bytes begin with a PUT request that has a body, they still do after more bytes are appended.
+/// If bytes begin with a PUT request whose body isn't empty, they still do after more bytes are
+/// appended.
 pub fn body_stays()
     ensures { BodyStays }
 {}

@@ -26,7 +26,8 @@ fn bearer_text(value: &[u8]) -> Option<&[u8]>
 }
 
 /// Returns the text of the pass. Returns `None` unless the head has exactly one field
-/// `Authorization`, and the field's value begins with `Bearer` and one space.
+/// `Authorization`, and the field's value begins with `Bearer` and a space. The case of the letters
+/// of `Bearer` doesn't matter.
 pub(crate) fn pass_text_of<'a>(head: &'a [u8], fields: &[HeaderSpan]) -> Option<&'a [u8]>
     requires { All (IsHeaderWithin (length head.now)) fields.now }
     ensures { option_map (λ text. text.now) result

@@ -114,8 +114,8 @@ fn decode_request<'a>(
     Ok(Words { pass, request })
 }
 
-/// Decodes the bytes of a request. The caller has scanned these bytes with `scan` already, so this
-/// function doesn't parse the head again. Bytes after the request have no effect on the result.
+/// Decodes the bytes of a request. `scan` must cover these bytes. This function uses the result of
+/// the scan, and doesn't parse the head again. Bytes after the request have no effect on the result.
 ///
 /// # Errors
 ///
