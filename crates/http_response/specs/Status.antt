@@ -36,8 +36,8 @@ abbrev pub status_of : Reply → ℕ
 status_of (Refused refusal) = refusal_status refusal
 status_of served = 200
 
--- The methods of a resource. A client can view a slot or an account, and can make or cancel a
--- booking.
+-- The methods of a resource. A client can view a slot or the member's account, and can make or
+-- cancel a booking.
 abbrev pub methods_of : Resource → List ℕ
 methods_of resources.Slot = codes "GET"
 methods_of resources.Booking = codes "PUT, DELETE"

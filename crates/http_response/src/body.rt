@@ -22,7 +22,7 @@ fn push_name(line: &mut Line, name: &[u8])
     line.push(b"\":");
 }
 
-/// Appends a text in quotes. The text must need no escapes.
+/// Appends a text in quotes. The caller passes only texts that need no escapes.
 fn push_value(line: &mut Line, text: &[u8])
     requires { length line.old + length text.now + 2 ≤ max_line_len }
     ensures text { line.new ≡ line.old ++ spec.value_text (spec.text text.now) }
