@@ -56,9 +56,9 @@ module _ {S C : Type 0} (to_come taken : S → Option (List ℕ)) where
   IsEnded (Err fault) bytes old new = new ≡ old
 
   module _ (Shows : C → Option ℕ → Type 0) (Reads Writes : Calls S) where
-    -- The course of an exchange. The server read bytes at most until the request was complete.
-    -- After these reads, the server wrote bytes of the reply, and ended the connection. The server
-    -- wrote exactly the bytes `written`.
+    -- The course of an exchange. First, the server read bytes, at most until the request was
+    -- complete. Then the server wrote exactly the bytes `written`. Last, the server ended the
+    -- connection.
     pub record Talks (old : Accepted S C) (bytes written : List ℕ) (outcome : Result Reply AnswerFault) (new : Accepted S C) : Type 0 where
       pub heard : Accepted S C
       pub sent : Accepted S C

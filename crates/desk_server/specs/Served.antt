@@ -74,7 +74,7 @@ pub record AnswersCommand {Desk : Type 0} (Carries : CommandRelation Desk) (byte
   pub writes : (n : ℕ) × Appends taken taken' (take n (answer_bytes answer.carried.status (string_bytes answer.text)))
 
 -- A turn of the server. The field `event` is the event that ends the turn. The field `meanwhile`
--- has the events of the commands that the desk carried out during a client's turn.
+-- has the events of the commands that came while the server waited for a client's request.
 pub record Turn : Type 0 where
   pub meanwhile : List LogEvent
   pub event : LogEvent
@@ -226,6 +226,7 @@ module _ {Clock Desk Log : Type 0} (Gives : GivesMoment Clock) (Carries : Comman
     pub written : List ℕ
     pub meanwhile : Meanwhile clock desk log clock' left log'
     pub exchanged : IsExchanged Answers bytes left written outcome desk'
-    -- The effect would be the same if the server had read all bytes that the client will ever send.
+    -- The exchange would have the same effect if the server read all bytes that the client will
+    -- ever send.
     pub to_all : IfSome (ToCome client) (λ all. IsExchanged Answers all left written outcome desk')
     pub talked : Talks client bytes written outcome client'

@@ -55,7 +55,7 @@ pub trait Waits: Inlet {
     /// - The client's time limit expires.
     /// - Waiting fails.
     ///
-    /// Returns `None` at once if there is no door, the socket where commands arrive.
+    /// Returns `None` at once if the server has no door. A door is a socket where commands arrive.
     fn command_before(&mut self) -> Option<Self::Command>
         ensures reads_nothing { Keeps (Self.to_come self.old) (Self.to_come self.new) }
         ensures counted { Self.failures self.new ≡ Self.failures self.old }
@@ -96,7 +96,8 @@ impl<R: Waits, M: Moments, D: Office, G: Log> Inlet for Between<'_, '_, '_, '_, 
 }
 
 /// Reads a request as `Face::receive` does. While waiting for the request, this function carries
-/// out commands of the office. For each command, this function reads the clock and calls the log.
+/// out commands of the office. For each command, this function reads the clock and logs the
+/// command.
 ///
 /// An exchange has two steps: `receive_between` is the first step, and `Face::respond` is the
 /// second.

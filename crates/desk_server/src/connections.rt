@@ -22,9 +22,10 @@ pub trait Connection {
     ghost talks: { Talk Self };
 
     /// Carries out one exchange with the desk at the given moment. While waiting for the request,
-    /// this method carries out commands of the office and logs them. For each command, this method
-    /// reads the clock. Returns the reply, or the fault that ended the exchange. The bytes read for
-    /// the request stay in `face`. Bytes after a complete request have no effect on the reply.
+    /// this method carries out commands of the office. For each command, this method reads the
+    /// clock and logs the command. Returns the reply, or the fault that ended the exchange. The
+    /// bytes read for the request stay in `face`. Bytes after a complete request have no effect on
+    /// the reply.
     ///
     /// # Errors
     ///
@@ -117,10 +118,10 @@ impl<S: ClientStream, C: MonotonicClock> Accepted<'_, S, C> {
     ghost use Rattle.desk_server.specs.Accepted.{TakesRest};
 
     // Ends a connection after its reply was written. If the server closed a socket with unread
-    // bytes, TCP would reset the connection. A client that is still sending could lose its reply.
-    // If `over` is false, this function therefore shuts down the writing side, and then reads the
-    // bytes that the client still sends. The caller passes true for `over` if the bytes read so far
-    // are exactly one request.
+    // bytes, TCP would reset the connection. A client that is still sending could then lose its
+    // reply. If `over` is false, this function therefore shuts down the writing side, and then
+    // reads the bytes that the client still sends. The caller passes true for `over` if the bytes
+    // read so far are exactly one request.
     fn end(&mut self, over: bool)
         ensures over { IsTrue over → self.new ≡ self.old }
         ensures rest { TakesRest S.to_come S.taken self.old self.new }

@@ -54,7 +54,7 @@ pub trait Log {
     fn begin(&mut self)
         ensures { begins self.old self.new };
 
-    /// Notes the event that ended the service of a client or a command.
+    /// Notes an event: how a client or a command ended, or why no client came.
     fn note(&mut self, event: &LogEvent)
         ensures { notes self.old event.now self.new };
 }

@@ -6,7 +6,7 @@ use club_http::Responder;
 /// The data that the log shows about a command that the desk carried out.
 #[derive(Drop)]
 pub struct Carried {
-    /// A line of text whose second word is the command's name.
+    /// The first bytes of a line whose second word is the command's name.
     pub line: RequestLine,
     /// The exit status of the command.
     pub status: u8,

@@ -17,9 +17,10 @@ const MAX_METHOD_LEN: usize = 7;
 
 /// The first bytes of a request. Contracts represent a `RequestLine` by its bytes.
 ///
-/// A `RequestLine` shows a method only if the method has only capital letters. A `RequestLine`
-/// shows a path only if the path has only small letters, digits, dashes and slashes. The text of
-/// every pass has a capital letter or a brace, so the log never shows a pass as a path.
+/// A `RequestLine` shows a method only if the method has 1 to 7 capital letters and no other
+/// characters. A `RequestLine` shows a path only if the path has only small letters, digits, dashes
+/// and slashes. The text of every pass has a capital letter or a brace, and more than 7 characters.
+/// The log therefore never shows a pass.
 #[derive(Drop)]
 pub struct RequestLine {
     kept: Line,

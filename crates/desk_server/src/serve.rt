@@ -30,15 +30,15 @@ impl Error for ClockOutOfRange {}
 
 /// Serves `count` clients of a listener, one after the other. The server carries out commands of
 /// the office before each client, and while it waits for a client's request. The moment of a
-/// client's request is the clock's moment after the server accepts the client. A client counts
-/// toward `count` even if its connection or exchange fails, or if its request is refused. Commands
-/// don't count as clients.
+/// client's request is the clock's moment right after the server accepts the client. A client
+/// counts toward `count` even if its connection or exchange fails, or if its request is refused.
+/// Commands don't count as clients.
 ///
 /// # Errors
 ///
-/// Fails with `ClockOutOfRange` if the clock can't be read, or shows a year before 2000 or after
-/// 2099. In this case the server closes the client's connection without an answer, and accepts no
-/// other client.
+/// Fails with `ClockOutOfRange` if a client comes and the clock can't be read, or shows a year
+/// before 2000 or after 2099. In this case the server closes the client's connection without an
+/// answer, and accepts no other client.
 pub fn serve_on<L: Arrivals, M: Moments, D: Office>(
     listener: &mut L,
     count: u32,

@@ -150,8 +150,8 @@ impl<'a, C: MonotonicClock> ClientStream for ClientSocket<'a, C> {
     }
 }
 
-// Returns a timeout for `poll`: the whole milliseconds of a duration plus 1. Without the extra
-// millisecond, `poll` could return before the duration is over.
+// Returns a timeout for `poll`: the whole milliseconds of a duration plus 1, at most `i32::MAX`.
+// Without the extra millisecond, `poll` could return before the duration is over.
 fn milliseconds_of(limit: Duration) -> i32 {
     i32::try_from(limit.as_millis())
         .unwrap_or(i32::MAX)

@@ -166,10 +166,10 @@ const REST_MILLISECONDS: u64 = 200;
 /// The maximum number of bytes that `take_rest` reads in one call.
 const MAX_REST_AT_ONCE: usize = 4_096;
 
-/// An accepted connection as a reader and a writer with time limits. All reads share one time
-/// limit, which starts when the server accepts the connection. All writes share another time limit,
-/// which starts with the first write. Each of the two time limits is `patience`. A call waits at
-/// most until its time limit expires.
+/// An accepted connection as a reader and a writer with time limits. All calls of `fill` share one
+/// time limit, which starts with the call of `new`. All calls of `put` share another time limit,
+/// which starts with the first call of `put`. Each of the two time limits is `patience`. A call
+/// waits at most until its time limit expires.
 ///
 /// If no time is left or the clock can't be read, the server still makes the call, but the call
 /// doesn't wait. If a signal interrupts a call, the server repeats the call with the time that is
@@ -230,8 +230,9 @@ impl<'c, S: TimedStream, C: MonotonicClock> Accepted<'c, S, C> {
     }
 
     /// Reads the bytes that the client still sends, at most `MAX_REST`. Reading stops at the end of
-    /// the input, or once no byte came for 200 milliseconds. Reading also stops if a read fails, or
-    /// when the time `patience` has passed since the start of this call.
+    /// the input, or once no byte came for 200 milliseconds. Reading also stops if a read fails.
+    /// When the time `patience` has passed since the start of this call, this method reads only
+    /// bytes that have already arrived.
     pub fn take_rest(&mut self)
         ensures taken { TakesAtMost 65_536 (S.to_come self.old.stream) (S.to_come self.new.stream) }
         ensures writes_nothing { Keeps (S.taken self.old.stream) (S.taken self.new.stream) }
