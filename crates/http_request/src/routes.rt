@@ -115,7 +115,8 @@ fn decode_request<'a>(
 }
 
 /// Decodes the bytes of a request. `scan` must cover these bytes. This function uses the result of
-/// the scan, and doesn't parse the head again. Bytes after the request have no effect on the result.
+/// the scan, and doesn't parse the head again. Bytes after the request have no effect on the
+/// result.
 ///
 /// # Errors
 ///
